@@ -1,0 +1,5 @@
+use Rattle.orc_path.specs.Order.{path_cmp_total}
+use Rattle.orc_path.proofs.path.Path.cmp.Goals as goal
+
+pub returns-clause-total : goal.returns-clause-total
+returns-clause-total c = path_cmp_total

@@ -1,0 +1,58 @@
+//! What stands at a path, and what a call writes.
+ghost use Rattle.std.specs.Prelude.{◌≡◌, IfOk};
+
+use crate::Path;
+use orc_text::{Copied, Memory, Text};
+use std::alloc::Global;
+
+/// What a path of a configuration carries: an entry of a list (or a value of a leaf-list), or a
+/// leaf with its canonical text.
+#[derive(Debug, PartialEq, Eq, Drop)]
+pub enum Item {
+    Entry,
+    Leaf(Text),
+}
+
+impl Item {
+    /// An equal item.
+    pub fn copy(&self, alloc: Global) -> Result<Item, Memory>
+        ensures { IfOk result (λ item. item ≡ self.now) }
+    {
+        match self {
+            Item::Entry => Ok(Item::Entry),
+            Item::Leaf(text) => Ok(Item::Leaf(text.copy(alloc)?)),
+        }
+    }
+}
+
+impl Copied for Item {
+    fn copied(&self, alloc: Global) -> Result<Item, Memory> {
+        self.copy(alloc)
+    }
+}
+
+/// What a committed call writes: a data path whose item differs before and after it, or a service
+/// that it names. Paths come before services.
+#[derive(Debug, PartialEq, Eq, PartialOrd, Ord, Drop)]
+pub enum Write {
+    At(Path),
+    Service(Text),
+}
+
+impl Write {
+    /// An equal write.
+    pub fn copy(&self, alloc: Global) -> Result<Write, Memory>
+        ensures { IfOk result (λ write. write ≡ self.now) }
+    {
+        match self {
+            Write::At(path) => Ok(Write::At(path.copy(alloc)?)),
+            Write::Service(id) => Ok(Write::Service(id.copy(alloc)?)),
+        }
+    }
+}
+
+impl Copied for Write {
+    fn copied(&self, alloc: Global) -> Result<Write, Memory> {
+        self.copy(alloc)
+    }
+}

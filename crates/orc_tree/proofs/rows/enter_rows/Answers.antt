@@ -1,0 +1,24 @@
+use Rattle.std.proofs.Common.{◌≡◌, ◌∷◌, true, List, length, ap, sym, subst, ◌∙◌, arith}
+use Rattle.std.specs.Vec.Iter.{into_iter_items}
+use Rattle.std.specs.FinMap.{is_sorted}
+use Rattle.orc_path.specs.Steps.{PathStep}
+use Rattle.orc_path.specs.declared.item.Item.TheVariants.{Entry}
+use Rattle.orc_path.specs.Configurations.{enter_all}
+use Rattle.orc_tree.proofs.Views.{view-put, view_of}
+use Rattle.orc_tree.proofs.rows.enter_rows.Goals as goal
+
+pub loop-way-preserved : goal.loop-way-preserved
+loop-way-preserved c =
+    let way = c.in-Some.way in
+    let rest = into_iter_items c.next.new.self in
+    let steps = c.in-Some.ensures.steps in let first : into_iter_items c.loop-way.way-iterator ≡ way ∷ rest = steps.0 in
+    let invariant = c.loop-way.invariant in
+    record {
+      sorted = c.put_row.ensures.sorted;
+      entered =
+          ap (enter_all rest) (view-put c.loop-way.rows.items c.put_row.new.rows.items way Entry invariant.sorted c.put_row.ensures.sorted (sym c.put_row.ensures.put))
+          ∙ ap (λ (ws : List (List PathStep)). enter_all ws (view_of c.loop-way.rows.items)) (sym first) ∙ invariant.entered;
+      room = omega (arith, ap length first);
+      len = omega (arith, ap length first);
+      capacity = omega arith;
+    }
