@@ -12,7 +12,7 @@ use std::alloc::Global;
 use std::marker::Model;
 
 /// A configuration, which contracts see as a finite map from paths to items.
-#[derive(Drop)]
+#[derive(Debug, Drop)]
 pub struct Tree {
     rows: Vec<(Path, Item)>,
 }

@@ -1,0 +1,28 @@
+-- A history is the list of the committed calls.
+use Rattle.std.specs.Prelude.{◌≡◌, ℕ, ◌+◌, List, [], ◌∷◌, ◌++◌, length, Option}
+use Rattle.std.specs.declared.option.Option.TheVariants.{None, Some}
+use Rattle.orc_run.specs.States.{after, refusal}
+use Rattle.orc_run.specs.declared.call.Call.{Call}
+use Rattle.orc_run.specs.declared.call.Answer.{Answer}
+use Rattle.orc_run.specs.declared.call.Answer.TheVariants.{Committed}
+use Rattle.orc_run.specs.declared.state.State.{State}
+
+-- the state after the calls of a history, from a state on
+abbrev pub fold_from : List (List ℕ) → State → List Call → State
+fold_from names s [] = s
+fold_from names s (call ∷ calls) = fold_from names (after names s call.action) calls
+
+-- no call of the history is refused where it stands
+abbrev pub IsUnrefused : List (List ℕ) → State → List Call → Type 0
+IsUnrefused names s [] = Unit {0}
+IsUnrefused names s (call ∷ calls) = (refusal names s call.action ≡ None) × IsUnrefused names (after names s call.action) calls
+
+-- the answer to a call behind a history
+abbrev pub answer_of : List (List ℕ) → State → List Call → Call → Answer
+answer_of names s history call =
+    elim (refusal names (fold_from names s history) call.action) [ None ↦ Committed (length history + 1) | Some answer ↦ answer ]
+
+-- the history behind it
+abbrev pub extended : List (List ℕ) → State → List Call → Call → List Call
+extended names s history call =
+    elim (refusal names (fold_from names s history) call.action) [ None ↦ history ++ call ∷ [] | Some answer ↦ history ]

@@ -1,0 +1,4 @@
+pub mod States
+pub mod Histories
+pub mod Printed
+pub mod Bundles

@@ -1,0 +1,14 @@
+//! The program's top calls: a bundle is read and checked, its script is run, and what it prints is
+//! written as it is done.
+#![tactic(auto)]
+
+mod bundle;
+mod call;
+mod law;
+mod read;
+mod state;
+
+pub use bundle::{Bundle, Device, Put, ScriptStep};
+pub use call::{Action, Answer, Call, DevicePut};
+pub use read::{BundleFault, read_bundle};
+pub use state::{Service, State};
