@@ -4,11 +4,18 @@
 
 mod bundle;
 mod call;
-mod law;
+mod front;
+mod print;
 mod read;
+mod run;
 mod state;
+mod stop;
+mod top;
+mod words;
 
 pub use bundle::{Bundle, Device, Put, ScriptStep};
 pub use call::{Action, Answer, Call, DevicePut};
 pub use read::{BundleFault, read_bundle};
 pub use state::{Service, State};
+pub use stop::{Done, Rule, Stop, status};
+pub use top::orchestrate;

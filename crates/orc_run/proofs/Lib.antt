@@ -1,0 +1,4 @@
+mod Tests
+mod Refusals
+mod Transcripts
+mod OneWord
