@@ -10,7 +10,7 @@ use orc_text::{Memory, Text};
 use std::alloc::Global;
 
 /// The state behind the calls committed so far, and their number.
-#[derive(Debug, Drop)]
+#[derive(Drop)]
 pub struct Front {
     pub state: State,
     pub count: u64,

@@ -9,7 +9,7 @@ use orc_tree::Tree;
 use std::alloc::Global;
 
 /// A living service and the items that it writes, on each device in the order of declaration.
-#[derive(Debug, Drop)]
+#[derive(Drop)]
 pub struct Service {
     pub id: Text,
     pub parts: Row<Tree>,
@@ -17,7 +17,7 @@ pub struct Service {
 
 /// The base of each device, which no service wrote, and the living services in the order in which
 /// they were made.
-#[derive(Debug, Drop)]
+#[derive(Drop)]
 pub struct State {
     pub bases: Row<Tree>,
     pub live: Row<Service>,
@@ -59,7 +59,7 @@ impl State {
     {
         let mut tree = self.bases.as_slice()[device as usize].copy(alloc)?;
         for service in self.live.as_slice() {
-            tree.lay(service.part(device))?;
+            tree.overlay_with(service.part(device))?;
         }
         Ok(tree)
     }
