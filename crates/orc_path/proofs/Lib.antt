@@ -1,2 +1,3 @@
 mod Last
 mod Prefixes
+mod Parts
