@@ -1,3 +1,4 @@
 mod Last
 mod Prefixes
 mod Parts
+mod Feeds

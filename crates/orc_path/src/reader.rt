@@ -191,18 +191,24 @@ impl Reader {
         }
     }
 
+    /// The path with the step that was read.
+    fn with_step(mut self, alloc: Global) -> Result<Path, Memory>
+        requires { IsStepRead self }
+        ensures { IfOk result (λ path. path ≡ self.done ++ present_step self ∷ []) }
+    {
+        let step = self.take_step(alloc);
+        self.done.push(step)?;
+        Ok(Path { steps: self.done })
+    }
+
     /// The path that was read, where its text may end here.
-    pub(crate) fn finish(mut self, alloc: Global) -> Result<Option<Path>, Memory>
+    pub(crate) fn finish(self, alloc: Global) -> Result<Option<Path>, Memory>
         requires { Fits self }
         ensures { IfOk result (λ path. path ≡ whole self) }
     {
         match self.place {
             Place::Slash => Ok(Some(Path { steps: self.done })),
-            Place::Inside | Place::Closed => {
-                let step = self.take_step(alloc);
-                self.done.push(step)?;
-                Ok(Some(Path { steps: self.done }))
-            }
+            Place::Inside | Place::Closed => Ok(Some(self.with_step(alloc)?)),
             _ => Ok(None),
         }
     }
