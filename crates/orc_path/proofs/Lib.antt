@@ -2,3 +2,4 @@ mod Last
 mod Prefixes
 mod Parts
 mod Feeds
+mod Again
