@@ -136,16 +136,16 @@ node_again m d s h k =
 slash_again : (d : List PathStep) (s : PathStep) (bs : List ℕ) → feed_all (reader_at (place_behind s.keys) d s.node s.keys []) (47 ∷ bs) ≡ feed_all (reader_at Next (d ++ s ∷ []) [] [] []) bs
 slash_again d s bs = slash_by s.node s.keys
   where
-  slash_by : (n : List ℕ) (ks : List (List ℕ)) → feed_all (reader_at (place_behind ks) d n ks []) (47 ∷ bs) ≡ feed_all (reader_at Next (d ++ record { node = n; keys = ks } ∷ []) [] [] []) bs
-  slash_by n [] = refl
-  slash_by n (k ∷ ks) = refl
+    slash_by : (n : List ℕ) (ks : List (List ℕ)) → feed_all (reader_at (place_behind ks) d n ks []) (47 ∷ bs) ≡ feed_all (reader_at Next (d ++ record { node = n; keys = ks } ∷ []) [] [] []) bs
+    slash_by n [] = refl
+    slash_by n (k ∷ ks) = refl
 
 end_again : (d : List PathStep) (s : PathStep) → whole (reader_at (place_behind s.keys) d s.node s.keys []) ≡ Some (d ++ s ∷ [])
 end_again d s = end_by s.node s.keys
   where
-  end_by : (n : List ℕ) (ks : List (List ℕ)) → whole (reader_at (place_behind ks) d n ks []) ≡ Some (d ++ record { node = n; keys = ks } ∷ [])
-  end_by n [] = refl
-  end_by n (k ∷ ks) = refl
+    end_by : (n : List ℕ) (ks : List (List ℕ)) → whole (reader_at (place_behind ks) d n ks []) ≡ Some (d ++ record { node = n; keys = ks } ∷ [])
+    end_by n [] = refl
+    end_by n (k ∷ ks) = refl
 
 steps_again : (d : List PathStep) (s : PathStep) (ss : List PathStep) → list_all is_later_step ss ≡ true
     → path_behind (reader_at (place_behind s.keys) d s.node s.keys []) (flat_map step_text ss) ≡ Some (d ++ s ∷ ss)
@@ -153,9 +153,9 @@ steps_again d s [] h = end_again d s
 steps_again d s (t ∷ ss) h =
     let step = first_so _ _ h in
     ap (option_and_then whole)
-        (slash_again d s ((t.node ++ flat_map key_text t.keys) ++ flat_map step_text ss)
-        ∙ feed_all-append (reader_at Next (d ++ s ∷ []) [] [] []) (t.node ++ flat_map key_text t.keys) (flat_map step_text ss)
-        ∙ ap (option_and_then (λ r. feed_all r (flat_map step_text ss))) (node_again Next (d ++ s ∷ []) t (later_again t.node (first_so _ _ step)) (second_so _ _ step)))
+    (slash_again d s ((t.node ++ flat_map key_text t.keys) ++ flat_map step_text ss)
+    ∙ feed_all-append (reader_at Next (d ++ s ∷ []) [] [] []) (t.node ++ flat_map key_text t.keys) (flat_map step_text ss)
+    ∙ ap (option_and_then (λ r. feed_all r (flat_map step_text ss))) (node_again Next (d ++ s ∷ []) t (later_again t.node (first_so _ _ step)) (second_so _ _ step)))
     ∙ steps_again (d ++ s ∷ []) t ss (second_so _ _ h)
     ∙ ap Some (append_assoc d (s ∷ []) (t ∷ ss))
 
@@ -165,6 +165,6 @@ path_again [] h = refl
 path_again (s ∷ ss) h =
     let step = first_so _ _ h in
     ap (option_and_then whole)
-        (feed_all-append (reader_at Slash [] [] [] []) (s.node ++ flat_map key_text s.keys) (flat_map step_text ss)
-        ∙ ap (option_and_then (λ r. feed_all r (flat_map step_text ss))) (node_again Slash [] s (qualified_again s.node (first_so _ _ step)) (second_so _ _ step)))
+    (feed_all-append (reader_at Slash [] [] [] []) (s.node ++ flat_map key_text s.keys) (flat_map step_text ss)
+    ∙ ap (option_and_then (λ r. feed_all r (flat_map step_text ss))) (node_again Slash [] s (qualified_again s.node (first_so _ _ step)) (second_so _ _ step)))
     ∙ steps_again [] s ss (second_so _ _ h)

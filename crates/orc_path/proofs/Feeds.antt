@@ -45,7 +45,7 @@ read r = read_at r.place r
 abbrev pub Grows : Place → Reader → ℕ → Reader → Type 0
 Grows m r b s = Fits s × (read s ≡ read_at m r ++ b ∷ [])
 
-blank_front : (r : Reader) → r.done ≡ [] → r.node ≡ [] → r.keys ≡ [] → front r ≡ 47 ∷ []
+pub blank_front : (r : Reader) → r.done ≡ [] → r.node ≡ [] → r.keys ≡ [] → front r ≡ 47 ∷ []
 blank_front r d n k = cc
 
 start_grows : (r s : Reader) (b : ℕ) → FitsAt Start r → feed_at Start r b ≡ Some s → Grows Start r b s
@@ -61,15 +61,17 @@ end_grows m r s b same f e =
     chosen (Grows m r b) (b == 91) (record r { place = Key; key = [] }) s _ e
     (λ k. let is : b ≡ 91 = grind arith in (record { step = record { before = f.before; node = f.node; keys = f.keys }; key = refl }, ap (λ x. front r ++ x ∷ []) (sym is) ∙ ap (λ x. x ++ b ∷ []) (sym same)))
     (λ k g. taken (Grows m r b) (b == 47) (record r { place = Next; done = r.done ++ present_step r ∷ []; node = []; keys = [] }) s g
-        (λ l. let is : b ≡ 47 = grind arith in
-            (record {
-                before = is_path_more r.done (present_step r) f.before f.node f.keys;
-                node = ((λ n h. later_behind r.done (present_step r) n ∙ h), refl);
-                keys = refl },
-            step_grows r.done (present_step r) ∙ ap (λ x. front r ++ x ∷ []) (sym is) ∙ ap (λ x. x ++ b ∷ []) (sym same))))
+    (λ l. let is : b ≡ 47 = grind arith in (
+      record {
+        before = is_path_more r.done (present_step r) f.before f.node f.keys;
+        node = ((λ n h. later_behind r.done (present_step r) n ∙ h), refl);
+        keys = refl;
+      },
+      step_grows r.done (present_step r) ∙ ap (λ x. front r ++ x ∷ []) (sym is) ∙ ap (λ x. x ++ b ∷ []) (sym same),
+    )))
   where
-  step_grows : (done : List PathStep) (p : PathStep) → flat_map step_text (done ++ p ∷ []) ++ 47 ∷ [] ≡ (flat_map step_text done ++ step_text p) ++ 47 ∷ []
-  step_grows done p = grind (arith, flat_map-append, append_assoc, append-nil)
+    step_grows : (done : List PathStep) (p : PathStep) → flat_map step_text (done ++ p ∷ []) ++ 47 ∷ [] ≡ (flat_map step_text done ++ step_text p) ++ 47 ∷ []
+    step_grows done p = grind (arith, flat_map-append, append_assoc, append-nil)
 
 key_closes : (d n : List ℕ) (ks : List (List ℕ)) (k : List ℕ)
     → d ++ 47 ∷ (n ++ flat_map key_text (ks ++ k ∷ [])) ≡ ((d ++ 47 ∷ (n ++ flat_map key_text ks)) ++ 91 ∷ flat_map escape k) ++ 93 ∷ []
@@ -93,26 +95,30 @@ unescape_is_key_byte b c h = grind arith
 key_grows : (r s : Reader) (b : ℕ) → r.place ≡ Key → IsKeyPart r → feed_key r b ≡ Some s → Grows Key r b s
 key_grows r s b at f e =
     chosen (Grows Key r b) (b == 93) (record r { place = Closed; keys = r.keys ++ r.key ∷ []; key = [] }) s _ e
-    (λ k. let is : b ≡ 93 = grind arith in
-        (record { before = f.step.before; node = f.step.node; keys = list_all_more is_key r.keys r.key f.step.keys f.key },
-        subst (λ x. front (record r { place = Closed; keys = r.keys ++ r.key ∷ []; key = [] }) ≡ read_at Key r ++ x ∷ []) (sym is) (key_closes (flat_map step_text r.done) r.node r.keys r.key)))
+    (λ k. let is : b ≡ 93 = grind arith in (
+      record { before = f.step.before; node = f.step.node; keys = list_all_more is_key r.keys r.key f.step.keys f.key },
+      subst (λ x. front (record r { place = Closed; keys = r.keys ++ r.key ∷ []; key = [] }) ≡ read_at Key r ++ x ∷ []) (sym is) (key_closes (flat_map step_text r.done) r.node r.keys r.key),
+    ))
     (λ k g. chosen (Grows Key r b) (b == 92) (record r { place = Escape }) s _ g
-        (λ l. let is : b ≡ 92 = grind arith in
-            (record { step = record { before = f.step.before; node = f.step.node; keys = f.step.keys }; key = f.key }, ap (λ x. read_at Key r ++ x ∷ []) (sym is)))
-        (λ l i. taken (Grows Key r b) (is_plain b) (record r { key = r.key ++ b ∷ [] }) s i
-            (λ p. subst (λ m. FitsAt m (record r { key = r.key ++ b ∷ [] }) × (read_at m (record r { key = r.key ++ b ∷ [] }) ≡ read_at Key r ++ b ∷ [])) (sym at) (record { step = record { before = f.step.before; node = f.step.node; keys = f.step.keys }; key = list_all_more is_key_byte r.key b f.key (plain_is_key_byte b p) },
-                key_grows_by (front r) r.key b ∙ ap (λ x. read_at Key r ++ x) (plain_escape b p)))))
+    (λ l. let is : b ≡ 92 = grind arith in
+    (record { step = record { before = f.step.before; node = f.step.node; keys = f.step.keys }; key = f.key }, ap (λ x. read_at Key r ++ x ∷ []) (sym is)))
+    (λ l i. taken (Grows Key r b) (is_plain b) (record r { key = r.key ++ b ∷ [] }) s i
+    (λ p. subst (λ m. FitsAt m (record r { key = r.key ++ b ∷ [] }) × (read_at m (record r { key = r.key ++ b ∷ [] }) ≡ read_at Key r ++ b ∷ [])) (sym at) (
+      record { step = record { before = f.step.before; node = f.step.node; keys = f.step.keys }; key = list_all_more is_key_byte r.key b f.key (plain_is_key_byte b p) },
+      key_grows_by (front r) r.key b ∙ ap (λ x. read_at Key r ++ x) (plain_escape b p),
+    ))))
 
 escape_grows : (r s : Reader) (b : ℕ) → IsKeyPart r → feed_escape r b ≡ Some s → Grows Escape r b s
 escape_grows r s b f e = mapped (unescape b) refl e
   where
-  mapped : (o : Option ℕ) → unescape b ≡ o → option_map (λ c. record r { place = Key; key = r.key ++ c ∷ [] }) o ≡ Some s → Grows Escape r b s
-  mapped None u g = none_given (Grows Escape r b s) s g
-  mapped (Some c) u g =
-    let is : record r { place = Key; key = r.key ++ c ∷ [] } ≡ s = cc in
-    subst (Grows Escape r b) is
-        (record { step = record { before = f.step.before; node = f.step.node; keys = f.step.keys }; key = list_all_more is_key_byte r.key c f.key (unescape_is_key_byte b c u) },
-        key_grows_by (front r) r.key c ∙ ap (λ x. read_at Key r ++ x) (unescape_escape b c u) ∙ sym (append_assoc (front r ++ 91 ∷ flat_map escape r.key) (92 ∷ []) (b ∷ [])))
+    mapped : (o : Option ℕ) → unescape b ≡ o → option_map (λ c. record r { place = Key; key = r.key ++ c ∷ [] }) o ≡ Some s → Grows Escape r b s
+    mapped None u g = none_given (Grows Escape r b s) s g
+    mapped (Some c) u g =
+        let is : record r { place = Key; key = r.key ++ c ∷ [] } ≡ s = cc in
+        subst (Grows Escape r b) is (
+          record { step = record { before = f.step.before; node = f.step.node; keys = f.step.keys }; key = list_all_more is_key_byte r.key c f.key (unescape_is_key_byte b c u) },
+          key_grows_by (front r) r.key c ∙ ap (λ x. read_at Key r ++ x) (unescape_escape b c u) ∙ sym (append_assoc (front r ++ 91 ∷ flat_map escape r.key) (92 ∷ []) (b ∷ [])),
+        )
 
 mark_grows : (m : Place) (r s : Reader) (b : ℕ) → r.place ≡ m → FitsAt m r → feed_mark m r b ≡ Some s → Grows m r b s
 mark_grows Start r s b at f e = start_grows r s b f e
@@ -165,6 +171,6 @@ name_grows m to r b f e =
 pub feed_grows : (m : Place) (r s : Reader) (b : ℕ) → r.place ≡ m → FitsAt m r → feed_at m r b ≡ Some s → Grows m r b s
 feed_grows m r s b at f e = by_name (name_place m b) refl e
   where
-  by_name : (o : Option Place) → name_place m b ≡ o → option_map_or (λ to. Some (record r { place = to; node = r.node ++ b ∷ [] })) o (feed_mark m r b) ≡ Some s → Grows m r b s
-  by_name None n g = mark_grows m r s b at f g
-  by_name (Some to) n g = let is : record r { place = to; node = r.node ++ b ∷ [] } ≡ s = cc in subst (Grows m r b) is (name_grows m to r b f n)
+    by_name : (o : Option Place) → name_place m b ≡ o → option_map_or (λ to. Some (record r { place = to; node = r.node ++ b ∷ [] })) o (feed_mark m r b) ≡ Some s → Grows m r b s
+    by_name None n g = mark_grows m r s b at f g
+    by_name (Some to) n g = let is : record r { place = to; node = r.node ++ b ∷ [] } ≡ s = cc in subst (Grows m r b) is (name_grows m to r b f n)

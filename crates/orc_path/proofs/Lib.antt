@@ -3,3 +3,4 @@ mod Prefixes
 mod Parts
 mod Feeds
 mod Again
+mod Refused

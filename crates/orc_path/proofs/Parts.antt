@@ -72,8 +72,8 @@ name_step done Module m' n b f e =
     (λ k. (f.0, λ c start. identifier_colon_at n b c k f.1 start))
     (λ k g. taken (λ p. IsNamePart done p (n ++ b ∷ [])) (is_name_byte b) Module m' g (λ t. (f.0, identifier_more n b f.1 t)))
   where
-  identifier_colon_at : (n : List ℕ) (b c : ℕ) → (b == 58) ≡ true → is_identifier n ≡ true → is_name_start c ≡ true → is_qualified ((n ++ b ∷ []) ++ c ∷ []) ≡ true
-  identifier_colon_at n b c k h start = let e : b ≡ 58 = grind arith in subst (λ x. is_qualified ((n ++ x ∷ []) ++ c ∷ []) ≡ true) (sym e) (identifier_colon n c h start)
+    identifier_colon_at : (n : List ℕ) (b c : ℕ) → (b == 58) ≡ true → is_identifier n ≡ true → is_name_start c ≡ true → is_qualified ((n ++ b ∷ []) ++ c ∷ []) ≡ true
+    identifier_colon_at n b c k h start = let e : b ≡ 58 = grind arith in subst (λ x. is_qualified ((n ++ x ∷ []) ++ c ∷ []) ≡ true) (sym e) (identifier_colon n c h start)
 name_step done Colon m' n b f e =
     taken (λ p. IsNamePart done p (n ++ b ∷ [])) (is_name_start b) Inside m' e (λ k. subst (λ d. is_name_behind d (n ++ b ∷ []) ≡ true) (sym f.0) (f.1 b k))
 name_step done Inside m' n b f e = taken (λ p. IsNamePart done p (n ++ b ∷ [])) (is_name_byte b) Inside m' e (λ k. behind_more done n b f k)

@@ -11,4 +11,4 @@ invariant_of-result c =
     let left = ap (λ (r : Reader). r.done ++ c.take_step-step.result ∷ []) c.take_step-step.ensures.left in
     let step = ap (λ (s : PathStep). c.args.self.done ++ s ∷ []) c.take_step-step.ensures.step in
     subst (λ (p : List PathStep). is_path p ≡ true) (sym (c.in_ok-push.ensures.ok ∙ left ∙ step))
-        (is_path_more c.args.self.done (present_step c.args.self) c.requires.before c.requires.node c.requires.keys)
+    (is_path_more c.args.self.done (present_step c.args.self) c.requires.before c.requires.node c.requires.keys)
