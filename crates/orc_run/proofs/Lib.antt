@@ -2,3 +2,4 @@ mod Tests
 mod Refusals
 mod Transcripts
 mod OneWord
+mod Services

@@ -4,6 +4,8 @@
 
 mod bundle;
 mod call;
+mod clash;
+mod expansion;
 mod front;
 mod print;
 mod read;
