@@ -12,6 +12,8 @@ mod read;
 mod run;
 mod state;
 mod stop;
+#[cfg(test)]
+mod tests;
 mod top;
 mod words;
 
