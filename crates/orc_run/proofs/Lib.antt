@@ -1,4 +1,4 @@
-mod Tests
+mod Fits
 mod Refusals
 mod Transcripts
 mod OneWord

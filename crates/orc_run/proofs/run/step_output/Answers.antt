@@ -1,7 +1,7 @@
 use Rattle.std.proofs.Common.{◌&&◌, IsTrue, sym, subst}
 use Rattle.orc_run.specs.Bundles.{is_action, is_step}
 use Rattle.orc_run.specs.declared.bundle.ScriptStep.{ScriptStep}
-use Rattle.orc_run.proofs.Tests.{action-fits, and_second}
+use Rattle.orc_run.proofs.Fits.{action-fits, and_second}
 use Rattle.orc_run.proofs.run.step_output.Goals as goal
 
 pub serve-requires-clause-fit : goal.serve-requires-clause-fit

@@ -6,7 +6,7 @@ use Rattle.orc_run.specs.States.{fits_devices, opening}
 use Rattle.orc_run.specs.Bundles.{has_distinct_calls, is_device, is_step}
 use Rattle.orc_run.specs.Printed.{names_of, printed}
 use Rattle.orc_run.specs.declared.bundle.Device.{Device}
-use Rattle.orc_run.proofs.Tests.{and_first, and_second, devices-fit}
+use Rattle.orc_run.proofs.Fits.{and_first, and_second, devices-fit}
 use Rattle.orc_run.proofs.Transcripts.{printed-fronts}
 use Rattle.orc_run.proofs.top.run_bundle.Goals as goal
 
