@@ -1,0 +1,23 @@
+//! Sources and sinks of bytes, which count their faults.
+//!
+//! All that the program reads and writes goes through a `Source` and a `Sink`: a reader, a writer,
+//! or bytes in memory that fail at chosen calls. Each counts how often it failed, so that an answer
+//! which blames one can be traced to a call that failed. `read_whole` and `write_whole` move all of
+//! a text at once.
+#![tactic(auto)]
+
+mod memory_sink;
+mod memory_source;
+mod reading;
+mod standard;
+#[cfg(test)]
+mod tests;
+mod traits;
+mod writing;
+
+pub use memory_sink::MemSink;
+pub use memory_source::MemSource;
+pub use reading::{WholeFault, read_whole};
+pub use standard::{StdSink, StdSource};
+pub use traits::{Failed, Sink, Source};
+pub use writing::write_whole;

@@ -1,0 +1,52 @@
+//! All that a source has, up to a limit.
+ghost use Rattle.std.specs.Prelude.{◌≤◌, ◌<◌, ◌^◌, IfOk, OnOk, OnErr, IsErrOf, vec_len};
+ghost use Rattle.std.specs.Io.KnownBytes.{IsAtEnd, Consumes};
+ghost use Rattle.orc_io.specs.Counts.{Rose};
+ghost use Rattle.orc_io.specs.Pieces.{GivesFront, GivesMore};
+
+use crate::{Failed, Source};
+use std::alloc::Global;
+
+/// Why a source was not read to its end.
+#[derive(Clone, Copy, Debug, PartialEq, Eq)]
+pub enum WholeFault {
+    /// A call of the source failed.
+    Failed,
+    /// The source gave more bytes than the limit.
+    TooLong,
+    /// Memory could not be had.
+    Memory,
+}
+
+/// Reads a source to its end. It stops once the source gave more than `limit` bytes, so that it
+/// returns also where a source never ends. After a refusal the bytes read are gone from the source.
+pub fn read_whole<S: Source>(
+    alloc: Global,
+    source: &mut S,
+    limit: usize,
+) -> Result<Vec<u8>, WholeFault>
+    requires { limit < 2 ^ 60 }
+    ensures whole { IfOk result (λ v. Consumes (S.left source.old) (S.left source.new) v.items) }
+    ensures short { IfOk result (λ v. vec_len v ≤ limit) }
+    ensures end { OnOk result (IsAtEnd (S.left source.new)) }
+
+    ensures begun { OnErr result (GivesFront (S.left source.old) (S.left source.new)) }
+    ensures too_long { IsErrOf result WholeFault.TooLong → GivesMore (S.left source.old) (S.left source.new) limit }
+    ensures later { S.faults source.old ≤ S.faults source.new }
+    ensures failed { IsErrOf result WholeFault.Failed → Rose (S.faults source.old) (S.faults source.new) }
+{
+    let mut whole = Vec::new(alloc);
+    let mut buf = [0u8; 4096];
+    while whole.len() <= limit {
+        match source.read_some(&mut buf) {
+            Err(Failed) => return Err(WholeFault::Failed),
+            Ok(0) => return Ok(whole),
+            Ok(count) => {
+                if whole.extend_from_slice(&buf[..count]).is_err() {
+                    return Err(WholeFault::Memory);
+                }
+            }
+        }
+    }
+    Err(WholeFault::TooLong)
+}
