@@ -2,3 +2,4 @@ pub mod States
 pub mod Histories
 pub mod Printed
 pub mod Bundles
+pub mod Laws

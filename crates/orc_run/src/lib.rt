@@ -5,10 +5,12 @@
 mod bundle;
 mod call;
 mod law;
+mod laws;
 mod read;
 mod state;
 
 pub use bundle::{Bundle, Device, Put, ScriptStep};
 pub use call::{Action, Answer, Call, DevicePut};
+pub use laws::{deleted_without_trace, order_of_creation_is_free, overlay_is_one, services_agree};
 pub use read::{BundleFault, read_bundle};
 pub use state::{Service, State};

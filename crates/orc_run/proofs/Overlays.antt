@@ -1,0 +1,2 @@
+-- The overlay of services that agree.
+use Rattle.std.proofs.Common.{◌≡◌, ℕ}
