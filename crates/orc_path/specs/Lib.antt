@@ -5,3 +5,5 @@ pub mod Texts
 pub mod Faults
 pub mod Items
 pub mod Configurations
+pub mod Prefixes
+pub mod ConfigurationLaws
