@@ -130,10 +130,10 @@ unrefused_clash names s action h = on (misplaced s action) refl
     on (Some answer) is =
         let found : Some answer ≡ None = sym (ap (λ (o : Option Answer). elim o [ None ↦ clash names s action | Some answer ↦ Some answer ]) is) ∙ h in cc
 
-none_in_nil : (a : Service) → Contains [] a → ⊥
+pub none_in_nil : (a : Service) → Contains [] a → ⊥
 none_in_nil a c = omega (arith, c.1)
 
-only : (s a : Service) → Contains (s ∷ []) a → s ≡ a
+pub only : (s a : Service) → Contains (s ∷ []) a → s ≡ a
 only s a c = elim (Contains-push_cases [] s a c) [ inl none ↦ absurd (none_in_nil a none) | inr is ↦ is ]
 
 -- an action that is not refused leaves services that agree
