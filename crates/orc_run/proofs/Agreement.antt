@@ -1,5 +1,5 @@
 -- Services that live together agree.
-use Rattle.std.proofs.Common.{◌≡◌, ℕ, zero, suc, ◌+◌, ◌<◌, Bool, true, false, cond, not, List, [], ◌∷◌, ◌++◌, ◌⊎◌, inl, inr, length, get_or, map, All, None, Some, refl, sym, ap, subst, ◌∙◌, arith}
+use Rattle.std.proofs.Common.{◌≡◌, ℕ, zero, suc, ◌+◌, Bool, true, false, cond, not, List, [], ◌∷◌, ◌++◌, inl, inr, map, All, None, Some, refl, sym, ap, subst, ◌∙◌, arith}
 use Rattle.std.specs.declared.option.Option.{Option}
 use Rattle.std.specs.declared.cmp.Ordering.{Ordering}
 use Rattle.std.specs.declared.cmp.Ordering.TheVariants.{Less, Equal, Greater}
@@ -7,17 +7,16 @@ use Rattle.std.specs.Ordering.{is_eq}
 use Rattle.std.specs.Option.{option_map_or}
 use Rattle.std.specs.List.{filter, Contains}
 use Rattle.std.specs.Cmp.Lexicographic.{bytes_decides}
-use Rattle.std.specs.FinMap.{find, get, entries, empty, get-entries, get-empty}
+use Rattle.std.specs.FinMap.{find, get, entries, get-entries, get-empty}
 use Rattle.std.proofs.lemmas.List.Elements.{All-contains, All-contains_itself, All-filter, All-nil, All-cons, Contains-append_cases, Contains-push_cases}
 use Rattle.orc_path.specs.Steps.{PathStep}
 use Rattle.orc_path.specs.Order.{path_cmp, path_cmp_exact}
 use Rattle.orc_path.specs.Configurations.{Config}
 use Rattle.orc_path.specs.declared.item.Item.{Item}
 use Rattle.orc_path.specs.declared.item.Item.TheVariants.{Entry, Leaf}
-use Rattle.orc_run.specs.States.{is_text, config_of, part, has_id, lives, opening, named, others, made, after, expansion, differs, rivals, least, clash_among, clash_on, clash, misplaced, refusal}
+use Rattle.orc_run.specs.States.{is_text, config_of, part, has_id, opening, others, after, expansion, differs, rivals, least, clash_among, clash_on, clash, misplaced, refusal}
 use Rattle.orc_run.specs.Histories.{fold_from, IsUnrefused}
 use Rattle.orc_run.specs.Laws.{Agree, AllAgree, ServicesAgree}
-use Rattle.orc_run.specs.declared.bundle.Device.{Device}
 use Rattle.orc_run.specs.declared.call.Answer.{Answer}
 use Rattle.orc_run.specs.declared.call.Answer.TheVariants.{Clash}
 use Rattle.orc_run.specs.declared.call.Call.{Call}
@@ -69,20 +68,23 @@ no_clash_among live d (e ∷ es) p x s h f c =
         let item : e.1 ≡ x = some (sym (ap (λ o. cond (is_eq o) (Some e.1) (find path_cmp p es)) is) ∙ f) in
         let place : p ≡ e.0 = path_cmp_exact p e.0 is in
         subst (λ (q : List PathStep). differs x (get (part s d) q) ≡ false) (sym place)
-          (subst (λ (i : Item). differs i (get (part s d) e.0) ≡ false) item
-            (All-contains (λ (z : Service). differs e.1 (get (part z d) e.0) ≡ false) live s (filter_nil (λ (z : Service). differs e.1 (get (part z d) e.0)) live none) c))
+        (subst (λ (i : Item). differs i (get (part s d) e.0) ≡ false) item
+        (All-contains (λ (z : Service). differs e.1 (get (part z d) e.0) ≡ false) live s (filter_nil (λ (z : Service). differs e.1 (get (part z d) e.0)) live none) c))
+
     passed : (o : Ordering) → path_cmp p e.0 ≡ o → is_eq o ≡ false → find path_cmp p es ≡ Some x
     passed o is other = sym (ap (λ t. cond t (Some e.1) (find path_cmp p es)) (ap is_eq is ∙ other)) ∙ f
+
     by_order : (clash_among live d es ≡ None → find path_cmp p es ≡ Some x → differs x (get (part s d) p) ≡ false)
         → (o : Ordering) → path_cmp p e.0 ≡ o → rivals live d e ≡ [] → clash_among live d es ≡ None → differs x (get (part s d) p) ≡ false
     by_order later Less is none rest = later rest (passed Less is refl)
     by_order later Equal is none rest = here none is
     by_order later Greater is none rest = later rest (passed Greater is refl)
+
     by_least : (clash_among live d es ≡ None → find path_cmp p es ≡ Some x → differs x (get (part s d) p) ≡ false)
         → (o : Option (List ℕ)) → least (map (λ (service : Service). service.id) (rivals live d e)) ≡ o → differs x (get (part s d) p) ≡ false
     by_least later None is =
         by_order later (path_cmp p e.0) refl (map_nil _ _ (least_none _ is))
-          (sym (ap (λ o. option_map_or (λ id. Some (Clash d e.0 id)) o (clash_among live d es)) is) ∙ h)
+        (sym (ap (λ o. option_map_or (λ id. Some (Clash d e.0 id)) o (clash_among live d es)) is) ∙ h)
     by_least later (Some id) is =
         let found : Some (Clash d e.0 id) ≡ None = sym (ap (λ o. option_map_or (λ id. Some (Clash d e.0 id)) o (clash_among live d es)) is) ∙ h in cc
 
@@ -97,7 +99,7 @@ no_clash_on live k (m ∷ ms) d p x s h f c = on (λ e later g. no_clash_on live
         → (d : ℕ) → get (config_of (m ∷ ms) d) p ≡ Some x → differs x (get (part s (k + d)) p) ≡ false
     on later None is zero g =
         subst (λ (n : ℕ). differs x (get (part s n) p) ≡ false) (omega arith)
-          (no_clash_among live k (entries m) p x s is (sym (get-entries m p) ∙ g) c)
+        (no_clash_among live k (entries m) p x s is (sym (get-entries m p) ∙ g) c)
     on later None is (suc e) g =
         let rest : clash_on live (suc k) ms ≡ None = sym (ap (λ (o : Option Answer). elim o [ None ↦ clash_on live (suc k) ms | Some answer ↦ Some answer ]) is) ∙ h in
         subst (λ (n : ℕ). differs x (get (part s n) p) ≡ false) (omega arith) (later e rest g)
@@ -116,7 +118,7 @@ made_agrees : (names : List (List ℕ)) (s : State) (id : List ℕ) (writes : _)
 made_agrees names s id writes a h c d p x y f g =
     same_items x y
     (subst (λ (o : Option Item). differs x o ≡ false) (subst (λ (n : ℕ). get (part a n) p ≡ Some y) (omega arith) g)
-      (no_clash_on (others s.live id) 0 (expansion names writes) d p x a h f c))
+    (no_clash_on (others s.live id) 0 (expansion names writes) d p x a h f c))
 
 others_live : (live : List Service) (id : List ℕ) (a : Service) → Contains (others live id) a → Contains live a
 others_live live id a c =
@@ -157,6 +159,7 @@ after_agree names s (Literal id writes) h all a b c e =
   where
     new : Service
     new = record { id = id; parts = expansion names writes }
+
     none : clash names s (Literal id writes) ≡ None
     none = unrefused_clash names s (Literal id writes) h
 

@@ -1,3 +1,5 @@
 pub mod Agreement
 pub mod Traces
 pub mod Overlays
+pub mod Trees
+pub mod Legality

@@ -1,5 +1,5 @@
 -- The overlay of services that agree.
-use Rattle.std.proofs.Common.{◌≡◌, ℕ, List, [], ◌∷◌, ◌⊎◌, inl, inr, map, None, Some, refl, sym, ap, subst, ◌∙◌, arith}
+use Rattle.std.proofs.Common.{◌≡◌, ℕ, List, [], ◌∷◌, ◌⊎◌, inl, inr, map, None, Some, refl, sym, ap, subst, ◌∙◌}
 use Rattle.std.specs.declared.option.Option.{Option}
 use Rattle.std.specs.Option.{option_or}
 use Rattle.std.specs.List.{Contains}
@@ -10,9 +10,8 @@ use Rattle.orc_path.specs.Configurations.{Config, overlay}
 use Rattle.orc_path.specs.ConfigurationLaws.{same_config, get-overlay}
 use Rattle.orc_path.specs.declared.item.Item.{Item}
 use Rattle.orc_run.specs.States.{part, over, opening, overlaid, config_of, after}
-use Rattle.orc_run.specs.Histories.{fold_from, IsUnrefused}
-use Rattle.orc_run.specs.Laws.{Agree, AllAgree, IsOverlay, OverlayIsOne, OrderOfCreationIsFree}
-use Rattle.orc_run.specs.declared.bundle.Device.{Device}
+use Rattle.orc_run.specs.Histories.{fold_from}
+use Rattle.orc_run.specs.Laws.{AllAgree, IsOverlay, OverlayIsOne, OrderOfCreationIsFree}
 use Rattle.orc_run.specs.declared.call.Call.{Call}
 use Rattle.orc_run.specs.declared.state.Service.{Service}
 use Rattle.orc_run.specs.declared.state.State.{State}
@@ -115,4 +114,4 @@ order_free names devices one other d h g there back =
     (laid_is_overlay t.live d (config_of t.bases d) (living_agree names devices other g)) in
     overlay_unique s.live d (config_of s.bases d) (over s d) (over t d) is
     (subst (λ (b : List Config). IsOverlay s.live d (config_of s.bases d) (laid t.live d (config_of b d))) (sym bases)
-      (record { written = λ a p x c. is'.written a p x (there a c); others = λ p none. is'.others p (λ a c. none a (back a c)) }))
+    (record { written = λ a p x c. is'.written a p x (there a c); others = λ p none. is'.others p (λ a c. none a (back a c)) }))

@@ -1,5 +1,5 @@
 -- What a service that went leaves behind: nothing.
-use Rattle.std.proofs.Common.{◌≡◌, ℕ, zero, suc, ◌+◌, ◌<◌, Bool, true, false, cond, not, List, [], ◌∷◌, ◌++◌, length, get_or, All, refl, sym, ap, subst, ◌∙◌, arith, append_assoc, append-nil}
+use Rattle.std.proofs.Common.{◌≡◌, ℕ, Bool, true, false, cond, not, List, [], ◌∷◌, ◌++◌, All, refl, sym, ap, ◌∙◌, arith, append-nil}
 use Rattle.std.specs.List.{filter, list_any}
 use Rattle.std.proofs.lemmas.List.Elements.{filter-append, All-tail}
 use Rattle.std.specs.Cmp.Lexicographic.{bytes_decides}
@@ -91,7 +91,7 @@ deleted_leaves_no_trace names s before between create delete id writes makes goe
     ∙ ap (λ (z : State). after names z delete.action) middle
     ∙ ap (after names (fold_from names (after names at (Literal id writes)) between)) goes
     ∙ ap (λ (l : List Service). record (fold_from names (after names at (Literal id writes)) between) { live = l })
-        (append-nil (others (fold_from names (after names at (Literal id writes)) between).live id))
+    (append-nil (others (fold_from names (after names at (Literal id writes)) between).live id))
     ∙ fold-without names (after names at (Literal id writes)) between id other
     ∙ ap (λ (z : State). fold_from names z between) (gone_again names at id writes absent)
     ∙ sym (fold_from-append names s before between)

@@ -1,12 +1,16 @@
 -- What users rely on, over whole histories.
-use Rattle.std.specs.Prelude.{◌≡◌, ℕ, false, List, [], ◌∷◌, ◌++◌, All, Contains, Option}
+use Rattle.std.specs.Prelude.{◌≡◌, ℕ, false, List, [], ◌∷◌, ◌++◌, All, Contains, IsTrue, map, take}
 use Rattle.std.specs.declared.option.Option.TheVariants.{None, Some}
 use Rattle.std.specs.FinMap.{get}
 use Rattle.orc_path.specs.Steps.{PathStep}
-use Rattle.orc_path.specs.Configurations.{Config}
+use Rattle.orc_path.specs.Configurations.{Config, IsConfig}
 use Rattle.orc_path.specs.declared.item.Item.{Item}
 use Rattle.orc_run.specs.States.{is_text, part, lives, named, opening, over, config_of}
 use Rattle.orc_run.specs.Histories.{fold_from, IsUnrefused}
+use Rattle.orc_run.specs.Printed.{names_of, history_after}
+use Rattle.orc_run.specs.Bundles.{is_step, is_action, is_device, is_bundle, has_distinct_calls}
+use Rattle.orc_run.specs.declared.bundle.Bundle.{Bundle}
+use Rattle.orc_run.specs.declared.bundle.ScriptStep.TheVariants.{Serve}
 use Rattle.orc_run.specs.declared.bundle.Device.{Device}
 use Rattle.orc_run.specs.declared.call.Call.{Call}
 use Rattle.orc_run.specs.declared.call.Action.TheVariants.{Literal, Delete}
@@ -17,6 +21,26 @@ use Rattle.orc_run.specs.declared.state.State.{State}
 -- two services write no unequal items at one path of a device
 abbrev pub Agree : Service → Service → Type 0
 Agree a b = (d : ℕ) (p : List PathStep) (x y : Item) → get (part a d) p ≡ Some x → get (part b d) p ≡ Some y → x ≡ y
+
+-- A history is legal: each call is one that a call block can give, none is refused where it stands, and no caller and
+-- number stand twice.
+pub record IsLegal (names : List (List ℕ)) (s : State) (history : List Call) : Type 0 where
+  pub lawful : All (λ call. IsTrue (is_step names (Serve call))) history
+  pub unrefused : IsUnrefused names s history
+  pub distinct : IsTrue (has_distinct_calls (map Serve history))
+
+-- Whatever part of a bundle's script was done, the calls committed by then are a legal history.
+abbrev pub CommittedIsLegal : Type 0
+CommittedIsLegal =
+    (b : Bundle) (n : ℕ) → IsTrue (is_bundle b)
+    → IsLegal (names_of b.devices) (opening b.devices) (history_after (names_of b.devices) (opening b.devices) [] (take n b.steps))
+
+-- Where the calls of a history are ones that call blocks can give, the tree of each device is a configuration.
+abbrev pub TreeIsConfiguration : Type 0
+TreeIsConfiguration =
+    (names : List (List ℕ)) (devices : List Device) (history : List Call) (d : ℕ)
+    → All (λ device. IsTrue (is_device device)) devices → All (λ call. IsTrue (is_action names call.action)) history
+    → IsConfig (over (fold_from names (opening devices) history) d)
 
 -- no two of the services write unequal items at one path of a device
 abbrev pub AllAgree : List Service → Type 0

@@ -11,6 +11,9 @@ mod state;
 
 pub use bundle::{Bundle, Device, Put, ScriptStep};
 pub use call::{Action, Answer, Call, DevicePut};
-pub use laws::{deleted_without_trace, order_of_creation_is_free, overlay_is_one, services_agree};
+pub use laws::{
+    committed_is_legal, deleted_without_trace, order_of_creation_is_free, overlay_is_one,
+    services_agree, tree_is_configuration,
+};
 pub use read::{BundleFault, read_bundle};
 pub use state::{Service, State};
