@@ -1,2 +1,6 @@
 mod Last
 mod Prefixes
+mod Parts
+mod Feeds
+mod Again
+mod Refused

@@ -9,6 +9,7 @@ mod alphabet;
 mod item;
 mod name;
 mod path;
+mod reader;
 mod text;
 
 pub use item::{Item, Write};

@@ -41,6 +41,14 @@ impl Name {
         Err(PathFault::Memory)
     }
 
+    /// The name of this text, which is one.
+    pub(crate) fn of_text(text: Text) -> Name
+        requires { IsTrue (is_node_name text) }
+        ensures { result ≡ text }
+    {
+        Name { text }
+    }
+
     /// The bytes of the name.
     pub fn as_str(&self) -> &str
         ensures value { result.now ≡ self.now }

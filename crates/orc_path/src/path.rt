@@ -7,6 +7,7 @@ ghost use Rattle.orc_path.specs.Texts.{path_text, IsPathText};
 ghost use Rattle.orc_path.specs.Faults.{IsCauseOf};
 
 use crate::Name;
+use crate::reader::Reader;
 use orc_text::{Copied, Memory, Row, Text};
 use std::alloc::Global;
 use std::cmp::Ordering;
@@ -100,9 +101,18 @@ impl Path {
         ensures again { (p : List PathStep) → IsTrue (is_path p) → path_text p ≡ text.now → IfOk result (λ path. path ≡ p) }
         ensures fault { IfErr result (IsCauseOf IsPathText text.now) }
     {
-        let _ = alloc;
-        let _ = text;
-        Err(PathFault::Memory)
+        let mut reader = Reader::new(alloc);
+        for (at, byte) in text.as_bytes().iter().enumerate() {
+            if !reader.take(alloc, *byte)? {
+                return Err(PathFault::BadPath { at: at as u64 });
+            }
+        }
+        match reader.finish(alloc)? {
+            Some(path) => Ok(path),
+            None => Err(PathFault::BadPath {
+                at: text.len() as u64,
+            }),
+        }
     }
 
     /// An equal path.
