@@ -59,9 +59,9 @@ ways_up_to_has (suc n) p k l h =
     ⊎_elim
     (λ l. Contains-append_left (ways_up_to n p) _ _ (ways_up_to_has n p k l h))
     (λ g. let last : n ≡ k = omega arith in
-      Contains-append_right (ways_up_to n p) _ _
-      (subst (λ j. Contains (cond (has_keys_at p j) (take (suc j) p ∷ []) []) (take (suc k) p)) (sym last)
-      (subst (λ b. Contains (cond b (take (suc k) p ∷ []) []) (take (suc k) p)) (sym h) (0, omega arith, refl))))
+    Contains-append_right (ways_up_to n p) _ _
+    (subst (λ j. Contains (cond (has_keys_at p j) (take (suc j) p ∷ []) []) (take (suc k) p)) (sym last)
+    (subst (λ b. Contains (cond b (take (suc k) p ∷ []) []) (take (suc k) p)) (sym h) (0, omega arith, refl))))
     (cases_lt k n)
 
 ends_in_keys-long : (w : List PathStep) → ends_in_keys w ≡ true → 0 < length w
@@ -82,6 +82,7 @@ ways_are p w = (from, to)
           begins = i.3 ∙ ap (λ n. take n p) (sym size);
           keyed = ap ends_in_keys i.3 ∙ ends_in_keys-take p i.0 (omega (arith, i.1)) ∙ i.2;
         }
+
     to : IsWay w p → Contains (ways p) w
     to way =
         let size : length w ≡ suc (length w - 1) = omega (arith, ends_in_keys-long w way.keyed) in
@@ -148,9 +149,9 @@ put_item_cases m p item q =
     ⊎_elim
     (λ e. inl (same_path q p e, get-put_item m p item q ∙ cond-true _ _ _ e))
     (λ e. inr (⊎_elim
-      (λ h. inl (way_listed p q h, get-put_item m p item q ∙ cond-false _ _ _ e ∙ cond-true _ _ _ h))
-      (λ h. inr (get-put_item m p item q ∙ cond-false _ _ _ e ∙ cond-false _ _ _ h))
-      (cases_Bool (list_any (eq_by_cmp path_cmp q) (ways p)))))
+    (λ h. inl (way_listed p q h, get-put_item m p item q ∙ cond-false _ _ _ e ∙ cond-true _ _ _ h))
+    (λ h. inr (get-put_item m p item q ∙ cond-false _ _ _ e ∙ cond-false _ _ _ h))
+    (cases_Bool (list_any (eq_by_cmp path_cmp q) (ways p)))))
     (cases_Bool (eq_by_cmp path_cmp q p))
 
 -- an entry fits each path that ends in keys, and nothing else does
@@ -204,16 +205,16 @@ IsConfig-put_item m p item c path fit = record { paths = paths; fit = all_fit; w
     all_fit : (q : List PathStep) (i : Item) → get (put_item m p item) q ≡ Some i → IsTrue (fits q i)
     all_fit q i e =
         ⊎_elim (λ (here : (q ≡ p) × (get (put_item m p item) q ≡ Some item)).
-          subst (λ x. fits q x ≡ true) (same_Some _ _ (sym here.1 ∙ e)) (ap (λ x. fits x item) here.0 ∙ fit))
+        subst (λ x. fits q x ≡ true) (same_Some _ _ (sym here.1 ∙ e)) (ap (λ x. fits x item) here.0 ∙ fit))
         (⊎_elim (λ (way : IsWay q p × (get (put_item m p item) q ≡ Some Entry)).
-          subst (λ x. fits q x ≡ true) (same_Some _ _ (sym way.1 ∙ e)) (fits-Entry q way.0.keyed))
+        subst (λ x. fits q x ≡ true) (same_Some _ _ (sym way.1 ∙ e)) (fits-Entry q way.0.keyed))
         (λ (old : get (put_item m p item) q ≡ get m q). c.fit q i (sym old ∙ e)))
         (put_item_cases m p item q)
 
     kept : (w : List PathStep) → ends_in_keys w ≡ true → is_entry (get m w) ≡ true → is_entry (get (put_item m p item) w) ≡ true
     kept w k h =
         ⊎_elim (λ (here : (w ≡ p) × (get (put_item m p item) w ≡ Some item)).
-          ap is_entry here.1 ∙ is_entry-keyed p item fit (sym (ap ends_in_keys here.0) ∙ k))
+        ap is_entry here.1 ∙ is_entry-keyed p item fit (sym (ap ends_in_keys here.0) ∙ k))
         (⊎_elim (λ (way : IsWay w p × (get (put_item m p item) w ≡ Some Entry)). ap is_entry way.1)
         (λ (old : get (put_item m p item) w ≡ get m w). ap is_entry old ∙ h))
         (put_item_cases m p item w)
@@ -221,9 +222,9 @@ IsConfig-put_item m p item c path fit = record { paths = paths; fit = all_fit; w
     all_ways : (q w : List PathStep) → IsSome (get (put_item m p item) q) → IsWay w q → IsTrue (is_entry (get (put_item m p item) w))
     all_ways q w h way =
         ⊎_elim (λ (here : (q ≡ p) × (get (put_item m p item) q ≡ Some item)).
-          ap is_entry (get-put_item-way m p item w (subst (IsWay w) here.0 way)))
+        ap is_entry (get-put_item-way m p item w (subst (IsWay w) here.0 way)))
         (⊎_elim (λ (between : IsWay q p × (get (put_item m p item) q ≡ Some Entry)).
-          ap is_entry (get-put_item-way m p item w (IsWay-trans w q p way between.0)))
+        ap is_entry (get-put_item-way m p item w (IsWay-trans w q p way between.0)))
         (λ (old : get (put_item m p item) q ≡ get m q). kept w way.keyed (c.ways q w (sym (ap is_some old) ∙ h) way)))
         (put_item_cases m p item q)
 

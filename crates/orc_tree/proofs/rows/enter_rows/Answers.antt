@@ -1,10 +1,9 @@
-use Rattle.std.proofs.Common.{◌≡◌, ◌∷◌, true, List, length, ap, sym, subst, ◌∙◌, arith}
+use Rattle.std.proofs.Common.{◌≡◌, ◌∷◌, List, length, ap, sym, ◌∙◌, arith}
 use Rattle.std.specs.Vec.Iter.{into_iter_items}
-use Rattle.std.specs.FinMap.{is_sorted}
 use Rattle.orc_path.specs.Steps.{PathStep}
 use Rattle.orc_path.specs.declared.item.Item.TheVariants.{Entry}
 use Rattle.orc_path.specs.Configurations.{enter_all}
-use Rattle.orc_tree.proofs.Views.{view-put, view_of}
+use Rattle.orc_tree.proofs.Maps.{map_of, map_of-put}
 use Rattle.orc_tree.proofs.rows.enter_rows.Goals as goal
 
 pub loop-way-preserved : goal.loop-way-preserved
@@ -16,8 +15,8 @@ loop-way-preserved c =
     record {
       sorted = c.put_row.ensures.sorted;
       entered =
-          ap (enter_all rest) (view-put c.loop-way.rows.items c.put_row.new.rows.items way Entry invariant.sorted c.put_row.ensures.sorted (sym c.put_row.ensures.put))
-          ∙ ap (λ (ws : List (List PathStep)). enter_all ws (view_of c.loop-way.rows.items)) (sym first) ∙ invariant.entered;
+          ap (enter_all rest) (map_of-put c.loop-way.rows.items c.put_row.new.rows.items way Entry invariant.sorted c.put_row.ensures.sorted c.put_row.ensures.put)
+          ∙ ap (λ (ws : List (List PathStep)). enter_all ws (map_of c.loop-way.rows.items)) (sym first) ∙ invariant.entered;
       room = omega (arith, ap length first);
       len = omega (arith, ap length first);
       capacity = omega arith;

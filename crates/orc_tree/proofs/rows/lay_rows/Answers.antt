@@ -3,7 +3,7 @@ use Rattle.std.specs.Vec.Iter.{into_iter_items}
 use Rattle.orc_path.specs.Steps.{PathStep}
 use Rattle.orc_path.specs.declared.item.Item.{Item}
 use Rattle.orc_path.specs.Configurations.{lay}
-use Rattle.orc_tree.proofs.Views.{view-put, view_of}
+use Rattle.orc_tree.proofs.Maps.{map_of, map_of-put}
 use Rattle.orc_tree.proofs.rows.lay_rows.Goals as goal
 
 pub loop-path-preserved : goal.loop-path-preserved
@@ -14,7 +14,7 @@ loop-path-preserved c =
     record {
       sorted = c.put_row.ensures.sorted;
       laid =
-          ap (lay rest) (view-put c.loop-path.rows.items c.put_row.new.rows.items c.in-Some.path c.in-Some.item invariant.sorted c.put_row.ensures.sorted (sym c.put_row.ensures.put))
-          ∙ ap (λ (es : List (List PathStep × Item)). lay es (view_of c.loop-path.rows.items)) (sym first) ∙ invariant.laid;
+          ap (lay rest) (map_of-put c.loop-path.rows.items c.put_row.new.rows.items c.in-Some.path c.in-Some.item invariant.sorted c.put_row.ensures.sorted c.put_row.ensures.put)
+          ∙ ap (λ (es : List (List PathStep × Item)). lay es (map_of c.loop-path.rows.items)) (sym first) ∙ invariant.laid;
       room = omega (arith, ap length first);
     }

@@ -9,6 +9,6 @@ use Rattle.orc_tree.proofs.rows.lay_rows.Given as goal
 abbrev pub invariant-loop-path : goal.invariant-loop-path
 invariant-loop-path l = record {
   sorted : is_sorted path_cmp l.rows.items ≡ true;
-  laid : lay (into_iter_items l.path-iterator) (from_sorted l.rows.items) ≡ lay l.fn.others.items (from_sorted l.fn.rows.items);
+  laid : lay (into_iter_items l.path-iterator) (from_sorted l.rows.items) ≡ lay l.fn.top.items (from_sorted l.fn.rows.items);
   room : vec_len l.rows + length (into_iter_items l.path-iterator) ≤ vec_capacity l.rows;
 }
