@@ -3,4 +3,9 @@ mod Prefixes
 mod Parts
 mod Feeds
 mod Again
+mod Stops
 mod Refused
+mod Names
+pub mod Texts
+pub mod Equality
+pub mod Extensions

@@ -13,54 +13,13 @@ use Rattle.orc_path.specs.declared.reader.Place.{Place}
 use Rattle.orc_path.specs.declared.reader.Place.TheVariants.{Start, Slash, Module, Colon, Inside, Next, Key, Escape, Closed}
 use Rattle.orc_path.specs.declared.reader.Reader.{Reader}
 use Rattle.orc_path.proofs.Parts.{none_given, name_step}
+use Rattle.orc_path.proofs.Stops.{IsReader, given_before, bad_at, bad_end}
 use Rattle.orc_path.proofs.Feeds.{front, read_at, read, blank_front, is_path_more, feed_grows}
 use Rattle.orc_path.proofs.Again.{feed_all-append, name_places-append, reader_at, path_behind, path_again, identifier_again, qualified_again}
-
--- the first bytes of more bytes
-take-take : {A : Type 0} (n m : ℕ) (xs : List A) → n ≤ m → take n (take m xs) ≡ take n xs
-take-take zero m xs h = refl
-take-take (suc n) zero xs h = let not_so : ⊥ = omega arith in absurd not_so
-take-take (suc n) (suc m) [] h = refl
-take-take (suc n) (suc m) (x ∷ xs) h = ap (λ ys. x ∷ ys) (take-take n m xs (omega arith))
-
--- a reader that goes on from the beginnings of texts alone
-pub record IsReader (IsText : List ℕ → Type 0) (Takes : List ℕ → Type 0) : Type 0 where
-  pub front : (xs ys : List ℕ) → Takes (xs ++ ys) → Takes xs
-  pub texts : (xs : List ℕ) → IsText xs → Takes xs
-  pub begins : (xs : List ℕ) → Takes xs → Begins IsText xs
-
--- where it does not go on the text is bad
-pub bad_at : (IsText Takes : List ℕ → Type 0) → IsReader IsText Takes → (xs : List ℕ) (at : ℕ) → at < length xs → Takes (take at xs) → (Takes (take (suc at) xs) → ⊥) → IsBadAt IsText xs at
-bad_at IsText Takes reader xs at within here not_so = record {
-  within = omega arith;
-  begins = reader.begins (take at xs) here;
-  longest = λ n lt le b. not_so (from n lt (reader.front (take n xs) b.0 (reader.texts (take n xs ++ b.0) b.1)));
-  none = λ t. not_so (reader.front (take (suc at) xs) (drop (suc at) xs) (subst Takes (sym (take-append-drop (suc at) xs)) (reader.texts xs t)));
-}
-  where
-    from : (n : ℕ) → at < n → Takes (take n xs) → Takes (take (suc at) xs)
-    from n lt t =
-        subst Takes (take-take (suc at) n xs (omega arith)) (reader.front (take (suc at) (take n xs)) (drop (suc at) (take n xs)) (subst Takes (sym (take-append-drop (suc at) (take n xs))) t))
-
--- a text that ends too early is bad at its end
-pub bad_end : (IsText Takes : List ℕ → Type 0) → IsReader IsText Takes → (xs : List ℕ) → Takes xs → (IsText xs → ⊥) → IsBadAt IsText xs (length xs)
-bad_end IsText Takes reader xs here not_so = record {
-  within = omega arith;
-  begins = reader.begins (take (length xs) xs) (subst Takes (sym (take-length xs)) here);
-  longest = λ n lt le b. absurd (omega arith);
-  none = not_so;
-}
 
 -- some reader stands behind the bytes
 abbrev pub Takes : List ℕ → Type 0
 Takes xs = (r : Reader) × (feed_all at_start xs ≡ Some r)
-
-abbrev pub NameTakes : List ℕ → Type 0
-NameTakes xs = (m : Place) × (name_places Slash xs ≡ Some m)
-
-given_before : {A B : Type 0} (o : Option A) (f : A → Option B) (b : B) → option_and_then f o ≡ Some b → (a : A) × (o ≡ Some a)
-given_before None f b e = none_given _ b e
-given_before (Some a) f b e = (a, refl)
 
 -- what was read is the bytes
 reads_by : (o : Option Reader) (r s : Reader) (b : ℕ) (bs : List ℕ) → feed r b ≡ o → Fits r → ((t : Reader) → feed_all t bs ≡ Some s → Fits t → Fits s × (read s ≡ read t ++ bs))
@@ -178,7 +137,3 @@ unfinished xs r e w = bad_end IsPathText Takes paths_read xs (r, e) (λ t. none_
 -- all bytes were read
 pub read_whole : (xs ys : List ℕ) (at : ℕ) (r : Reader) → ys ≡ xs → length ys ≤ at → feed_all at_start (take at xs) ≡ Some r → feed_all at_start xs ≡ Some r
 read_whole xs ys at r same end e = ap (feed_all at_start) (sym (take_all at xs (subst (λ zs. length zs ≤ at) same end))) ∙ e
-
--- paths with one text are one path
-pub same_text : (p q : List PathStep) → is_path p ≡ true → is_path q ≡ true → path_text p ≡ path_text q → p ≡ q
-same_text p q h k e = let same : Some p ≡ Some q = sym (path_again p h) ∙ ap (path_behind at_start) e ∙ path_again q k in cc

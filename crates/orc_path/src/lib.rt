@@ -10,6 +10,8 @@ mod item;
 mod name;
 mod path;
 mod reader;
+#[cfg(test)]
+mod tests;
 mod text;
 
 pub use item::{Item, Write};

@@ -1,6 +1,7 @@
 //! Steps and paths.
-ghost use Rattle.std.specs.Prelude.{◌≡◌, ◌≤◌, List, IfOk, IfErr, IsTrue, length, take};
+ghost use Rattle.std.specs.Prelude.{◌≡◌, ◌≢◌, ◌≤◌, List, IfOk, IfErr, IsTrue, length, take};
 ghost use Rattle.std.specs.Cmp.{IsTotalOrder};
+ghost use Rattle.std.specs.declared.cmp.Ordering.TheVariants.{Less};
 ghost use Rattle.orc_path.specs.Order.{path_cmp, is_prefix};
 ghost use Rattle.orc_path.specs.Steps.{PathStep, ends_in_keys, is_path};
 ghost use Rattle.orc_path.specs.Texts.{path_text, IsPathText};
@@ -132,9 +133,11 @@ impl Path {
         Ord::cmp(self, other)
     }
 
-    /// Whether the other path begins with this one's steps. A path comes before its extensions.
+    /// Whether the other path begins with this one's steps.
     pub fn is_prefix_of(&self, other: &Path) -> bool
-        ensures { result ≡ is_prefix self.now other.now }
+        ensures value { result ≡ is_prefix self.now other.now }
+        // A path comes before its extensions.
+        ensures before { IsTrue result → self.now ≢ other.now → path_cmp self.now other.now ≡ Less }
     {
         other.steps.as_slice().starts_with(self.steps.as_slice())
     }

@@ -1,7 +1,7 @@
 //! Reads a path byte by byte.
 ghost use Rattle.std.specs.Prelude.{◌≡◌, ◌<◌, ◌++◌, ◌∷◌, [], IfOk, OnOk, IsTrue, IsSome, MatchBool, MatchOption};
 ghost use Rattle.std.specs.declared.option.Option.TheVariants.{None, Some};
-ghost use Rattle.orc_path.specs.Reading.{unescape, is_plain, name_place, feed_end, feed_key, feed_escape, feed_mark, feed, at_start, whole, present_step, Fits, IsStepRead};
+ghost use Rattle.orc_path.specs.Reading.{unescape, is_plain, name_place, is_name_end, feed_end, feed_key, feed_escape, feed_mark, feed, at_start, whole, present_step, Fits, IsStepRead};
 
 use crate::alphabet::{is_name_byte, is_name_start};
 use crate::{Name, Path, Step};
@@ -65,6 +65,13 @@ pub(crate) fn name_place(place: Place, byte: u8) -> Option<Place>
         Place::Inside if is_name_byte(byte) => Some(Place::Inside),
         _ => None,
     }
+}
+
+/// Whether a name may end here.
+pub(crate) fn is_name_end(place: Place) -> bool
+    ensures { result ≡ is_name_end place }
+{
+    matches!(place, Place::Module | Place::Inside)
 }
 
 /// The steps that are whole, and the parts of the one that is being read.

@@ -1,7 +1,8 @@
 use Rattle.std.proofs.Common.{◌≡◌, ◌∙◌, Bool, true, false, take, sym}
 use Rattle.std.specs.Bool.{MatchBool}
 use Rattle.orc_path.specs.Texts.{path_text}
-use Rattle.orc_path.proofs.Refused.{reads_from_start, whole_text, taken_at, refused_at, unfinished, read_whole, same_text}
+use Rattle.orc_path.proofs.Refused.{reads_from_start, whole_text, taken_at, refused_at, unfinished, read_whole}
+use Rattle.orc_path.proofs.Texts.{path_text-injective}
 use Rattle.orc_path.proofs.path.Path.parse.Goals as goal
 
 if_so : (t : Bool) (P Q : Type 0) → MatchBool t P Q → t ≡ true → P
@@ -37,7 +38,7 @@ pub returns-in-Some-clause-again : goal.returns-in-Some-clause-again
 returns-in-Some-clause-again c =
     let read = read_whole c.args.text.now c.as_bytes-byte-items.result.now c.loop-at.at c.loop-at.reader c.as_bytes-byte-items.ensures.value c.loop-at-test.false c.loop-at.invariant in
     let so = whole_text c.loop-at.reader c.in-Some.path c.args.text.now read (sym c.in_ok-path.ensures ∙ c.in-Some.is) in
-    λ p path text. same_text c.in-Some.path p so.0 path (so.1 ∙ sym text)
+    λ p path text. path_text-injective c.in-Some.path p so.0 path (so.1 ∙ sym text)
 
 pub returns-in-None-clause-fault : goal.returns-in-None-clause-fault
 returns-in-None-clause-fault c =
