@@ -1,5 +1,5 @@
 -- What a script prints.
-use Rattle.std.specs.Prelude.{ℕ, List, [], ◌∷◌, ◌++◌, codes, map}
+use Rattle.std.specs.Prelude.{ℕ, nat_lt, Bool, true, List, [], ◌∷◌, ◌++◌, codes, map}
 use Rattle.std.specs.Fmt.{decimal}
 use Rattle.std.specs.List.{flat_map, slice_get}
 use Rattle.std.specs.Option.{option_map_or}
@@ -41,6 +41,13 @@ answer_words names (Committed n) = codes "Committed " ++ decimal n
 answer_words names (Exists id) = codes "Exists " ++ id
 answer_words names (Missing id) = codes "Missing " ++ id
 answer_words names (Clash d p id) = codes "Clash " ++ name_of names d ++ 32 ∷ [] ++ path_text p ++ 32 ∷ [] ++ id
+
+-- where the answer names a device, the device is one of so many
+abbrev pub is_answer_among : ℕ → Answer → Bool
+is_answer_among devices (Committed n) = true
+is_answer_among devices (Exists id) = true
+is_answer_among devices (Missing id) = true
+is_answer_among devices (Clash d p id) = nat_lt d devices
 
 -- the caller, the call's number and the answer
 abbrev pub answer_line : List (List ℕ) → Call → Answer → List ℕ

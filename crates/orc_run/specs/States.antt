@@ -1,13 +1,15 @@
 -- The state and what an action does to it.
-use Rattle.std.specs.Prelude.{ℕ, suc, Bool, true, false, not, nat_eq, List, [], ◌∷◌, ◌++◌, map, filter, Option, if◌then◌else◌}
+use Rattle.std.specs.Prelude.{ℕ, zero, suc, ◌+◌, Bool, true, false, not, nat_eq, ◌≡◌, List, [], ◌∷◌, ◌++◌, length, map, filter, find, is_some, All, Option, if◌then◌else◌}
 use Rattle.std.specs.declared.option.Option.TheVariants.{None, Some}
+use Rattle.std.specs.declared.cmp.Ordering.TheVariants.{Less, Equal, Greater}
 use Rattle.std.specs.Ordering.{is_lt}
-use Rattle.std.specs.List.{list_any, slice_get}
-use Rattle.std.specs.Option.{option_map_or}
+use Rattle.std.specs.List.{list_all, list_any, slice_get, fold}
+use Rattle.std.specs.Option.{option_map, option_map_or}
 use Rattle.std.specs.Cmp.Lexicographic.{pointwise}
 use Rattle.std.specs.FinMap.{empty, entries, get}
 use Rattle.orc_path.specs.Steps.{PathStep}
 use Rattle.orc_path.specs.Order.{text_cmp}
+use Rattle.orc_path.specs.Items.{fits}
 use Rattle.orc_path.specs.Configurations.{Config, put_item, overlay}
 use Rattle.orc_path.specs.declared.item.Item.{Item}
 use Rattle.orc_path.specs.declared.item.Item.TheVariants.{Entry, Leaf}
@@ -52,9 +54,24 @@ has_id id s = is_text s.id id
 abbrev pub lives : State → List ℕ → Bool
 lives s id = list_any (has_id id) s.live
 
+-- each item fits its path
+abbrev pub fits_puts : List Put → Bool
+fits_puts puts = list_all (λ p. fits p.path p.item) puts
+
+abbrev pub fits_devices : List Device → Bool
+fits_devices devices = list_all (λ device. fits_puts device.base) devices
+
+abbrev pub fits_action : Action → Bool
+fits_action (Literal id writes) = list_all (λ w. fits w.path w.item) writes
+fits_action (Delete id) = true
+
 -- the declared bases and no service
 abbrev pub opening : List Device → State
 opening devices = record { bases = map (λ device. put_all device.base empty) devices; live = [] }
+
+-- each living service has a part on each device that has a base
+abbrev pub IsComplete : State → Type 0
+IsComplete s = All (λ service. length service.parts ≡ length s.bases) s.live
 
 -- the base overlaid with the items that the services write, one after the other
 abbrev pub overlaid : List Config → Config → Config
@@ -95,10 +112,14 @@ differs (Leaf text) (Some (Leaf other)) = not (is_text text other)
 abbrev pub rivals : List Service → ℕ → List PathStep × Item → List Service
 rivals live d e = filter (λ service. differs e.1 (get (part service d) e.0)) live
 
--- the least name by its bytes
+-- the lesser of two names by their bytes
+abbrev pub lesser : List ℕ → List ℕ → List ℕ
+lesser id other = if is_lt (text_cmp other id) then other else id
+
+-- the least name
 abbrev pub least : List (List ℕ) → Option (List ℕ)
 least [] = None
-least (id ∷ ids) = Some (option_map_or (λ other. if is_lt (text_cmp other id) then other else id) (least ids) id)
+least (id ∷ ids) = Some (fold lesser id ids)
 
 -- the least path of a device at which one of these items and a living service's differ, and the least such service
 abbrev pub clash_among : List Service → ℕ → List (List PathStep × Item) → Option Answer

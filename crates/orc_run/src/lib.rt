@@ -4,10 +4,15 @@
 
 mod bundle;
 mod call;
-mod law;
 mod laws;
+mod front;
+mod print;
 mod read;
+mod run;
 mod state;
+mod stop;
+mod top;
+mod words;
 
 pub use bundle::{Bundle, Device, Put, ScriptStep};
 pub use call::{Action, Answer, Call, DevicePut};
@@ -17,3 +22,5 @@ pub use laws::{
 };
 pub use read::{BundleFault, read_bundle};
 pub use state::{Service, State};
+pub use stop::{Done, Rule, Stop, status};
+pub use top::orchestrate;

@@ -1,0 +1,71 @@
+//! How a run ends.
+ghost use Rattle.std.specs.Prelude.{◌≡◌};
+ghost use Rattle.orc_run.specs.Statuses.{status_of, stop_status};
+
+use std::fmt;
+use thiserror::Error;
+
+/// The rule that a line of a bundle breaks.
+#[derive(Clone, Copy, Debug, PartialEq, Eq)]
+pub enum Rule {
+    /// The line has no form that may stand there.
+    Line,
+}
+
+impl fmt::Display for Rule {
+    fn fmt<W: fmt::Write>(&self, f: &mut fmt::Formatter<W>) -> fmt::Result {
+        match self {
+            Rule::Line => write!(f, "line"),
+        }
+    }
+}
+
+/// The source was read to its end, and every step of the script was done.
+#[derive(Clone, Copy, Debug, PartialEq, Eq)]
+pub struct Done;
+
+/// Why a run ended before it was done.
+#[derive(Debug, PartialEq, Eq, Drop, Error)]
+pub enum Stop {
+    /// The bytes read are no bundle: its first line at fault, and the first rule that the line
+    /// breaks.
+    #[error("Bundle {line} {rule}")]
+    Bundle { line: u64, rule: Rule },
+    /// The command words are none.
+    #[error("Usage")]
+    Usage,
+    /// A call of the source failed.
+    #[error("ReadFault")]
+    ReadFault,
+    /// A call of the sink failed.
+    #[error("WriteFault")]
+    WriteFault,
+    /// Memory could not be had.
+    #[error("Memory")]
+    Memory,
+}
+
+impl Stop {
+    /// The status with which the program ends after it.
+    pub fn status(&self) -> u8
+        ensures { result ≡ stop_status self.now }
+    {
+        match self {
+            Stop::Bundle { .. } => 1,
+            Stop::Usage => 2,
+            Stop::ReadFault => 3,
+            Stop::WriteFault => 4,
+            Stop::Memory => 6,
+        }
+    }
+}
+
+/// The status with which the program ends: 0 where all was done.
+pub fn status(ended: &Result<Done, Stop>) -> u8
+    ensures { result ≡ status_of ended.now }
+{
+    match ended {
+        Ok(Done) => 0,
+        Err(stop) => stop.status(),
+    }
+}
