@@ -4,8 +4,8 @@
 
 mod bundle;
 mod call;
-mod laws;
 mod front;
+mod laws;
 mod print;
 mod read;
 mod run;
