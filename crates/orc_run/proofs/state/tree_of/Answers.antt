@@ -7,4 +7,4 @@ use Rattle.orc_run.proofs.state.tree_of.Goals as goal
 pub set-requires : goal.set-requires
 set-requires c =
     let fit = list_all-read (λ (p : Put). fits p.path p.item) c.args.puts.now c.loop-put.put-index c.put-item.result c.loop-put-test.true c.put-item.is c.requires in
-    rw (c.in_ok-copy.ensures, c.in_ok-copy-2.ensures) fit
+    record { fits = rw (c.in_ok-copy.ensures, c.in_ok-copy-2.ensures) fit }

@@ -1,0 +1,45 @@
+//! The program: it runs the bundle on standard input, and writes what the bundle prints to standard
+//! output.
+#![tactic(auto)]
+
+use orc_io::{StdSink, StdSource};
+use orc_run::{Done, Stop, orchestrate, status};
+use std::env;
+use std::io;
+use std::process::ExitCode;
+use std::rt::Env;
+
+/// Ends with the status of the run. A fault is named on standard error.
+fn main(rt: HostRuntime) -> ExitCode {
+    let ended = run(&rt);
+    if let Err(stop) = &ended {
+        let _ = eprintln!(rt; "orc: {stop}");
+    }
+    ExitCode::from(status(&ended))
+}
+
+/// Runs the bundle on standard input.
+fn run<R: Env + Input + Print + AllocGlobal>(rt: &R) -> Result<Done, Stop> {
+    let words = words(rt)?;
+    let mut source = StdSource::new(rt.reader());
+    let mut sink = StdSink::new(io::writer(rt));
+    orchestrate(rt.alloc(), words.as_slice(), &mut source, &mut sink)
+}
+
+/// The command words, which are the arguments behind the program's name. Words that are not UTF-8
+/// are none.
+fn words<R: Env + AllocGlobal>(rt: &R) -> Result<Vec<String>, Stop> {
+    let mut arguments = match env::args(rt) {
+        Ok(arguments) => arguments,
+        Err(error) if error.kind() == io::ErrorKind::OutOfMemory => return Err(Stop::Memory),
+        Err(_) => return Err(Stop::Usage),
+    };
+    let _program = arguments.next();
+    let mut words = Vec::new(rt.alloc());
+    for word in arguments {
+        if words.push(word).is_err() {
+            return Err(Stop::Memory);
+        }
+    }
+    Ok(words)
+}
