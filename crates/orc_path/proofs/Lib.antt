@@ -1,2 +1,11 @@
 mod Last
 mod Prefixes
+mod Parts
+mod Feeds
+mod Again
+mod Stops
+mod Refused
+mod Names
+pub mod Texts
+pub mod Equality
+pub mod Extensions

@@ -9,6 +9,9 @@ mod alphabet;
 mod item;
 mod name;
 mod path;
+mod reader;
+#[cfg(test)]
+mod tests;
 mod text;
 
 pub use item::{Item, Write};
