@@ -17,7 +17,7 @@ use std::marker::Model;
 
 /// A configuration: a finite map from paths to items in which every entry on the way to a path is
 /// present.
-#[derive(Drop)]
+#[derive(Debug, Drop)]
 pub struct Tree {
     rows: Vec<(Path, Item)>,
 }
