@@ -19,7 +19,7 @@ use Rattle.orc_path.specs.ConfigurationLaws.{is_entry_of_decides, length-list_of
 use Rattle.orc_path.specs.declared.item.Item.{Item}
 use Rattle.orc_tree.specs.Rows.{IsRowOf, IsPlaceOf}
 use Rattle.orc_tree.specs.Lists.{is_under, IsFirstFrom, IsUnderUpTo}
-use Rattle.orc_tree.proofs.Equal.{step_eq_decides}
+use Rattle.orc_path.proofs.Equality.{step_eq_decides}
 use Rattle.orc_tree.proofs.InOrder.{is_true_T, in_order, turned_by}
 use Rattle.orc_tree.proofs.Maps.{Rows}
 
