@@ -7,9 +7,10 @@ use Rattle.std.proofs.lemmas.Grind.{flat_map-append}
 use Rattle.orc_path.specs.Alphabet.{is_key, is_key_byte}
 use Rattle.orc_path.specs.Steps.{PathStep, is_path, is_later_step}
 use Rattle.orc_path.specs.Texts.{escape, key_text, step_text, path_text}
-use Rattle.orc_path.specs.Reading.{unescape, is_plain, name_place, present_step, feed_start, feed_end, feed_key, feed_escape, feed_mark, feed_at, feed, feed_all, whole_at, whole, is_name_behind, IsNamePart, IsStepRead, IsKeyPart, IsPart, FitsAt, Fits}
-use Rattle.orc_path.specs.declared.reader.Place.{Place}
-use Rattle.orc_path.specs.declared.reader.Place.TheVariants.{Start, Slash, Module, Colon, Inside, Next, Key, Escape, Closed}
+use Rattle.orc_path.specs.Reading.{unescape, is_plain, name_place, present_step, feed_start, feed_end, feed_key, feed_escape, feed_mark, feed_at, feed, whole_at, whole, is_name_behind, IsNamePart, IsStepRead, IsKeyPart, IsPart, FitsAt, Fits}
+use Rattle.orc_path.proofs.Runs.{feed_all}
+use Rattle.orc_path.specs.declared.place.Place.{Place}
+use Rattle.orc_path.specs.declared.place.Place.TheVariants.{Start, Slash, Module, Colon, Inside, Next, Key, Escape, Closed}
 use Rattle.orc_path.specs.declared.reader.Reader.{Reader}
 use Rattle.orc_path.proofs.Parts.{both, chosen, none_given, taken, list_all_more, name_step}
 

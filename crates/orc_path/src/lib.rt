@@ -9,6 +9,7 @@ mod alphabet;
 mod item;
 mod name;
 mod path;
+mod place;
 mod reader;
 #[cfg(test)]
 mod tests;
