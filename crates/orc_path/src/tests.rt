@@ -54,9 +54,12 @@ fn a_path_text_is_written_back(rt: HostRuntime) -> Result<(), Fail> {
 #[test]
 fn an_escape_stands_for_its_character(rt: HostRuntime) -> Result<(), Fail> {
     let path = Path::parse(rt.alloc(), r"/a:b[\\\]\s\t\n\r]")?;
-    let step = &path.steps.as_slice()[0];
-    let key = &step.keys.as_slice()[0];
-    assert_eq!(rt; key.as_str(), "\\] \t\n\r");
+    let steps = path.steps.as_slice();
+    assert_eq!(rt; steps.len(), 1);
+    let step = &steps[0];
+    let keys = step.keys.as_slice();
+    assert_eq!(rt; keys.len(), 1);
+    assert_eq!(rt; keys[0].as_str(), "\\] \t\n\r");
     Ok(())
 }
 
