@@ -1,17 +1,17 @@
 -- The text of a path or a name is read again.
-use Rattle.std.proofs.Common.{◌≡◌, ℕ, Bool, true, false, ◌==◌, ◌&&◌, cond, List, [], ◌∷◌, ◌++◌, Some, None, Option, refl, sym, ap, subst, ◌∙◌, arith, append_assoc, append-nil}
+use Rattle.std.proofs.Common.{◌≡◌, ℕ, Bool, true, false, ◌==◌, ◌&&◌, cond, List, [], ◌∷◌, ◌++◌, Some, None, Option, refl, sym, ap, ◌∙◌, arith, append_assoc, append-nil}
 use Rattle.std.specs.List.{flat_map, list_all}
-use Rattle.std.specs.Option.{option_map, option_and_then, option_map_or}
+use Rattle.std.specs.Option.{option_and_then, option_map_or}
 use Rattle.std.specs.Cmp.{first_so, second_so}
-use Rattle.orc_path.specs.Alphabet.{is_name_start, is_name_byte, is_identifier, is_qualified, is_qualified_rest, is_key, is_key_byte}
+use Rattle.orc_path.specs.Alphabet.{is_name_byte, is_identifier, is_qualified, is_qualified_rest, is_key, is_key_byte}
 use Rattle.orc_path.specs.Steps.{PathStep, is_later_step, is_path}
 use Rattle.orc_path.specs.Texts.{escape, key_text, step_text, path_text}
-use Rattle.orc_path.specs.Reading.{name_place, feed_mark, feed_at, feed, at_start, whole}
-use Rattle.orc_path.proofs.Runs.{name_places, feed_all, feed_all-append, name_places-append}
+use Rattle.orc_path.specs.Reading.{name_place, feed_mark, at_start, whole}
+use Rattle.orc_path.proofs.Runs.{name_places, feed_all, feed_all-append}
 use Rattle.orc_path.specs.declared.place.Place.{Place}
-use Rattle.orc_path.specs.declared.place.Place.TheVariants.{Start, Slash, Module, Colon, Inside, Next, Key, Escape, Closed}
+use Rattle.orc_path.specs.declared.place.Place.TheVariants.{Slash, Module, Colon, Inside, Next, Key, Closed}
 use Rattle.orc_path.specs.declared.reader.Reader.{Reader}
-use Rattle.orc_path.proofs.Parts.{both, no_colon}
+use Rattle.orc_path.proofs.Parts.{no_colon}
 
 -- the path, where these bytes bring the reader to the end of one
 abbrev pub path_behind : Reader → List ℕ → Option (List PathStep)
