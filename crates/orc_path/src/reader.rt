@@ -1,5 +1,5 @@
 //! Reads a path byte by byte.
-ghost use Rattle.std.specs.Prelude.{◌≡◌, ◌<◌, ◌++◌, ◌∷◌, [], IfOk, OnOk, IsTrue, IsSome, MatchBool, MatchOption};
+ghost use Rattle.std.specs.Prelude.{◌≡◌, ◌++◌, ◌∷◌, [], IfOk, MatchBool};
 ghost use Rattle.std.specs.declared.option.Option.TheVariants.{None, Some};
 ghost use Rattle.orc_path.specs.Reading.{unescape, is_plain, feed_end, feed_key, feed_escape, feed_mark, feed, at_start, whole, present_step, Fits, IsStepRead};
 
