@@ -7,3 +7,4 @@ mod Tests
 mod Refusals
 mod Transcripts
 mod OneWord
+mod Services

@@ -61,8 +61,11 @@ fits_puts puts = list_all (λ p. fits p.path p.item) puts
 abbrev pub fits_devices : List Device → Bool
 fits_devices devices = list_all (λ device. fits_puts device.base) devices
 
+abbrev pub fits_writes : List DevicePut → Bool
+fits_writes writes = list_all (λ w. fits w.path w.item) writes
+
 abbrev pub fits_action : Action → Bool
-fits_action (Literal id writes) = list_all (λ w. fits w.path w.item) writes
+fits_action (Literal id writes) = fits_writes writes
 fits_action (Delete id) = true
 
 -- the declared bases and no service

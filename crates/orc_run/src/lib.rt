@@ -4,6 +4,8 @@
 
 mod bundle;
 mod call;
+mod clash;
+mod expansion;
 mod front;
 mod laws;
 mod print;
@@ -11,6 +13,8 @@ mod read;
 mod run;
 mod state;
 mod stop;
+#[cfg(test)]
+mod tests;
 mod top;
 mod words;
 

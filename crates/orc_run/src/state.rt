@@ -1,12 +1,15 @@
 //! The state of the orchestrator.
-ghost use Rattle.std.specs.Prelude.{◌≡◌, ◌≢◌, ◌<◌, ◌^◌, IfOk, IsTrue, Ok, None, Some, length};
-ghost use Rattle.orc_run.specs.States.{IsComplete, after, fits_action, fits_devices, fits_puts, opening, over, part, put_all, refusal};
+ghost use Rattle.std.specs.Prelude.{◌≡◌, ◌≢◌, ◌<◌, ◌^◌, false, IfOk, IsTrue, Ok, None, Some, length};
+ghost use Rattle.orc_run.specs.States.{IsComplete, after, fits_action, fits_devices, fits_puts, fits_writes, lives, opening, others, over, part, put_all, refusal};
 ghost use Rattle.std.specs.FinMap.{empty};
 
-use crate::{Action, Answer, Device, Put};
+use crate::clash::clash;
+use crate::expansion::expansion;
+use crate::{Action, Answer, Device, DevicePut, Put};
 use orc_text::{Memory, Row, Text};
 use orc_tree::Tree;
 use std::alloc::Global;
+use std::mem;
 
 /// A living service and the items that it writes, on each device in the order of declaration.
 #[derive(Drop)]
@@ -82,11 +85,77 @@ impl State {
         ensures complete { IsComplete self.new }
         ensures bases { self.new.bases ≡ self.old.bases }
     {
-        let _ = alloc;
-        let _ = names;
-        let _ = action;
-        Err(Memory)
+        match action {
+            Action::Literal(id, writes) => {
+                if self.lives(id) {
+                    return Ok(Some(Answer::Exists(id.copy(alloc)?)));
+                }
+                self.create(alloc, names, id, writes.as_slice())
+            }
+            Action::Delete(id) => {
+                if !self.lives(id) {
+                    return Ok(Some(Answer::Missing(id.copy(alloc)?)));
+                }
+                self.delete(alloc, id);
+                Ok(None)
+            }
+        }
     }
+
+    // Whether a service of this name lives.
+    fn lives(&self, id: &Text) -> bool
+        ensures { result ≡ lives self.now id.now }
+    {
+        self.live.as_slice().iter().any(|service| service.id == *id)
+    }
+
+    // Creates a literal service that does not live, or answers with which living one it clashes.
+    fn create(
+        &mut self,
+        alloc: Global,
+        names: &[Text],
+        id: &Text,
+        writes: &[DevicePut],
+    ) -> Result<Option<Answer>, Memory>
+        requires fit { IsTrue (fits_writes writes.now) }
+        requires new { lives self.old id.now ≡ false }
+        requires complete { IsComplete self.old }
+        requires devices { length names.now ≡ length self.old.bases }
+        requires few { length names.now < 2 ^ 32 }
+        ensures clash { IfOk result (λ found. found ≡ refusal names.now self.old (Action.Literal id.now writes.now)) }
+        ensures done { result ≡ Ok None → self.new ≡ after names.now self.old (Action.Literal id.now writes.now) }
+        ensures kept { result ≢ Ok None → self.new ≡ self.old }
+        ensures complete { IsComplete self.new }
+    {
+        let parts = expansion(alloc, names, writes)?;
+        match clash(alloc, self.live.as_slice(), parts.as_slice())? {
+            Some(found) => Ok(Some(found)),
+            None => {
+                let id = id.copy(alloc)?;
+                self.live.push(Service { id, parts })?;
+                Ok(None)
+            }
+        }
+    }
+
+    // Takes the service of this name away.
+    fn delete(&mut self, alloc: Global, id: &Text)
+        requires { IsComplete self.old }
+        ensures done { self.new ≡ record self.old { live = others self.old.live id.now } }
+        ensures complete { IsComplete self.new }
+    {
+        let live = mem::replace(&mut self.live, Row::new(alloc));
+        self.live = others(live, id);
+    }
+}
+
+// The services but that of this name.
+fn others(live: Row<Service>, id: &Text) -> Row<Service>
+    ensures { result ≡ others live id.now }
+{
+    let mut live = live.into_vec();
+    live.retain(|service| service.id != *id);
+    Row::from_vec(live)
 }
 
 // A tree with these items.

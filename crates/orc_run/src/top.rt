@@ -35,7 +35,7 @@ pub fn orchestrate<S: Source, K: Sink>(
     ensures done { OnOk result (IsDone (S.left source.old) (S.left source.new) (K.held sink.old) (K.held sink.new)) }
     ensures usage { IsErrOf result Stop.Usage ↔ (map (λ w. string_bytes w) words.now ≡ codes "run" ∷ [] → ⊥) }
     ensures usage_keeps { IsErrOf result Stop.Usage → (source.new ≡ source.old) × (sink.new ≡ sink.old) }
-    ensures bundle { (line : ℕ) (rule : Rule) → IsErrOf result (Stop.Bundle line rule) → GivesNone (S.left source.old) (S.left source.new) LIMIT }
+    ensures bundle { (line : ℕ) (rule : Rule) → IsErrOf result (Stop.Bundle line rule) → GivesNone (S.left source.old) (S.left source.new) }
     ensures bundle_place { (line : ℕ) (rule : Rule) → IsErrOf result (Stop.Bundle line rule) → (line ≡ 0) × (rule ≡ Rule.Line) }
     ensures bundle_keeps { (line : ℕ) (rule : Rule) → IsErrOf result (Stop.Bundle line rule) → sink.new ≡ sink.old }
     ensures read { IsErrOf result Stop.ReadFault → Rose (S.faults source.old) (S.faults source.new) }
