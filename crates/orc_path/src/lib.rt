@@ -11,6 +11,7 @@ mod name;
 mod path;
 mod text;
 
+pub use alphabet::{are_name_bytes, is_identifier};
 pub use item::{Item, Write};
 pub use name::Name;
 pub use path::{Path, PathFault, Step};

@@ -1,7 +1,12 @@
 //! Reading of a bundle.
 ghost use Rattle.std.specs.Prelude.{◌≡◌, IfOk, IsErrOf};
 
+mod item;
+mod line;
+mod words;
+
 use crate::Bundle;
+use orc_text::Memory;
 use std::alloc::Global;
 
 /// Why bytes were not read as a bundle.
@@ -11,6 +16,17 @@ pub enum BundleFault {
     Refused,
     /// Memory could not be had.
     Memory,
+}
+
+impl From<Memory> for BundleFault {
+    ghost use Rattle.orc_run.specs.declared.read.BundleFault.TheVariants as fault;
+    ghost use Rattle.std.specs.Prelude.{◌≡◌};
+
+    ghost from_gives = { λ _ e. e ≡ fault.Memory };
+
+    fn from(_: Memory) -> BundleFault {
+        BundleFault::Memory
+    }
 }
 
 ghost use Rattle.orc_run.specs.Bundles.{Spells};
