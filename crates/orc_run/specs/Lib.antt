@@ -4,3 +4,4 @@ pub mod Printed
 pub mod Bundles
 pub mod Lines
 pub mod Reading
+pub mod Places

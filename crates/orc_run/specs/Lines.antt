@@ -16,7 +16,7 @@ lacks c bytes = list_all (λ b. not (b == c)) bytes
 
 -- a device, a space and an item
 abbrev pub put_text : DevicePut → List ℕ
-put_text w = w.device ++ 32 ∷ [] ++ item_text w.path w.item
+put_text w = w.device ++ 32 ∷ item_text w.path w.item
 
 -- the first word
 abbrev pub word_of : Line → List ℕ
@@ -39,7 +39,7 @@ rest_of (line.Device name) = Some (name ++ codes " plain")
 rest_of (line.Base w) = Some (put_text w)
 rest_of line.Script = None
 rest_of (line.Show name) = Some name
-rest_of (line.Call caller number) = Some (caller ++ 32 ∷ [] ++ decimal number)
+rest_of (line.Call caller number) = Some (caller ++ 32 ∷ decimal number)
 rest_of (line.Literal id) = Some id
 rest_of (line.Write w) = Some (put_text w)
 rest_of (line.Delete id) = Some id

@@ -3,6 +3,7 @@ ghost use Rattle.std.specs.Prelude.{◌≡◌, IfOk, IsErrOf};
 
 mod item;
 mod line;
+mod place;
 mod words;
 
 use crate::Bundle;

@@ -1,0 +1,9 @@
+mod Bytes
+mod Cuts
+mod Numbers
+mod Graphic
+mod Marks
+mod Readers
+mod Puts
+mod Lines
+mod Printable
