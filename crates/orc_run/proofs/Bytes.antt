@@ -17,7 +17,7 @@ pub list_all-weaker : (p q : ℕ → Bool) → ((b : ℕ) → p b ≡ true → q
 list_all-weaker p q weaker [] h = refl
 list_all-weaker p q weaker (x ∷ xs) h = both _ _ (weaker x (first_so _ _ h)) (list_all-weaker p q weaker xs (second_so _ _ h))
 
-pub list_all-joined : (p : ℕ → Bool) (xs ys : List ℕ) → list_all p xs ≡ true → list_all p ys ≡ true → list_all p (xs ++ ys) ≡ true
+pub list_all-joined : {X : Type 0} (p : X → Bool) (xs ys : List X) → list_all p xs ≡ true → list_all p ys ≡ true → list_all p (xs ++ ys) ≡ true
 list_all-joined p [] ys h k = k
 list_all-joined p (x ∷ xs) ys h k = both _ _ (first_so _ _ h) (list_all-joined p xs ys (second_so _ _ h) k)
 

@@ -7,3 +7,5 @@ mod Readers
 mod Puts
 mod Lines
 mod Printable
+mod Spelling
+mod Story

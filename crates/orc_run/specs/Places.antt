@@ -9,7 +9,7 @@ use Rattle.orc_run.specs.States.{is_text}
 use Rattle.orc_run.specs.Printed.{name_of}
 use Rattle.orc_run.specs.Bundles.{is_device, is_write, is_step}
 use Rattle.orc_run.specs.Lines.{line_text, lines_text, is_line}
-use Rattle.orc_run.specs.Reading.{IsLineOf}
+use Rattle.orc_run.specs.Reading.{IsOnly, IsLineOf}
 use Rattle.orc_run.specs.declared.bundle.Bundle.{Bundle}
 use Rattle.orc_run.specs.declared.bundle.Device.{Device}
 use Rattle.orc_run.specs.declared.bundle.Put.{Put}
@@ -102,3 +102,23 @@ Gives (Err fault.Memory) found = Unit {0}
 pub record AreLinesOf (bytes : List ℕ) (ls : List Line) : Type 0 where
   pub lawful : IsTrue (list_all is_line ls)
   pub text : lines_text ls ≡ bytes
+
+-- behind lines that spell the bytes up to this rest a reader is at this place, and however the bytes are spelled, it goes on from here
+pub record IsReached (bytes rest : List ℕ) (p : Place) : Type 0 where
+  pub before : List Line
+  pub lawful : IsTrue (list_all is_line before)
+  pub text : lines_text before ++ rest ≡ bytes
+  pub reached : behind_all place.Header before ≡ Some p
+  pub every : (ls : List Line) → AreLinesOf bytes ls → (after : List Line) × AreLinesOf rest after × (behind_all place.Header ls ≡ behind_all p after)
+
+-- the place behind a line of this text
+abbrev pub Turns : Place → List ℕ → Result Place BundleFault → Type 0
+Turns p text (Ok q) = (l : Line) × IsOnly (IsLineOf text) l × (behind p l ≡ Some q)
+Turns p text (Err fault.Refused) = (l : Line) → IsLineOf text l → behind p l ≡ None
+Turns p text (Err fault.Memory) = Unit {0}
+
+-- the place behind all lines
+abbrev pub Reaches : List ℕ → Result Place BundleFault → Type 0
+Reaches bytes (Ok p) = IsReached bytes [] p
+Reaches bytes (Err fault.Refused) = (ls : List Line) → AreLinesOf bytes ls → behind_all place.Header ls ≡ None
+Reaches bytes (Err fault.Memory) = Unit {0}
