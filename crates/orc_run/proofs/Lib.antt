@@ -9,3 +9,6 @@ mod Lines
 mod Printable
 mod Spelling
 mod Story
+mod BundleText
+mod Rereading
+mod Top

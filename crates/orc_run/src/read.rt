@@ -3,14 +3,16 @@ ghost use Rattle.std.specs.Prelude.{◌≡◌, ◌++◌, ◌∷◌, IfOk, IsErrO
 ghost use Rattle.orc_run.specs.Lines.{lacks};
 ghost use Rattle.orc_run.specs.Places.{Turns, Reaches};
 
+mod calls;
 mod item;
 mod line;
 mod place;
 mod words;
 
-use crate::Bundle;
+use self::calls::has_distinct_calls;
 use self::line::read_line;
 use self::place::Place;
+use crate::Bundle;
 use orc_text::Memory;
 use std::alloc::Global;
 
@@ -78,7 +80,10 @@ pub fn read_bundle(alloc: Global, bytes: &[u8]) -> Result<Bundle, BundleFault>
     ensures ok { IfOk result (λ bundle. Spells bytes.now bundle) }
     ensures refused { IsErrOf result BundleFault.Refused → (bundle : Bundle) → Spells bytes.now bundle → ⊥ }
 {
-    let _ = alloc;
-    let _ = bytes;
-    Err(BundleFault::Memory)
+    let place = read_lines(alloc, bytes)?;
+    let bundle = place.finish(alloc)?;
+    if !has_distinct_calls(alloc, bundle.steps.as_slice())? {
+        return Err(BundleFault::Refused);
+    }
+    Ok(bundle)
 }
