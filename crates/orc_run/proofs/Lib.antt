@@ -12,3 +12,4 @@ mod Story
 mod BundleText
 mod Rereading
 mod Top
+mod Distinct

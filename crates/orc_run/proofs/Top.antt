@@ -6,7 +6,9 @@ use Rattle.std.proofs.lemmas.Bool.{false≢true}
 use Rattle.orc_run.specs.Printed.{names_of}
 use Rattle.orc_run.specs.Bundles.{is_device, is_step, has_distinct_calls, is_bundle, bundle_text, Spells}
 use Rattle.orc_run.specs.Lines.{lines_text, is_line}
-use Rattle.orc_run.specs.Places.{behind_all, whole, AreLinesOf, IsReached, Reaches}
+use Rattle.orc_run.specs.Places.{behind_all, whole, Gives, AreLinesOf, IsReached, Reaches}
+use Rattle.orc_run.specs.declared.read.BundleFault.{BundleFault}
+use Rattle.orc_run.specs.declared.read.BundleFault.TheVariants as fault
 use Rattle.orc_run.specs.declared.bundle.Bundle.{Bundle}
 use Rattle.orc_run.specs.declared.bundle.Device.{Device}
 use Rattle.orc_run.specs.declared.bundle.ScriptStep.{ScriptStep}
@@ -116,3 +118,21 @@ indistinct bytes p found h e d b s =
     let same : found ≡ b = some_bundle found b (sym e ∙ spelled_here bytes p h b s) in
     let distinct : has_distinct_calls b.steps ≡ true = second_so ((length b.devices == 1) && list_all is_device b.devices && list_all (is_step (names_of b.devices)) b.steps) (has_distinct_calls b.steps) s.bundle in
     false≢true (sym d ∙ ap (λ (x : Bundle). has_distinct_calls x.steps) same ∙ distinct)
+
+abbrev pub Fails_at : Place → BundleFault → Type 0
+Fails_at p e = Gives {X = Bundle} (Err e) (whole p)
+
+memory_refused : fault.Memory ≡ fault.Refused → ⊥
+memory_refused e = cc
+
+pub err_is : (a b : BundleFault) → (T : Type 0) → ◌≡◌ {A = Result T BundleFault} (Err a) (Err b) → a ≡ b
+err_is a b T e = cc
+
+pub reached_refused : (bytes : List ℕ) (e : BundleFault) → Reaches bytes (Err e) → e ≡ fault.Refused → (b : Bundle) → Spells bytes b → ⊥
+reached_refused bytes fault.Refused h same b s = none_spelled bytes h b s
+reached_refused bytes fault.Memory h same b s = memory_refused same
+
+pub finish_refused : (bytes : List ℕ) (p : Place) (e : BundleFault) → IsReached bytes [] p → Fails_at p e → e ≡ fault.Refused → (b : Bundle) → Spells bytes b → ⊥
+finish_refused bytes p fault.Refused h none same b s = none_here bytes p h none b s
+finish_refused bytes p fault.Memory h none same b s = memory_refused same
+

@@ -13,10 +13,13 @@ pub(super) fn has_distinct_calls(alloc: Global, steps: &[ScriptStep]) -> Result<
 {
     let mut seen = BTreeSet::new(alloc);
     for step in steps {
-        if let ScriptStep::Serve(call) = step {
-            if !seen.insert((call.caller.as_str(), call.number))? {
-                return Ok(false);
+        match step {
+            ScriptStep::Serve(call) => {
+                if !seen.insert((call.caller.as_str(), call.number))? {
+                    return Ok(false);
+                }
             }
+            ScriptStep::Show(_) => {}
         }
     }
     Ok(true)
