@@ -9,6 +9,10 @@ mod alphabet;
 mod item;
 mod name;
 mod path;
+mod place;
+mod reader;
+#[cfg(test)]
+mod tests;
 mod text;
 
 pub use alphabet::{are_name_bytes, is_identifier};
