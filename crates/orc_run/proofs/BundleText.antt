@@ -18,7 +18,6 @@ use Rattle.orc_run.specs.declared.read.line.Line.{Line}
 use Rattle.orc_run.specs.declared.read.line.Line.TheVariants as line
 use Rattle.orc_run.proofs.Story.{put_line, device_lines, action_lines, call_lines, step_lines, bundle_lines}
 
-
 lines-append : (ls ms : List Line) → lines_text (ls ++ ms) ≡ lines_text ls ++ lines_text ms
 lines-append ls ms = flat_map-append (λ (l : Line). line_text l ++ 10 ∷ []) ls ms
 

@@ -133,15 +133,15 @@ call_seen seen new steps i call x key lt e named h fresh updates =
     let before = take i steps in
     let more : take (i + 1) steps ≡ before ++ Serve call ∷ [] = take_more steps i x lt ∙ ap (λ (z : ScriptStep). before ++ z ∷ []) e in
     let unseen : not (list_any (is_numbered call.caller call.number) before) ≡ true =
-      ap not (sym (h.kept (key, call.number) ∙ ap (λ (c : List ℕ). list_any (is_numbered c call.number) before) named)) ∙ fresh in
+    ap not (sym (h.kept (key, call.number) ∙ ap (λ (c : List ℕ). list_any (is_numbered c call.number) before) named)) ∙ fresh in
     subst (λ (z : List ScriptStep). AreSeen new z) (sym more) (record {
       distinct = distinct_push before call ∙ both (has_distinct_calls before) (not (list_any (is_numbered call.caller call.number) before)) h.distinct unseen;
       kept = λ q.
-        let known = list_any (is_numbered q.0.now q.1) before in
-        updates.0 q
-        ∙ ap₂ (λ (s t : Bool). cond s true t) (key_is (key, call.number) q ∙ ap (λ (c : List ℕ). is_text q.0.now c && (q.1 == call.number)) named) (h.kept q)
-        ∙ or_true known (is_text q.0.now call.caller && (q.1 == call.number))
-        ∙ sym (any_push (is_numbered q.0.now q.1) before (Serve call) ∙ ap (λ (s : Bool). known || s) (or_last (is_text q.0.now call.caller && (q.1 == call.number))));
+          let known = list_any (is_numbered q.0.now q.1) before in
+          updates.0 q
+          ∙ ap₂ (λ (s t : Bool). cond s true t) (key_is (key, call.number) q ∙ ap (λ (c : List ℕ). is_text q.0.now c && (q.1 == call.number)) named) (h.kept q)
+          ∙ or_true known (is_text q.0.now call.caller && (q.1 == call.number))
+          ∙ sym (any_push (is_numbered q.0.now q.1) before (Serve call) ∙ ap (λ (s : Bool). known || s) (or_last (is_text q.0.now call.caller && (q.1 == call.number))));
     })
 
 and_false : (s : Bool) → (s && false) ≡ false
@@ -157,7 +157,6 @@ call_twice seen steps i call x key lt e named h stale =
     let before = take i steps in
     let more : take (i + 1) steps ≡ before ++ Serve call ∷ [] = take_more steps i x lt ∙ ap (λ (z : ScriptStep). before ++ z ∷ []) e in
     let again : not (list_any (is_numbered call.caller call.number) before) ≡ false =
-      ap not (sym (h.kept (key, call.number) ∙ ap (λ (c : List ℕ). list_any (is_numbered c call.number) before) named)) ∙ stale in
+    ap not (sym (h.kept (key, call.number) ∙ ap (λ (c : List ℕ). list_any (is_numbered c call.number) before) named)) ∙ stale in
     let front : has_distinct_calls (take (i + 1) steps) ≡ (has_distinct_calls before && false) = ap has_distinct_calls more ∙ distinct_push before call ∙ ap (λ (s : Bool). has_distinct_calls before && s) again in
     not_distinct (has_distinct_calls steps) (λ d. false≢true (sym (and_false (has_distinct_calls before)) ∙ sym front ∙ distinct_front (take (i + 1) steps) (drop (i + 1) steps) (ap has_distinct_calls (take-append-drop (i + 1) steps) ∙ d)))
-

@@ -32,8 +32,8 @@ one_of c b h above below = let e : b ≡ c = eqb-true b c h in between b (omega 
 letter : (b : ℕ) → is_letter b ≡ true → is_graphic b ≡ true
 letter b h =
     elim (either (nat_le 65 b && nat_le b 90) (nat_le 97 b && nat_le b 122) h) [
-      inl upper ↦ in_range 65 90 b upper (omega arith) (omega arith)
-    | inr lower ↦ in_range 97 122 b lower (omega arith) (omega arith)
+      | inl upper ↦ in_range 65 90 b upper (omega arith) (omega arith)
+      | inr lower ↦ in_range 97 122 b lower (omega arith) (omega arith)
     ]
 
 name_start : (b : ℕ) → is_name_start b ≡ true → is_graphic b ≡ true
@@ -42,12 +42,12 @@ name_start b h = elim (either (is_letter b) (b == 95) h) [ inl l ↦ letter b l 
 pub name_byte : (b : ℕ) → is_name_byte b ≡ true → is_graphic b ≡ true
 name_byte b h =
     elim (either (is_name_start b || (nat_le 48 b && nat_le b 57) || (b == 45)) (b == 46) h) [
-      inr e ↦ one_of 46 b e (omega arith) (omega arith)
-    | inl h3 ↦ elim (either (is_name_start b || (nat_le 48 b && nat_le b 57)) (b == 45) h3) [
-        inr e ↦ one_of 45 b e (omega arith) (omega arith)
-      | inl h2 ↦ elim (either (is_name_start b) (nat_le 48 b && nat_le b 57) h2) [
-          inl s ↦ name_start b s
-        | inr d ↦ in_range 48 57 b d (omega arith) (omega arith)
+      | inr e ↦ one_of 46 b e (omega arith) (omega arith)
+      | inl h3 ↦ elim (either (is_name_start b || (nat_le 48 b && nat_le b 57)) (b == 45) h3) [
+        | inr e ↦ one_of 45 b e (omega arith) (omega arith)
+        | inl h2 ↦ elim (either (is_name_start b) (nat_le 48 b && nat_le b 57) h2) [
+          | inl s ↦ name_start b s
+          | inr d ↦ in_range 48 57 b d (omega arith) (omega arith)
         ]
       ]
     ]
@@ -71,8 +71,8 @@ rest_graphic : (bs : List ℕ) → is_qualified_rest bs ≡ true → list_all is
 rest_graphic [] h = refl
 rest_graphic (b ∷ bs) h =
     elim (chosen (b == 58) (is_identifier bs) (is_name_byte b && is_qualified_rest bs) h) [
-      inl p ↦ both _ _ (one_of 58 b p.0 (omega arith) (omega arith)) (identifier_graphic bs p.1)
-    | inr q ↦ both _ _ (name_byte b (first_so (is_name_byte b) (is_qualified_rest bs) q)) (rest_graphic bs (second_so (is_name_byte b) (is_qualified_rest bs) q))
+      | inl p ↦ both _ _ (one_of 58 b p.0 (omega arith) (omega arith)) (identifier_graphic bs p.1)
+      | inr q ↦ both _ _ (name_byte b (first_so (is_name_byte b) (is_qualified_rest bs) q)) (rest_graphic bs (second_so (is_name_byte b) (is_qualified_rest bs) q))
     ]
 
 qualified_graphic : (bs : List ℕ) → is_qualified bs ≡ true → list_all is_graphic bs ≡ true

@@ -38,8 +38,8 @@ call_only a b rest caller number e k name num =
     record {
       holds = record { lawful = both _ _ name.holds.lawful (lt-ltb number (2 ^ 64) num.holds.lawful); word = refl; rest = ap Some whole };
       only = λ l h.
-        let p = call_parts a b rest e k l h in
-        p.4 ∙ ap₂ (λ (x : List ℕ) (n : ℕ). line.Call x n) (name.only p.0 p.2) (num.only p.1 p.3);
+          let p = call_parts a b rest e k l h in
+          p.4 ∙ ap₂ (λ (x : List ℕ) (n : ℕ). line.Call x n) (name.only p.0 p.2) (num.only p.1 p.3);
     }
 
 -- a device
@@ -83,8 +83,8 @@ device_put_only a b text device put e k name only =
     record {
       holds = record { device = name.holds.lawful; item = only.holds.lawful; spelled = ap₂ (λ (x y : List ℕ). x ++ 32 ∷ y) name.holds.text only.holds.spelled ∙ sym e };
       only = λ w h.
-        let p = device_put_parts a b text e k w h in
-        ap₂ (λ (x : List ℕ) (q : Put). record { device = x; path = q.path; item = q.item }) (name.only w.device p.0) (only.only (record { path = w.path; item = w.item }) p.1);
+          let p = device_put_parts a b text e k w h in
+          ap₂ (λ (x : List ℕ) (q : Put). record { device = x; path = q.path; item = q.item }) (name.only w.device p.0) (only.only (record { path = w.path; item = w.item }) p.1);
     }
 
 -- a line of several words

@@ -24,19 +24,19 @@ padded_cases : (w : List ℕ) → is_padded w ≡ true → (get_or w 0 0 ≡ 43)
 padded_cases [] e = cc
 padded_cases (d ∷ ds) e =
     elim (either (d == 43) ((d == 48) && nat_lt 0 (length ds)) e) [
-      inl plus ↦ inl (eqb-true d 43 plus)
-    | inr padded ↦
-      let more : 0 < length ds = ltb-true 0 (length ds) (second_so (d == 48) (nat_lt 0 (length ds)) padded) in
-      inr (eqb-true d 48 (first_so (d == 48) (nat_lt 0 (length ds)) padded), omega arith)
+      | inl plus ↦ inl (eqb-true d 43 plus)
+      | inr padded ↦
+          let more : 0 < length ds = ltb-true 0 (length ds) (second_so (d == 48) (nat_lt 0 (length ds)) padded) in
+          inr (eqb-true d 48 (first_so (d == 48) (nat_lt 0 (length ds)) padded), omega arith)
     ]
 
 pub padded_refused : (w : List ℕ) → is_padded w ≡ true → (n : ℕ) → IsNumberOf w n → ⊥
 padded_refused w e n h =
     elim (padded_cases w e) [
-      inl plus ↦ first_is_digit n h.lawful (rw h.text plus)
-    | inr padded ↦
-      let one : length (decimal n) ≡ 1 = zero_alone n h.lawful (rw h.text padded.0) in
-      let same : length (decimal n) ≡ length w = ap length h.text in omega (arith, padded.1)
+      | inl plus ↦ first_is_digit n h.lawful (rw h.text plus)
+      | inr padded ↦
+          let one : length (decimal n) ≡ 1 = zero_alone n h.lawful (rw h.text padded.0) in
+          let same : length (decimal n) ≡ length w = ap length h.text in omega (arith, padded.1)
     ]
 
 not_padded_plus : (w : List ℕ) → is_padded w ≡ false → get_or w 0 0 ≢ 43

@@ -61,12 +61,12 @@ leaf_read text word rest value cut k mark r h =
     reads_alike (IsLeafOf word value) (IsPutOf text)
     (λ put e. record { lawful = e.lawful; spelled = leaf_text put.path put.item word value e.kind e.text ∙ whole })
     (λ put e.
-      let parts = leaf_parts put.path put.item word rest e.lawful k (e.spelled ∙ cut) in
-      let found = parts.0 in
-      let kind : put.item ≡ Leaf found = parts.1 in
-      let ends : 61 ∷ 32 ∷ found ≡ 61 ∷ 32 ∷ value = parts.3 ∙ mark in
-      let same : found ≡ value = cc in
-      record { lawful = e.lawful; kind = kind ∙ ap Leaf same; text = parts.2 })
+    let parts = leaf_parts put.path put.item word rest e.lawful k (e.spelled ∙ cut) in
+    let found = parts.0 in
+    let kind : put.item ≡ Leaf found = parts.1 in
+    let ends : 61 ∷ 32 ∷ found ≡ 61 ∷ 32 ∷ value = parts.3 ∙ mark in
+    let same : found ≡ value = cc in
+    record { lawful = e.lawful; kind = kind ∙ ap Leaf same; text = parts.2 })
     r h
 
 pub unmarked : (text word rest : List ℕ) → text ≡ word ++ 32 ∷ rest → lacks 32 word ≡ true → ((value : List ℕ) → rest ≢ 61 ∷ 32 ∷ value) → (put : Put) → IsPutOf text put → ⊥

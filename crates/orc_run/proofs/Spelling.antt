@@ -55,9 +55,9 @@ one_further bytes rest text after p q h e k turn =
     let only : IsOnly (IsLineOf text) l = turn.1 in
     let next : behind p l ≡ Some q = turn.2 in
     let ended : lines_text (h.before ++ l ∷ []) ≡ lines_text h.before ++ (line_text l ++ 10 ∷ []) =
-      flat_map-append (λ (m : Line). line_text m ++ 10 ∷ []) h.before (l ∷ []) ∙ ap (λ x. lines_text h.before ++ x) (append-nil (line_text l ++ 10 ∷ [])) in
+    flat_map-append (λ (m : Line). line_text m ++ 10 ∷ []) h.before (l ∷ []) ∙ ap (λ x. lines_text h.before ++ x) (append-nil (line_text l ++ 10 ∷ [])) in
     let regrouped : (lines_text h.before ++ (line_text l ++ 10 ∷ [])) ++ after ≡ lines_text h.before ++ (line_text l ++ 10 ∷ after) =
-      append_assoc (lines_text h.before) (line_text l ++ 10 ∷ []) after ∙ ap (λ x. lines_text h.before ++ x) (append_assoc (line_text l) (10 ∷ []) after) in
+    append_assoc (lines_text h.before) (line_text l ++ 10 ∷ []) after ∙ ap (λ x. lines_text h.before ++ x) (append_assoc (line_text l) (10 ∷ []) after) in
     let same : line_text l ++ 10 ∷ after ≡ rest = ap (λ x. x ++ 10 ∷ after) only.holds.text ∙ sym e in
     record {
       before = h.before ++ l ∷ [];
@@ -65,11 +65,11 @@ one_further bytes rest text after p q h e k turn =
       text = ap (λ x. x ++ after) ended ∙ regrouped ∙ ap (λ x. lines_text h.before ++ x) same ∙ h.text;
       reached = behind_all-push place.Header h.before l p q h.reached next;
       every = λ ls lines.
-        let further = h.every ls lines in
-        let first = first_line rest text after e k further.0 further.1 in
-        let same_line : first.0 ≡ l = only.only first.0 first.3 in
-        let next_too : behind p first.0 ≡ Some q = ap (behind p) same_line ∙ next in
-        (first.1, first.4, further.2 ∙ ap (behind_all p) first.2 ∙ ap (option_and_then (λ (x : Place). behind_all x first.1)) next_too);
+          let further = h.every ls lines in
+          let first = first_line rest text after e k further.0 further.1 in
+          let same_line : first.0 ≡ l = only.only first.0 first.3 in
+          let next_too : behind p first.0 ≡ Some q = ap (behind p) same_line ∙ next in
+          (first.1, first.4, further.2 ∙ ap (behind_all p) first.2 ∙ ap (option_and_then (λ (x : Place). behind_all x first.1)) next_too);
     }
 
 pub refused_here : (bytes rest : List ℕ) (p : Place) → IsReached bytes rest p → ((ls : List Line) → AreLinesOf rest ls → behind_all p ls ≡ None) → (ls : List Line) → AreLinesOf bytes ls → behind_all place.Header ls ≡ None

@@ -109,7 +109,7 @@ step_added s x =
     let front = line.Header ∷ device_lines s.device in
     let f = step_lines (names s) in
     let steps : flat_map f (s.steps ++ x ∷ []) ≡ flat_map f s.steps ++ f x =
-      flat_map-append f s.steps (x ∷ []) ∙ ap (λ z. flat_map f s.steps ++ z) (append-nil (f x)) in
+    flat_map-append f s.steps (x ∷ []) ∙ ap (λ z. flat_map f s.steps ++ z) (append-nil (f x)) in
     ap (λ z. front ++ line.Script ∷ z) steps ∙ sym (append_assoc front (line.Script ∷ flat_map f s.steps) (f x))
 
 step_lawful : (s : Script) (x : ScriptStep) → IsScript s → is_step (names s) x ≡ true → IsScript (with_step s x)
@@ -133,7 +133,7 @@ base_grows d w same =
     record {
       lines = ap (λ (z : List Line). line.Header ∷ line.Device d.name ∷ z) (map-append (put_line d.name) d.base (put ∷ []) ∙ ap (λ (z : List Line). map (put_line d.name) d.base ++ z) last);
       lawful = λ h k.
-        both (is_identifier d.name) (list_all is_put (d.base ++ put ∷ [])) (first_so (is_identifier d.name) (list_all is_put d.base) h) (list_all-joined is_put d.base (put ∷ []) (second_so (is_identifier d.name) (list_all is_put d.base) h) (both (is_put put) true (second_so (is_identifier w.device) (is_item w.path w.item) k) refl));
+          both (is_identifier d.name) (list_all is_put (d.base ++ put ∷ [])) (first_so (is_identifier d.name) (list_all is_put d.base) h) (list_all-joined is_put d.base (put ∷ []) (second_so (is_identifier d.name) (list_all is_put d.base) h) (both (is_put put) true (second_so (is_identifier w.device) (is_item w.path w.item) k) refl));
     }
 
 grows_base : (d : Device) (l : Line) (q : Place) → behind_base d l ≡ Some q → Grows (place.Base d) l q
@@ -180,7 +180,7 @@ write_grows : (s : Script) (caller : List ℕ) (number : ℕ) (id : List ℕ) (w
 write_grows s caller number id writes w same =
     let begun = line.Call caller number ∷ line.Literal id ∷ map line.Write writes in
     let lawful_write : is_item w.path w.item ≡ true → is_write (names s) w ≡ true =
-      λ k. both (list_any (is_text w.device) (names s)) (is_item w.path w.item) (or_left (is_text w.device s.device.name) false same) k in
+    λ k. both (list_any (is_text w.device) (names s)) (is_item w.path w.item) (or_left (is_text w.device s.device.name) false same) k in
     record {
       lines = ap (λ (z : List Line). script_lines s ++ line.Call caller number ∷ line.Literal id ∷ z) (map-append line.Write writes (w ∷ [])) ∙ sym (append_assoc (script_lines s) begun (line.Write w ∷ []));
       lawful = λ h k. (h.0, h.1, h.2, h.3, list_all-joined (is_write (names s)) writes (w ∷ []) h.4 (both (is_write (names s) w) true (lawful_write (second_so (is_identifier w.device) (is_item w.path w.item) k)) refl));

@@ -135,4 +135,3 @@ reached_refused bytes fault.Memory h same b s = memory_refused same
 pub finish_refused : (bytes : List ℕ) (p : Place) (e : BundleFault) → IsReached bytes [] p → Fails_at p e → e ≡ fault.Refused → (b : Bundle) → Spells bytes b → ⊥
 finish_refused bytes p fault.Refused h none same b s = none_here bytes p h none b s
 finish_refused bytes p fault.Memory h none same b s = memory_refused same
-

@@ -7,6 +7,8 @@ mod calls;
 mod item;
 mod line;
 mod place;
+#[cfg(test)]
+mod tests;
 mod words;
 
 use self::calls::has_distinct_calls;

@@ -24,7 +24,10 @@ fn parse_path(alloc: Global, word: &str) -> Result<Path, BundleFault>
 fn has_plain_keys(step: &Step) -> bool
     ensures { result ≡ has_plain_keys step.now }
 {
-    step.keys.as_slice().iter().all(|key| is_plain(key.as_str()))
+    step.keys
+        .as_slice()
+        .iter()
+        .all(|key| is_plain(key.as_str()))
 }
 
 fn is_plain_path(path: &Path) -> bool

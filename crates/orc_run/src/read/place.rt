@@ -62,11 +62,13 @@ fn take_base(alloc: Global, mut device: Device, line: Line) -> Result<Place, Bun
     ensures { Gives result (behind_base device line) }
 {
     match line {
-        Line::Base(DevicePut {
-            device: name,
-            path,
-            item,
-        }) => {
+        Line::Base(
+            DevicePut {
+                device: name,
+                path,
+                item,
+            },
+        ) => {
             if name != device.name {
                 return Err(BundleFault::Refused);
             }

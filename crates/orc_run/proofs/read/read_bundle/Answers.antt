@@ -20,6 +20,6 @@ returns-then-not-branch-clause-refused c =
 
 pub returns : goal.returns
 returns c = record {
-    ok = spelled _ c.in_ok-place.place c.in_ok-bundle.bundle c.in_ok-place.ensures c.in_ok-bundle.ensures (sym (ap has_distinct_calls c.as_slice.ensures) ∙ sym c.in_ok-has_distinct_calls.ensures ∙ c.if-not-branch.false);
-    refused = λ e. cc;
-  }
+  ok = spelled _ c.in_ok-place.place c.in_ok-bundle.bundle c.in_ok-place.ensures c.in_ok-bundle.ensures (sym (ap has_distinct_calls c.as_slice.ensures) ∙ sym c.in_ok-has_distinct_calls.ensures ∙ c.if-not-branch.false);
+  refused = λ e. cc;
+}

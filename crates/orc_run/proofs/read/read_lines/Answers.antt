@@ -8,7 +8,6 @@ lines-init c = at_front _
 
 pub returns-in_default : goal.returns-in_default
 returns-in_default c =
-
     unended_refused _ _ _ c.lines.invariant c.in_default.ensures (nonempty _ (sym c.is_empty.ensures ∙ c.lines-test.true))
 
 pub returns-in_err-place : goal.returns-in_err-place

@@ -14,9 +14,9 @@ returns-then-not-branch c =
 pub loop-step-preserved : goal.loop-step-preserved
 loop-step-preserved c =
     elim c.match-step.branch [
-      in-Serve+in_ok-insert-in-Serve+else-not-branch w ↦
-      rw w.seen-is (call_seen c.loop-step.seen w.insert.new.self _ _ w.in-Serve.call _ w.as_str.result c.loop-step-test.true (sym c.step-item.is ∙ w.in-Serve.is) w.as_str.ensures c.loop-step.invariant (sym w.in_ok-insert-in-Serve.ensures.added ∙ w.if-not-branch.false) w.in_ok-insert-in-Serve.ensures.updates)
-    | in-Show w ↦ rw w.seen-is (show_seen c.loop-step.seen _ _ _ _ c.loop-step-test.true (sym c.step-item.is ∙ w.in-Show.is) c.loop-step.invariant)
+      | in-Serve+in_ok-insert-in-Serve+else-not-branch w ↦
+          rw w.seen-is (call_seen c.loop-step.seen w.insert.new.self _ _ w.in-Serve.call _ w.as_str.result c.loop-step-test.true (sym c.step-item.is ∙ w.in-Serve.is) w.as_str.ensures c.loop-step.invariant (sym w.in_ok-insert-in-Serve.ensures.added ∙ w.if-not-branch.false) w.in_ok-insert-in-Serve.ensures.updates)
+      | in-Show w ↦ rw w.seen-is (show_seen c.loop-step.seen _ _ _ _ c.loop-step-test.true (sym c.step-item.is ∙ w.in-Show.is) c.loop-step.invariant)
     ]
 
 pub returns : goal.returns
