@@ -15,6 +15,7 @@ mod reader;
 mod tests;
 mod text;
 
+pub use alphabet::{are_name_bytes, is_identifier};
 pub use item::{Item, Write};
 pub use name::Name;
 pub use path::{Path, PathFault, Step};

@@ -6,3 +6,6 @@ pub mod Bundles
 pub mod Laws
 pub mod Ends
 pub mod Statuses
+pub mod Lines
+pub mod Reading
+pub mod Places
