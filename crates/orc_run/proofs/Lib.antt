@@ -21,5 +21,5 @@ mod Spelling
 mod Story
 mod BundleText
 mod Rereading
-mod Top
+mod WholeBundle
 mod Distinct

@@ -1,7 +1,7 @@
 use Rattle.std.proofs.Common.{sym, ◌∙◌, ap}
 use Rattle.std.proofs.lemmas.Result.{err_from_is_err_and}
 use Rattle.orc_run.specs.Bundles.{has_distinct_calls}
-use Rattle.orc_run.proofs.Top.{spelled, indistinct, err_is, reached_refused, finish_refused}
+use Rattle.orc_run.proofs.WholeBundle.{spelled, indistinct, err_is, reached_refused, finish_refused}
 use Rattle.orc_run.proofs.read.read_bundle.Goals as goal
 
 pub returns-in_err-place-clause-refused : goal.returns-in_err-place-clause-refused
