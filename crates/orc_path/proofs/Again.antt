@@ -1,30 +1,17 @@
 -- The text of a path or a name is read again.
-use Rattle.std.proofs.Common.{◌≡◌, ℕ, Bool, true, false, ◌==◌, ◌&&◌, cond, List, [], ◌∷◌, ◌++◌, Some, None, Option, refl, sym, ap, subst, ◌∙◌, arith, append_assoc, append-nil}
+use Rattle.std.proofs.Common.{◌≡◌, ℕ, Bool, true, false, ◌==◌, ◌&&◌, cond, List, [], ◌∷◌, ◌++◌, Some, None, Option, refl, sym, ap, ◌∙◌, arith, append_assoc, append-nil}
 use Rattle.std.specs.List.{flat_map, list_all}
-use Rattle.std.specs.Option.{option_map, option_and_then, option_map_or}
+use Rattle.std.specs.Option.{option_and_then, option_map_or}
 use Rattle.std.specs.Cmp.{first_so, second_so}
-use Rattle.orc_path.specs.Alphabet.{is_name_start, is_name_byte, is_identifier, is_qualified, is_qualified_rest, is_key, is_key_byte}
+use Rattle.orc_path.specs.Alphabet.{is_name_byte, is_identifier, is_qualified, is_qualified_rest, is_key, is_key_byte}
 use Rattle.orc_path.specs.Steps.{PathStep, is_later_step, is_path}
 use Rattle.orc_path.specs.Texts.{escape, key_text, step_text, path_text}
-use Rattle.orc_path.specs.Reading.{name_place, name_places, feed_mark, feed_at, feed, feed_all, at_start, whole}
-use Rattle.orc_path.specs.declared.reader.Place.{Place}
-use Rattle.orc_path.specs.declared.reader.Place.TheVariants.{Start, Slash, Module, Colon, Inside, Next, Key, Escape, Closed}
+use Rattle.orc_path.specs.Reading.{name_place, feed_mark, at_start, whole}
+use Rattle.orc_path.proofs.Runs.{name_places, feed_all, feed_all-append}
+use Rattle.orc_path.specs.declared.place.Place.{Place}
+use Rattle.orc_path.specs.declared.place.Place.TheVariants.{Slash, Module, Colon, Inside, Next, Key, Closed}
 use Rattle.orc_path.specs.declared.reader.Reader.{Reader}
-use Rattle.orc_path.proofs.Parts.{both, no_colon}
-
-through : {A B C : Type 0} (o : Option A) (first : A → Option B) (second : B → Option C) (joined : A → Option C) → ((a : A) → joined a ≡ option_and_then second (first a))
-    → option_and_then joined o ≡ option_and_then second (option_and_then first o)
-through None first second joined h = refl
-through (Some a) first second joined h = h a
-
--- to read two texts is to read the one and then the other
-pub feed_all-append : (r : Reader) (xs ys : List ℕ) → feed_all r (xs ++ ys) ≡ option_and_then (λ s. feed_all s ys) (feed_all r xs)
-feed_all-append r [] ys = refl
-feed_all-append r (b ∷ bs) ys = through (feed r b) (λ s. feed_all s bs) (λ s. feed_all s ys) (λ s. feed_all s (bs ++ ys)) (λ s. feed_all-append s bs ys)
-
-pub name_places-append : (m : Place) (xs ys : List ℕ) → name_places m (xs ++ ys) ≡ option_and_then (λ k. name_places k ys) (name_places m xs)
-name_places-append m [] ys = refl
-name_places-append m (b ∷ bs) ys = through (name_place m b) (λ k. name_places k bs) (λ k. name_places k ys) (λ k. name_places k (bs ++ ys)) (λ k. name_places-append k bs ys)
+use Rattle.orc_path.proofs.Parts.{no_colon}
 
 -- the path, where these bytes bring the reader to the end of one
 abbrev pub path_behind : Reader → List ℕ → Option (List PathStep)

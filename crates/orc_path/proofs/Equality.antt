@@ -1,10 +1,9 @@
 -- The tests of equality decide equality.
-use Rattle.std.proofs.Common.{◌≡◌, Bool, true, ◌&&◌, List, refl, ap}
+use Rattle.std.proofs.Common.{◌≡◌, Bool, ◌&&◌, List, refl, ap}
 use Rattle.std.specs.Bool.{Decides}
 use Rattle.std.specs.Cmp.{first_so, second_so}
-use Rattle.std.specs.Cmp.Lexicographic.{pointwise, pointwise_decides, bytes_decides}
+use Rattle.std.specs.Cmp.Lexicographic.{pointwise_decides, bytes_decides}
 use Rattle.orc_path.specs.Steps.{PathStep}
-use Rattle.orc_path.specs.Order.{step_eq}
 use Rattle.orc_path.specs.declared.item.Item.{Item}
 use Rattle.orc_path.specs.declared.item.Item.TheVariants.{Entry, Leaf}
 use Rattle.orc_path.specs.declared.item.Write.{Write}

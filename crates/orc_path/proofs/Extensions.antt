@@ -1,14 +1,12 @@
 -- A path and those that begin with its steps.
-use Rattle.std.proofs.Common.{◌≡◌, ◌≢◌, Bool, true, false, ◌&&◌, List, [], ◌∷◌, ◌++◌, refl, sym, ap, ◌∙◌}
-use Rattle.std.specs.declared.cmp.Ordering.{Ordering}
-use Rattle.std.specs.declared.cmp.Ordering.TheVariants.{Less, Equal, Greater}
+use Rattle.std.proofs.Common.{◌≡◌, ◌≢◌, true, List, [], ◌∷◌, ◌++◌, refl, sym, ap, ◌∙◌}
+use Rattle.std.specs.declared.cmp.Ordering.TheVariants.{Less}
 use Rattle.std.specs.Ordering.{ordering_then}
 use Rattle.std.specs.Bool.{Decides}
-use Rattle.std.specs.Cmp.{IsTotalOrder, first_so, second_so}
+use Rattle.std.specs.Cmp.{first_so, second_so}
 use Rattle.std.proofs.lemmas.Cmp.{tied_itself}
-use Rattle.std.specs.Cmp.Lexicographic.{slice_cmp}
 use Rattle.orc_path.specs.Steps.{PathStep}
-use Rattle.orc_path.specs.Order.{step_cmp, step_cmp_total, step_eq, path_cmp, is_prefix}
+use Rattle.orc_path.specs.Order.{step_cmp, step_cmp_total, path_cmp, is_prefix}
 use Rattle.orc_path.proofs.Parts.{both}
 use Rattle.orc_path.proofs.Equality.{step_eq_decides}
 

@@ -1,15 +1,15 @@
 -- What a byte adds to the text read so far.
-use Rattle.std.proofs.Common.{◌≡◌, ℕ, Bool, true, false, ◌==◌, ◌&&◌, not, cond, List, [], ◌∷◌, ◌++◌, Some, None, Option, refl, sym, ap, subst, ◌∙◌, arith, append_assoc, append-nil}
+use Rattle.std.proofs.Common.{◌≡◌, ℕ, true, ◌==◌, List, [], ◌∷◌, ◌++◌, Some, None, Option, refl, sym, ap, subst, ◌∙◌, arith, append_assoc, append-nil}
 use Rattle.std.specs.List.{flat_map, list_all}
-use Rattle.std.specs.Option.{option_map, option_and_then, option_map_or}
+use Rattle.std.specs.Option.{option_map, option_map_or}
 use Rattle.std.specs.Cmp.{first_so, second_so}
 use Rattle.std.proofs.lemmas.Grind.{flat_map-append}
 use Rattle.orc_path.specs.Alphabet.{is_key, is_key_byte}
 use Rattle.orc_path.specs.Steps.{PathStep, is_path, is_later_step}
-use Rattle.orc_path.specs.Texts.{escape, key_text, step_text, path_text}
-use Rattle.orc_path.specs.Reading.{unescape, is_plain, name_place, present_step, feed_start, feed_end, feed_key, feed_escape, feed_mark, feed_at, feed, feed_all, whole_at, whole, is_name_behind, IsNamePart, IsStepRead, IsKeyPart, IsPart, FitsAt, Fits}
-use Rattle.orc_path.specs.declared.reader.Place.{Place}
-use Rattle.orc_path.specs.declared.reader.Place.TheVariants.{Start, Slash, Module, Colon, Inside, Next, Key, Escape, Closed}
+use Rattle.orc_path.specs.Texts.{escape, key_text, step_text}
+use Rattle.orc_path.specs.Reading.{unescape, is_plain, name_place, present_step, feed_end, feed_key, feed_escape, feed_mark, feed_at, is_name_behind, IsNamePart, IsStepRead, IsKeyPart, FitsAt, Fits}
+use Rattle.orc_path.specs.declared.place.Place.{Place}
+use Rattle.orc_path.specs.declared.place.Place.TheVariants.{Start, Slash, Module, Colon, Inside, Next, Key, Escape, Closed}
 use Rattle.orc_path.specs.declared.reader.Reader.{Reader}
 use Rattle.orc_path.proofs.Parts.{both, chosen, none_given, taken, list_all_more, name_step}
 

@@ -1,6 +1,7 @@
 mod Last
 mod Prefixes
 mod Parts
+mod Runs
 mod Feeds
 mod Again
 mod Stops

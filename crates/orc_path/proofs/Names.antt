@@ -1,16 +1,17 @@
 -- Where the text of a name is refused.
-use Rattle.std.proofs.Common.{◌≡◌, ℕ, suc, ◌+◌, ◌<◌, ◌≤◌, add-one, Bool, true, false, ◌||◌, List, [], ◌∷◌, ◌++◌, Some, None, Option, length, take, get_or, refl, sym, ap, subst, ◌∙◌, arith, append_assoc, append-nil}
+use Rattle.std.proofs.Common.{◌≡◌, ℕ, suc, ◌+◌, ◌<◌, ◌≤◌, add-one, Bool, true, false, ◌||◌, List, [], ◌∷◌, ◌++◌, Some, None, Option, length, take, get_or, refl, sym, ap, subst, ◌∙◌, append_assoc, append-nil}
 use Rattle.std.specs.Option.{option_and_then}
 use Rattle.std.proofs.lemmas.List.{take_all}
 use Rattle.std.proofs.Math.Seq.{take-suc}
 use Rattle.orc_path.specs.Alphabet.{is_identifier, is_qualified, is_node_name}
 use Rattle.orc_path.specs.Texts.{IsNameText, Begins, IsBadAt}
-use Rattle.orc_path.specs.Reading.{name_place, name_places, is_name_end, IsNamePart}
-use Rattle.orc_path.specs.declared.reader.Place.{Place}
-use Rattle.orc_path.specs.declared.reader.Place.TheVariants.{Start, Slash, Module, Colon, Inside, Next, Key, Escape, Closed}
+use Rattle.orc_path.specs.Reading.{name_place, is_name_end, IsNamePart}
+use Rattle.orc_path.proofs.Runs.{name_places, name_places-append}
+use Rattle.orc_path.specs.declared.place.Place.{Place}
+use Rattle.orc_path.specs.declared.place.Place.TheVariants.{Start, Slash, Module, Colon, Inside, Next, Key, Escape, Closed}
 use Rattle.orc_path.proofs.Parts.{none_given, name_step}
 use Rattle.orc_path.proofs.Stops.{IsReader, given_before, bad_at, bad_end}
-use Rattle.orc_path.proofs.Again.{name_places-append, identifier_again, qualified_again}
+use Rattle.orc_path.proofs.Again.{identifier_again, qualified_again}
 
 -- whether a name may end behind these bytes
 abbrev may_end : Option Place → Bool

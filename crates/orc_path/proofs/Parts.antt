@@ -6,8 +6,8 @@ use Rattle.std.proofs.lemmas.List.Folds.{list_all-append}
 use Rattle.orc_path.specs.Alphabet.{is_name_start, is_name_byte, is_identifier, is_qualified, is_qualified_rest}
 use Rattle.orc_path.specs.Steps.{PathStep}
 use Rattle.orc_path.specs.Reading.{name_place, is_name_behind, IsNamePart}
-use Rattle.orc_path.specs.declared.reader.Place.{Place}
-use Rattle.orc_path.specs.declared.reader.Place.TheVariants.{Start, Slash, Module, Colon, Inside, Next, Key, Escape, Closed}
+use Rattle.orc_path.specs.declared.place.Place.{Place}
+use Rattle.orc_path.specs.declared.place.Place.TheVariants.{Start, Slash, Module, Colon, Inside, Next, Key, Escape, Closed}
 
 pub both : (a b : Bool) → a ≡ true → b ≡ true → (a && b) ≡ true
 both true b p q = q

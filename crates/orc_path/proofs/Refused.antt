@@ -1,21 +1,21 @@
 -- Where a text is refused.
-use Rattle.std.proofs.Common.{◌≡◌, ◌≢◌, ℕ, zero, suc, ◌<◌, ◌≤◌, Bool, true, false, cond, List, [], ◌∷◌, ◌++◌, Some, None, Option, length, take, drop, get_or, ◌+◌, add-one, refl, sym, ap, subst, ◌∙◌, arith, append_assoc, append-nil}
-use Rattle.std.specs.List.{flat_map, list_all}
+use Rattle.std.proofs.Common.{◌≡◌, ℕ, suc, ◌<◌, ◌≤◌, true, List, [], ◌∷◌, ◌++◌, Some, None, Option, length, take, get_or, ◌+◌, add-one, refl, sym, ap, subst, ◌∙◌, append_assoc, append-nil}
+use Rattle.std.specs.List.{flat_map}
 use Rattle.std.specs.Option.{option_and_then}
-use Rattle.std.proofs.lemmas.List.{take-append-drop, length-take-le, take_all}
-use Rattle.std.proofs.Math.Seq.{take-length, take-suc}
+use Rattle.std.proofs.lemmas.List.{take_all}
+use Rattle.std.proofs.Math.Seq.{take-suc}
 use Rattle.std.proofs.lemmas.Grind.{flat_map-append}
-use Rattle.orc_path.specs.Alphabet.{is_name_start, is_identifier, is_qualified, is_node_name}
 use Rattle.orc_path.specs.Steps.{PathStep, is_path}
-use Rattle.orc_path.specs.Texts.{step_text, path_text, IsPathText, IsNameText, Begins, IsBadAt}
-use Rattle.orc_path.specs.Reading.{name_place, name_places, is_name_end, present_step, feed, feed_all, at_start, whole_at, whole, IsNamePart, IsStepRead, FitsAt, Fits}
-use Rattle.orc_path.specs.declared.reader.Place.{Place}
-use Rattle.orc_path.specs.declared.reader.Place.TheVariants.{Start, Slash, Module, Colon, Inside, Next, Key, Escape, Closed}
+use Rattle.orc_path.specs.Texts.{step_text, path_text, IsPathText, Begins, IsBadAt}
+use Rattle.orc_path.specs.Reading.{present_step, feed, at_start, whole_at, whole, IsStepRead, FitsAt, Fits}
+use Rattle.orc_path.proofs.Runs.{feed_all, feed_all-append}
+use Rattle.orc_path.specs.declared.place.Place.{Place}
+use Rattle.orc_path.specs.declared.place.Place.TheVariants.{Start, Slash, Module, Colon, Inside, Next, Key, Escape, Closed}
 use Rattle.orc_path.specs.declared.reader.Reader.{Reader}
-use Rattle.orc_path.proofs.Parts.{none_given, name_step}
+use Rattle.orc_path.proofs.Parts.{none_given}
 use Rattle.orc_path.proofs.Stops.{IsReader, given_before, bad_at, bad_end}
 use Rattle.orc_path.proofs.Feeds.{front, read_at, read, blank_front, is_path_more, feed_grows}
-use Rattle.orc_path.proofs.Again.{feed_all-append, name_places-append, reader_at, path_behind, path_again, identifier_again, qualified_again}
+use Rattle.orc_path.proofs.Again.{reader_at, path_behind, path_again}
 
 -- some reader stands behind the bytes
 abbrev pub Takes : List ℕ → Type 0

@@ -2,6 +2,7 @@
 use Rattle.std.proofs.Common.{◌≡◌, ◌≢◌, ◌⊎◌, ◌↔◌, inl, inr, ⊎_elim, ℕ, zero, suc, ◌+◌, ◌-◌, ◌<◌, ◌≤◌, Bool, true, false, cond, not, ◌&&◌, ◌||◌, T, List, [], ◌∷◌, ◌++◌, length, take, get_or, Some, None, refl, sym, ap, subst, ◌∙◌, arith, is_some}
 use Rattle.std.specs.Prelude.{IsTrue, IsSome}
 use Rattle.std.specs.declared.option.Option.{Option}
+use Rattle.std.specs.Bool.{Decides}
 use Rattle.std.specs.Option.{option_or}
 use Rattle.std.specs.List.{list_any, Contains}
 use Rattle.std.specs.Ordering.{eq_by_cmp, is_eq, is_lt}
@@ -10,7 +11,7 @@ use Rattle.std.specs.declared.cmp.Ordering.TheVariants.{Less, Equal, Greater}
 use Rattle.std.specs.Cmp.{Equal-is, eq_by_cmp_equiv}
 use Rattle.std.specs.FinMap.{get, insert, remove, retain_keys, entries, entries_sorted, empty, find, is_sorted, get-empty, get-insert, get-remove, get-retain_keys, get-entries, same_map}
 use Rattle.std.specs.FinMap.Entries.{below_all}
-use Rattle.std.proofs.lemmas.Bool.{false≢true, true≢false, cases_Bool, cases_lt, cond-true, cond-false, or_cases, both_ways}
+use Rattle.std.proofs.lemmas.Bool.{false≢true, true≢false, cases_Bool, cases_lt, cond-true, cond-false, or_cases, both_ways, and_parts, and_from}
 use Rattle.std.proofs.lemmas.List.{length-take-le, take-take}
 use Rattle.std.proofs.lemmas.List.Elements.{Contains-append_left, Contains-append_right, Contains-append_cases}
 use Rattle.std.proofs.lemmas.Map.Views.{list_any-from_Contains, Contains-from_any}
@@ -19,7 +20,7 @@ use Rattle.orc_path.specs.Steps.{PathStep, ends_in_keys, is_path}
 use Rattle.orc_path.specs.Order.{path_cmp, path_cmp_total, path_cmp_exact, is_prefix}
 use Rattle.orc_path.specs.Items.{fits}
 use Rattle.orc_path.specs.Prefixes.{is_path-take, ends_in_keys-take, is_prefix-from_take}
-use Rattle.orc_path.specs.Configurations.{Config, IsWay, IsConfig, is_entry, has_keys_at, ways_up_to, ways, enter_all, put_item, is_removed_with, drop_item, lay, overlay}
+use Rattle.orc_path.specs.Configurations.{Config, IsWay, IsConfig, is_entry, has_keys_at, ways_up_to, ways, enter_all, put_item, is_removed_with, drop_item, lay, overlay, list_of, is_entry_of}
 use Rattle.orc_path.specs.declared.item.Item.{Item}
 use Rattle.orc_path.specs.declared.item.Item.TheVariants.{Entry, Leaf}
 
@@ -333,3 +334,18 @@ IsConfig-overlay top base t b = record { paths = paths; fit = all_fit; ways = al
     all_ways q w h way =
         by_top q _ (λ i e _. entry w way.keyed (inl (t.ways q w (ap is_some e) way)))
         (λ _ e. entry w way.keyed (inr (b.ways q w (sym (ap is_some e) ∙ h) way)))
+
+-- The entries of a list
+
+-- the test decides it
+pub is_entry_of_decides : (list p : List PathStep) → Decides (is_entry_of list p) ((ends_in_keys p ≡ true) × (list_of p ≡ list))
+is_entry_of_decides list p = (
+  λ h. let parts = and_parts (ends_in_keys p) (eq_by_cmp path_cmp (list_of p) list) h in (parts.0, same_path (list_of p) list parts.1),
+  λ h. and_from _ _ h.0 (path_ties (list_of p) list h.1),
+)
+
+-- a list's path has as many steps as its entries'
+pub length-list_of : (p : List PathStep) → length (list_of p) ≡ length p
+length-list_of [] = refl
+length-list_of (s ∷ []) = refl
+length-list_of (s ∷ t ∷ ss) = ap suc (length-list_of (t ∷ ss))

@@ -1,12 +1,12 @@
 -- Reading a path or a name byte by byte.
 use Rattle.std.specs.Prelude.{◌≡◌, ℕ, Bool, true, false, ◌==◌, ◌&&◌, not, List, [], ◌∷◌, ◌++◌, Option, IsTrue, if◌then◌else◌}
 use Rattle.std.specs.declared.option.Option.TheVariants.{None, Some}
-use Rattle.std.specs.Option.{option_map, option_and_then, option_map_or}
+use Rattle.std.specs.Option.{option_map, option_map_or}
 use Rattle.std.specs.List.{list_all}
 use Rattle.orc_path.specs.Alphabet.{is_name_start, is_name_byte, is_identifier, is_qualified, is_key_byte, is_key}
 use Rattle.orc_path.specs.Steps.{PathStep, is_path}
-use Rattle.orc_path.specs.declared.reader.Place.{Place}
-use Rattle.orc_path.specs.declared.reader.Place.TheVariants.{Start, Slash, Module, Colon, Inside, Next, Key, Escape, Closed}
+use Rattle.orc_path.specs.declared.place.Place.{Place}
+use Rattle.orc_path.specs.declared.place.Place.TheVariants.{Start, Slash, Module, Colon, Inside, Next, Key, Escape, Closed}
 use Rattle.orc_path.specs.declared.reader.Reader.{Reader}
 
 -- the byte that this one means behind a backslash
@@ -34,10 +34,6 @@ name_place Start b = None
 name_place Key b = None
 name_place Escape b = None
 name_place Closed b = None
-
-abbrev pub name_places : Place → List ℕ → Option Place
-name_places place [] = Some place
-name_places place (b ∷ bs) = option_and_then (λ next. name_places next bs) (name_place place b)
 
 -- a name may end here
 abbrev pub is_name_end : Place → Bool
@@ -94,10 +90,6 @@ feed_at place r b = option_map_or (λ next. Some (record r { place = next; node 
 
 abbrev pub feed : Reader → ℕ → Option Reader
 feed r b = feed_at r.place r b
-
-abbrev pub feed_all : Reader → List ℕ → Option Reader
-feed_all r [] = Some r
-feed_all r (b ∷ bs) = option_and_then (λ next. feed_all next bs) (feed r b)
 
 -- nothing is read
 abbrev pub at_start : Reader

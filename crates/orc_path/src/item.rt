@@ -1,5 +1,6 @@
 //! What stands at a path, and what a call writes.
 ghost use Rattle.std.specs.Prelude.{◌≡◌, IfOk};
+ghost use Rattle.orc_path.specs.Items.{fits};
 
 use crate::Path;
 use orc_text::{Copied, Memory, Text};
@@ -14,6 +15,17 @@ pub enum Item {
 }
 
 impl Item {
+    /// Whether the item fits a path: an entry one that ends in keys, and a leaf one that doesn't.
+    /// Nothing fits the root.
+    pub fn fits(&self, path: &Path) -> bool
+        ensures { result ≡ fits path.now self.now }
+    {
+        match self {
+            Item::Entry => path.ends_in_keys(),
+            Item::Leaf(_) => !path.steps.is_empty() && !path.ends_in_keys(),
+        }
+    }
+
     /// An equal item.
     pub fn copy(&self, alloc: Global) -> Result<Item, Memory>
         ensures { IfOk result (λ item. item ≡ self.now) }

@@ -9,11 +9,13 @@ mod alphabet;
 mod item;
 mod name;
 mod path;
+mod place;
 mod reader;
 #[cfg(test)]
 mod tests;
 mod text;
 
+pub use alphabet::{are_name_bytes, is_identifier};
 pub use item::{Item, Write};
 pub use name::Name;
 pub use path::{Path, PathFault, Step};

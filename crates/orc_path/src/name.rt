@@ -5,7 +5,7 @@ ghost use Rattle.orc_path.specs.Texts.{IsNameText};
 ghost use Rattle.orc_path.specs.Faults.{IsCauseOf};
 
 use crate::PathFault;
-use crate::reader::{Place, is_name_end, name_place};
+use crate::place::{Place, is_name_end, name_place};
 use orc_text::{Copied, Memory, Text};
 use std::alloc::Global;
 use std::marker::Model;

@@ -1,36 +1,13 @@
 //! Reads a path byte by byte.
-ghost use Rattle.std.specs.Prelude.{◌≡◌, ◌<◌, ◌++◌, ◌∷◌, [], IfOk, OnOk, IsTrue, IsSome, MatchBool, MatchOption};
+ghost use Rattle.std.specs.Prelude.{◌≡◌, ◌++◌, ◌∷◌, [], IfOk, MatchBool};
 ghost use Rattle.std.specs.declared.option.Option.TheVariants.{None, Some};
-ghost use Rattle.orc_path.specs.Reading.{unescape, is_plain, name_place, is_name_end, feed_end, feed_key, feed_escape, feed_mark, feed, at_start, whole, present_step, Fits, IsStepRead};
+ghost use Rattle.orc_path.specs.Reading.{unescape, is_plain, feed_end, feed_key, feed_escape, feed_mark, feed, at_start, whole, present_step, Fits, IsStepRead};
 
-use crate::alphabet::{is_name_byte, is_name_start};
+use crate::place::{Place, name_place};
 use crate::{Name, Path, Step};
 use orc_text::{Memory, Row, Text};
 use std::alloc::Global;
 use std::mem;
-
-/// Where a reader stands.
-#[derive(Clone, Copy)]
-pub(crate) enum Place {
-    /// In front of the text.
-    Start,
-    /// Behind the first slash.
-    Slash,
-    /// In the first name, which may be its module's.
-    Module,
-    /// Behind the colon.
-    Colon,
-    /// In a name that may end here.
-    Inside,
-    /// Behind a later slash.
-    Next,
-    /// In a key.
-    Key,
-    /// Behind a backslash in a key.
-    Escape,
-    /// Behind a key.
-    Closed,
-}
 
 /// The byte that this one means behind a backslash.
 fn unescaped(byte: u8) -> Option<u8>
@@ -51,27 +28,6 @@ fn is_plain(byte: u8) -> bool
     ensures { result ≡ is_plain byte }
 {
     byte > b' ' && byte <= 127 && byte != b'\\' && byte != b']'
-}
-
-/// The place behind a byte of a name, where one may stand here.
-pub(crate) fn name_place(place: Place, byte: u8) -> Option<Place>
-    ensures { result ≡ name_place place byte }
-{
-    match place {
-        Place::Slash if is_name_start(byte) => Some(Place::Module),
-        Place::Module if byte == b':' => Some(Place::Colon),
-        Place::Module if is_name_byte(byte) => Some(Place::Module),
-        Place::Colon | Place::Next if is_name_start(byte) => Some(Place::Inside),
-        Place::Inside if is_name_byte(byte) => Some(Place::Inside),
-        _ => None,
-    }
-}
-
-/// Whether a name may end here.
-pub(crate) fn is_name_end(place: Place) -> bool
-    ensures { result ≡ is_name_end place }
-{
-    matches!(place, Place::Module | Place::Inside)
 }
 
 /// The steps that are whole, and the parts of the one that is being read.

@@ -1,5 +1,5 @@
 -- A history is the list of the committed calls.
-use Rattle.std.specs.Prelude.{◌≡◌, ℕ, ◌+◌, List, [], ◌∷◌, ◌++◌, length, Option}
+use Rattle.std.specs.Prelude.{◌≡◌, ℕ, ◌+◌, List, [], ◌∷◌, ◌++◌, length}
 use Rattle.std.specs.declared.option.Option.TheVariants.{None, Some}
 use Rattle.orc_run.specs.States.{after, refusal}
 use Rattle.orc_run.specs.declared.call.Action.{Action}

@@ -3,5 +3,9 @@ pub mod Histories
 pub mod Printed
 pub mod Fronts
 pub mod Bundles
+pub mod Laws
 pub mod Ends
 pub mod Statuses
+pub mod Lines
+pub mod Reading
+pub mod Places

@@ -53,6 +53,12 @@ is_answer_among devices (Clash d p id) = nat_lt d devices
 abbrev pub answer_line : List (List ℕ) → Call → Answer → List ℕ
 answer_line names call answer = call.caller ++ 32 ∷ [] ++ decimal call.number ++ 32 ∷ [] ++ answer_words names answer ++ 10 ∷ []
 
+-- the calls committed once the steps are done
+abbrev pub history_after : List (List ℕ) → State → List Call → List ScriptStep → List Call
+history_after names s history [] = history
+history_after names s history (Show d ∷ steps) = history_after names s history steps
+history_after names s history (Serve call ∷ steps) = history_after names s (extended names s history call) steps
+
 -- the answers and the trees, each at its step, for the calls that were committed before it
 abbrev pub transcript : List (List ℕ) → State → List Call → List ScriptStep → List ℕ
 transcript names s history [] = []

@@ -31,7 +31,7 @@ pub T_is_true : (b : Bool) → T b → b ≡ true
 T_is_true true h = refl
 T_is_true false h = absurd h
 
-turned_by : {K : Type 0} (R : K → K → Ordering) → IsTotalOrder R → (x y : K) (r : Ordering) → R x y ≡ r → R y x ≡ ordering_reverse r
+pub turned_by : {K : Type 0} (R : K → K → Ordering) → IsTotalOrder R → (x y : K) (r : Ordering) → R x y ≡ r → R y x ≡ ordering_reverse r
 turned_by R o x y r e = o.antisymm y x ∙ ap ordering_reverse e
 
 module _ {K X : Type 0} (R : K → K → Ordering) (o : IsTotalOrder R) where

@@ -1,10 +1,12 @@
 //! The tree and its operations.
 ghost use Rattle.std.specs.Prelude.{◌≡◌, IfOk, OnOk, OnErr, IsTrue, ◌↔◌};
 ghost use Rattle.std.specs.Option.{option_copied};
-ghost use Rattle.std.specs.FinMap.{empty, get, entries};
+ghost use Rattle.std.specs.FinMap.{empty, get, keys, entries};
+ghost use Rattle.std.specs.List.{filter};
 ghost use Rattle.orc_path.specs.Items.{fits};
-ghost use Rattle.orc_path.specs.Configurations.{IsConfig, put_item, drop_item, overlay};
+ghost use Rattle.orc_path.specs.Configurations.{IsConfig, put_item, drop_item, overlay, is_entry_of};
 
+use crate::lists::list_entries;
 use crate::place::place;
 use crate::rows::{drop_at, drop_below, enter_rows, lay_rows, put_row};
 use crate::ways::missing_ways;
@@ -15,7 +17,7 @@ use std::marker::Model;
 
 /// A configuration: a finite map from paths to items in which every entry on the way to a path is
 /// present.
-#[derive(Drop)]
+#[derive(Debug, Drop)]
 pub struct Tree {
     rows: Vec<(Path, Item)>,
 }
@@ -96,6 +98,16 @@ impl Tree {
         self.rows.reserve(rows.len())?;
         lay_rows(&mut self.rows, rows);
         Ok(())
+    }
+
+    /// Copies of the entries of a list, in path order: the present paths that end in keys and whose
+    /// other steps and last name are the list's. A path that ends in keys is no list. It costs a
+    /// search, and a look at each row that stands at or below an entry of the list.
+    pub fn keys_under(&self, alloc: Global, list: &Path) -> Result<Vec<Path>, Memory>
+        ensures keys { IfOk result (λ paths. paths.items ≡ filter (is_entry_of list.now) (keys self.now)) }
+        ensures config { IsConfig self.now }
+    {
+        list_entries(alloc, self.rows.as_slice(), list)
     }
 
     /// Copies of the paths with their items, in path order.

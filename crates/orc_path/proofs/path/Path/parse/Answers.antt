@@ -1,6 +1,5 @@
 use Rattle.std.proofs.Common.{◌≡◌, ◌∙◌, Bool, true, false, take, sym}
 use Rattle.std.specs.Bool.{MatchBool}
-use Rattle.orc_path.specs.Texts.{path_text}
 use Rattle.orc_path.proofs.Refused.{reads_from_start, whole_text, taken_at, refused_at, unfinished, read_whole}
 use Rattle.orc_path.proofs.Texts.{path_text-injective}
 use Rattle.orc_path.proofs.path.Path.parse.Goals as goal

@@ -1,0 +1,275 @@
+-- The entries of a list, and where they stand among rows in path order.
+use Rattle.std.proofs.Common.{◌≡◌, ◌≢◌, ℕ, zero, suc, ◌+◌, ◌<◌, ◌≤◌, Bool, true, false, ◌&&◌, cond, T, List, [], ◌∷◌, ◌++◌, length, take, drop, map, get_or, Some, None, refl, sym, ap, subst, ◌∙◌, arith, eqb, ⊎_elim, nat_eq, nat_lt, append-nil}
+use Rattle.std.specs.Bool.{Decides, one_answer}
+use Rattle.std.specs.Option.{option_map_or}
+use Rattle.std.specs.List.{slice_get, filter}
+use Rattle.std.specs.Ordering.{is_gt, is_eq, ordering_then, ordering_reverse}
+use Rattle.std.specs.declared.cmp.Ordering.{Ordering}
+use Rattle.std.specs.declared.cmp.Ordering.TheVariants.{Less, Equal, Greater}
+use Rattle.std.specs.Cmp.{tied_itself}
+use Rattle.std.specs.Cmp.Lexicographic.{pointwise, slice_cmp, bytes_decides, nat_list_cmp_total}
+use Rattle.std.specs.FinMap.{is_sorted, nat_cmp-IsAntisymmetric, slice_cmp-IsAntisymmetric}
+use Rattle.std.proofs.lemmas.Bool.{false≢true, cases_Bool, cases_eq, cases_lt, and_parts, and_from, eqb-true, eq-eqb, both_ways, lt-ltb, cond-true, cond-false}
+use Rattle.std.proofs.lemmas.List.{take-append-drop, take_more, length-take-le, map-append, get_or-drop, get_or-take, length-append, length-drop}
+use Rattle.std.proofs.lemmas.List.Elements.{filter-append}
+use Rattle.orc_path.specs.Steps.{PathStep, has_keys, ends_in_keys}
+use Rattle.orc_path.specs.Order.{path_cmp, path_cmp_total, path_cmp_exact, step_cmp, step_cmp_total, text_cmp, step_eq, is_prefix}
+use Rattle.orc_path.specs.Configurations.{list_of, is_entry_of}
+use Rattle.orc_path.specs.ConfigurationLaws.{is_entry_of_decides, length-list_of}
+use Rattle.orc_path.specs.declared.item.Item.{Item}
+use Rattle.orc_tree.specs.Rows.{IsRowOf, IsPlaceOf}
+use Rattle.orc_tree.specs.Lists.{is_under, IsFirstFrom, IsUnderUpTo}
+use Rattle.orc_path.proofs.Equality.{step_eq_decides}
+use Rattle.orc_tree.proofs.InOrder.{is_true_T, in_order, turned_by}
+use Rattle.orc_tree.proofs.Maps.{Rows}
+
+not_true : (b : Bool) → (b ≡ true → ⊥) → b ≡ false
+not_true true f = absurd (f refl)
+not_true false f = refl
+
+same_head : {X : Type 0} (x y : X) (xs ys : List X) → x ∷ xs ≡ y ∷ ys → x ≡ y
+same_head x y xs ys e = cc
+
+same_tail : {X : Type 0} (x y : X) (xs ys : List X) → x ∷ xs ≡ y ∷ ys → xs ≡ ys
+same_tail x y xs ys e = cc
+
+no_push : {X : Type 0} (xs : List X) (x : X) → [] ≡ xs ++ x ∷ [] → ⊥
+no_push xs x e = omega (arith, ap length e, length-append xs (x ∷ []))
+
+-- Going on from the front's steps
+
+and_assoc : (a b c : Bool) → (a && (b && c)) ≡ ((a && b) && c)
+and_assoc true b c = refl
+and_assoc false b c = refl
+
+pub is_under-parts : (front : List PathStep) (name : List ℕ) (p : List PathStep)
+    → is_under front name p ≡ (is_prefix front p && option_map_or (λ (t : PathStep). pointwise nat_eq t.node name) (slice_get p (length front)) false)
+is_under-parts [] name [] = refl
+is_under-parts [] name (t ∷ ts) = refl
+is_under-parts (s ∷ ss) name [] = refl
+is_under-parts (s ∷ ss) name (t ∷ ts) =
+    ap (λ b. step_eq s t && b) (is_under-parts ss name ts) ∙ and_assoc (step_eq s t) (is_prefix ss ts) _
+
+pub is_under-longer : (front : List PathStep) (name : List ℕ) (p : List PathStep) → is_under front name p ≡ true → length front < length p
+is_under-longer front name [] h = absurd (false≢true (sym (nothing front name) ∙ h))
+  where
+    nothing : (front : List PathStep) (name : List ℕ) → is_under front name [] ≡ false
+    nothing [] name = refl
+    nothing (s ∷ ss) name = refl
+is_under-longer [] name (t ∷ ts) h = omega arith
+is_under-longer (s ∷ ss) name (t ∷ ts) h = omega (arith, is_under-longer ss name ts (and_parts (step_eq s t) (is_under ss name ts) h).1)
+
+pub is_under-short : (front : List PathStep) (name : List ℕ) (p : List PathStep) → length p ≤ length front → is_under front name p ≡ false
+is_under-short front name p l = not_true _ (λ h. omega (arith, is_under-longer front name p h))
+
+pub is_under-at : (front : List PathStep) (name : List ℕ) (p : List PathStep) (t : PathStep) → slice_get p (length front) ≡ Some t
+    → is_under front name p ≡ (is_prefix front p && pointwise nat_eq t.node name)
+is_under-at front name p t e = is_under-parts front name p ∙ ap (λ o. is_prefix front p && option_map_or (λ (t : PathStep). pointwise nat_eq t.node name) o false) e
+
+-- of as many steps as the front and one more, it is an entry of the list, where it ends in keys
+list_under : (front : List PathStep) (last : PathStep) (p : List PathStep) → last.keys ≡ [] → length p ≡ length front + 1 → is_under front last.node p ≡ true
+    → list_of p ≡ front ++ last ∷ []
+list_under front last [] k l h = absurd (omega arith)
+list_under [] last (t ∷ []) k l h =
+    λ i. record { node = (bytes_decides t.node last.node).0 h i; keys = sym k i } ∷ []
+list_under [] last (t ∷ u ∷ us) k l h = absurd (omega arith)
+list_under (s ∷ ss) last (t ∷ []) k l h = absurd (omega arith)
+list_under (s ∷ ss) last (t ∷ u ∷ us) k l h =
+    let parts = and_parts (step_eq s t) (is_under ss last.node (u ∷ us)) h in
+    λ i. sym ((step_eq_decides s t).0 parts.0) i ∷ list_under ss last (u ∷ us) k (omega arith) parts.1 i
+
+under_list : (front : List PathStep) (last : PathStep) (p : List PathStep) → list_of p ≡ front ++ last ∷ [] → is_under front last.node p ≡ true
+under_list front last [] e = absurd (no_push front last e)
+under_list [] last (t ∷ []) e = (bytes_decides t.node last.node).1 (ap (λ (s : PathStep). s.node) (same_head _ _ _ _ e))
+under_list [] last (t ∷ u ∷ us) e = (bytes_decides t.node last.node).1 (ap (λ (s : PathStep). s.node) (same_head _ _ _ _ e))
+under_list (s ∷ ss) last (t ∷ []) e = absurd (no_push ss last (same_tail _ _ _ _ e))
+under_list (s ∷ ss) last (t ∷ u ∷ us) e =
+    and_from _ _ ((step_eq_decides s t).1 (sym (same_head _ _ _ _ e))) (under_list ss last (u ∷ us) (same_tail _ _ _ _ e))
+
+pub entry_under : (front : List PathStep) (last : PathStep) (p : List PathStep) → is_entry_of (front ++ last ∷ []) p ≡ true → is_under front last.node p ≡ true
+entry_under front last p h = under_list front last p ((is_entry_of_decides (front ++ last ∷ []) p).0 h).1
+
+-- what the test of the code says
+pub entry_tested : (front : List PathStep) (last : PathStep) (p : List PathStep) → last.keys ≡ []
+    → (ends_in_keys p && (eqb (length p) (length front + 1) && is_under front last.node p)) ≡ is_entry_of (front ++ last ∷ []) p
+entry_tested front last p k =
+    one_answer {P = (ends_in_keys p ≡ true) × (list_of p ≡ front ++ last ∷ [])} _ _ (
+      λ h. let a = and_parts (ends_in_keys p) (eqb (length p) (length front + 1) && is_under front last.node p) h in
+          let b = and_parts (eqb (length p) (length front + 1)) (is_under front last.node p) a.1 in
+          (a.0, list_under front last p k (eqb-true _ _ b.0) b.1),
+      λ h. and_from _ _ h.0 (and_from _ _ (eq-eqb _ _ (sym (length-list_of p) ∙ ap length h.1 ∙ length-append front (last ∷ []))) (under_list front last p h.1)),
+    ) (is_entry_of_decides (front ++ last ∷ []) p)
+
+pub passed : (a b c v : Bool) → v ≡ (a && b) → v ≡ true → c ≡ (a && (b && c))
+passed true true c v e h = refl
+passed true false c v e h = absurd (false≢true (sym e ∙ h))
+passed false b c v e h = absurd (false≢true (sym e ∙ h))
+
+pub failed : (a b c v : Bool) → v ≡ (a && b) → v ≡ false → v ≡ (a && (b && c))
+failed true true c v e h = absurd (false≢true (sym h ∙ e))
+failed true false c v e h = h
+failed false b c v e h = h
+
+-- a list's path ends without keys, and is not the root
+pub list_has_no_keys : (front : List PathStep) (last : PathStep) (p : List PathStep) → list_of p ≡ front ++ last ∷ [] → last.keys ≡ []
+list_has_no_keys front last [] e = absurd (no_push front last e)
+list_has_no_keys [] last (t ∷ []) e = ap (λ (s : PathStep). s.keys) (sym (same_head _ _ _ _ e))
+list_has_no_keys [] last (t ∷ u ∷ us) e = absurd (omega (arith, ap length e, length-list_of (u ∷ us)))
+list_has_no_keys (s ∷ ss) last (t ∷ []) e = absurd (no_push ss last (same_tail _ _ _ _ e))
+list_has_no_keys (s ∷ ss) last (t ∷ u ∷ us) e = list_has_no_keys ss last (u ∷ us) (same_tail _ _ _ _ e)
+
+pub no_entry-keyed : (front : List PathStep) (last : PathStep) (p : List PathStep) → 0 < length last.keys → is_entry_of (front ++ last ∷ []) p ≡ false
+no_entry-keyed front last p l = not_true _ (λ h.
+    omega (arith, ap length (list_has_no_keys front last p ((is_entry_of_decides (front ++ last ∷ []) p).0 h).1)))
+
+pub no_entry-root : (p : List PathStep) → is_entry_of [] p ≡ false
+no_entry-root [] = refl
+no_entry-root (t ∷ ts) = not_true _ (λ h. omega (arith, ap length ((is_entry_of_decides [] (t ∷ ts)).0 h).1, length-list_of (t ∷ ts)))
+
+-- Their places
+
+then_equal : (a b : Ordering) → a ≡ Equal → ordering_then a b ≡ b
+then_equal a b e = ap (λ o. ordering_then o b) e
+
+step_before_keys : (s : PathStep) → has_keys s ≡ true → step_cmp (record { node = s.node; keys = [] }) s ≡ Less
+step_before_keys s h = then_equal _ _ (tied_itself nat_list_cmp_total s.node) ∙ keyed s.keys h
+  where
+    keyed : (keys : List (List ℕ)) → nat_lt 0 (length keys) ≡ true → slice_cmp text_cmp [] keys ≡ Less
+    keyed [] h = absurd (false≢true h)
+    keyed (k ∷ ks) h = refl
+
+list_before : (p : List PathStep) → ends_in_keys p ≡ true → path_cmp (list_of p) p ≡ Less
+list_before [] h = absurd (false≢true h)
+list_before (s ∷ []) h = ap (λ o. ordering_then o Equal) (step_before_keys s h)
+list_before (s ∷ t ∷ ss) h = then_equal _ _ (tied_itself step_cmp_total s) ∙ list_before (t ∷ ss) h
+
+-- an entry of a list stands behind the list's path
+pub entry_behind : (list p : List PathStep) → is_entry_of list p ≡ true → path_cmp list p ≡ Less
+entry_behind list p h =
+    let is = (is_entry_of_decides list p).0 h in
+    ap (λ (q : List PathStep). path_cmp q p) (sym is.1) ∙ list_before p is.0
+
+then_up_to : (a b : Ordering) → is_gt (ordering_then a b) ≡ false → is_gt a ≡ false
+then_up_to Less b h = refl
+then_up_to Equal b h = refl
+then_up_to Greater b h = h
+
+both_up_to : (o : Ordering) → is_gt o ≡ false → is_gt (ordering_reverse o) ≡ false → o ≡ Equal
+both_up_to Less h k = absurd (false≢true (sym k))
+both_up_to Equal h k = refl
+both_up_to Greater h k = absurd (false≢true (sym h))
+
+same_text : (x y : List ℕ) → is_gt (text_cmp x y) ≡ false → is_gt (text_cmp y x) ≡ false → x ≡ y
+same_text x y h k =
+    slice_cmp-IsAntisymmetric nat_cmp-IsAntisymmetric x y (both_up_to (text_cmp x y) h (sym (ap is_gt (nat_list_cmp_total.antisymm y x)) ∙ k))
+
+same_step : (s t : PathStep) → is_gt (step_cmp s t) ≡ false → is_gt (step_cmp t s) ≡ false → s ≡ t
+same_step s t h k =
+    same_head s t [] [] (path_cmp_exact (s ∷ []) (t ∷ []) (then_equal _ _ (both_up_to (step_cmp s t) h (sym (ap is_gt (step_cmp_total.antisymm t s)) ∙ k))))
+
+-- between the list's path and a path that goes on so, each path goes on so
+pub under_between : (front : List PathStep) (last : PathStep) (r q : List PathStep) → is_gt (path_cmp (front ++ last ∷ []) r) ≡ false → is_gt (path_cmp r q) ≡ false
+    → is_under front last.node q ≡ true → is_under front last.node r ≡ true
+under_between [] last [] q a b h = absurd (false≢true (sym a))
+under_between (s ∷ ss) last [] q a b h = absurd (false≢true (sym a))
+under_between front last (t ∷ ts) [] a b h = absurd (false≢true (sym b))
+under_between [] last (t ∷ ts) (u ∷ us) a b h =
+    let name : u.node ≡ last.node = (bytes_decides u.node last.node).0 h in
+    let up : is_gt (text_cmp last.node t.node) ≡ false = then_up_to _ _ (then_up_to _ _ a) in
+    let down : is_gt (text_cmp t.node last.node) ≡ false = subst (λ n. is_gt (text_cmp t.node n) ≡ false) name (then_up_to _ _ (then_up_to _ _ b)) in
+    (bytes_decides t.node last.node).1 (same_text t.node last.node down up)
+under_between (s ∷ ss) last (t ∷ ts) (u ∷ us) a b h =
+    let parts = and_parts (step_eq s u) (is_under ss last.node us) h in
+    let is : s ≡ u = (step_eq_decides s u).0 parts.0 in
+    let down : is_gt (step_cmp t s) ≡ false = subst (λ (x : PathStep). is_gt (step_cmp t x) ≡ false) (sym is) (then_up_to _ _ b) in
+    let same : s ≡ t = same_step s t (then_up_to _ _ a) down in
+    let level : step_cmp s t ≡ Equal = subst (λ (x : PathStep). step_cmp s x ≡ Equal) same (tied_itself step_cmp_total s) in
+    let level_on : step_cmp t u ≡ Equal = subst (λ (x : PathStep). step_cmp x u ≡ Equal) same (subst (λ (x : PathStep). step_cmp s x ≡ Equal) is (tied_itself step_cmp_total s)) in
+    and_from _ _ ((step_eq_decides s t).1 same)
+    (under_between ss last ts us (sym (ap is_gt (then_equal _ _ level)) ∙ a) (sym (ap is_gt (then_equal _ _ level_on)) ∙ b) parts.1)
+
+-- A part of the rows that has all entries of the list
+
+filter_none : (f : List PathStep → Bool) (rows : Rows) → ((k : ℕ) (d : List PathStep × Item) → k < length rows → f (get_or rows k d).0 ≡ false)
+    → filter f (map (λ (row : List PathStep × Item). row.0) rows) ≡ []
+filter_none f [] h = refl
+filter_none f (row ∷ rows) h = cond-false _ _ _ (h 0 row (omega arith)) ∙ filter_none f rows (λ k d l. h (suc k) d (omega arith))
+
+filter_parts : (f : List PathStep → Bool) (n : ℕ) (rows : Rows)
+    → filter f (map (λ (row : List PathStep × Item). row.0) rows)
+    ≡ filter f (map (λ (row : List PathStep × Item). row.0) (take n rows)) ++ filter f (map (λ (row : List PathStep × Item). row.0) (drop n rows))
+filter_parts f n rows =
+    ap (λ (r : Rows). filter f (map (λ (row : List PathStep × Item). row.0) r)) (sym (take-append-drop n rows))
+    ∙ ap (filter f) (map-append (λ (row : List PathStep × Item). row.0) (take n rows) (drop n rows))
+    ∙ filter-append f _ _
+
+pub filter_more : (f : List PathStep → Bool) (rows : Rows) (i : ℕ) (row : List PathStep × Item) → i < length rows → row ≡ get_or rows i row
+    → filter f (map (λ (row : List PathStep × Item). row.0) (take (i + 1) rows))
+    ≡ filter f (map (λ (row : List PathStep × Item). row.0) (take i rows)) ++ cond (f row.0) (row.0 ∷ []) []
+filter_more f rows i row l is =
+    ap (λ (r : Rows). filter f (map (λ (row : List PathStep × Item). row.0) r)) (take_more rows i row l ∙ ap (λ (x : List PathStep × Item). take i rows ++ x ∷ []) (sym is))
+    ∙ ap (filter f) (map-append (λ (row : List PathStep × Item). row.0) (take i rows) (row ∷ []))
+    ∙ filter-append f _ (row.0 ∷ [])
+
+pub first_from-row : (q : List PathStep) (rows : Rows) (i : ℕ) → is_sorted path_cmp rows ≡ true → IsRowOf q rows i → IsFirstFrom q rows i
+first_from-row q rows i s is = record {
+  within = omega (arith, is.within);
+  before = λ k d low high. turned_by path_cmp path_cmp_total (get_or rows k d).0 q Less
+      (subst (λ (x : List PathStep). path_cmp (get_or rows k d).0 x ≡ Less) (is.here d) (in_order path_cmp path_cmp_total rows (is_true_T _ s) k i d high is.within));
+  rest = λ k d low high.
+      ⊎_elim
+      (λ less. ap is_gt (subst (λ (x : List PathStep). path_cmp x (get_or rows k d).0 ≡ Less) (is.here d) (in_order path_cmp path_cmp_total rows (is_true_T _ s) i k d less high)))
+      (λ more. let same : i ≡ k = omega arith in
+      ap is_gt (subst (λ (x : List PathStep). path_cmp q x ≡ Equal) (sym (is.here d) ∙ ap (λ n. (get_or rows n d).0) same) (tied_itself path_cmp_total q)))
+      (cases_lt i k);
+}
+
+pub first_from-place : (q : List PathStep) (rows : Rows) (i : ℕ) → IsPlaceOf q rows i → IsFirstFrom q rows i
+first_from-place q rows i is = record { within = is.within; before = is.before; rest = λ k d low high. ap is_gt (is.behind k d low high) }
+
+pub entries_within : (front : List PathStep) (last : PathStep) (rows : Rows) (first len : ℕ) → is_sorted path_cmp rows ≡ true
+    → IsFirstFrom (front ++ last ∷ []) rows first → IsUnderUpTo front last.node (drop first rows) len
+    → filter (is_entry_of (front ++ last ∷ [])) (map (λ (row : List PathStep × Item). row.0) (take len (drop first rows)))
+    ≡ filter (is_entry_of (front ++ last ∷ [])) (map (λ (row : List PathStep × Item). row.0) rows)
+entries_within front last rows first len s from up =
+    sym (filter_parts (is_entry_of (front ++ last ∷ [])) first rows
+    ∙ ap (λ x. x ++ filter (is_entry_of (front ++ last ∷ [])) (map (λ (row : List PathStep × Item). row.0) (drop first rows))) (filter_none (is_entry_of (front ++ last ∷ [])) (take first rows) before)
+    ∙ filter_parts (is_entry_of (front ++ last ∷ [])) len (drop first rows)
+    ∙ ap (λ x. filter (is_entry_of (front ++ last ∷ [])) (map (λ (row : List PathStep × Item). row.0) (take len (drop first rows))) ++ x) (filter_none (is_entry_of (front ++ last ∷ [])) (drop len (drop first rows)) after)
+    ∙ append-nil _)
+  where
+    apart : (o : Ordering) → o ≡ Greater → o ≡ Less → ⊥
+    apart o g l = cc
+
+    before : (k : ℕ) (d : List PathStep × Item) → k < length (take first rows) → is_entry_of (front ++ last ∷ []) (get_or (take first rows) k d).0 ≡ false
+    before k d l =
+        let high : k < first = omega (arith, length-take-le first rows from.within) in
+        ap (λ (x : List PathStep × Item). is_entry_of (front ++ last ∷ []) x.0) (get_or-take first rows k d high)
+        ∙ not_true _ (λ h. apart (path_cmp (front ++ last ∷ []) (get_or rows k d).0) (from.before k d (omega arith) high) (entry_behind (front ++ last ∷ []) (get_or rows k d).0 h))
+
+    after : (k : ℕ) (d : List PathStep × Item) → k < length (drop len (drop first rows)) → is_entry_of (front ++ last ∷ []) (get_or (drop len (drop first rows)) k d).0 ≡ false
+    after k d l =
+        let n = length-drop len (drop first rows) in
+        let m = length-drop first rows in
+        let high : first + (len + k) < length rows = omega (arith, n, m) in
+        let r = (get_or rows (first + len) d).0 in
+        let q = (get_or rows (first + (len + k)) d).0 in
+        let stop : is_under front last.node r ≡ false =
+        ap (λ (x : List PathStep × Item). is_under front last.node x.0) (sym (get_or-drop first rows len d)) ∙ up.end (omega (arith, n, m)) d in
+        let up_to : is_gt (path_cmp r q) ≡ false =
+        ⊎_elim
+        (λ e. let same : first + len ≡ first + (len + k) = omega arith in
+        ap is_gt (subst (λ i. path_cmp r (get_or rows i d).0 ≡ Equal) same (tied_itself path_cmp_total r)))
+        (λ ne. let less : first + len < first + (len + k) = omega arith in
+        ap is_gt (in_order path_cmp path_cmp_total rows (is_true_T _ s) (first + len) (first + (len + k)) d less high))
+        (cases_eq k 0) in
+        ap (λ (x : List PathStep × Item). is_entry_of (front ++ last ∷ []) x.0) (get_or-drop len (drop first rows) k d ∙ get_or-drop first rows (len + k) d)
+        ∙ not_true _ (λ h. both_ways (is_under front last.node r) stop
+        (under_between front last r q (from.rest (first + len) d (omega arith) (omega (arith, n, m))) up_to (entry_under front last q h)))
+
+pub no_entries : (list : List PathStep) (rows : Rows) → ((p : List PathStep) → is_entry_of list p ≡ false) → filter (is_entry_of list) (map (λ (row : List PathStep × Item). row.0) rows) ≡ []
+no_entries list rows none = filter_none (is_entry_of list) rows (λ k d l. none (get_or rows k d).0)
+
+pub nil_from_length : {X : Type 0} (xs : List X) → length xs ≡ 0 → xs ≡ []
+nil_from_length [] e = refl
+nil_from_length (x ∷ xs) e = absurd (omega arith)
