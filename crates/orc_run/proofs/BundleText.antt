@@ -12,7 +12,6 @@ use Rattle.orc_run.specs.declared.bundle.ScriptStep.{ScriptStep}
 use Rattle.orc_run.specs.declared.bundle.ScriptStep.TheVariants as step
 use Rattle.orc_run.specs.declared.call.Action.{Action}
 use Rattle.orc_run.specs.declared.call.Action.TheVariants as action
-use Rattle.orc_run.specs.declared.call.Call.{Call}
 use Rattle.orc_run.specs.declared.call.DevicePut.{DevicePut}
 use Rattle.orc_run.specs.declared.read.line.Line.{Line}
 use Rattle.orc_run.specs.declared.read.line.Line.TheVariants as line

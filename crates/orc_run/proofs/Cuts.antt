@@ -1,10 +1,9 @@
 -- Where a text is cut at the first byte of a kind.
-use Rattle.std.proofs.Common.{◌≡◌, ℕ, suc, ◌+◌, ◌<◌, ◌≢◌, Bool, true, false, not, ◌&&◌, ◌==◌, List, [], ◌∷◌, ◌++◌, length, get_or, refl, ap, sym, ◌∙◌, arith, eqb, Option, None, Some, MatchOption, IsTrue, eqb→eq, eq-eqb, Bor, zero}
-use Rattle.std.specs.List.{list_all}
+use Rattle.std.proofs.Common.{◌≡◌, ℕ, suc, ◌<◌, ◌≢◌, true, not, ◌==◌, List, [], ◌∷◌, ◌++◌, length, get_or, refl, ap₂, arith, eqb, Option, None, Some, MatchOption, IsTrue, eq-eqb, Bor}
 use Rattle.std.specs.Cmp.{first_so, second_so}
 use Rattle.std.proofs.lemmas.Str.Pattern.{IsSplitOnceResult, split_parts}
 use Rattle.orc_run.specs.Lines.{lacks}
-use Rattle.orc_run.proofs.Bytes.{both, not_true, list_all-weaker}
+use Rattle.orc_run.proofs.Bytes.{both, not_true}
 
 pub lacks-from_reads : (c : ℕ) (bs : List ℕ) → ((i : ℕ) → i < length bs → get_or bs i 0 ≢ c) → lacks c bs ≡ true
 lacks-from_reads c [] h = refl
@@ -22,10 +21,10 @@ cut_once c [] x (b ∷ bs) y ha hb e =
 cut_once c (a ∷ az) x [] y ha hb e =
     let head : a ≡ c = cc in let bad : not (a == c) ≡ true = first_so _ _ ha in absurd (not_itself c (rw head at bad))
 cut_once c (a ∷ az) x (b ∷ bs) y ha hb e =
+    let heads : a ≡ b = cc in
     let tails : az ++ c ∷ x ≡ bs ++ c ∷ y = cc in
-    let rest = cut_once c az x bs y (second_so _ _ ha) (second_so _ _ hb) tails in
-    let fronts : az ≡ bs = rest.0 in
-    let front : a ∷ az ≡ b ∷ bs = cc in (front, rest.1)
+    let more : (az ≡ bs) × (x ≡ y) = cut_once c az x bs y (second_so (not (a == c)) (lacks c az) ha) (second_so (not (b == c)) (lacks c bs) hb) tails in
+    (ap₂ (λ (h : ℕ) (t : List ℕ). h ∷ t) heads more.0, more.1)
 
 -- what has such a byte does not lack it
 pub has_cut : (c : ℕ) (a x : List ℕ) → lacks c (a ++ c ∷ x) ≡ true → ⊥

@@ -1,8 +1,7 @@
 -- The words of a bundle are of graphic ASCII characters, and its lines of these and spaces.
-use Rattle.std.proofs.Common.{◌≡◌, ℕ, ◌+◌, ◌<◌, ◌≤◌, ◌^◌, Bool, true, false, not, cond, ◌&&◌, ◌||◌, ◌==◌, List, [], ◌∷◌, ◌++◌, length, refl, arith, nat_lt, nat_le, decimal, lt-ltb, leb-true, eqb-true, ltb-true, ◌⊎◌, inl, inr, codes}
+use Rattle.std.proofs.Common.{◌≡◌, ℕ, ◌<◌, ◌≤◌, ◌^◌, Bool, true, false, not, cond, ◌&&◌, ◌||◌, ◌==◌, List, [], ◌∷◌, length, refl, arith, nat_lt, nat_le, decimal, lt-ltb, leb-true, eqb-true, ltb-true, ◌⊎◌, inl, inr}
 use Rattle.std.specs.List.{list_all, flat_map}
-use Rattle.std.specs.Str.Parse.{AllDigits, digits_value}
-use Rattle.std.specs.Char.{digit_value}
+use Rattle.std.specs.Str.Parse.{AllDigits}
 use Rattle.std.specs.Cmp.{first_so, second_so}
 use Rattle.std.proofs.lemmas.Str.Parse.{digit_from_value}
 use Rattle.std.proofs.lemmas.Fmt.{digits_decimal}

@@ -1,14 +1,11 @@
 -- The lines of a bundle by their words.
-use Rattle.std.proofs.Common.{◌≡◌, ℕ, ◌<◌, ◌^◌, Bool, true, false, not, ◌&&◌, List, [], ◌∷◌, ◌++◌, codes, Some, None, Option, refl, ap, ap₂, sym, ◌∙◌, IsTrue, decimal, ltb-true, lt-ltb, nat_lt, Result, bytes_eq, subst}
+use Rattle.std.proofs.Common.{◌≡◌, ℕ, ◌<◌, ◌^◌, Bool, true, false, not, List, ◌∷◌, ◌++◌, codes, Some, None, Option, refl, ap, ap₂, sym, ◌∙◌, decimal, ltb-true, lt-ltb, nat_lt, Result, bytes_eq, subst}
 use Rattle.std.proofs.lemmas.Slice.Eq.{bytes_eq-Decides}
 use Rattle.std.proofs.lemmas.Bool.{false≢true}
 use Rattle.std.specs.Cmp.{first_so, second_so}
 use Rattle.orc_path.specs.Alphabet.{is_identifier}
-use Rattle.orc_path.specs.declared.item.Item.{Item}
-use Rattle.orc_path.specs.Steps.{PathStep}
 use Rattle.orc_run.specs.Printed.{item_text}
-use Rattle.orc_run.specs.Bundles.{is_item, is_put}
-use Rattle.orc_run.specs.Lines.{lacks, word_of, rest_of, put_text, joined, line_text, is_line}
+use Rattle.orc_run.specs.Lines.{lacks, word_of, rest_of, joined}
 use Rattle.orc_run.specs.Reading.{IsOnly, Reads, IsNameOf, IsNumberOf, IsPutOf, IsDevicePutOf, IsBehind, IsLineOf}
 use Rattle.orc_run.specs.declared.bundle.Put.{Put}
 use Rattle.orc_run.specs.declared.call.DevicePut.{DevicePut}

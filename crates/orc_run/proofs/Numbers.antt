@@ -1,7 +1,6 @@
 -- Numbers in decimal.
-use Rattle.std.proofs.Common.{◌≡◌, ℕ, zero, suc, ◌<◌, ◌≤◌, ◌^◌, ◌≢◌, Bool, true, false, ◌&&◌, ◌||◌, ◌==◌, List, [], ◌∷◌, length, get_or, refl, ap, sym, ◌∙◌, subst, arith, eqb, nat_lt, Result, Ok, Err, decimal, eqb→eq, eq-eqb, ltb-true, eqb-true, ◌⊎◌, inl, inr, tests}
-use Rattle.std.specs.Int.{IsInRange}
-use Rattle.std.specs.Str.Parse.{ParsesUnsigned, AllDigits, digits_value, IsNumeral}
+use Rattle.std.proofs.Common.{◌≡◌, ℕ, zero, suc, ◌<◌, ◌^◌, ◌≢◌, true, false, ◌&&◌, ◌==◌, List, [], ◌∷◌, length, get_or, refl, ap, sym, ◌∙◌, subst, arith, eqb, nat_lt, Result, Ok, Err, decimal, eq-eqb, ltb-true, eqb-true, ◌⊎◌, inl, inr, tests}
+use Rattle.std.specs.Str.Parse.{ParsesUnsigned, AllDigits, digits_value}
 use Rattle.std.specs.Cmp.{first_so, second_so}
 use Rattle.std.proofs.lemmas.Str.Parse.{IsNumeralModel, numerals_by_value, tells_digits, parse_plain, not_in_digits}
 use Rattle.std.proofs.lemmas.Result.{OkIff-at_ok}

@@ -1,5 +1,5 @@
 -- The lines of a bundle are of ASCII characters, and have no line feed.
-use Rattle.std.proofs.Common.{◌≡◌, ℕ, ◌<◌, ◌^◌, Bool, true, not, ◌&&◌, ◌==◌, List, [], ◌∷◌, ◌++◌, codes, Some, None, Option, refl, arith, nat_lt, decimal, lt-ltb, ltb-true, eqb-true, IsUtf8, IsAscii, sym, subst}
+use Rattle.std.proofs.Common.{◌≡◌, ℕ, ◌<◌, ◌^◌, Bool, true, not, ◌&&◌, ◌==◌, List, [], ◌∷◌, ◌++◌, codes, refl, arith, nat_lt, decimal, lt-ltb, ltb-true, eqb-true, IsUtf8, IsAscii, subst}
 use Rattle.std.specs.List.{list_all}
 use Rattle.std.specs.Cmp.{first_so, second_so}
 use Rattle.std.proofs.lemmas.Str.{IsUtf8-from_ascii}
@@ -11,7 +11,7 @@ use Rattle.orc_path.specs.Items.{fits}
 use Rattle.orc_path.specs.declared.item.Item.{Item}
 use Rattle.orc_path.specs.declared.item.Item.TheVariants.{Entry, Leaf}
 use Rattle.orc_run.specs.Printed.{item_text}
-use Rattle.orc_run.specs.Bundles.{has_plain_keys, is_plain, is_plain_item, is_item}
+use Rattle.orc_run.specs.Bundles.{has_plain_keys, is_plain_item, is_item}
 use Rattle.orc_run.specs.Lines.{lacks, put_text, line_text, is_line}
 use Rattle.orc_run.specs.Reading.{IsLineOf}
 use Rattle.orc_run.specs.declared.call.DevicePut.{DevicePut}

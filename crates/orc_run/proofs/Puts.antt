@@ -1,5 +1,5 @@
 -- Items by where their text is cut.
-use Rattle.std.proofs.Common.{◌≡◌, ℕ, Bool, true, ◌&&◌, List, [], ◌∷◌, ◌++◌, codes, refl, ap, sym, ◌∙◌, subst, append_assoc, Result, ◌≢◌}
+use Rattle.std.proofs.Common.{◌≡◌, ℕ, true, ◌&&◌, List, ◌∷◌, ◌++◌, codes, refl, ap, sym, ◌∙◌, append_assoc, Result, ◌≢◌}
 use Rattle.std.specs.List.{list_all}
 use Rattle.std.specs.Cmp.{first_so, second_so}
 use Rattle.orc_path.specs.Steps.{PathStep, is_path}
@@ -8,7 +8,7 @@ use Rattle.orc_path.specs.Items.{fits}
 use Rattle.orc_path.specs.declared.item.Item.{Item}
 use Rattle.orc_path.specs.declared.item.Item.TheVariants.{Entry, Leaf}
 use Rattle.orc_run.specs.Printed.{item_text}
-use Rattle.orc_run.specs.Bundles.{has_plain_keys, is_plain_item, is_item, is_put}
+use Rattle.orc_run.specs.Bundles.{has_plain_keys, is_plain_item, is_item}
 use Rattle.orc_run.specs.Lines.{lacks}
 use Rattle.orc_run.specs.Reading.{Reads, IsEntryOf, IsLeafOf, IsPutOf}
 use Rattle.orc_run.specs.declared.bundle.Put.{Put}

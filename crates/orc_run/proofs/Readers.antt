@@ -1,5 +1,5 @@
 -- What readers of parts say of the reader of the whole.
-use Rattle.std.proofs.Common.{◌≡◌, Result, Ok, Err}
+use Rattle.std.proofs.Common.{Result, Ok, Err}
 use Rattle.orc_run.specs.Reading.{Fails, Reads}
 use Rattle.orc_run.specs.declared.read.BundleFault.{BundleFault}
 use Rattle.orc_run.specs.declared.read.BundleFault.TheVariants as fault

@@ -1,5 +1,5 @@
 -- The lines of a bundle are read as that bundle.
-use Rattle.std.proofs.Common.{◌≡◌, ℕ, zero, suc, ◌<◌, ◌^◌, Bool, true, false, cond, ◌&&◌, ◌||◌, nat_lt, List, [], ◌∷◌, ◌++◌, length, map, Some, None, refl, ap, sym, subst, ◌∙◌, arith, append_assoc, append-nil, ltb-true, inl, inr}
+use Rattle.std.proofs.Common.{◌≡◌, ℕ, zero, suc, ◌<◌, ◌^◌, Bool, true, false, cond, ◌&&◌, nat_lt, List, [], ◌∷◌, ◌++◌, map, Some, None, refl, ap, sym, ◌∙◌, arith, append_assoc, append-nil, ltb-true, inl, inr}
 use Rattle.std.specs.List.{list_all, list_any, flat_map}
 use Rattle.std.specs.Option.{option_and_then}
 use Rattle.std.specs.Cmp.{first_so, second_so}
@@ -17,7 +17,6 @@ use Rattle.orc_run.specs.declared.bundle.ScriptStep.{ScriptStep}
 use Rattle.orc_run.specs.declared.bundle.ScriptStep.TheVariants as step
 use Rattle.orc_run.specs.declared.call.Action.{Action}
 use Rattle.orc_run.specs.declared.call.Action.TheVariants as action
-use Rattle.orc_run.specs.declared.call.Call.{Call}
 use Rattle.orc_run.specs.declared.call.DevicePut.{DevicePut}
 use Rattle.orc_run.specs.declared.read.line.Line.{Line}
 use Rattle.orc_run.specs.declared.read.line.Line.TheVariants as line

@@ -1,5 +1,5 @@
 -- The lines of a bundle, and of what was read up to a place.
-use Rattle.std.proofs.Common.{◌≡◌, ℕ, zero, suc, ◌<◌, ◌^◌, Bool, true, false, cond, ◌&&◌, ◌||◌, nat_lt, List, [], ◌∷◌, ◌++◌, length, map, Some, None, Option, refl, ap, ap₂, sym, subst, ◌∙◌, arith, append_assoc, append-nil, IsTrue, ltb-true, ◌⊎◌, inl, inr, bytes_eq}
+use Rattle.std.proofs.Common.{◌≡◌, ℕ, ◌^◌, Bool, true, false, cond, ◌&&◌, ◌||◌, nat_lt, List, [], ◌∷◌, ◌++◌, map, Some, None, Option, refl, ap, sym, subst, ◌∙◌, append_assoc, append-nil}
 use Rattle.std.specs.List.{list_all, list_any, flat_map}
 use Rattle.std.specs.Option.{option_and_then}
 use Rattle.std.specs.Cmp.{first_so, second_so}
@@ -27,7 +27,7 @@ use Rattle.orc_run.specs.declared.read.line.Line.TheVariants as line
 use Rattle.orc_run.specs.declared.read.place.Place.{Place}
 use Rattle.orc_run.specs.declared.read.place.Place.TheVariants as place
 use Rattle.orc_run.specs.declared.read.place.Script.{Script}
-use Rattle.orc_run.proofs.Bytes.{both, either, list_all-joined}
+use Rattle.orc_run.proofs.Bytes.{both, list_all-joined}
 
 -- the lines of a bundle
 

@@ -1,24 +1,23 @@
 -- Reading a bundle.
-use Rattle.std.proofs.Common.{◌≡◌, ℕ, zero, suc, Bool, true, false, ◌&&◌, ◌==◌, List, [], ◌∷◌, ◌++◌, length, Some, None, Option, refl, ap, ap₂, sym, subst, ◌∙◌, arith, append-nil, eqb-true, Result, Err}
+use Rattle.std.proofs.Common.{◌≡◌, ℕ, suc, true, false, ◌&&◌, ◌==◌, List, [], ◌∷◌, ◌++◌, length, Some, None, refl, ap, sym, subst, ◌∙◌, arith, append-nil, eqb-true, Result, Err}
 use Rattle.std.specs.List.{list_all, flat_map}
 use Rattle.std.specs.Cmp.{first_so, second_so}
 use Rattle.std.proofs.lemmas.Bool.{false≢true}
 use Rattle.orc_run.specs.Printed.{names_of}
 use Rattle.orc_run.specs.Bundles.{is_device, is_step, has_distinct_calls, is_bundle, bundle_text, Spells}
-use Rattle.orc_run.specs.Lines.{lines_text, is_line}
+use Rattle.orc_run.specs.Lines.{lines_text}
 use Rattle.orc_run.specs.Places.{behind_all, whole, Gives, AreLinesOf, IsReached, Reaches}
 use Rattle.orc_run.specs.declared.read.BundleFault.{BundleFault}
 use Rattle.orc_run.specs.declared.read.BundleFault.TheVariants as fault
 use Rattle.orc_run.specs.declared.bundle.Bundle.{Bundle}
 use Rattle.orc_run.specs.declared.bundle.Device.{Device}
-use Rattle.orc_run.specs.declared.bundle.ScriptStep.{ScriptStep}
 use Rattle.orc_run.specs.declared.read.line.Line.{Line}
 use Rattle.orc_run.specs.declared.read.line.Line.TheVariants as line
 use Rattle.orc_run.specs.declared.read.place.Place.{Place}
 use Rattle.orc_run.specs.declared.read.place.Place.TheVariants as place
 use Rattle.orc_run.specs.declared.read.place.Script.{Script}
 use Rattle.orc_run.proofs.Bytes.{both}
-use Rattle.orc_run.proofs.Story.{device_lines, step_lines, bundle_lines, names, script_lines, lines_of, IsScript, IsLawful, all_grow}
+use Rattle.orc_run.proofs.Story.{device_lines, step_lines, bundle_lines, names, script_lines, IsScript, all_grow}
 use Rattle.orc_run.proofs.BundleText.{bundle_text-lines}
 use Rattle.orc_run.proofs.Rereading.{bundle_of, reads_bundle, bundle_lawful}
 

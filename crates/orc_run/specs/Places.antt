@@ -1,18 +1,14 @@
 -- The place of a line in a bundle: which lines may stand there, and what is read with it.
-use Rattle.std.specs.Prelude.{◌≡◌, ℕ, ◌^◌, Bool, true, ◌&&◌, nat_lt, List, [], ◌∷◌, ◌++◌, IsTrue, Option, Result, map, if◌then◌else◌}
+use Rattle.std.specs.Prelude.{◌≡◌, ℕ, List, [], ◌∷◌, ◌++◌, IsTrue, Option, Result, if◌then◌else◌}
 use Rattle.std.specs.declared.option.Option.TheVariants.{None, Some}
 use Rattle.std.specs.declared.result.Result.TheVariants.{Ok, Err}
 use Rattle.std.specs.Option.{option_and_then}
-use Rattle.std.specs.List.{list_all, flat_map}
-use Rattle.orc_path.specs.Alphabet.{is_identifier}
+use Rattle.std.specs.List.{list_all}
 use Rattle.orc_run.specs.States.{is_text}
-use Rattle.orc_run.specs.Printed.{name_of}
-use Rattle.orc_run.specs.Bundles.{is_device, is_write, is_step}
-use Rattle.orc_run.specs.Lines.{line_text, lines_text, is_line}
+use Rattle.orc_run.specs.Lines.{lines_text, is_line}
 use Rattle.orc_run.specs.Reading.{IsOnly, IsLineOf}
 use Rattle.orc_run.specs.declared.bundle.Bundle.{Bundle}
 use Rattle.orc_run.specs.declared.bundle.Device.{Device}
-use Rattle.orc_run.specs.declared.bundle.Put.{Put}
 use Rattle.orc_run.specs.declared.bundle.ScriptStep.{ScriptStep}
 use Rattle.orc_run.specs.declared.bundle.ScriptStep.TheVariants as step
 use Rattle.orc_run.specs.declared.call.Action.TheVariants as action

@@ -1,5 +1,5 @@
 use Rattle.std.proofs.lemmas.Result.{err_from_is_err_and}
-use Rattle.std.proofs.Common.{◌<◌, length, sym, ◌∙◌}
+use Rattle.std.proofs.Common.{sym, ◌∙◌}
 use Rattle.orc_run.proofs.Spelling.{at_front, one_further, unended_refused, turn_refused, nonempty}
 use Rattle.orc_run.proofs.read.read_lines.Goals as goal
 
