@@ -1,15 +1,15 @@
 -- The entries of a list, and where they stand among rows in path order.
-use Rattle.std.proofs.Common.{◌≡◌, ◌≢◌, ℕ, zero, suc, ◌+◌, ◌<◌, ◌≤◌, Bool, true, false, ◌&&◌, cond, T, List, [], ◌∷◌, ◌++◌, length, take, drop, map, get_or, Some, None, refl, sym, ap, subst, ◌∙◌, arith, eqb, ⊎_elim, nat_eq, nat_lt, append-nil}
-use Rattle.std.specs.Bool.{Decides, one_answer}
+use Rattle.std.proofs.Common.{◌≡◌, ℕ, suc, ◌+◌, ◌<◌, ◌≤◌, Bool, true, false, ◌&&◌, cond, List, [], ◌∷◌, ◌++◌, length, take, drop, map, get_or, Some, refl, sym, ap, subst, ◌∙◌, arith, eqb, ⊎_elim, nat_eq, nat_lt, append-nil}
+use Rattle.std.specs.Bool.{one_answer}
 use Rattle.std.specs.Option.{option_map_or}
 use Rattle.std.specs.List.{slice_get, filter}
-use Rattle.std.specs.Ordering.{is_gt, is_eq, ordering_then, ordering_reverse}
+use Rattle.std.specs.Ordering.{is_gt, ordering_then, ordering_reverse}
 use Rattle.std.specs.declared.cmp.Ordering.{Ordering}
 use Rattle.std.specs.declared.cmp.Ordering.TheVariants.{Less, Equal, Greater}
 use Rattle.std.specs.Cmp.{tied_itself}
 use Rattle.std.specs.Cmp.Lexicographic.{pointwise, slice_cmp, bytes_decides, nat_list_cmp_total}
 use Rattle.std.specs.FinMap.{is_sorted, nat_cmp-IsAntisymmetric, slice_cmp-IsAntisymmetric}
-use Rattle.std.proofs.lemmas.Bool.{false≢true, cases_Bool, cases_eq, cases_lt, and_parts, and_from, eqb-true, eq-eqb, both_ways, lt-ltb, cond-true, cond-false}
+use Rattle.std.proofs.lemmas.Bool.{false≢true, cases_eq, cases_lt, and_parts, and_from, eqb-true, eq-eqb, both_ways, cond-false}
 use Rattle.std.proofs.lemmas.List.{take-append-drop, take_more, length-take-le, map-append, get_or-drop, get_or-take, length-append, length-drop}
 use Rattle.std.proofs.lemmas.List.Elements.{filter-append}
 use Rattle.orc_path.specs.Steps.{PathStep, has_keys, ends_in_keys}

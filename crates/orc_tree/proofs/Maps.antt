@@ -1,5 +1,5 @@
 -- The map that rows in path order stand for.
-use Rattle.std.proofs.Common.{◌≡◌, Bool, true, false, cond, not, List, [], ◌∷◌, T, Some, None, refl, sym, ap, subst, ◌∙◌}
+use Rattle.std.proofs.Common.{◌≡◌, Bool, true, false, cond, not, List, [], None, refl, sym, ap, subst, ◌∙◌}
 use Rattle.std.specs.FinMap.{empty, get, insert, remove, retain_keys, entries, entries_sorted, find, put, is_sorted, from_sorted, same_entries_map, entries-from_sorted, entries-insert, get-from_sorted, get-remove, get-retain_keys, get-empty}
 use Rattle.std.specs.FinMap.Entries.{where_key, is_sorted-put, is_sorted-where_key, find-where_key}
 use Rattle.std.specs.Ordering.{eq_by_cmp}

@@ -1,4 +1,4 @@
-use Rattle.orc_tree.proofs.Listing.{first_from-row, first_from-place, is_under-parts, filter_more, entries_within, no_entries, entry_tested}
+use Rattle.orc_tree.proofs.Listing.{first_from-row, first_from-place}
 use Rattle.orc_tree.proofs.lists.first_from.Goals as goal
 
 pub returns-in-Ok : goal.returns-in-Ok

@@ -1,5 +1,4 @@
-use Rattle.std.proofs.Common.{◌≡◌, ◌+◌, ◌&&◌, true, false, List, length, take, nat_lt, refl, ap, sym, ◌∙◌, lt-ltb, le-ltb, subst, ◌<◌, ◌≤◌}
-use Rattle.std.specs.List.{slice_get}
+use Rattle.std.proofs.Common.{◌≡◌, ◌+◌, ◌&&◌, true, false, length, take, refl, ap, sym, ◌∙◌, lt-ltb, le-ltb, subst, ◌<◌, ◌≤◌}
 use Rattle.std.specs.Option.{option_map_or, is_none}
 use Rattle.std.specs.FinMap.{find}
 use Rattle.std.proofs.lemmas.Option.{slice_get_read}

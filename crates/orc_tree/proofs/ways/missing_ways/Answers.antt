@@ -1,4 +1,4 @@
-use Rattle.std.proofs.Common.{◌≡◌, ◌+◌, ◌<◌, ◌&&◌, Bool, true, false, List, length, take, ap, sym, subst, ◌∙◌, arith}
+use Rattle.std.proofs.Common.{◌≡◌, ◌+◌, ◌<◌, ◌&&◌, List, length, take, ap, sym, subst, ◌∙◌, arith}
 use Rattle.std.specs.Option.{is_none}
 use Rattle.std.specs.FinMap.{find, get}
 use Rattle.std.proofs.lemmas.Bool.{and_parts}

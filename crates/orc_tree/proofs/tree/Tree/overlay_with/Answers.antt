@@ -1,7 +1,5 @@
-use Rattle.std.proofs.Common.{◌≡◌, List, ap, sym, subst, ◌∙◌}
+use Rattle.std.proofs.Common.{ap, sym, subst, ◌∙◌}
 use Rattle.std.specs.FinMap.{entries}
-use Rattle.orc_path.specs.Steps.{PathStep}
-use Rattle.orc_path.specs.declared.item.Item.{Item}
 use Rattle.orc_path.specs.Configurations.{IsConfig, lay}
 use Rattle.orc_path.specs.ConfigurationLaws.{IsConfig-overlay}
 use Rattle.orc_tree.proofs.Maps.{Rows, map_of}

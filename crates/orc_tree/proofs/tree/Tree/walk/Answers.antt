@@ -1,7 +1,7 @@
-use Rattle.std.proofs.Common.{◌≡◌, ap, sym, subst, ◌∙◌}
+use Rattle.std.proofs.Common.{ap, sym, ◌∙◌}
 use Rattle.std.proofs.lemmas.List.{take_all}
 use Rattle.std.specs.FinMap.{entries}
-use Rattle.orc_path.specs.Configurations.{Config, IsConfig}
+use Rattle.orc_path.specs.Configurations.{Config}
 use Rattle.orc_tree.proofs.Maps.{entries-of_rows}
 use Rattle.orc_tree.proofs.tree.Tree.walk.Goals as goal
 
