@@ -1,0 +1,5 @@
+pub mod Files
+pub mod Crashes
+pub mod Moments
+pub mod Course
+pub mod Stops
