@@ -1,11 +1,6 @@
 -- What a crash may leave of a file. An image is one file that a crash may leave.
-use Rattle.std.specs.Prelude.{◌≡◌, ℕ, ◌+◌, ◌≤◌, List, length, take, drop, Option, Some}
-
--- After a write of n bytes at an offset: any bytes in that range and any past the old end, the old ones elsewhere.
-pub record Torn (at n : ℕ) (old new : List ℕ) : Type 0 where
-  pub no_shorter : length old ≤ length new
-  pub front : take at (take (length old) new) ≡ take at old
-  pub back : drop (at + n) (take (length old) new) ≡ drop (at + n) old
+use Rattle.std.specs.Prelude.{◌≡◌, ℕ, List, Option, Some}
+use Rattle.orc_disk.specs.Torn.{Torn}
 
 -- each image is one from before, torn by a write of n bytes at this offset
 abbrev pub TearsAt : ℕ → ℕ → (List ℕ → Type 0) → (List ℕ → Type 0) → Type 0

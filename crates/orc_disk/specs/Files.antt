@@ -3,7 +3,7 @@ use Rattle.std.specs.Prelude.{◌≡◌, ℕ, ◌+◌, ◌-◌, min, List, ◌++
 
 -- the file after these bytes were put at this offset
 abbrev pub written : ℕ → List ℕ → List ℕ → List ℕ
-written at bytes file = take at file ++ bytes ++ drop (at + length bytes) file
+written at bytes file = take at file ++ (bytes ++ drop (at + length bytes) file)
 
 -- a read of n bytes at this offset gave what there is and fits
 pub record ReadsFrom (at : ℕ) (buf file : List ℕ) (n : ℕ) : Type 0 where

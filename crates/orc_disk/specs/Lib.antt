@@ -1,4 +1,5 @@
 pub mod Files
+pub mod Torn
 pub mod Crashes
 pub mod Moments
 pub mod Course

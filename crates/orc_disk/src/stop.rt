@@ -1,7 +1,15 @@
 //! A disk that stops another one inside a chosen write or sync.
-ghost use Rattle.std.specs.Prelude.{◌≡◌, false};
+ghost use Rattle.std.specs.Prelude.{◌≡◌, ◌⊎◌, ◌-◌, ◌<◌, ◌≤◌, ◌↔◌, Bool, true, false, min, length, take, IfOk, OnOk, IfSome, IsTrue, is_some, is_err};
+ghost use Rattle.std.specs.Option.{ForSome, option_map};
+ghost use Rattle.orc_io.specs.Counts.{HasCause, Rose};
+ghost use Rattle.orc_disk.specs.Files.{written};
+ghost use Rattle.orc_disk.specs.Crashes.{TearsAt, LeavesNoMore, LeavesAsRead};
+ghost use Rattle.orc_disk.specs.Moments.{Elapses};
+ghost use Rattle.orc_disk.specs.Course.{Counted};
+ghost use Rattle.orc_disk.specs.Stops.{Led, all_faults, refused};
 
 use crate::Disk;
+use orc_io::Failed;
 use std::marker::Model;
 
 /// Another disk that can be stopped: from the armed call on until `disarm` each call fails. Its
@@ -69,4 +77,130 @@ impl<D: Disk> StopDisk<D> {
     {
         self.inner
     }
+}
+
+impl<D: Disk> StopDisk<D> {
+    // Fails a call by itself.
+    fn refuse(&mut self) -> Failed
+        ensures state { self.new ≡ refused self.old }
+        ensures count { Counted true self.old.stops self.new.stops }
+        ensures still { self.new.stopped ≡ self.old.stopped }
+        ensures inner { D.leads false self.old.inner self.new.inner }
+    {
+        self.stops = self.stops.saturating_add(1);
+        Failed
+    }
+
+    // Counts a write or a sync, and says whether it is the armed one.
+    fn comes(&mut self) -> bool
+        ensures armed { IsTrue result ↔ (self.old.call ≡ 1) }
+        ensures state { self.new ≡ record self.old { call = self.old.call - 1; stopped = result } }
+    {
+        let armed = self.call == 1;
+        self.call = self.call.saturating_sub(1);
+        self.stopped = armed;
+        armed
+    }
+
+    // Puts what the armed write still puts, and tells nothing of how that went.
+    fn put_front(&mut self, at: u64, bytes: &[u8])
+        requires { ForSome (D.content self.old.inner) (λ file. at ≤ length file) }
+        ensures state { self.new ≡ record self.old { inner = self.new.inner } }
+        ensures tells { is_some (D.content self.new.inner) ≡ is_some (D.content self.old.inner) }
+        ensures crash { TearsAt at (length bytes.now) (D.may_leave self.old.inner) (D.may_leave self.new.inner) }
+        ensures time { Elapses D.moment D.left_since D.may_leave self.old.inner self.new.inner }
+        ensures course { (failed : Bool) × D.leads failed self.old.inner self.new.inner }
+        ensures put { (D.content self.new.inner ≡ option_map (written at (take self.old.bytes bytes.now)) (D.content self.old.inner)) ⊎ Rose (D.faults self.old.inner) (D.faults self.new.inner) }
+    {
+        if self.bytes == 0 {
+            return;
+        }
+        let count = (bytes.len() as u64).min(self.bytes) as usize;
+        let _ = self.inner.write_at(at, &bytes[..count]);
+    }
+
+    // Does the armed sync where it is to be done, and tells nothing of how that went.
+    fn sync_last(&mut self)
+        ensures state { self.new ≡ record self.old { inner = self.new.inner } }
+        ensures same { D.content self.new.inner ≡ D.content self.old.inner }
+        ensures crash { LeavesNoMore (D.may_leave self.old.inner) (D.may_leave self.new.inner) }
+        ensures time { Elapses D.moment D.left_since D.may_leave self.old.inner self.new.inner }
+        ensures course { (failed : Bool) × D.leads failed self.old.inner self.new.inner }
+        ensures none { self.old.bytes ≡ 0 → self.new ≡ self.old }
+        ensures done { 0 < self.old.bytes → LeavesAsRead (D.content self.new.inner) (D.may_leave self.new.inner) ⊎ Rose (D.faults self.old.inner) (D.faults self.new.inner) }
+    {
+        if self.bytes > 0 {
+            let _ = self.inner.sync();
+        }
+    }
+}
+
+impl<D: Disk> Disk for StopDisk<D> {
+    ghost use Rattle.orc_disk.specs.Stops.{Led-refl, Led-trans, Led-counts};
+
+    ghost content = { λ s. D.content s.inner };
+
+    ghost may_leave = { λ s. D.may_leave s.inner };
+
+    ghost moment = { λ s. D.moment s.inner };
+
+    ghost left_since = { λ s. D.left_since s.inner };
+
+    ghost faults = { all_faults D.faults };
+
+    ghost leads = { Led D.leads };
+
+    fn len(&mut self) -> Result<u64, Failed> {
+        if self.stopped() {
+            return Err(self.refuse());
+        }
+        self.inner.len()
+    }
+
+    fn read_at(&mut self, at: u64, buf: &mut [u8]) -> Result<usize, Failed> {
+        if self.stopped() {
+            return Err(self.refuse());
+        }
+        self.inner.read_at(at, buf)
+    }
+
+    fn write_at(&mut self, at: u64, bytes: &[u8]) -> Result<(), Failed> {
+        if self.stopped() {
+            return Err(self.refuse());
+        }
+        if self.comes() {
+            self.put_front(at, bytes);
+            return Err(self.refuse());
+        }
+        self.inner.write_at(at, bytes)
+    }
+
+    fn sync(&mut self) -> Result<(), Failed> {
+        if self.stopped() {
+            return Err(self.refuse());
+        }
+        if self.comes() {
+            self.sync_last();
+            return Err(self.refuse());
+        }
+        self.inner.sync()
+    }
+
+    fn faults(&self) -> u64 {
+        self.inner.faults().saturating_add(self.stops)
+    }
+
+    ghost reads_as_image = { λ s. D.reads_as_image s.inner };
+
+    ghost counts_now = { λ s. D.counts_now s.inner };
+
+    ghost only_now = { λ s. D.only_now s.inner };
+
+    ghost earlier = { λ s. D.earlier s.inner };
+
+    ghost stays = { Led-refl D.leads D.stays };
+
+    ghost goes_on = { Led-trans D.leads D.goes_on };
+
+    ghost counts = { Led-counts D.leads D.faults D.counts };
 }
