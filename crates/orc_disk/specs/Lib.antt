@@ -4,3 +4,6 @@ pub mod Crashes
 pub mod Moments
 pub mod Course
 pub mod Stops
+pub mod History
+pub mod HistoryLaws
+pub mod Kept

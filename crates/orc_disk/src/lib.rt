@@ -8,6 +8,7 @@
 
 mod disk;
 mod file;
+mod history;
 mod stop;
 
 pub use disk::{Disk, DiskOp};
