@@ -1,18 +1,15 @@
 -- How a history that is kept as calls and bytes grows.
-use Rattle.std.specs.Prelude.{◌≡◌, ℕ, ◌+◌, ◌-◌, ◌≤◌, List, [], ◌∷◌, ◌++◌, length, take, drop, Some, None}
-use Rattle.std.proofs.Common.{refl, sym, ap, subst, ◌∙◌, arith}
-use Rattle.std.proofs.lemmas.List.{drop-drop, take_all, drop_at, take-append-le, drop-append-le, length-drop, length-append}
+use Rattle.std.specs.Prelude.{◌≡◌, ℕ, ◌+◌, ◌-◌, ◌<◌, ◌≤◌, List, [], ◌∷◌, ◌++◌, length, take, drop, Some, None}
+use Rattle.std.proofs.Common.{refl, sym, ap, subst, ◌∙◌, arith, zero, suc, get_or}
+use Rattle.std.proofs.lemmas.List.{drop-drop, take_all, drop_at, take-append-le, drop-append-le, length-drop, length-append, take_rest}
+use Rattle.std.proofs.lemmas.Grind.{take_at_read}
 use Rattle.orc_disk.specs.Files.{written}
-use Rattle.orc_disk.specs.History.{History, Change, changed, content_of}
-use Rattle.orc_disk.specs.Kept.{told, written_count, IsKept, HasRoom}
+use Rattle.orc_disk.specs.History.{History, Change, changed, after, content_of, Leaves, IsImage}
+use Rattle.orc_disk.specs.Kept.{told, change_of, written_count, IsKept, HasRoom}
 use Rattle.orc_disk.specs.declared.history.Call.{Call}
 use Rattle.orc_disk.specs.declared.history.Call.TheVariants.{Write, Sync}
 
--- the change that a call made, by the bytes from its own on
-abbrev pub change_of : Call → List ℕ → Change
-change_of (Write at len) bytes = Some (at, take len bytes)
-change_of Sync bytes = None
-
+-- one call more
 pub told-more : (older : List Change) (calls : List Call) (call : Call) (store : List ℕ)
     → told older (calls ++ call ∷ []) store ≡ change_of call (drop (written_count calls) store) ∷ told older calls store
 told-more older [] (Write at len) store = refl
@@ -97,3 +94,34 @@ HasRoom-more _ _ _ _ _ _ _ _ _ _ _ _ _ _ has fits a b c d e f = record {
   bytes = omega (arith, has.bytes, fits, c, d);
   calls = omega (arith, has.calls, fits, e, f);
 }
+
+-- ---- a history made again call by call
+
+pub written_count-more : (calls : List Call) (i : ℕ) (d : Call) → i < length calls → written_count (take (i + 1) calls) ≡ written_count (take i calls) + written_count (get_or calls i d ∷ [])
+written_count-more calls i d lt = ap written_count ((take_at_read calls i d lt).1) ∙ written_count-append (take i calls) (get_or calls i d)
+
+pub written_count-take : (calls : List Call) (i : ℕ) → written_count (take i calls) ≤ written_count calls
+written_count-take [] i = omega (arith, ap written_count (take_all i [] (omega arith)))
+written_count-take (call ∷ calls) zero = omega arith
+written_count-take (Write at len ∷ calls) (suc i) = omega (arith, written_count-take calls i)
+written_count-take (Sync ∷ calls) (suc i) = written_count-take calls i
+
+pub told-take : (calls : List Call) (i : ℕ) (d : Call) (store : List ℕ) (from : ℕ) → i < length calls → from ≡ written_count (take i calls)
+    → told [] (take (i + 1) calls) store ≡ change_of (get_or calls i d) (take (length store - from) (drop from store)) ∷ told [] (take i calls) store
+told-take calls i d store from lt is =
+    ap (λ (l : List Call). told [] l store) ((take_at_read calls i d lt).1) ∙ told-more [] (take i calls) (get_or calls i d) store
+    ∙ ap (λ (l : List ℕ). change_of (get_or calls i d) l ∷ told [] (take i calls) store) (ap (λ (n : ℕ). drop n store) (sym is) ∙ sym (take_rest store from))
+
+-- the bytes of a call stand behind those of the calls before it
+pub written_count-fits : (calls : List Call) (i : ℕ) (d : Call) (store : List ℕ) (from : ℕ) → i < length calls → from ≡ written_count (take i calls)
+    → written_count calls ≡ length store → from + written_count (get_or calls i d ∷ []) ≤ length store
+written_count-fits calls i d store from lt is all = omega (arith, is, all, written_count-more calls i d lt, written_count-take calls (i + 1))
+
+pub after-content : (start whole now : List ℕ) (older changes : List Change) (change : Change) → whole ≡ content_of start older
+    → changes ≡ change ∷ older → now ≡ after change whole → now ≡ content_of start changes
+after-content start whole now older changes change is more step = step ∙ ap (after change) is ∙ sym (ap (content_of start) more)
+
+pub Leaves-image : (start whole torn now : List ℕ) (older changes : List Change) (change : Change) → whole ≡ content_of start older
+    → IsImage start older torn → changes ≡ change ∷ older → Leaves change whole torn now → IsImage start changes now
+Leaves-image start whole torn now older changes change is image more step =
+    subst (λ (l : List Change). IsImage start l now) (sym more) (torn, image, subst (λ (l : List ℕ). Leaves change l torn now) is step)

@@ -17,17 +17,25 @@ pub record History : Type 0 where
 abbrev pub changed : History → Change → ℕ → History
 changed h change used = record { start = h.start; changes = change ∷ h.changes; room = h.room - used }
 
+-- the file after one change
+abbrev pub after : Change → List ℕ → List ℕ
+after None file = file
+after (Some put) file = written put.0 put.1 file
+
 -- what a read gives after these changes
 abbrev pub content_of : List ℕ → List Change → List ℕ
 content_of start [] = start
-content_of start (None ∷ older) = content_of start older
-content_of start (Some put ∷ older) = written put.0 put.1 (content_of start older)
+content_of start (change ∷ older) = after change (content_of start older)
+
+-- a crash after one change of a file may leave this, where it might have left that before the change
+abbrev pub Leaves : Change → List ℕ → List ℕ → List ℕ → Type 0
+Leaves None file before now = now ≡ file
+Leaves (Some put) file before now = Torn put.0 (length put.1) before now
 
 -- a crash after these changes may leave this file
 abbrev pub IsImage : List ℕ → List Change → List ℕ → Type 0
 IsImage start [] file = file ≡ start
-IsImage start (None ∷ older) file = file ≡ content_of start older
-IsImage start (Some put ∷ older) file = (before : List ℕ) × IsImage start older before × Torn put.0 (length put.1) before file
+IsImage start (change ∷ older) file = (before : List ℕ) × IsImage start older before × Leaves change (content_of start older) before file
 
 -- a crash after these changes, or after the first t of them or more, may leave this file
 abbrev pub WasImage : List ℕ → List Change → ℕ → List ℕ → Type 0

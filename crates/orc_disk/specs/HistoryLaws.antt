@@ -8,7 +8,7 @@ use Rattle.orc_disk.specs.History.{Change, content_of, IsImage, WasImage}
 -- the file as it reads is one of its images
 pub IsImage-content : (start : List ℕ) (changes : List Change) → IsImage start changes (content_of start changes)
 IsImage-content start [] = refl
-IsImage-content start (None ∷ older) = refl
+IsImage-content start (None ∷ older) = (content_of start older, IsImage-content start older, refl)
 IsImage-content start (Some put ∷ older) = (content_of start older, IsImage-content start older, Torn-written put.0 put.1 (content_of start older))
 
 -- this moment counts

@@ -10,6 +10,11 @@ told before [] bytes = before
 told before (Write at len ∷ calls) bytes = told (Some (at, take len bytes) ∷ before) calls (drop len bytes)
 told before (Sync ∷ calls) bytes = told (None ∷ before) calls bytes
 
+-- the change that one call made, by the bytes from its own on
+abbrev pub change_of : Call → List ℕ → Change
+change_of (Write at len) bytes = Some (at, take len bytes)
+change_of Sync bytes = None
+
 -- how many bytes the calls wrote
 abbrev pub written_count : List Call → ℕ
 written_count [] = 0

@@ -7,3 +7,4 @@ pub mod Stops
 pub mod History
 pub mod HistoryLaws
 pub mod Kept
+pub mod Memory

@@ -1,15 +1,16 @@
 //! A file in memory with its whole history, and the crash images that it gives.
 ghost use Rattle.std.specs.Prelude.{◌≡◌, ◌+◌, ◌-◌, ◌*◌, ◌≤◌, ◌++◌, [], ◌∷◌, length, OnOk, IfOk, IsOk, Some, None, vec_len, vec_capacity};
 ghost use Rattle.orc_disk.specs.Files.{written};
-ghost use Rattle.orc_disk.specs.History.{content_of, changed};
+ghost use Rattle.orc_disk.specs.History.{content_of, changed, IsImage};
 
+use crate::tear::replayed;
 use orc_text::Memory;
 use std::alloc::{AllocError, Global};
 use std::marker::Model;
 
 /// One change that was made: a write, whose bytes are kept apart, or a sync.
 #[derive(Clone, Copy)]
-enum Call {
+pub(crate) enum Call {
     Write { at: usize, len: usize },
     Sync,
 }
@@ -40,14 +41,15 @@ impl Model for Kept {
         × HasRoom (vec_len k.content) (vec_capacity k.content) (vec_len k.store) (vec_capacity k.store) (vec_len k.calls) (vec_capacity k.calls) k.room };
 }
 
-// Puts bytes at an offset, over what is there and past the end.
-fn put(file: &mut Vec<u8>, at: usize, bytes: &[u8]) -> Result<(), AllocError>
-    requires { at ≤ vec_len file.old }
+/// Puts bytes at an offset, or at the end where the file is shorter, over what is there and past the
+/// end.
+pub(crate) fn put(file: &mut Vec<u8>, at: usize, bytes: &[u8]) -> Result<(), AllocError>
     ensures ok { OnOk result (file.new.items ≡ written at bytes.now file.old.items) }
     ensures len { OnOk result (vec_len file.new ≤ vec_len file.old + length bytes.now) }
     ensures room { vec_len file.old + length bytes.now ≤ vec_capacity file.old → IsOk result }
     ensures capacity { vec_capacity file.old ≤ vec_capacity file.new }
 {
+    let at = at.min(file.len());
     let inside = bytes.len().min(file.len() - at);
     file[at..at + inside].copy_from_slice(&bytes[..inside]);
     file.extend_from_slice(&bytes[inside..])
@@ -55,8 +57,7 @@ fn put(file: &mut Vec<u8>, at: usize, bytes: &[u8]) -> Result<(), AllocError>
 
 // The same where there is memory for it.
 fn put_within(file: &mut Vec<u8>, at: usize, bytes: &[u8])
-    requires inside { at ≤ vec_len file.old }
-    requires room { vec_len file.old + length bytes.now ≤ vec_capacity file.old }
+    requires { vec_len file.old + length bytes.now ≤ vec_capacity file.old }
     ensures items { file.new.items ≡ written at bytes.now file.old.items }
     ensures len { vec_len file.new ≤ vec_len file.old + length bytes.now }
     ensures capacity { vec_capacity file.old ≤ vec_capacity file.new }
@@ -148,26 +149,12 @@ impl Kept {
         push_within(&mut self.calls, Call::Sync);
         self.room -= CALL_ROOM;
     }
-}
 
-// How a crash image takes one write: which part of it is put, and what stands in the place of the
-// rest.
-#[derive(Clone, Copy)]
-struct Tear {
-    kept: usize,
-    fill: u8,
-    rest: Rest,
-}
-
-// What a crash image has where a write was not put.
-#[derive(Clone, Copy)]
-enum Rest {
-    // What stood there before, or nothing past the end.
-    Old,
-    // Another byte, to the end of the write.
-    Filled,
-    // The write from there on, behind another byte.
-    Behind,
-    // The whole write, and more bytes behind the end of the file.
-    Longer,
+    /// One file that a crash now may leave, by choice.
+    pub fn image(&self, alloc: Global, choice: u64) -> Result<Vec<u8>, Memory>
+        ensures { IfOk result (λ image. IsImage self.now.start self.now.changes image.items) }
+    {
+        let image = replayed(alloc, &self.start, &self.calls, &self.store, choice)?;
+        Ok(image)
+    }
 }

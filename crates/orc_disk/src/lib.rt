@@ -9,8 +9,11 @@
 mod disk;
 mod file;
 mod history;
+mod memory;
 mod stop;
+mod tear;
 
 pub use disk::{Disk, DiskOp};
 pub use file::FileDisk;
+pub use memory::MemDisk;
 pub use stop::StopDisk;
