@@ -1,3 +1,4 @@
 mod Inside
 mod KeptLemmas
 mod Puts
+mod Synced

@@ -1,7 +1,7 @@
 -- What contracts see of a disk in memory.
 use Rattle.std.specs.Prelude.{ℕ, ◌+◌, List, ◌∷◌, length, Some, None}
 use Rattle.orc_io.specs.Counts.{next_count}
-use Rattle.orc_disk.specs.History.{History, changed}
+use Rattle.orc_disk.specs.History.{History, changed, content_of, IsImage, WasImage}
 use Rattle.orc_disk.specs.declared.disk.DiskOp.{DiskOp}
 
 -- its history, the calls that are to fail, each by its kind and its number among the calls of that kind, how many calls
@@ -38,3 +38,16 @@ write_done d at bytes = record d { history = changed d.history (Some (at, bytes)
 
 abbrev pub sync_done : MemoryDisk → MemoryDisk
 sync_done d = record d { history = changed d.history None 64 }
+
+-- what a read gives, what a crash now may leave, the moment, and what a crash since a moment may have left
+abbrev pub disk_content : MemoryDisk → List ℕ
+disk_content d = content_of d.history.start d.history.changes
+
+abbrev pub disk_leaves : MemoryDisk → List ℕ → Type 0
+disk_leaves d = IsImage d.history.start d.history.changes
+
+abbrev pub disk_moment : MemoryDisk → ℕ
+disk_moment d = length d.history.changes
+
+abbrev pub disk_left : MemoryDisk → ℕ → List ℕ → Type 0
+disk_left d = WasImage d.history.start d.history.changes
