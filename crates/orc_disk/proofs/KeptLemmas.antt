@@ -41,7 +41,7 @@ pub told-Write : (calls : List Call) (store : List ℕ) (at : ℕ) (bytes : List
     → told [] (calls ++ Write at (length bytes) ∷ []) (store ++ bytes) ≡ Some (at, bytes) ∷ told [] calls store
 told-Write calls store at bytes count =
     let own : take (length bytes) (drop (written_count calls) (store ++ bytes)) ≡ bytes =
-        ap (take (length bytes)) (drop_at store bytes (written_count calls) (sym count)) ∙ take_all (length bytes) bytes (omega arith) in
+    ap (take (length bytes)) (drop_at store bytes (written_count calls) (sym count)) ∙ take_all (length bytes) bytes (omega arith) in
     told-more [] calls (Write at (length bytes)) (store ++ bytes)
     ∙ ap (λ (l : List ℕ). Some (at, l) ∷ told [] calls (store ++ bytes)) own
     ∙ ap (λ (l : List Change). Some (at, bytes) ∷ l) (told-append [] calls store bytes (omega (arith, count)))
@@ -51,8 +51,7 @@ pub IsKept-Write : (start content now : List ℕ) (calls after : List Call) (sto
     → IsKept start now after all × (told [] after all ≡ Some (at, bytes) ∷ told [] calls store)
 IsKept-Write start content now calls after store all at bytes kept is_now is_after is_all =
     let is_told : told [] after all ≡ Some (at, bytes) ∷ told [] calls store =
-        ap (λ (l : List Call). told [] l all) is_after ∙ ap (told [] (calls ++ Write at (length bytes) ∷ [])) is_all ∙ told-Write calls store at bytes kept.count in
-    (
+    ap (λ (l : List Call). told [] l all) is_after ∙ ap (told [] (calls ++ Write at (length bytes) ∷ [])) is_all ∙ told-Write calls store at bytes kept.count in (
       record {
         holds = is_now ∙ ap (written at bytes) kept.holds ∙ sym (ap (content_of start) is_told);
         count = ap written_count is_after ∙ omega (arith, written_count-append calls (Write at (length bytes)), kept.count, ap length is_all, length-append store bytes);
@@ -64,8 +63,7 @@ IsKept-Write start content now calls after store all at bytes kept is_now is_aft
 pub IsKept-Sync : (start content : List ℕ) (calls after : List Call) (store : List ℕ) → IsKept start content calls store → after ≡ calls ++ Sync ∷ []
     → IsKept start content after store × (told [] after store ≡ None ∷ told [] calls store)
 IsKept-Sync start content calls after store kept is_after =
-    let is_told : told [] after store ≡ None ∷ told [] calls store = ap (λ (l : List Call). told [] l store) is_after ∙ told-more [] calls Sync store in
-    (
+    let is_told : told [] after store ≡ None ∷ told [] calls store = ap (λ (l : List Call). told [] l store) is_after ∙ told-more [] calls Sync store in (
       record {
         holds = kept.holds ∙ sym (ap (content_of start) is_told);
         count = ap written_count is_after ∙ omega (arith, written_count-append calls Sync, kept.count);

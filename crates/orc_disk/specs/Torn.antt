@@ -46,7 +46,7 @@ swap_take i j xs = ⊎_elim
 cut : (i j : ℕ) (xs ys : List ℕ) → drop i xs ≡ drop i ys → drop i (take j xs) ≡ drop i (take j ys)
 cut i j xs ys same = ⊎_elim
     (λ lt. let e : i + (j - i) ≡ j = omega (arith, lt) in
-        ap (λ k. drop i (take k xs)) (sym e) ∙ drop-take i (j - i) xs ∙ ap (take (j - i)) same ∙ sym (drop-take i (j - i) ys) ∙ ap (λ k. drop i (take k ys)) e)
+    ap (λ k. drop i (take k xs)) (sym e) ∙ drop-take i (j - i) xs ∙ ap (take (j - i)) same ∙ sym (drop-take i (j - i) ys) ∙ ap (λ k. drop i (take k ys)) e)
     (λ le. drop_all i (take j xs) (omega (arith, le, length-take j xs)) ∙ sym (drop_all i (take j ys) (omega (arith, le, length-take j ys))))
     (cases_lt i j)
 
@@ -73,20 +73,21 @@ Torn-append at n file more =
 -- what the write leaves where it is whole
 pub Torn-written : (at : ℕ) (bytes file : List ℕ) → Torn at (length bytes) file (written at bytes file)
 Torn-written at bytes file = ⊎_elim (λ lt. written_inside at bytes file (omega (arith, lt))) (λ le. written_behind at bytes file le) (cases_lt at (length file))
-    where
-      written_behind : (at : ℕ) (bytes file : List ℕ) → length file ≤ at → Torn at (length bytes) file (written at bytes file)
-      written_behind at bytes file le =
-          let n = length bytes in
-          subst (Torn at n file) (ap (λ (l : List ℕ). l ++ (bytes ++ drop (at + n) file)) (sym (take_all at file le))) (Torn-append at n file (bytes ++ drop (at + n) file))
-      written_inside : (at : ℕ) (bytes file : List ℕ) → at ≤ length file → Torn at (length bytes) file (written at bytes file)
-      written_inside at bytes file le =
-          let n = length bytes in
-          let size : length (take at file) ≡ at = length-take-le at file le in
-          let new = written at bytes file in
-          let rest : drop (at + n) new ≡ drop (at + n) file =
-              sym (drop-drop n at new) ∙ ap (drop n) (drop_at (take at file) (bytes ++ drop (at + n) file) at size) ∙ drop_at bytes (drop (at + n) file) n refl in
-          record {
-            no_shorter = omega (arith, size, length-append (take at file) (bytes ++ drop (at + n) file), length-append bytes (drop (at + n) file), length-drop (at + n) file);
-            front = take-take at (length file) new le ∙ take_at (take at file) (bytes ++ drop (at + n) file) at size;
-            back = cut (at + n) (length file) new file rest ∙ ap (drop (at + n)) (take_all (length file) file (omega arith));
-          }
+  where
+    written_behind : (at : ℕ) (bytes file : List ℕ) → length file ≤ at → Torn at (length bytes) file (written at bytes file)
+    written_behind at bytes file le =
+        let n = length bytes in
+        subst (Torn at n file) (ap (λ (l : List ℕ). l ++ (bytes ++ drop (at + n) file)) (sym (take_all at file le))) (Torn-append at n file (bytes ++ drop (at + n) file))
+
+    written_inside : (at : ℕ) (bytes file : List ℕ) → at ≤ length file → Torn at (length bytes) file (written at bytes file)
+    written_inside at bytes file le =
+        let n = length bytes in
+        let size : length (take at file) ≡ at = length-take-le at file le in
+        let new = written at bytes file in
+        let rest : drop (at + n) new ≡ drop (at + n) file =
+        sym (drop-drop n at new) ∙ ap (drop n) (drop_at (take at file) (bytes ++ drop (at + n) file) at size) ∙ drop_at bytes (drop (at + n) file) n refl in
+        record {
+          no_shorter = omega (arith, size, length-append (take at file) (bytes ++ drop (at + n) file), length-append bytes (drop (at + n) file), length-drop (at + n) file);
+          front = take-take at (length file) new le ∙ take_at (take at file) (bytes ++ drop (at + n) file) at size;
+          back = cut (at + n) (length file) new file rest ∙ ap (drop (at + n)) (take_all (length file) file (omega arith));
+        }

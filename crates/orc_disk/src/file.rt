@@ -69,7 +69,9 @@ impl Disk for FileDisk {
     fn read_at(&mut self, at: u64, buf: &mut [u8]) -> Result<usize, Failed> {
         let mut count = 0;
         while count < buf.len() {
-            let outcome = self.file.read_at(&mut buf[count..], at.saturating_add(count as u64));
+            let outcome = self
+                .file
+                .read_at(&mut buf[count..], at.saturating_add(count as u64));
             match self.counted(outcome)? {
                 0 => return Ok(count),
                 more => count += more,

@@ -12,6 +12,8 @@ mod history;
 mod memory;
 mod stop;
 mod tear;
+#[cfg(test)]
+mod tests;
 
 pub use disk::{Disk, DiskOp};
 pub use file::FileDisk;
