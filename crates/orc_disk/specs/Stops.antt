@@ -1,5 +1,5 @@
 -- A disk that stops another one.
-use Rattle.std.specs.Prelude.{◌≡◌, ◌⊎◌, ℕ, ◌+◌, ◌-◌, ◌^◌, ◌≤◌, Bool, true, false, ◌||◌, min}
+use Rattle.std.specs.Prelude.{◌≡◌, ◌⊎◌, ℕ, ◌+◌, ◌-◌, ◌^◌, ◌≤◌, Bool, true, false, ◌||◌, min, List}
 use Rattle.std.proofs.Common.{arith, inl, inr, refl, ap, subst, ⊎_elim}
 use Rattle.orc_io.specs.Counts.{Rose, next_count}
 use Rattle.orc_disk.specs.Course.{Counted}
@@ -28,6 +28,16 @@ stopped_at s inner = record s { inner = inner; call = 0; stopped = true; stops =
 -- another write or sync came, which left this disk inside
 abbrev pub passed : {D : Type 0} → Stopping D → D → Stopping D
 passed s inner = record s { inner = inner; call = s.call - 1 }
+
+-- the meanings of the disk inside
+abbrev pub moment_in : {D : Type 0} → (D → ℕ) → Stopping D → ℕ
+moment_in moment s = moment s.inner
+
+abbrev pub left_in : {D : Type 0} → (D → ℕ → List ℕ → Type 0) → Stopping D → ℕ → List ℕ → Type 0
+left_in left_since s = left_since s.inner
+
+abbrev pub leaves_in : {D : Type 0} → (D → List ℕ → Type 0) → Stopping D → List ℕ → Type 0
+leaves_in may_leave s = may_leave s.inner
 
 -- What calls may make of it: the disk inside went its own way, a stop stays until `disarm`, and a call failed only
 -- where a call of the disk inside failed or where it is stopped.

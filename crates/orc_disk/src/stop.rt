@@ -1,12 +1,13 @@
 //! A disk that stops another one inside a chosen write or sync.
-ghost use Rattle.std.specs.Prelude.{◌≡◌, ◌⊎◌, ◌-◌, ◌<◌, ◌≤◌, ◌↔◌, Bool, true, false, min, length, take, IfOk, OnOk, IfSome, IsTrue, is_some, is_err};
+ghost use Rattle.std.specs.Prelude.{◌≡◌, ◌⊎◌, ◌-◌, ◌<◌, ◌≤◌, ◌↔◌, Bool, true, false, min, length, take, IfOk, OnOk, IfSome, IsTrue, IsErr, is_some, is_err, ◌≢◌};
 ghost use Rattle.std.specs.Option.{ForSome, option_map};
+ghost use Rattle.std.specs.Io.{ReadsAtMost};
 ghost use Rattle.orc_io.specs.Counts.{HasCause, Rose};
-ghost use Rattle.orc_disk.specs.Files.{written};
+ghost use Rattle.orc_disk.specs.Files.{written, ReadsFrom};
 ghost use Rattle.orc_disk.specs.Crashes.{TearsAt, LeavesNoMore, LeavesAsRead};
 ghost use Rattle.orc_disk.specs.Moments.{Elapses};
 ghost use Rattle.orc_disk.specs.Course.{Counted};
-ghost use Rattle.orc_disk.specs.Stops.{Led, all_faults, refused};
+ghost use Rattle.orc_disk.specs.Stops.{Led, all_faults, refused, passed, stopped_at, moment_in, left_in, leaves_in};
 
 use crate::Disk;
 use orc_io::Failed;
@@ -150,21 +151,59 @@ impl<D: Disk> Disk for StopDisk<D> {
 
     ghost leads = { Led D.leads };
 
-    fn len(&mut self) -> Result<u64, Failed> {
+    fn len(&mut self) -> Result<u64, Failed>
+        ensures length { IfOk result (λ n. IfSome (D.content self.old.inner) (λ file. n ≡ length file)) }
+        ensures same { D.content self.new.inner ≡ D.content self.old.inner }
+        ensures crash { LeavesNoMore (D.may_leave self.old.inner) (D.may_leave self.new.inner) }
+        ensures time { Elapses (moment_in D.moment) (left_in D.left_since) (leaves_in D.may_leave) self.old self.new }
+        ensures course { Led D.leads (is_err result) self.old self.new }
+        ensures cause { HasCause (all_faults D.faults self.old) (all_faults D.faults self.new) result }
+
+        // A stopped disk fails by itself.
+        ensures refused { self.old.stopped ≡ true → IsErr result × (self.new ≡ refused self.old) }
+        ensures passed { self.old.stopped ≡ false → HasCause (D.faults self.old.inner) (D.faults self.new.inner) result × (self.new ≡ record self.old { inner = self.new.inner }) }
+    {
         if self.stopped() {
             return Err(self.refuse());
         }
         self.inner.len()
     }
 
-    fn read_at(&mut self, at: u64, buf: &mut [u8]) -> Result<usize, Failed> {
+    fn read_at(&mut self, at: u64, buf: &mut [u8]) -> Result<usize, Failed>
+        ensures bound { ReadsAtMost result buf.new }
+        ensures bytes { IfOk result (λ n. IfSome (D.content self.old.inner) (λ file. ReadsFrom at buf.new file n)) }
+        ensures same { D.content self.new.inner ≡ D.content self.old.inner }
+        ensures crash { LeavesNoMore (D.may_leave self.old.inner) (D.may_leave self.new.inner) }
+        ensures time { Elapses (moment_in D.moment) (left_in D.left_since) (leaves_in D.may_leave) self.old self.new }
+        ensures course { Led D.leads (is_err result) self.old self.new }
+        ensures cause { HasCause (all_faults D.faults self.old) (all_faults D.faults self.new) result }
+
+        // A stopped disk fails by itself.
+        ensures refused { self.old.stopped ≡ true → IsErr result × (self.new ≡ refused self.old) }
+        ensures passed { self.old.stopped ≡ false → HasCause (D.faults self.old.inner) (D.faults self.new.inner) result × (self.new ≡ record self.old { inner = self.new.inner }) }
+    {
         if self.stopped() {
             return Err(self.refuse());
         }
         self.inner.read_at(at, buf)
     }
 
-    fn write_at(&mut self, at: u64, bytes: &[u8]) -> Result<(), Failed> {
+    fn write_at(&mut self, at: u64, bytes: &[u8]) -> Result<(), Failed>
+        requires { ForSome (D.content self.old.inner) (λ file. at ≤ length file) }
+        ensures done { OnOk result (D.content self.new.inner ≡ option_map (written at bytes.now) (D.content self.old.inner)) }
+        ensures tells { is_some (D.content self.new.inner) ≡ is_some (D.content self.old.inner) }
+        ensures crash { TearsAt at (length bytes.now) (D.may_leave self.old.inner) (D.may_leave self.new.inner) }
+        ensures time { Elapses (moment_in D.moment) (left_in D.left_since) (leaves_in D.may_leave) self.old self.new }
+        ensures course { Led D.leads (is_err result) self.old self.new }
+        ensures cause { HasCause (all_faults D.faults self.old) (all_faults D.faults self.new) result }
+
+        // A stopped disk fails by itself.
+        ensures refused { self.old.stopped ≡ true → IsErr result × (self.new ≡ refused self.old) }
+        ensures passed { self.old.stopped ≡ false → self.old.call ≢ 1 → HasCause (D.faults self.old.inner) (D.faults self.new.inner) result × (self.new ≡ passed self.old self.new.inner) }
+        // The armed write puts its first bytes, where the disk inside does not fail.
+        ensures armed { self.old.stopped ≡ false → self.old.call ≡ 1 → IsErr result × (self.new ≡ stopped_at self.old self.new.inner)
+            × ((D.content self.new.inner ≡ option_map (written at (take self.old.bytes bytes.now)) (D.content self.old.inner)) ⊎ Rose (D.faults self.old.inner) (D.faults self.new.inner)) }
+    {
         if self.stopped() {
             return Err(self.refuse());
         }
@@ -175,7 +214,22 @@ impl<D: Disk> Disk for StopDisk<D> {
         self.inner.write_at(at, bytes)
     }
 
-    fn sync(&mut self) -> Result<(), Failed> {
+    fn sync(&mut self) -> Result<(), Failed>
+        ensures durable { OnOk result (LeavesAsRead (D.content self.new.inner) (D.may_leave self.new.inner)) }
+        ensures same { D.content self.new.inner ≡ D.content self.old.inner }
+        ensures crash { LeavesNoMore (D.may_leave self.old.inner) (D.may_leave self.new.inner) }
+        ensures time { Elapses (moment_in D.moment) (left_in D.left_since) (leaves_in D.may_leave) self.old self.new }
+        ensures course { Led D.leads (is_err result) self.old self.new }
+        ensures cause { HasCause (all_faults D.faults self.old) (all_faults D.faults self.new) result }
+
+        // A stopped disk fails by itself.
+        ensures refused { self.old.stopped ≡ true → IsErr result × (self.new ≡ refused self.old) }
+        ensures passed { self.old.stopped ≡ false → self.old.call ≢ 1 → HasCause (D.faults self.old.inner) (D.faults self.new.inner) result × (self.new ≡ passed self.old self.new.inner) }
+        // The armed sync is done exactly where a byte is left, and the disk inside does not fail.
+        ensures armed { self.old.stopped ≡ false → self.old.call ≡ 1 → IsErr result × (self.new ≡ stopped_at self.old self.new.inner) }
+        ensures undone { self.old.stopped ≡ false → self.old.call ≡ 1 → self.old.bytes ≡ 0 → self.new.inner ≡ self.old.inner }
+        ensures last { self.old.stopped ≡ false → self.old.call ≡ 1 → 0 < self.old.bytes → LeavesAsRead (D.content self.new.inner) (D.may_leave self.new.inner) ⊎ Rose (D.faults self.old.inner) (D.faults self.new.inner) }
+    {
         if self.stopped() {
             return Err(self.refuse());
         }
