@@ -1,11 +1,12 @@
 //! A source over bytes in memory, which fails at chosen calls.
-ghost use Rattle.std.specs.Prelude.{◌≡◌, ◌↔◌, length, min, IsErr, IfOk, OnErr, Contains, take, Some};
+ghost use Rattle.std.specs.Prelude.{◌≡◌, ◌↔◌, length, min, IsErr, IfOk, OnErr, Contains, Some, take, drop, ◌++◌};
 ghost use Rattle.std.specs.Io.{ReadsAtMost};
 ghost use Rattle.std.specs.Io.KnownBytes.{ReadConsumes};
 ghost use Rattle.orc_io.specs.Counts.{HasCause, next_count};
 ghost use Rattle.orc_io.specs.Told.{read_failed, read_gave};
 
 use crate::{Failed, Source};
+use std::io::Read;
 use std::marker::Model;
 
 /// A source over bytes. It fails exactly at the listed calls, counted from 1, and else gives as many
@@ -45,16 +46,6 @@ impl MemSource {
     }
 }
 
-// Copies as many bytes as there are and fit to the front of the buffer.
-fn fill_front(buf: &mut [u8], from: &[u8]) -> usize
-    ensures count { result ≡ min (length buf.old) (length from.now) }
-    ensures bytes { take result buf.new ≡ take result from.now }
-{
-    let count = buf.len().min(from.len());
-    buf[..count].copy_from_slice(&from[..count]);
-    count
-}
-
 impl Source for MemSource {
     ghost left = { λ s. Some s.left };
 
@@ -66,6 +57,7 @@ impl Source for MemSource {
         ensures cause { HasCause self.old.faults self.new.faults result }
         ensures exact { IsErr result ↔ Contains self.old.fails (next_count self.old.calls) }
         ensures count { IfOk result (λ n. n ≡ min (length buf.old) (length self.old.left)) }
+        ensures buffer { IfOk result (λ n. buf.new ≡ take n self.old.left ++ drop n buf.old) }
         ensures ok { IfOk result (λ n. self.new ≡ read_gave self.old n) }
         ensures err { OnErr result (self.new ≡ read_failed self.old) }
     {
@@ -74,9 +66,14 @@ impl Source for MemSource {
             self.faults = self.faults.saturating_add(1);
             return Err(Failed);
         }
-        let count = fill_front(buf, &self.bytes[self.at..]);
-        self.at += count;
-        Ok(count)
+        let mut rest = &self.bytes[self.at..];
+        match rest.read(buf) {
+            Ok(count) => {
+                self.at += count;
+                Ok(count)
+            }
+            Err(_) => unreachable!(),
+        }
     }
 
     fn faults(&self) -> u64 {

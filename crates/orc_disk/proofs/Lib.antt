@@ -1,0 +1,5 @@
+mod Inside
+mod KeptLemmas
+pub mod Moments
+mod Puts
+mod Synced

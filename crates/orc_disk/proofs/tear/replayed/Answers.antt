@@ -1,0 +1,26 @@
+use Rattle.std.proofs.Common.{◌∙◌, sym, ap, arith, ◌-◌, ◌+◌, length, take, drop, rules}
+use Rattle.std.proofs.lemmas.List.{take_rest, length-drop}
+use Rattle.orc_disk.specs.declared.history.Call.TheVariants.{Write}
+use Rattle.orc_disk.proofs.KeptLemmas.{told-take, written_count-fits, written_count-more, after-content, Leaves-image}
+use Rattle.orc_disk.proofs.tear.replayed.Goals as goal
+
+pub step-requires : goal.step-requires
+step-requires c =
+    let fits = written_count-fits _ _ (Write 0 0) c.args.store.now c.loop-call.from c.loop-call-test.true c.loop-call.invariant.from c.requires in
+    omega (arith, fits, ap length (take_rest c.args.store.now c.loop-call.from), length-drop c.loop-call.from c.args.store.now)
+
+pub overflow_add-from : goal.overflow_add-from
+overflow_add-from c =
+    let fits = written_count-fits _ _ (Write 0 0) c.args.store.now c.loop-call.from c.loop-call-test.true c.loop-call.invariant.from c.requires in
+    search (rules, fits, c.count-from.ensures)
+
+pub loop-call-preserved : goal.loop-call-preserved
+loop-call-preserved c =
+    let inv = c.loop-call.invariant in
+    let more = told-take _ _ (Write 0 0) c.args.store.now c.loop-call.from c.loop-call-test.true inv.from in
+    record {
+      whole = after-content _ _ _ _ _ _ inv.whole more c.in_ok-step.ensures.whole;
+      torn = Leaves-image _ _ _ _ _ _ _ inv.whole inv.torn more c.in_ok-step.ensures.torn;
+      within = omega (arith, written_count-fits _ _ (Write 0 0) c.args.store.now c.loop-call.from c.loop-call-test.true inv.from c.requires, c.count-from.ensures);
+      from = omega (arith, inv.from, c.count-from.ensures, written_count-more c.args.calls.now c.loop-call.call-index (Write 0 0) c.loop-call-test.true);
+    }

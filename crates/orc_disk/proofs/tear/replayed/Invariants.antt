@@ -1,0 +1,15 @@
+use Rattle.std.proofs.Common.{◌≡◌, ◌≤◌, length, take, []}
+use Rattle.orc_disk.specs.History.{content_of, IsImage}
+use Rattle.orc_disk.specs.Kept.{told, written_count}
+use Rattle.orc_disk.proofs.tear.replayed.Given as goal
+
+-- both files are those of the calls so far, and the bytes of the later ones stand behind
+abbrev pub invariant-loop-call : goal.invariant-loop-call
+invariant-loop-call l =
+    let calls = take l.call-index l.calls in
+    record {
+      whole : l.whole.items ≡ content_of l.start (told [] calls l.store);
+      torn : IsImage l.start (told [] calls l.store) l.torn.items;
+      within : l.from ≤ length l.store;
+      from : l.from ≡ written_count calls;
+    }

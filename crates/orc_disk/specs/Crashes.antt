@@ -1,0 +1,15 @@
+-- What a crash may leave of a file. An image is one file that a crash may leave.
+use Rattle.std.specs.Prelude.{◌≡◌, ℕ, List, Option, Some}
+use Rattle.orc_disk.specs.Torn.{Torn}
+
+-- each image is one from before, torn by a write of n bytes at this offset
+abbrev pub TearsAt : ℕ → ℕ → (List ℕ → Type 0) → (List ℕ → Type 0) → Type 0
+TearsAt at n old new = (c : List ℕ) → new c → (d : List ℕ) × old d × Torn at n d c
+
+-- each image is one from before
+abbrev pub LeavesNoMore : (List ℕ → Type 0) → (List ℕ → Type 0) → Type 0
+LeavesNoMore old new = (c : List ℕ) → new c → old c
+
+-- a crash leaves what a read gives, and nothing else
+abbrev pub LeavesAsRead : Option (List ℕ) → (List ℕ → Type 0) → Type 0
+LeavesAsRead content images = (c : List ℕ) → images c → content ≡ Some c

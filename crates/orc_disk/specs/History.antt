@@ -1,0 +1,43 @@
+-- The history of a file, and what a crash may have left at each moment of it.
+use Rattle.std.specs.Prelude.{◌≡◌, ◌⊎◌, ℕ, ◌-◌, ◌≤◌, List, [], ◌∷◌, length, Option, Some, None}
+use Rattle.orc_disk.specs.Files.{written}
+use Rattle.orc_disk.specs.Torn.{Torn}
+
+-- one change of a file: the offset and the bytes of a write, or none of both, which is a sync
+abbrev pub Change : Type 0
+Change = Option (ℕ × List ℕ)
+
+-- what the file held at first, its changes, the newest first, and the room that is left for more of them
+pub record History : Type 0 where
+  pub start : List ℕ
+  pub changes : List Change
+  pub room : ℕ
+
+-- the history with one change more, which used so much of the room
+abbrev pub changed : History → Change → ℕ → History
+changed h change used = record { start = h.start; changes = change ∷ h.changes; room = h.room - used }
+
+-- the file after one change
+abbrev pub after : Change → List ℕ → List ℕ
+after None file = file
+after (Some put) file = written put.0 put.1 file
+
+-- what a read gives after these changes
+abbrev pub content_of : List ℕ → List Change → List ℕ
+content_of start [] = start
+content_of start (change ∷ older) = after change (content_of start older)
+
+-- a crash after one change of a file may leave this, where it might have left that before the change
+abbrev pub Leaves : Change → List ℕ → List ℕ → List ℕ → Type 0
+Leaves None file before now = now ≡ file
+Leaves (Some put) file before now = Torn put.0 (length put.1) before now
+
+-- a crash after these changes may leave this file
+abbrev pub IsImage : List ℕ → List Change → List ℕ → Type 0
+IsImage start [] file = file ≡ start
+IsImage start (change ∷ older) file = (before : List ℕ) × IsImage start older before × Leaves change (content_of start older) before file
+
+-- a crash after these changes, or after the first t of them or more, may leave this file
+abbrev pub WasImage : List ℕ → List Change → ℕ → List ℕ → Type 0
+WasImage start [] t file = IsImage start [] file
+WasImage start (change ∷ older) t file = IsImage start (change ∷ older) file ⊎ ((t ≤ length older) × WasImage start older t file)

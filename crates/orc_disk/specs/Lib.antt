@@ -1,0 +1,10 @@
+pub mod Files
+pub mod Torn
+pub mod Crashes
+pub mod Moments
+pub mod Course
+pub mod Stops
+pub mod History
+pub mod HistoryLaws
+pub mod Kept
+pub mod Memory

@@ -1,0 +1,21 @@
+//! Files that outlive crashes, and what a crash at any moment may leave of them.
+//!
+//! A `Disk` tells, where it can, what a read gives, which images a crash now may leave, and which a
+//! crash at some moment since an earlier one may have left. `MemDisk` is such a file in memory,
+//! which fails at chosen calls and shows crash images. `StopDisk` stops another disk inside a write
+//! or a sync. `FileDisk` is a real file, which tells nothing.
+#![tactic(auto)]
+
+mod disk;
+mod file;
+mod history;
+mod memory;
+mod stop;
+mod tear;
+#[cfg(test)]
+mod tests;
+
+pub use disk::{Disk, DiskOp};
+pub use file::FileDisk;
+pub use memory::MemDisk;
+pub use stop::StopDisk;

@@ -1,0 +1,219 @@
+//! A disk in memory, which tells everything and fails at chosen calls.
+ghost use Rattle.std.specs.Prelude.{◌≡◌, ◌⊎◌, ◌+◌, ◌-◌, ◌<◌, ◌≤◌, ◌↔◌, [], length, IfOk, OnOk, OnErr, IsErr, IsTrue, Contains, Some, min, take, drop, ◌++◌, is_some, is_err, true};
+ghost use Rattle.std.specs.Io.{ReadsAtMost};
+ghost use Rattle.orc_io.specs.Counts.{HasCause, next_count};
+ghost use Rattle.orc_disk.specs.Files.{written, ReadsFrom};
+ghost use Rattle.orc_disk.specs.Crashes.{TearsAt, LeavesNoMore, LeavesAsRead};
+ghost use Rattle.orc_disk.specs.Moments.{Elapses};
+ghost use Rattle.orc_disk.specs.Course.{Counted};
+ghost use Rattle.orc_disk.specs.History.{IsImage};
+ghost use Rattle.orc_disk.specs.Memory.{disk_content, disk_leaves, disk_moment, disk_left, len_called, read_called, write_called, sync_called, call_failed, write_done, sync_done};
+
+use crate::history::Kept;
+use crate::{Disk, DiskOp};
+use orc_io::Failed;
+use orc_text::Memory;
+use std::alloc::Global;
+use std::io::Read;
+use std::marker::Model;
+
+/// A disk in memory. A call fails exactly where a listed pair names its number among the calls of
+/// its kind, counted from 1, or where it would use more than is left of the room. A write uses its
+/// bytes and 64 of the room, a sync uses 64. After it is made only `image` takes memory.
+#[derive(Drop)]
+pub struct MemDisk {
+    history: Kept,
+    fails: Vec<(DiskOp, u64)>,
+    lens: u64,
+    reads: u64,
+    writes: u64,
+    syncs: u64,
+    faults: u64,
+}
+
+impl Model for MemDisk {
+    ghost use Rattle.orc_disk.specs.Memory.{MemoryDisk};
+
+    ghost Value = { MemoryDisk };
+
+    ghost view = { λ d. record { history = d.history; fails = d.fails.items; lens = d.lens; reads = d.reads; writes = d.writes; syncs = d.syncs; faults = d.faults } };
+}
+
+// Whether the list names this call.
+fn is_listed(fails: &[(DiskOp, u64)], op: DiskOp, number: u64) -> bool
+    ensures { IsTrue result ↔ Contains fails.now (op, number) }
+{
+    fails.contains(&(op, number))
+}
+
+// Reads at an offset as many bytes as there are and fit.
+fn read_from(file: &[u8], at: u64, buf: &mut [u8]) -> usize
+    ensures count { result ≡ min (length buf.new) (length file.now - at) }
+    ensures bytes { buf.new ≡ take result (drop at file.now) ++ drop result buf.old }
+    ensures front { take result buf.new ≡ take result (drop at file.now) }
+    ensures len { length buf.new ≡ length buf.old }
+{
+    let from = at.min(file.len() as u64) as usize;
+    let mut rest = &file[from..];
+    match rest.read(buf) {
+        Ok(count) => count,
+        Err(_) => unreachable!(),
+    }
+}
+
+impl MemDisk {
+    /// A disk that holds these bytes, all of them on the disk, with room for more.
+    pub fn new(
+        alloc: Global,
+        bytes: Vec<u8>,
+        room: u64,
+        fails: Vec<(DiskOp, u64)>,
+    ) -> Result<MemDisk, Memory>
+        ensures { IfOk result (λ d. d ≡ record { history = record { start = bytes.items; changes = []; room = room }; fails = fails.items; lens = 0; reads = 0; writes = 0; syncs = 0; faults = 0 }) }
+    {
+        Ok(MemDisk {
+            history: Kept::new(alloc, bytes, room)?,
+            fails,
+            lens: 0,
+            reads: 0,
+            writes: 0,
+            syncs: 0,
+            faults: 0,
+        })
+    }
+
+    /// One file that a crash now may leave, by choice.
+    pub fn image(&self, alloc: Global, choice: u64) -> Result<Vec<u8>, Memory>
+        ensures { IfOk result (λ image. IsImage self.now.history.start self.now.history.changes image.items) }
+    {
+        self.history.image(alloc, choice)
+    }
+}
+
+impl MemDisk {
+    // Counts a failed call.
+    fn fault(&mut self) -> Failed
+        ensures state { self.new ≡ call_failed self.old }
+        ensures count { Counted true self.old.faults self.new.faults }
+    {
+        self.faults = self.faults.saturating_add(1);
+        Failed
+    }
+}
+
+impl Disk for MemDisk {
+    ghost use Rattle.orc_disk.specs.HistoryLaws.{IsImage-content, WasImage-now, WasImage-only, WasImage-earlier};
+    ghost use Rattle.orc_disk.specs.Course.{Counted-refl, Counted-trans};
+
+    ghost content = { λ d. Some (disk_content d) };
+
+    ghost may_leave = { disk_leaves };
+
+    ghost moment = { disk_moment };
+
+    ghost left_since = { disk_left };
+
+    ghost faults = { λ d. d.faults };
+
+    ghost leads = { λ failed old new. Counted failed old.faults new.faults };
+
+    fn len(&mut self) -> Result<u64, Failed>
+        ensures length { IfOk result (λ n. n ≡ length (disk_content self.old)) }
+        ensures same { Some (disk_content self.new) ≡ Some (disk_content self.old) }
+        ensures crash { LeavesNoMore (disk_leaves self.old) (disk_leaves self.new) }
+        ensures time { Elapses disk_moment disk_left disk_leaves self.old self.new }
+        ensures course { Counted (is_err result) self.old.faults self.new.faults }
+        ensures cause { HasCause self.old.faults self.new.faults result }
+
+        ensures exact { IsErr result ↔ Contains self.old.fails (DiskOp.Len, next_count self.old.lens) }
+        ensures ok { OnOk result (self.new ≡ len_called self.old) }
+        ensures err { OnErr result (self.new ≡ call_failed (len_called self.old)) }
+    {
+        self.lens = self.lens.saturating_add(1);
+        if is_listed(&self.fails, DiskOp::Len, self.lens) {
+            return Err(self.fault());
+        }
+        Ok(self.history.content().len() as u64)
+    }
+
+    fn read_at(&mut self, at: u64, buf: &mut [u8]) -> Result<usize, Failed>
+        ensures bound { ReadsAtMost result buf.new }
+        ensures bytes { IfOk result (λ n. ReadsFrom at buf.new (disk_content self.old) n) }
+        ensures same { Some (disk_content self.new) ≡ Some (disk_content self.old) }
+        ensures crash { LeavesNoMore (disk_leaves self.old) (disk_leaves self.new) }
+        ensures time { Elapses disk_moment disk_left disk_leaves self.old self.new }
+        ensures course { Counted (is_err result) self.old.faults self.new.faults }
+        ensures cause { HasCause self.old.faults self.new.faults result }
+
+        ensures exact { IsErr result ↔ Contains self.old.fails (DiskOp.Read, next_count self.old.reads) }
+        ensures buffer { IfOk result (λ n. buf.new ≡ take n (drop at (disk_content self.old)) ++ drop n buf.old) }
+        ensures ok { OnOk result (self.new ≡ read_called self.old) }
+        ensures err { OnErr result (self.new ≡ call_failed (read_called self.old)) }
+    {
+        self.reads = self.reads.saturating_add(1);
+        if is_listed(&self.fails, DiskOp::Read, self.reads) {
+            return Err(self.fault());
+        }
+        Ok(read_from(self.history.content(), at, buf))
+    }
+
+    fn write_at(&mut self, at: u64, bytes: &[u8]) -> Result<(), Failed>
+        requires { at ≤ length (disk_content self.old) }
+        ensures done { OnOk result (Some (disk_content self.new) ≡ Some (written at bytes.now (disk_content self.old))) }
+        ensures crash { TearsAt at (length bytes.now) (disk_leaves self.old) (disk_leaves self.new) }
+        ensures time { Elapses disk_moment disk_left disk_leaves self.old self.new }
+        ensures course { Counted (is_err result) self.old.faults self.new.faults }
+        ensures cause { HasCause self.old.faults self.new.faults result }
+
+        ensures exact { IsErr result ↔ (Contains self.old.fails (DiskOp.Write, next_count self.old.writes) ⊎ (self.old.history.room < length bytes.now + 64)) }
+        ensures ok { OnOk result (self.new ≡ write_done (write_called self.old) at bytes.now) }
+        ensures err { OnErr result (self.new ≡ call_failed (write_called self.old)) }
+    {
+        self.writes = self.writes.saturating_add(1);
+        let listed = is_listed(&self.fails, DiskOp::Write, self.writes);
+        if listed || self.history.room() < bytes.len() as u64 + 64 {
+            return Err(self.fault());
+        }
+        self.history.write(at as usize, bytes);
+        Ok(())
+    }
+
+    fn sync(&mut self) -> Result<(), Failed>
+        ensures durable { OnOk result (LeavesAsRead (Some (disk_content self.new)) (disk_leaves self.new)) }
+        ensures same { Some (disk_content self.new) ≡ Some (disk_content self.old) }
+        ensures crash { LeavesNoMore (disk_leaves self.old) (disk_leaves self.new) }
+        ensures time { Elapses disk_moment disk_left disk_leaves self.old self.new }
+        ensures course { Counted (is_err result) self.old.faults self.new.faults }
+        ensures cause { HasCause self.old.faults self.new.faults result }
+
+        ensures exact { IsErr result ↔ (Contains self.old.fails (DiskOp.Sync, next_count self.old.syncs) ⊎ (self.old.history.room < 64)) }
+        ensures ok { OnOk result (self.new ≡ sync_done (sync_called self.old)) }
+        ensures err { OnErr result (self.new ≡ call_failed (sync_called self.old)) }
+    {
+        self.syncs = self.syncs.saturating_add(1);
+        let listed = is_listed(&self.fails, DiskOp::Sync, self.syncs);
+        if listed || self.history.room() < 64 {
+            return Err(self.fault());
+        }
+        self.history.sync();
+        Ok(())
+    }
+
+    fn faults(&self) -> u64 {
+        self.faults
+    }
+
+    ghost reads_as_image = { λ d. IsImage-content d.history.start d.history.changes };
+
+    ghost counts_now = { λ d t c le now. WasImage-now d.history.start d.history.changes t c now };
+
+    ghost only_now = { λ d c was. WasImage-only d.history.start d.history.changes c was };
+
+    ghost earlier = { λ d t u c le was. WasImage-earlier d.history.start d.history.changes t u c le was };
+
+    ghost stays = { λ d. Counted-refl d.faults };
+
+    ghost goes_on = { λ x y a b c first second. Counted-trans x y a.faults b.faults c.faults first second };
+
+    ghost counts = { λ _ _ _ led. led };
+}

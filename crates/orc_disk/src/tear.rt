@@ -1,0 +1,108 @@
+//! Crash images of a file, made from its history by choice.
+ghost use Rattle.std.specs.Prelude.{◌≡◌, ◌≤◌, ◌++◌, ◌∷◌, [], length, OnOk, IfOk};
+ghost use Rattle.orc_disk.specs.Torn.{Torn};
+ghost use Rattle.orc_disk.specs.History.{after, Leaves, IsImage};
+ghost use Rattle.orc_disk.specs.Kept.{told, change_of, written_count};
+
+use crate::history::{Call, put};
+use std::alloc::{AllocError, Global};
+
+// How many bytes of another value stand in a torn range at most.
+const FILL_LEN: usize = 16;
+
+// Puts bytes, which tears no more than their range.
+fn put_range(file: &mut Vec<u8>, at: usize, bytes: &[u8]) -> Result<(), AllocError>
+    ensures { OnOk result (Torn at (length bytes.now) file.old.items file.new.items) }
+{
+    put(file, at, bytes)
+}
+
+// Adds bytes behind the end.
+fn lengthen(file: &mut Vec<u8>, bytes: &[u8]) -> Result<(), AllocError>
+    ensures { OnOk result (file.new.items ≡ file.old.items ++ bytes.now) }
+{
+    file.extend_from_slice(bytes)
+}
+
+// Puts a write as a crash may leave it. The last two bits of `choice` say how: a front of it; a front
+// of it and other bytes behind; the whole with other bytes in its front; the whole with other bytes
+// behind the end of the file. The next four bits say how much, and the rest which other byte.
+fn tear(file: &mut Vec<u8>, at: usize, bytes: &[u8], choice: u64) -> Result<(), AllocError>
+    ensures { OnOk result (Torn at (length bytes.now) file.old.items file.new.items) }
+{
+    let part = (choice / 4 % 16) as usize;
+    let kept = (bytes.len() / 16 + 1).saturating_mul(part).min(bytes.len());
+    let fill = [((choice / 64 + 1) % 256) as u8; FILL_LEN];
+    match choice % 4 {
+        0 => put_range(file, at, &bytes[..kept]),
+        1 => {
+            put_range(file, at, &bytes[..kept])?;
+            let count = (bytes.len() - kept).min(FILL_LEN);
+            put_range(file, at.saturating_add(kept), &fill[..count])
+        }
+        2 => {
+            put_range(file, at, bytes)?;
+            put_range(file, at, &fill[..kept.min(FILL_LEN)])
+        }
+        _ => {
+            put_range(file, at, bytes)?;
+            lengthen(file, &fill[..part])
+        }
+    }
+}
+
+// Makes the change of one call in a whole file and in a torn one. Behind a sync the torn file is the
+// whole one.
+fn step(
+    whole: &mut Vec<u8>,
+    torn: &mut Vec<u8>,
+    call: Call,
+    store: &[u8],
+    choice: u64,
+) -> Result<(), AllocError>
+    requires { written_count (call ∷ []) ≤ length store.now }
+    ensures whole { OnOk result (whole.new.items ≡ after (change_of call store.now) whole.old.items) }
+    ensures torn { OnOk result (Leaves (change_of call store.now) whole.old.items torn.old.items torn.new.items) }
+{
+    match call {
+        Call::Write { at, len } => {
+            put(whole, at, &store[..len])?;
+            tear(torn, at, &store[..len], choice)
+        }
+        Call::Sync => {
+            torn.clear();
+            torn.extend_from_slice(whole)
+        }
+    }
+}
+
+// How many bytes a call wrote.
+fn count(call: Call) -> usize
+    ensures { result ≡ written_count (call ∷ []) }
+{
+    match call {
+        Call::Write { len, .. } => len,
+        Call::Sync => 0,
+    }
+}
+
+/// What a crash after these calls leaves of a file by choice.
+pub(crate) fn replayed(
+    alloc: Global,
+    start: &[u8],
+    calls: &[Call],
+    store: &[u8],
+    choice: u64,
+) -> Result<Vec<u8>, AllocError>
+    requires { written_count calls.now ≡ length store.now }
+    ensures { IfOk result (λ image. IsImage start.now (told [] calls.now store.now) image.items) }
+{
+    let mut whole = start.to_vec(alloc)?;
+    let mut torn = start.to_vec(alloc)?;
+    let mut from = 0;
+    for call in calls {
+        step(&mut whole, &mut torn, *call, &store[from..], choice)?;
+        from += count(*call);
+    }
+    Ok(torn)
+}
