@@ -1,5 +1,4 @@
 mod Last
-mod Prefixes
 mod Parts
 mod Runs
 mod Feeds

@@ -1,9 +1,9 @@
 -- The first steps of a path.
-use Rattle.std.proofs.Common.{◌≡◌, ℕ, zero, suc, ◌<◌, Bool, true, false, ◌&&◌, List, [], ◌∷◌, length, take, refl, arith}
+use Rattle.std.proofs.Common.{◌≡◌, ℕ, zero, suc, ◌<◌, Bool, true, List, [], ◌∷◌, length, take, refl, arith}
 use Rattle.std.specs.List.{list_all}
 use Rattle.std.proofs.lemmas.Bool.{and_parts, and_from, false≢true}
 use Rattle.orc_path.specs.Steps.{PathStep, is_later_step, is_path, ends_in_keys}
-use Rattle.orc_path.specs.Order.{is_prefix, step_eq}
+use Rattle.orc_path.specs.Order.{is_prefix}
 use Rattle.orc_path.specs.Configurations.{has_keys_at}
 
 list_all-take : {X : Type 0} (p : X → Bool) (xs : List X) (n : ℕ) → list_all p xs ≡ true → list_all p (take n xs) ≡ true

@@ -77,6 +77,9 @@ fn ports(alloc: Global) -> Result<Tree, Fail> {
     Ok(tree)
 }
 
+/// A value that may go to other threads and be shared among them.
+fn crosses_threads<T: Send + Sync>(_value: &T) {}
+
 const PORTS: &str =
     "/if:mtu = 9000\n/if:port[e0]\n/if:port[e0]/mtu = 1500\n/if:port[e1]\n/if:port[e1]/unit[7]\n/if:port[e1]/unit[7]/vlan = 10\n/if:port[e10]\n";
 
@@ -125,6 +128,7 @@ fn a_list_has_its_entries_and_not_what_is_below_them(rt: HostRuntime) -> Result<
 fn a_copy_is_equal_until_an_item_differs(rt: HostRuntime) -> Result<(), Fail> {
     let alloc = rt.alloc();
     let tree = ports(alloc)?;
+    crosses_threads(&tree);
     let mut copy = tree.copy(alloc)?;
     assert!(rt; copy.equals(&tree));
     assert!(rt; set(&mut copy, alloc, "/if:mtu", Some("9001"))?);
