@@ -1,0 +1,6 @@
+pub mod Characters
+pub mod Numerals
+pub mod Integers
+pub mod Decimals
+pub mod Canon
+pub mod Json

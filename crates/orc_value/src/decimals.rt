@@ -1,0 +1,189 @@
+//! Decimal numbers.
+ghost use Rattle.std.specs.Prelude.{◌≡◌, ◌<◌, ◌≤◌, ◌^◌, ◌*◌, ◌-◌, ◌++◌, ◌↔◌, IsTrue, OnOk, SomeIff, IfSome, is_some, ◌&&◌, ◌||◌, not, length, take};
+ghost use Rattle.std.specs.List.{position, before_first, after_first};
+ghost use Rattle.std.specs.Str.Parse.{digits_value};
+ghost use Rattle.orc_value.specs.Numerals.{admitted, all_digits, is_numeral};
+ghost use Rattle.orc_value.specs.Decimals.{is_point, decimal_value, is_decimal_value, decimal_text, fraction_digits, fraction_text};
+
+use crate::fault::{LEXICAL, RANGE};
+use crate::numerals::{is_decimal_of, is_numeral, push_decimal, read_on, without_sign};
+use orc_text::{Memory, Text};
+
+/// The place of the first point.
+fn place_of_point(text: &[u8]) -> Option<usize>
+    ensures { result ≡ position is_point text.now }
+{
+    text.iter().position(|byte| *byte == b'.')
+}
+
+/// The parts before the first point and behind it.
+fn split_at_point(text: &[u8]) -> Option<(&[u8], &[u8])>
+    ensures point { is_some result ≡ is_some (position is_point text.now) }
+    ensures parts { IfSome result (λ parts. (parts.0.now ≡ before_first is_point text.now)
+        × (parts.1.now ≡ after_first is_point text.now)) }
+{
+    match place_of_point(text) {
+        Some(place) => Some((&text[..place], &text[place + 1..])),
+        None => None,
+    }
+}
+
+/// The digits before the point and behind it, where the text is digits with a point among them or
+/// none.
+fn decimal_parts(text: &[u8]) -> Option<(&[u8], &[u8])>
+    ensures parts { IfSome result (λ parts. (parts.0.now ≡ before_first is_point text.now)
+        × (parts.1.now ≡ after_first is_point text.now)) }
+    ensures form { is_some result ≡ (is_numeral (before_first is_point text.now)
+        && (is_numeral (after_first is_point text.now) || not (is_some (position is_point text.now)))) }
+{
+    let (whole, fraction) = match split_at_point(text) {
+        Some((whole, fraction)) => {
+            if !is_numeral(fraction) {
+                return None;
+            }
+            (whole, fraction)
+        },
+        None => (text, &text[text.len()..]),
+    };
+    if is_numeral(whole) {
+        Some((whole, fraction))
+    } else {
+        None
+    }
+}
+
+/// Ten to the power of `exponent`.
+fn power_of_ten(exponent: u8) -> u64
+    requires { exponent ≤ 18 }
+    ensures value { result ≡ 10 ^ exponent }
+    ensures positive { 0 < result }
+{
+    10u64.pow(u32::from(exponent))
+}
+
+/// The number times ten to the power of `places`, where it has 64 bits; digits past that many
+/// places are left out.
+fn magnitude(places: u8, whole: &[u8], fraction: &[u8]) -> Option<u64>
+    requires small { places ≤ 18 }
+    requires whole { IsTrue (all_digits whole.now) }
+    requires fraction { IsTrue (all_digits fraction.now) }
+    ensures { SomeIff result
+        (digits_value 10 (whole.now ++ take places fraction.now) * 10 ^ (places - length fraction.now) < 2 ^ 64)
+        (digits_value 10 (whole.now ++ take places fraction.now) * 10 ^ (places - length fraction.now)) }
+{
+    let kept = fraction.len().min(usize::from(places));
+    let number = read_on(read_on(0, whole)?, &fraction[..kept])?;
+    number.checked_mul(power_of_ten(places - kept as u8))
+}
+
+/// The value that a text denotes at this many fraction digits, or the rule that it breaks.
+pub(crate) fn decimal(places: u8, text: &str) -> Result<i128, u8>
+    ensures { result ≡ admitted is_decimal_value (decimal_value places text.now) }
+{
+    let bytes = text.as_bytes();
+    if places < 1 || 18 < places {
+        return Err(LEXICAL);
+    }
+    let Some((whole, fraction)) = decimal_parts(without_sign(bytes)) else {
+        return Err(LEXICAL);
+    };
+    if !fraction
+        .iter()
+        .skip(usize::from(places))
+        .all(|digit| *digit == b'0')
+    {
+        return Err(LEXICAL);
+    }
+    let Some(magnitude) = magnitude(places, whole, fraction) else {
+        return Err(RANGE);
+    };
+    let value = if bytes.starts_with(b"-") {
+        -i128::from(magnitude)
+    } else {
+        i128::from(magnitude)
+    };
+    if i64::MIN as i128 <= value && value <= i64::MAX as i128 {
+        Ok(value)
+    } else {
+        Err(RANGE)
+    }
+}
+
+/// Writes the digits of `rest` over ten to the power of `places`, up to the last that isn't 0.
+fn push_fraction(text: &mut Text, places: u8, rest: u64) -> Result<(), Memory>
+    requires small { places ≤ 18 }
+    requires below_one { rest < 10 ^ places }
+    ensures { OnOk result (text.new ≡ text.old ++ fraction_digits places rest) }
+{
+    if rest == 0 {
+        return Ok(());
+    }
+    let unit = power_of_ten(places - 1);
+    text.push(char::from(b'0' + (rest / unit) as u8))?;
+    push_fraction(text, places - 1, rest % unit)
+}
+
+/// Whether the text is those digits.
+fn is_fraction(text: &[u8], places: u8, rest: u64) -> bool
+    requires small { places ≤ 18 }
+    requires below_one { rest < 10 ^ places }
+    ensures { IsTrue result ↔ (text.now ≡ fraction_digits places rest) }
+{
+    if rest == 0 {
+        return text.is_empty();
+    }
+    let unit = power_of_ten(places - 1);
+    match text {
+        [first, more @ ..] => *first == b'0' + (rest / unit) as u8
+            && is_fraction(more, places - 1, rest % unit),
+        [] => false,
+    }
+}
+
+/// Writes the canonical text of a value.
+pub(crate) fn push_decimal_text(text: &mut Text, places: u8, value: i128) -> Result<(), Memory>
+    requires small { places ≤ 18 }
+    requires fits { IsTrue (is_decimal_value value) }
+    ensures { OnOk result (text.new ≡ text.old ++ decimal_text places value) }
+{
+    if value < 0 {
+        text.push('-')?;
+    }
+    let unit = power_of_ten(places);
+    let magnitude = value.unsigned_abs() as u64;
+    push_decimal(text, magnitude / unit)?;
+    text.push('.')?;
+    let rest = magnitude % unit;
+    if rest == 0 {
+        text.push('0')
+    } else {
+        push_fraction(text, places, rest)
+    }
+}
+
+/// Whether the text is the canonical text of a value.
+pub(crate) fn is_decimal_text(text: &[u8], places: u8, value: i128) -> bool
+    requires small { places ≤ 18 }
+    requires fits { IsTrue (is_decimal_value value) }
+    ensures { IsTrue result ↔ (text.now ≡ decimal_text places value) }
+{
+    let unsigned = match text {
+        [b'-', unsigned @ ..] if value < 0 => unsigned,
+        _ if value < 0 => return false,
+        _ => text,
+    };
+    let unit = power_of_ten(places);
+    let magnitude = value.unsigned_abs() as u64;
+    let rest = magnitude % unit;
+    match split_at_point(unsigned) {
+        Some((whole, fraction)) => {
+            let ends = if rest == 0 {
+                matches!(fraction, [b'0'])
+            } else {
+                is_fraction(fraction, places, rest)
+            };
+            ends && is_decimal_of(whole, magnitude / unit)
+        },
+        None => false,
+    }
+}
