@@ -44,9 +44,10 @@ pub by_last : (n : ℕ) (text front : List ℕ) → 0 < length text → decimal 
     → get_or text (length text - 1) 0 ≡ 48 + n % 10
     → (take (length text - 1) text ≡ front) ↔ (text ≡ decimal n)
 by_last n text front some digits last =
-    let whole = snoc_of text some in
-    (λ same. whole ∙ (ap (λ (ds : List ℕ). ds ++ get_or text (length text - 1) 0 ∷ []) same ∙ (ap (λ (d : ℕ). front ++ d ∷ []) last ∙ sym digits)),
-    λ e. (snoc_same (take (length text - 1) text) front (get_or text (length text - 1) 0) (48 + n % 10) (sym whole ∙ (e ∙ digits))).0)
+    let whole = snoc_of text some in (
+      λ same. whole ∙ (ap (λ (ds : List ℕ). ds ++ get_or text (length text - 1) 0 ∷ []) same ∙ (ap (λ (d : ℕ). front ++ d ∷ []) last ∙ sym digits)),
+      λ e. (snoc_same (take (length text - 1) text) front (get_or text (length text - 1) 0) (48 + n % 10) (sym whole ∙ (e ∙ digits))).0,
+    )
 
 pub wrong_last : (n : ℕ) (text front : List ℕ) → 0 < length text → decimal n ≡ front ++ (48 + n % 10) ∷ []
     → get_or text (length text - 1) 0 ≢ 48 + n % 10 → text ≢ decimal n

@@ -3,7 +3,7 @@ use Rattle.std.specs.Prelude.{ℕ, zero, suc, ◌+◌, ◌*◌, ◌/◌, ◌%◌
 use Rattle.std.specs.List.{position, before_first, after_first}
 use Rattle.std.specs.Str.Parse.{starts_with_minus, without_leading_sign, digits_value}
 use Rattle.std.specs.Fmt.{decimal}
-use Rattle.orc_value.specs.Numerals.{is_numeral, signed}
+use Rattle.orc_value.specs.Numerals.{is_numeral, signed, sign_text}
 
 abbrev pub is_point : ℕ → Bool
 is_point c = c == 46
@@ -53,9 +53,10 @@ fraction_digits (suc n) r = if r == 0 then [] else (48 + r / 10 ^ n) ∷ fractio
 abbrev pub fraction_text : ℕ → ℕ → List ℕ
 fraction_text n r = if r == 0 then 48 ∷ [] else fraction_digits n r
 
-abbrev pub sign_text : ℤ → List ℕ
-sign_text z = if int_lt z (pos 0) then 45 ∷ [] else []
+-- the digits of m over ten to the power of n, at least one on each side of the point
+abbrev pub places_text : ℕ → ℕ → List ℕ
+places_text n m = decimal (m / 10 ^ n) ++ 46 ∷ fraction_text n (m % 10 ^ n)
 
 -- the canonical text of a value at n fraction digits
 abbrev pub decimal_text : ℕ → ℤ → List ℕ
-decimal_text n z = let m = unsigned_abs z in sign_text z ++ (decimal (m / 10 ^ n) ++ 46 ∷ fraction_text n (m % 10 ^ n))
+decimal_text n z = sign_text z ++ places_text n (unsigned_abs z)

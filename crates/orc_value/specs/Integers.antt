@@ -1,10 +1,10 @@
 -- Integers: RFC 7950 section 9.2.
-use Rattle.std.specs.Prelude.{ℕ, ◌^◌, ℤ, pos, negsuc, Bool, ◌&&◌, List, Option, Some, None, int_le, if◌then◌else◌}
+use Rattle.std.specs.Prelude.{ℕ, ◌^◌, ℤ, pos, negsuc, Bool, ◌&&◌, List, ◌++◌, unsigned_abs, Option, Some, None, int_le, if◌then◌else◌}
 use Rattle.std.specs.List.{list_any}
 use Rattle.std.specs.Str.Parse.{without_leading_sign, signed_digits_value}
-use Rattle.std.specs.Fmt.{signed_decimal}
+use Rattle.std.specs.Fmt.{decimal}
 use Rattle.orc_value.specs.declared.kind.IntKind.{IntKind}
-use Rattle.orc_value.specs.Numerals.{is_numeral}
+use Rattle.orc_value.specs.Numerals.{is_numeral, sign_text}
 
 -- the integer that a text denotes: a sign or none, and digits
 abbrev pub int_value : List ℕ → Option ℤ
@@ -24,4 +24,4 @@ has_integer kind z = is_64_bit z && in_ranges kind.ranges z
 
 -- the canonical text of an integer: its decimal digits, behind `-` where it is below 0
 abbrev pub int_text : ℤ → List ℕ
-int_text z = signed_decimal z
+int_text z = sign_text z ++ decimal (unsigned_abs z)

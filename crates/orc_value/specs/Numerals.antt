@@ -1,5 +1,5 @@
 -- Digits, and what stays of a number's text where its value may not be had.
-use Rattle.std.specs.Prelude.{ℕ, ℤ, pos, neg_ℤ, Bool, ◌&&◌, ◌==◌, not, List, length, Option, Some, None, Result, Ok, Err, if◌then◌else◌}
+use Rattle.std.specs.Prelude.{ℕ, ℤ, pos, neg_ℤ, Bool, ◌&&◌, ◌==◌, not, List, [], ◌∷◌, length, int_lt, Option, Some, None, Result, Ok, Err, if◌then◌else◌}
 use Rattle.std.specs.Char.{is_ascii_digit}
 use Rattle.std.specs.List.{list_all}
 
@@ -14,6 +14,10 @@ is_numeral text = not (length text == 0) && all_digits text
 -- the number of this magnitude
 abbrev pub signed : Bool → ℕ → ℤ
 signed negative magnitude = if negative then neg_ℤ (pos magnitude) else pos magnitude
+
+-- `-` where the number is below 0
+abbrev pub sign_text : ℤ → List ℕ
+sign_text z = if int_lt z (pos 0) then 45 ∷ [] else []
 
 -- the number that a text denotes, where it denotes one and the type has it: else rule 1 or rule 2
 abbrev pub admitted : (ℤ → Bool) → Option ℤ → Result ℤ ℕ

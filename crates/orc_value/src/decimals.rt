@@ -3,10 +3,11 @@ ghost use Rattle.std.specs.Prelude.{◌≡◌, ◌<◌, ◌≤◌, ◌^◌, ◌*
 ghost use Rattle.std.specs.List.{position, before_first, after_first};
 ghost use Rattle.std.specs.Str.Parse.{digits_value};
 ghost use Rattle.orc_value.specs.Numerals.{admitted, all_digits, is_numeral};
-ghost use Rattle.orc_value.specs.Decimals.{is_point, decimal_value, is_decimal_value, decimal_text, fraction_digits, fraction_text};
+ghost use Rattle.orc_value.specs.Decimals.{is_point, decimal_value, is_decimal_value, decimal_text, places_text, fraction_digits, fraction_text};
 
 use crate::fault::{LEXICAL, RANGE};
-use crate::numerals::{is_decimal_of, is_numeral, push_decimal, read_on, without_sign};
+use crate::numerals::{is_decimal_of, is_numeral, push_decimal, push_digit, read_on, without_sign};
+use crate::signs::{after_sign, magnitude, push_sign};
 use orc_text::{Memory, Text};
 
 /// The place of the first point.
@@ -63,7 +64,7 @@ fn power_of_ten(exponent: u8) -> u64
 
 /// The number times ten to the power of `places`, where it has 64 bits; digits past that many
 /// places are left out.
-fn magnitude(places: u8, whole: &[u8], fraction: &[u8]) -> Option<u64>
+fn scaled(places: u8, whole: &[u8], fraction: &[u8]) -> Option<u64>
     requires small { places ≤ 18 }
     requires whole { IsTrue (all_digits whole.now) }
     requires fraction { IsTrue (all_digits fraction.now) }
@@ -94,13 +95,13 @@ pub(crate) fn decimal(places: u8, text: &str) -> Result<i128, u8>
     {
         return Err(LEXICAL);
     }
-    let Some(magnitude) = magnitude(places, whole, fraction) else {
+    let Some(number) = scaled(places, whole, fraction) else {
         return Err(RANGE);
     };
     let value = if bytes.starts_with(b"-") {
-        -i128::from(magnitude)
+        -i128::from(number)
     } else {
-        i128::from(magnitude)
+        i128::from(number)
     };
     if i64::MIN as i128 <= value && value <= i64::MAX as i128 {
         Ok(value)
@@ -146,16 +147,21 @@ pub(crate) fn push_decimal_text(text: &mut Text, places: u8, value: i128) -> Res
     requires fits { IsTrue (is_decimal_value value) }
     ensures { OnOk result (text.new ≡ text.old ++ decimal_text places value) }
 {
-    if value < 0 {
-        text.push('-')?;
-    }
+    push_sign(text, value)?;
+    push_places(text, places, magnitude(value))
+}
+
+/// Writes a number over ten to the power of `places`.
+fn push_places(text: &mut Text, places: u8, number: u64) -> Result<(), Memory>
+    requires { places ≤ 18 }
+    ensures { OnOk result (text.new ≡ text.old ++ places_text places number) }
+{
     let unit = power_of_ten(places);
-    let magnitude = value.unsigned_abs() as u64;
-    push_decimal(text, magnitude / unit)?;
+    push_decimal(text, number / unit)?;
     text.push('.')?;
-    let rest = magnitude % unit;
+    let rest = number % unit;
     if rest == 0 {
-        text.push('0')
+        push_digit(text, 0)
     } else {
         push_fraction(text, places, rest)
     }
@@ -167,23 +173,35 @@ pub(crate) fn is_decimal_text(text: &[u8], places: u8, value: i128) -> bool
     requires fits { IsTrue (is_decimal_value value) }
     ensures { IsTrue result ↔ (text.now ≡ decimal_text places value) }
 {
-    let unsigned = match text {
-        [b'-', unsigned @ ..] if value < 0 => unsigned,
-        _ if value < 0 => return false,
-        _ => text,
-    };
+    match after_sign(text, value) {
+        Some(unsigned) => is_places(unsigned, places, magnitude(value)),
+        None => false,
+    }
+}
+
+/// Whether the text is a number over ten to the power of `places`.
+fn is_places(text: &[u8], places: u8, number: u64) -> bool
+    requires { places ≤ 18 }
+    ensures { IsTrue result ↔ (text.now ≡ places_text places number) }
+{
     let unit = power_of_ten(places);
-    let magnitude = value.unsigned_abs() as u64;
-    let rest = magnitude % unit;
-    match split_at_point(unsigned) {
+    match split_at_point(text) {
         Some((whole, fraction)) => {
-            let ends = if rest == 0 {
-                matches!(fraction, [b'0'])
-            } else {
-                is_fraction(fraction, places, rest)
-            };
-            ends && is_decimal_of(whole, magnitude / unit)
+            is_decimal_of(whole, number / unit) && is_fraction_text(fraction, places, number % unit)
         },
         None => false,
+    }
+}
+
+/// Whether the text is the digits of `rest` over ten to the power of `places`, one at least.
+fn is_fraction_text(text: &[u8], places: u8, rest: u64) -> bool
+    requires small { places ≤ 18 }
+    requires below_one { rest < 10 ^ places }
+    ensures { IsTrue result ↔ (text.now ≡ fraction_text places rest) }
+{
+    if rest == 0 {
+        matches!(text, [b'0'])
+    } else {
+        is_fraction(text, places, rest)
     }
 }

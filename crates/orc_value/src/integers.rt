@@ -1,11 +1,12 @@
 //! Integers.
 ghost use Rattle.std.specs.Prelude.{◌≡◌, ◌++◌, ◌↔◌, IsTrue, OnOk};
 ghost use Rattle.orc_value.specs.Numerals.{admitted};
-ghost use Rattle.orc_value.specs.Integers.{int_value, in_ranges, has_integer, int_text};
+ghost use Rattle.orc_value.specs.Integers.{int_value, in_ranges, has_integer, is_64_bit, int_text};
 
 use crate::IntKind;
 use crate::fault::{LEXICAL, RANGE};
 use crate::numerals::{is_decimal_of, is_numeral, push_decimal, without_sign};
+use crate::signs::{after_sign, magnitude, push_sign};
 use orc_text::{Memory, Text};
 
 /// Whether one of the ranges has the number.
@@ -40,21 +41,20 @@ pub(crate) fn integer(kind: &IntKind, text: &str) -> Result<i128, u8>
 
 /// Writes the canonical text of a number.
 pub(crate) fn push_integer(text: &mut Text, number: i128) -> Result<(), Memory>
+    requires { IsTrue (is_64_bit number) }
     ensures { OnOk result (text.new ≡ text.old ++ int_text number) }
 {
-    if number < 0 {
-        text.push('-')?;
-    }
-    push_decimal(text, number.unsigned_abs() as u64)
+    push_sign(text, number)?;
+    push_decimal(text, magnitude(number))
 }
 
 /// Whether the text is the canonical text of a number.
 pub(crate) fn is_integer_text(text: &[u8], number: i128) -> bool
+    requires { IsTrue (is_64_bit number) }
     ensures { IsTrue result ↔ (text.now ≡ int_text number) }
 {
-    let magnitude = number.unsigned_abs() as u64;
-    match text {
-        [b'-', digits @ ..] => number < 0 && is_decimal_of(digits, magnitude),
-        _ => number >= 0 && is_decimal_of(text, magnitude),
+    match after_sign(text, number) {
+        Some(digits) => is_decimal_of(digits, magnitude(number)),
+        None => false,
     }
 }

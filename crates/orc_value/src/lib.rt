@@ -10,6 +10,7 @@ mod integers;
 mod json;
 mod kind;
 mod numerals;
+mod signs;
 #[cfg(test)]
 mod tests;
 
