@@ -120,7 +120,7 @@ fn push_fraction(text: &mut Text, places: u8, rest: u64) -> Result<(), Memory>
         return Ok(());
     }
     let unit = power_of_ten(places - 1);
-    text.push(char::from(b'0' + (rest / unit) as u8))?;
+    push_digit(text, rest / unit)?;
     push_fraction(text, places - 1, rest % unit)
 }
 
