@@ -27,8 +27,8 @@ is_decimal text = is_numeral (whole_of text) && (is_numeral (fraction_of text) |
 abbrev pub is_fraction_digits : ℕ → Bool
 is_fraction_digits n = nat_le 1 n && nat_le n 18
 
--- the number of the digits w and f round the point is that of all these digits over ten to the power of how many f has;
--- it has n fraction digits where it is whole times ten to the power of n
+-- The digits w and f round a point write the number of all these digits over ten to the power of how many f has.
+-- It has n fraction digits where it is whole, once it is multiplied by ten to the power of n.
 abbrev pub is_scalable : ℕ → List ℕ → List ℕ → Bool
 is_scalable n w f = digits_value 10 (w ++ f) * 10 ^ n % 10 ^ length f == 0
 

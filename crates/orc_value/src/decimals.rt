@@ -1,9 +1,10 @@
 //! Decimal numbers.
-ghost use Rattle.std.specs.Prelude.{◌≡◌, ◌<◌, ◌≤◌, ◌^◌, ◌*◌, ◌-◌, ◌++◌, ◌↔◌, IsTrue, OnOk, SomeIff, IfSome, is_some, ◌&&◌, ◌||◌, not, length, take};
+ghost use Rattle.std.specs.Prelude.{◌≡◌, drop, ◌<◌, ◌≤◌, ◌^◌, ◌*◌, ◌-◌, ◌++◌, ◌↔◌, IsTrue, OnOk, SomeIff, IfSome, is_some, ◌&&◌, ◌||◌, not, length, take, Some};
 ghost use Rattle.std.specs.List.{position, before_first, after_first};
-ghost use Rattle.std.specs.Str.Parse.{digits_value};
-ghost use Rattle.orc_value.specs.Numerals.{admitted, all_digits, is_numeral};
+ghost use Rattle.std.specs.Str.Parse.{digits_value, starts_with_minus};
+ghost use Rattle.orc_value.specs.Numerals.{admitted, all_digits, is_numeral, signed};
 ghost use Rattle.orc_value.specs.Decimals.{is_point, decimal_value, is_decimal_value, decimal_text, places_text, fraction_digits, fraction_text};
+ghost use Rattle.orc_value.specs.Scaled.{are_zeros, units};
 
 use crate::fault::{LEXICAL, RANGE};
 use crate::numerals::{is_decimal_of, is_numeral, push_decimal, push_digit, read_on, without_sign};
@@ -62,51 +63,82 @@ fn power_of_ten(exponent: u8) -> u64
     10u64.pow(u32::from(exponent))
 }
 
-/// The number times ten to the power of `places`, where it has 64 bits; digits past that many
-/// places are left out.
+/// The digits up to this many places, and those behind them.
+fn split_at_place(places: u8, fraction: &[u8]) -> (&[u8], &[u8])
+    ensures near { result.0.now ≡ take places fraction.now }
+    ensures far { result.1.now ≡ drop places fraction.now }
+{
+    fraction.split_at(fraction.len().min(usize::from(places)))
+}
+
+/// Whether all digits are 0.
+fn are_zeros(digits: &[u8]) -> bool
+    ensures { result ≡ are_zeros digits.now }
+{
+    digits.iter().all(|digit| *digit == b'0')
+}
+
+/// The number of the digits round the point, times ten to the power of `places`, where it has 64
+/// bits.
 fn scaled(places: u8, whole: &[u8], fraction: &[u8]) -> Option<u64>
     requires small { places ≤ 18 }
+    requires short { length fraction.now ≤ places }
     requires whole { IsTrue (all_digits whole.now) }
     requires fraction { IsTrue (all_digits fraction.now) }
-    ensures { SomeIff result
-        (digits_value 10 (whole.now ++ take places fraction.now) * 10 ^ (places - length fraction.now) < 2 ^ 64)
-        (digits_value 10 (whole.now ++ take places fraction.now) * 10 ^ (places - length fraction.now)) }
+    ensures { SomeIff result (units places whole.now fraction.now < 2 ^ 64)
+        (units places whole.now fraction.now) }
 {
-    let kept = fraction.len().min(usize::from(places));
-    let number = read_on(read_on(0, whole)?, &fraction[..kept])?;
-    number.checked_mul(power_of_ten(places - kept as u8))
+    let number = read_on(read_on(0, whole)?, fraction)?;
+    number.checked_mul(power_of_ten(places - fraction.len() as u8))
+}
+
+/// Whether a `-` stands first.
+fn is_negative(text: &[u8]) -> bool
+    ensures { result ≡ starts_with_minus text.now }
+{
+    matches!(text, [b'-', ..])
+}
+
+/// The number of this magnitude.
+fn with_sign(negative: bool, number: u64) -> i128
+    ensures { result ≡ signed negative number }
+{
+    if negative {
+        -i128::from(number)
+    } else {
+        i128::from(number)
+    }
+}
+
+/// The value, or the rule that it breaks.
+fn in_range(value: i128) -> Result<i128, u8>
+    ensures { result ≡ admitted is_decimal_value (Some value) }
+{
+    if i64::MIN as i128 <= value && value <= i64::MAX as i128 {
+        Ok(value)
+    } else {
+        Err(RANGE)
+    }
 }
 
 /// The value that a text denotes at this many fraction digits, or the rule that it breaks.
 pub(crate) fn decimal(places: u8, text: &str) -> Result<i128, u8>
     ensures { result ≡ admitted is_decimal_value (decimal_value places text.now) }
 {
-    let bytes = text.as_bytes();
+    let text = text.as_bytes();
     if places < 1 || 18 < places {
         return Err(LEXICAL);
     }
-    let Some((whole, fraction)) = decimal_parts(without_sign(bytes)) else {
+    let Some((whole, fraction)) = decimal_parts(without_sign(text)) else {
         return Err(LEXICAL);
     };
-    if !fraction
-        .iter()
-        .skip(usize::from(places))
-        .all(|digit| *digit == b'0')
-    {
+    let (near, far) = split_at_place(places, fraction);
+    if !are_zeros(far) {
         return Err(LEXICAL);
     }
-    let Some(number) = scaled(places, whole, fraction) else {
-        return Err(RANGE);
-    };
-    let value = if bytes.starts_with(b"-") {
-        -i128::from(number)
-    } else {
-        i128::from(number)
-    };
-    if i64::MIN as i128 <= value && value <= i64::MAX as i128 {
-        Ok(value)
-    } else {
-        Err(RANGE)
+    match scaled(places, whole, near) {
+        Some(number) => in_range(with_sign(is_negative(text), number)),
+        None => Err(RANGE),
     }
 }
 
