@@ -44,9 +44,10 @@ module _ (value : List ℕ → Option ℤ) (text_of : ℤ → List ℕ) (has : �
 
   pub same : (bs t other : List ℕ) → written text_of (admitted has (value bs)) ≡ Ok t
       → (written text_of (admitted has (value other)) ≡ Ok t) ↔ (value other ≡ value bs)
-  same bs t other h =
-      (λ h'. sym (value_kept other t h') ∙ value_kept bs t h,
-      λ e. ap (λ (o : Option ℤ). written text_of (admitted has o)) e ∙ h)
+  same bs t other h = (
+    λ h'. sym (value_kept other t h') ∙ value_kept bs t h,
+    λ e. ap (λ (o : Option ℤ). written text_of (admitted has o)) e ∙ h,
+  )
 
 pub int_reads_back : (kind : IntKind) → ReadsBack int_value int_text (has_integer kind)
 int_reads_back kind bs z e has = int_value-int_text z (has_integer-abs kind z has)
@@ -76,9 +77,10 @@ kept_again : (rule : List ℕ → Option ℕ) (text t : List ℕ) → kept (rule
 kept_again rule text t h = subst (λ (x : List ℕ). kept (rule x) x ≡ Ok t) (kept_is (rule text) text t h) h
 
 kept_same : (rule : List ℕ → Option ℕ) (text t other : List ℕ) → kept (rule text) text ≡ Ok t → (kept (rule other) other ≡ Ok t) ↔ (other ≡ text)
-kept_same rule text t other h =
-    (λ h'. kept_is (rule other) other t h' ∙ sym (kept_is (rule text) text t h),
-    λ e. ap (λ (x : List ℕ). kept (rule x) x) e ∙ h)
+kept_same rule text t other h = (
+  λ h'. kept_is (rule other) other t h' ∙ sym (kept_is (rule text) text t h),
+  λ e. ap (λ (x : List ℕ). kept (rule x) x) e ∙ h,
+)
 
 -- a canonical text is its own canonical text
 pub canon_of-again : (kind : Kind) (text t : List ℕ) → canon_of kind text ≡ Ok t → canon_of kind t ≡ Ok t

@@ -32,7 +32,7 @@ is_cut n text bytes unsigned whole fraction least most same unsigned_is whole_is
       most = most;
       form = ap (λ (u : List ℕ). is_numeral (before_first is_point u) && (is_numeral (after_first is_point u) || not (is_some (position is_point u)))) (sym cut) ∙ sym form;
       whole_is = whole_is ∙ ap (λ (u : List ℕ). before_first is_point u) cut;
-      fraction_is = fraction_is ∙ ap (λ (u : List ℕ). after_first is_point u) cut
+      fraction_is = fraction_is ∙ ap (λ (u : List ℕ). after_first is_point u) cut;
     }
 
 no_test : (b : Bool) (k : ℕ) → is_some (cond b (Some k) None) ≡ false → b ≡ false
@@ -86,7 +86,7 @@ decimal_value-some n text whole fraction cut zeros =
     let yes = test_is n text whole fraction cut ∙ is_scalable-yes n w f digits zeros_f in
     let pick : Bool → Option ℤ = λ b. cond b (Some (signed (starts_with_minus text) (scaled n w f))) None in
     let number : scaled n w f ≡ units n whole (take n fraction) = scaled-is n w f digits
-        ∙ (ap (λ (xs : List ℕ). units n xs (take n f)) (sym cut.whole_is) ∙ ap (λ (xs : List ℕ). units n whole (take n xs)) (sym cut.fraction_is)) in
+    ∙ (ap (λ (xs : List ℕ). units n xs (take n f)) (sym cut.whole_is) ∙ ap (λ (xs : List ℕ). units n whole (take n xs)) (sym cut.fraction_is)) in
     ap pick yes ∙ ap (λ (m : ℕ). Some (signed (starts_with_minus text) m)) number
 
 pub decimal_value-none : (n : ℕ) (text whole fraction : List ℕ) → IsCut n text whole fraction → are_zeros (drop n fraction) ≡ false

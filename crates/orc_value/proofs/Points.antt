@@ -64,9 +64,10 @@ cut_at_point text h =
 -- a text is digits, a point and the rest just where it is cut so
 pub cut_is : (text ds f : List ℕ) → all_digits ds ≡ true → is_some (position is_point text) ≡ true → before_first is_point text ≡ ds
     → (after_first is_point text ≡ f) ↔ (text ≡ ds ++ 46 ∷ f)
-cut_is text ds f digits has before =
-    (λ after. cut_at_point text has ∙ (ap (λ (xs : List ℕ). xs ++ 46 ∷ after_first is_point text) before ∙ ap (λ (ys : List ℕ). ds ++ 46 ∷ ys) after),
-    λ e. ap (λ (t : List ℕ). after_first is_point t) e ∙ after_first-digits ds f digits)
+cut_is text ds f digits has before = (
+  λ after. cut_at_point text has ∙ (ap (λ (xs : List ℕ). xs ++ 46 ∷ after_first is_point text) before ∙ ap (λ (ys : List ℕ). ds ++ 46 ∷ ys) after),
+  λ e. ap (λ (t : List ℕ). after_first is_point t) e ∙ after_first-digits ds f digits,
+)
 
 pub cut_wrong : (text ds f : List ℕ) → all_digits ds ≡ true → before_first is_point text ≢ ds → text ≢ ds ++ 46 ∷ f
 cut_wrong text ds f digits wrong e = wrong (ap (λ (t : List ℕ). before_first is_point t) e ∙ before_first-digits ds f digits)

@@ -29,6 +29,7 @@ plain_digit d h = (minus d h, plus d h)
   where
     minus : (d : ℕ) → is_ascii_digit d ≡ true → eqb d 45 ≡ false
     minus d h = grind (arith, nat_tests)
+
     plus : (d : ℕ) → is_ascii_digit d ≡ true → eqb d 43 ≡ false
     plus d h = grind (arith, nat_tests)
 
@@ -129,7 +130,7 @@ one_more k r q ds small rest quotient =
       digits = both (is_ascii_digit (48 + q)) (all_digits ds) digit rest.digits;
       short = omega arith;
       value = ap (λ (x : ℕ). x * 10 ^ (suc k - suc l)) counted ∙ (ap (λ (e : ℕ). (q * 10 ^ l + v) * 10 ^ e) places
-          ∙ join q (10 ^ l) v (10 ^ (k - l)) (10 ^ k) (r % 10 ^ k) r (r / 10 ^ k) powers rest.value quotient whole)
+          ∙ join q (10 ^ l) v (10 ^ (k - l)) (10 ^ k) (r % 10 ^ k) r (r / 10 ^ k) powers rest.value quotient whole);
     }
   where
     both : (a b : Bool) → a ≡ true → b ≡ true → (a && b) ≡ true
@@ -183,7 +184,7 @@ units-places n m f small fraction =
     let less = div-le_self m (10 ^ n) in
     let count : digits_value 10 w ≡ q = (decimal_is_IsNumeral q (omega arith)).1 in
     let all : digits_value 10 (w ++ f) ≡ q * 10 ^ l + digits_value 10 f = digits_value_after-append 0 w f
-        ∙ (digits_value_after-split (digits_value 10 w) f ∙ ap (λ (x : ℕ). x * 10 ^ l + digits_value 10 f) count) in
+    ∙ (digits_value_after-split (digits_value 10 w) f ∙ ap (λ (x : ℕ). x * 10 ^ l + digits_value 10 f) count) in
     let short = fraction.short in
     let exponents : l + (n - l) ≡ n = omega arith in
     let powers : 10 ^ l * 10 ^ (n - l) ≡ 10 ^ n = sym (pow-add 10 l (n - l)) ∙ ap (λ (e : ℕ). 10 ^ e) exponents in
@@ -211,7 +212,7 @@ decimal_value-decimal_text n z least most small =
     let before : before_first is_point (without_leading_sign text) ≡ w = ap (λ (t : List ℕ). before_first is_point t) unsigned ∙ before_first-digits w f digits in
     let after : after_first is_point (without_leading_sign text) ≡ f = ap (λ (t : List ℕ). after_first is_point t) unsigned ∙ after_first-digits w f digits in
     let form : is_decimal text ≡ true = both_parts (is_numeral (before_first is_point (without_leading_sign text))) (is_numeral (after_first is_point (without_leading_sign text))) (not (is_some (position is_point (without_leading_sign text))))
-        (ap is_numeral before ∙ numeral) (ap is_numeral after ∙ numeral_f) in
+    (ap is_numeral before ∙ numeral) (ap is_numeral after ∙ numeral_f) in
     let cut : IsCut n text w f = record { least = least; most = most; form = form; whole_is = sym before; fraction_is = sym after } in
     let none : drop n f ≡ [] = drop_all n f fraction.short in
     let zeros : are_zeros (drop n f) ≡ true = ap are_zeros none in

@@ -31,7 +31,7 @@ digits_value_after-split n (d ∷ ds) =
     let p = 10 ^ length ds in
     let v = digit_value d in
     split_step n v p (digits_value_after 10 0 ds) (digits_value_after 10 (n * 10 + v) ds) (digits_value_after 10 (0 * 10 + v) ds)
-        (digits_value_after-split (n * 10 + v) ds) (digits_value_after-split (0 * 10 + v) ds)
+    (digits_value_after-split (n * 10 + v) ds) (digits_value_after-split (0 * 10 + v) ds)
     ∙ ap (λ (q : ℕ). n * q + digits_value_after 10 (0 * 10 + v) ds) (sym (pow-suc 10 (length ds)))
 
 -- the number before further digits, and before the places, is not more
@@ -123,14 +123,14 @@ scale_below n f digits =
     let rest : length (drop n f) ≡ k - n = length-drop n f in
     let small' : b < 10 ^ (k - n) = subst (λ (e : ℕ). b < 10 ^ e) rest small in
     ⊎_elim (λ (short : k < n).
-        let none : k - n ≡ 0 = omega arith in
-        let one : b < 1 = subst (λ (e : ℕ). b < 10 ^ e) none small' in
-        let zero_b : b ≡ 0 = omega arith in
-        subst (λ (x : ℕ). x * 10 ^ n < 10 ^ k) (sym zero_b) (nothing (10 ^ n) (10 ^ k) (ten_pow_pos k)))
+    let none : k - n ≡ 0 = omega arith in
+    let one : b < 1 = subst (λ (e : ℕ). b < 10 ^ e) none small' in
+    let zero_b : b ≡ 0 = omega arith in
+    subst (λ (x : ℕ). x * 10 ^ n < 10 ^ k) (sym zero_b) (nothing (10 ^ n) (10 ^ k) (ten_pow_pos k)))
     (λ (long : n ≤ k).
-        let exponents : k - n + n ≡ k = omega arith in
-        let powers : 10 ^ (k - n) * 10 ^ n ≡ 10 ^ k = sym (pow-add 10 (k - n) n) ∙ ap (λ (e : ℕ). 10 ^ e) exponents in
-        subst (λ (x : ℕ). b * 10 ^ n < x) powers (mul-lt-mul_of_pos_right small' (ten_pow_pos n))) (cases_lt k n)
+    let exponents : k - n + n ≡ k = omega arith in
+    let powers : 10 ^ (k - n) * 10 ^ n ≡ 10 ^ k = sym (pow-add 10 (k - n) n) ∙ ap (λ (e : ℕ). 10 ^ e) exponents in
+    subst (λ (x : ℕ). b * 10 ^ n < x) powers (mul-lt-mul_of_pos_right small' (ten_pow_pos n))) (cases_lt k n)
 
 -- digits past the n-th place are zeros just where the number is whole at n places
 pub scaled-is : (n : ℕ) (w f : List ℕ) → all_digits f ≡ true → scaled n w f ≡ units n w (take n f)

@@ -21,11 +21,11 @@ returns-else-is_decimal_of c =
     let n = c.args.number in
     let test = rw unit at c.is_decimal_of.ensures in
     let wrong = cut_wrong c.args.text.now (decimal (n / 10 ^ c.args.places)) (fraction_text c.args.places (n % 10 ^ c.args.places))
-        (quotient-digits n (10 ^ c.args.places) (omega arith)) (λ e. false≢true (sym c.if-is_decimal_of.false ∙ test.1 (c.in-Some.ensures.parts.0 ∙ e))) in
+    (quotient-digits n (10 ^ c.args.places) (omega arith)) (λ e. false≢true (sym c.if-is_decimal_of.false ∙ test.1 (c.in-Some.ensures.parts.0 ∙ e))) in
     (λ yes. absurd (false≢true (sym c.if-is_decimal_of.false ∙ yes)), λ e. absurd (wrong e))
 
 pub returns-in-None : goal.returns-in-None
 returns-in-None c =
     let n = c.args.number in
     never (cut_none c.args.text.now (decimal (n / 10 ^ c.args.places)) (fraction_text c.args.places (n % 10 ^ c.args.places))
-        (quotient-digits n (10 ^ c.args.places) (omega arith)) (sym c.in-None.ensures.point))
+    (quotient-digits n (10 ^ c.args.places) (omega arith)) (sym c.in-None.ensures.point))

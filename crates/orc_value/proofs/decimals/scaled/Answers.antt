@@ -17,5 +17,5 @@ returns c =
     let f = c.args.fraction.now in
     let number : c.in_ok-number.number ≡ digits_value_after 10 (digits_value_after 10 0 c.args.whole.now) f = c.in_ok-number.ensures.1 ∙ ap (λ (n : ℕ). digits_value_after 10 n f) c.in_ok-read_on.ensures.1 in
     let product : c.in_ok-number.number * c.power_of_ten.result ≡ units c.args.places c.args.whole.now f =
-        ap (λ (n : ℕ). n * c.power_of_ten.result) number ∙ (ap (λ (p : ℕ). digits_value_after 10 (digits_value_after 10 0 c.args.whole.now) f * p) c.power_of_ten.ensures.value ∙ sym (units-is c.args.places c.args.whole.now f)) in
+    ap (λ (n : ℕ). n * c.power_of_ten.result) number ∙ (ap (λ (p : ℕ). digits_value_after 10 (digits_value_after 10 0 c.args.whole.now) f * p) c.power_of_ten.ensures.value ∙ sym (units-is c.args.places c.args.whole.now f)) in
     subst (λ (n : ℕ). SomeIff c.checked_mul.result (n < 2 ^ 64) n) product c.checked_mul.ensures
