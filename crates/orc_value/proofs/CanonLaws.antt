@@ -105,3 +105,11 @@ pub IfOk-from_Answers : (P : List ℕ → Type 0) (verdict : Result (List ℕ) �
     → ((t : List ℕ) → verdict ≡ Ok t → P t) → IfOk r P
 IfOk-from_Answers P verdict (Ok t) h f = f t h
 IfOk-from_Answers P verdict (Err e) h f = tt
+
+-- the text of an integer of the type is canonical
+pub int_text_canonical : (kind : IntKind) (z : ℤ) (t : List ℕ) → has_integer kind z ≡ true → t ≡ int_text z → canon_of (Int kind) t ≡ Ok t
+int_text_canonical kind z t has e =
+    let text : canon_of (Int kind) (int_text z) ≡ Ok (int_text z) =
+    ap (λ (o : Option ℤ). written int_text (admitted (has_integer kind) o)) (int_value-int_text z (has_integer-abs kind z has))
+    ∙ ap (written int_text) (admitted-yes (has_integer kind) (Some z) z refl has) in
+    subst (λ (x : List ℕ). canon_of (Int kind) x ≡ Ok x) (sym e) text

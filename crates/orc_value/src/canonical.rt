@@ -4,9 +4,9 @@ ghost use Rattle.std.specs.List.{list_any};
 ghost use Rattle.orc_value.specs.Canon.{canon_of, same_text, in_lengths, string_rule, bool_rule, enum_rule, empty_rule, kept, Answers, SameValue};
 
 use crate::characters::{character_count, is_value_text};
-use crate::decimals::{decimal, is_decimal_text, push_decimal_text};
+use crate::decimals::{decimal, is_decimal_text, written_decimal};
 use crate::fault::{ENUM, LENGTH, LEXICAL};
-use crate::integers::{integer, is_integer_text, push_integer};
+use crate::integers::{integer, is_integer_text, written_integer};
 use crate::{IntKind, Kind, ValueFault};
 use orc_text::{Row, Text};
 use std::alloc::Global;
@@ -55,11 +55,7 @@ fn canon_integer(alloc: Global, kind: &IntKind, text: &str) -> Result<Text, Valu
     ensures { Answers (canon_of (Kind.Int kind.now) text.now) result }
 {
     match integer(kind, text) {
-        Ok(number) => {
-            let mut canonical = Text::new(alloc);
-            push_integer(&mut canonical, number)?;
-            Ok(canonical)
-        },
+        Ok(number) => Ok(written_integer(alloc, number)?),
         Err(rule) => Err(ValueFault::BadValue { rule }),
     }
 }
@@ -68,11 +64,7 @@ fn canon_decimal(alloc: Global, places: u8, text: &str) -> Result<Text, ValueFau
     ensures { Answers (canon_of (Kind.Decimal places) text.now) result }
 {
     match decimal(places, text) {
-        Ok(value) => {
-            let mut canonical = Text::new(alloc);
-            push_decimal_text(&mut canonical, places, value)?;
-            Ok(canonical)
-        },
+        Ok(value) => Ok(written_decimal(alloc, places, value)?),
         Err(rule) => Err(ValueFault::BadValue { rule }),
     }
 }

@@ -1,5 +1,5 @@
 //! Decimal numbers.
-ghost use Rattle.std.specs.Prelude.{◌≡◌, drop, ◌<◌, ◌≤◌, ◌^◌, ◌*◌, ◌-◌, ◌++◌, ◌↔◌, IsTrue, OnOk, SomeIff, IfSome, is_some, ◌&&◌, ◌||◌, not, length, take, Some};
+ghost use Rattle.std.specs.Prelude.{◌≡◌, drop, ◌<◌, ◌≤◌, ◌^◌, ◌*◌, ◌-◌, ◌++◌, ◌↔◌, IsTrue, IfOk, OnOk, SomeIff, IfSome, is_some, ◌&&◌, ◌||◌, not, length, take, Some};
 ghost use Rattle.std.specs.List.{position, before_first, after_first};
 ghost use Rattle.std.specs.Str.Parse.{digits_value, starts_with_minus};
 ghost use Rattle.orc_value.specs.Numerals.{admitted, all_digits, is_numeral, signed};
@@ -10,6 +10,7 @@ use crate::fault::{LEXICAL, RANGE};
 use crate::numerals::{is_decimal_of, is_numeral, push_decimal, push_digit, read_on, without_sign};
 use crate::signs::{after_sign, magnitude, push_sign};
 use orc_text::{Memory, Text};
+use std::alloc::Global;
 
 /// The place of the first point.
 fn place_of_point(text: &[u8]) -> Option<usize>
@@ -173,14 +174,16 @@ fn is_fraction(text: &[u8], places: u8, rest: u64) -> bool
     }
 }
 
-/// Writes the canonical text of a value.
-pub(crate) fn push_decimal_text(text: &mut Text, places: u8, value: i128) -> Result<(), Memory>
+/// The canonical text of a value.
+pub(crate) fn written_decimal(alloc: Global, places: u8, value: i128) -> Result<Text, Memory>
     requires small { places ≤ 18 }
     requires fits { IsTrue (is_decimal_value value) }
-    ensures { OnOk result (text.new ≡ text.old ++ decimal_text places value) }
+    ensures { IfOk result (λ text. text ≡ decimal_text places value) }
 {
-    push_sign(text, value)?;
-    push_places(text, places, magnitude(value))
+    let mut text = Text::new(alloc);
+    push_sign(&mut text, value)?;
+    push_places(&mut text, places, magnitude(value))?;
+    Ok(text)
 }
 
 /// Writes a number over ten to the power of `places`.

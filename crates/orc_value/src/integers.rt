@@ -1,5 +1,5 @@
 //! Integers.
-ghost use Rattle.std.specs.Prelude.{◌≡◌, ◌++◌, ◌↔◌, IsTrue, OnOk};
+ghost use Rattle.std.specs.Prelude.{◌≡◌, ◌++◌, ◌↔◌, IsTrue, IfOk, OnOk};
 ghost use Rattle.orc_value.specs.Numerals.{admitted};
 ghost use Rattle.orc_value.specs.Integers.{int_value, in_ranges, has_integer, is_64_bit, int_text};
 
@@ -8,6 +8,7 @@ use crate::fault::{LEXICAL, RANGE};
 use crate::numerals::{is_decimal_of, is_numeral, push_decimal, without_sign};
 use crate::signs::{after_sign, magnitude, push_sign};
 use orc_text::{Memory, Text};
+use std::alloc::Global;
 
 /// Whether one of the ranges has the number.
 fn in_ranges(ranges: &[(i128, i128)], number: i128) -> bool
@@ -39,8 +40,18 @@ pub(crate) fn integer(kind: &IntKind, text: &str) -> Result<i128, u8>
     }
 }
 
+/// The canonical text of a number.
+pub(crate) fn written_integer(alloc: Global, number: i128) -> Result<Text, Memory>
+    requires { IsTrue (is_64_bit number) }
+    ensures { IfOk result (λ text. text ≡ int_text number) }
+{
+    let mut text = Text::new(alloc);
+    push_integer(&mut text, number)?;
+    Ok(text)
+}
+
 /// Writes the canonical text of a number.
-pub(crate) fn push_integer(text: &mut Text, number: i128) -> Result<(), Memory>
+fn push_integer(text: &mut Text, number: i128) -> Result<(), Memory>
     requires { IsTrue (is_64_bit number) }
     ensures { OnOk result (text.new ≡ text.old ++ int_text number) }
 {

@@ -9,7 +9,7 @@ ghost use Rattle.orc_value.specs.Json.{json_of, canon_of_string, canon_of_intege
 
 use crate::canonical::canon;
 use crate::fault::{KIND, RANGE};
-use crate::integers::{has_integer, integer, push_integer};
+use crate::integers::{has_integer, integer, written_integer};
 use crate::{IntKind, Kind, ValueFault};
 use orc_text::{Memory, Text};
 use serde_json::{Number, Value};
@@ -110,9 +110,7 @@ fn canon_integer(alloc: Global, kind: &IntKind, value: &Value) -> Result<Text, V
 {
     match whole_number(value) {
         Some(number) => if has_integer(kind, number) {
-            let mut canonical = Text::new(alloc);
-            push_integer(&mut canonical, number)?;
-            Ok(canonical)
+            Ok(written_integer(alloc, number)?)
         } else {
             Err(ValueFault::BadValue { rule: RANGE })
         },
