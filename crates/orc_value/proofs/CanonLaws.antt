@@ -1,14 +1,15 @@
 -- One canonical text for each number of a type.
-use Rattle.std.proofs.Common.{◌≡◌, ℕ, ◌<◌, ◌^◌, ◌≤◌, ℤ, pos, negsuc, Bool, true, false, cond, List, Option, Some, None, Result, Ok, Err, refl, sym, ap, ◌∙◌, arith, ◌↔◌, subst}
+use Rattle.std.proofs.Common.{◌≡◌, Decides, ℕ, ◌<◌, ◌^◌, ◌≤◌, ℤ, pos, negsuc, Bool, true, false, cond, List, Option, Some, None, Result, Ok, Err, refl, sym, ap, ◌∙◌, arith, ◌↔◌, subst}
 use Rattle.std.specs.Prelude.{◌&&◌, unsigned_abs, IfOk}
 use Rattle.std.proofs.lemmas.Bool.{false≢true}
 use Rattle.std.proofs.lemmas.Bool.Decides.{nat_tests}
+use Rattle.std.proofs.lemmas.Slice.Eq.{bytes_eq-Decides}
 use Rattle.std.specs.Str.Parse.{starts_with_minus}
 use Rattle.orc_value.specs.declared.kind.IntKind.{IntKind}
 use Rattle.orc_value.specs.declared.kind.Kind.{Kind}
 use Rattle.orc_value.specs.declared.kind.Kind.TheVariants.{Int, Decimal, Str, Bool as Boolean, Enum, Empty}
 use Rattle.orc_value.specs.declared.fault.ValueFault.{ValueFault}
-use Rattle.orc_value.specs.Canon.{canon_of, kept, string_rule, bool_rule, enum_rule, empty_rule, SameValue, Answers}
+use Rattle.orc_value.specs.Canon.{canon_of, gives_text, is_canonical, kept, string_rule, bool_rule, enum_rule, empty_rule, SameValue, Answers}
 use Rattle.orc_value.specs.Numerals.{admitted, written, signed}
 use Rattle.orc_value.specs.Integers.{int_value, has_integer, int_text}
 use Rattle.orc_value.specs.Decimals.{is_fraction_digits, is_decimal, is_scalable, scaled, whole_of, fraction_of, decimal_value, is_decimal_value, decimal_text}
@@ -113,3 +114,13 @@ int_text_canonical kind z t has e =
     ap (λ (o : Option ℤ). written int_text (admitted (has_integer kind) o)) (int_value-int_text z (has_integer-abs kind z has))
     ∙ ap (written int_text) (admitted-yes (has_integer kind) (Some z) z refl has) in
     subst (λ (x : List ℕ). canon_of (Int kind) x ≡ Ok x) (sym e) text
+
+gives_text-Decides : (text : List ℕ) (verdict : Result (List ℕ) ℕ) → Decides (gives_text text verdict) (verdict ≡ Ok text)
+gives_text-Decides text (Ok t) =
+    let test = bytes_eq-Decides t text in
+    (λ yes. ap Ok (test.0 yes), λ e. test.1 (cc))
+gives_text-Decides text (Err rule) = (λ wrong. absurd (false≢true wrong), λ e. cc)
+
+-- the test tells what it says
+pub is_canonical-Decides : (kind : Kind) (text : List ℕ) → Decides (is_canonical kind text) (canon_of kind text ≡ Ok text)
+is_canonical-Decides kind text = gives_text-Decides text (canon_of kind text)

@@ -1,6 +1,6 @@
 -- The canonical text of a value: RFC 7950 section 9. The rules that a text can break are 1 lexical, 2 range, 3 length,
 -- 4 enumeration and 5 kind; where it breaks several, the least one counts.
-use Rattle.std.specs.Prelude.{ℕ, ◌≡◌, ℤ, Bool, ◌&&◌, ◌||◌, List, [], length, Option, Some, None, Result, Ok, Err, nat_le, if◌then◌else◌, ⊤, nat_eq, codes}
+use Rattle.std.specs.Prelude.{ℕ, ◌≡◌, ℤ, Bool, false, ◌&&◌, ◌||◌, List, [], length, Option, Some, None, Result, Ok, Err, nat_le, if◌then◌else◌, ⊤, nat_eq, codes}
 use Rattle.std.specs.List.{list_any}
 use Rattle.std.specs.Str.{chars}
 use Rattle.std.specs.Str.Parse.{true_text, false_text}
@@ -50,6 +50,15 @@ canon_of (Str lengths) text = kept (string_rule lengths text) text
 canon_of Boolean text = kept (bool_rule text) text
 canon_of (Enum names) text = kept (enum_rule names text) text
 canon_of Empty text = kept (empty_rule text) text
+
+-- the text is this one
+abbrev pub gives_text : List ℕ → Result (List ℕ) ℕ → Bool
+gives_text text (Ok canonical) = same_text canonical text
+gives_text text (Err rule) = false
+
+-- the text is its own canonical text
+abbrev pub is_canonical : Kind → List ℕ → Bool
+is_canonical kind text = gives_text text (canon_of kind text)
 
 -- two texts denote one value
 abbrev pub SameValue : Kind → List ℕ → List ℕ → Type 0

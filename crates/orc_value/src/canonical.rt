@@ -1,7 +1,7 @@
 //! The canonical text of a value.
 ghost use Rattle.std.specs.Prelude.{◌≡◌, ◌↔◌, IsTrue, IfOk, Ok, List, ℕ};
 ghost use Rattle.std.specs.List.{list_any};
-ghost use Rattle.orc_value.specs.Canon.{canon_of, same_text, in_lengths, string_rule, bool_rule, enum_rule, empty_rule, kept, Answers, SameValue};
+ghost use Rattle.orc_value.specs.Canon.{canon_of, is_canonical, same_text, in_lengths, string_rule, bool_rule, enum_rule, empty_rule, kept, Answers, SameValue};
 
 use crate::characters::{character_count, is_value_text};
 use crate::decimals::{decimal, is_decimal_text, written_decimal};
@@ -32,9 +32,16 @@ pub fn canon(alloc: Global, kind: &Kind, text: &str) -> Result<Text, ValueFault>
 
 /// Whether a text is its own canonical text. It takes no memory.
 pub fn is_canonical(kind: &Kind, text: &Text) -> bool
+    ensures exact { IsTrue result ↔ (canon_of kind.now text.now ≡ Ok text.now) }
+    ensures value { result ≡ is_canonical kind.now text.now }
+{
+    is_own_text(kind, text.as_str())
+}
+
+/// Whether a text is its own canonical text.
+fn is_own_text(kind: &Kind, text: &str) -> bool
     ensures { IsTrue result ↔ (canon_of kind.now text.now ≡ Ok text.now) }
 {
-    let text = text.as_str();
     match kind {
         Kind::Int(kind) => match integer(kind, text) {
             Ok(number) => is_integer_text(text.as_bytes(), number),

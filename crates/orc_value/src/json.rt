@@ -146,11 +146,12 @@ fn canon_empty(alloc: Global, value: &Value) -> Result<Text, ValueFault>
 fn is_null_item(value: &Value) -> bool
     ensures { result ≡ is_ok (canon_of_items (as_array (view value.now))) }
 {
-    match value.as_array() {
-        Some(items) => match items.as_slice() {
-            [item] => item.is_null(),
-            _ => false,
-        },
-        None => false,
+    let Some(items) = value.as_array() else {
+        return false;
+    };
+    let items = items.as_slice();
+    if items.len() != 1 {
+        return false;
     }
+    items[0].is_null()
 }
