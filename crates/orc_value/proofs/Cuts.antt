@@ -1,15 +1,15 @@
 -- What a text that is cut at its point denotes.
-use Rattle.std.proofs.Common.{◌≡◌, nat_eq, ℕ, ◌+◌, ◌-◌, ◌<◌, ◌^◌, ◌≤◌, ℤ, pos, negsuc, Bool, true, false, cond, ltb, leb, List, [], length, take, drop, Option, Some, None, Result, Ok, Err, refl, sym, ap, ◌∙◌, arith, ⊎_elim, subst, zero, suc}
-use Rattle.std.specs.Prelude.{is_some, not, ◌&&◌, ◌||◌, int_le}
+use Rattle.std.proofs.Common.{◌≡◌, nat_eq, ℕ, ◌+◌, ◌<◌, ◌^◌, ◌≤◌, ℤ, pos, negsuc, Bool, true, false, cond, ltb, List, [], length, take, drop, Option, Some, None, refl, sym, ap, ◌∙◌, arith, subst, zero, suc}
+use Rattle.std.specs.Prelude.{is_some, not, ◌&&◌, ◌||◌}
 use Rattle.std.specs.List.{position, position_or_len, before_first, after_first}
 use Rattle.std.proofs.lemmas.List.{drop_all}
 use Rattle.std.proofs.lemmas.Bool.{false≢true}
-use Rattle.std.proofs.lemmas.Bool.Decides.{nat_tests, leb_tells}
+use Rattle.std.proofs.lemmas.Bool.Decides.{nat_tests}
 use Rattle.std.specs.Str.Parse.{starts_with_minus, without_leading_sign}
-use Rattle.orc_value.specs.Numerals.{all_digits, is_numeral, signed, admitted}
+use Rattle.orc_value.specs.Numerals.{all_digits, is_numeral, signed}
 use Rattle.orc_value.specs.Decimals.{is_point, whole_of, fraction_of, has_point, is_decimal, is_fraction_digits, scaled, is_scalable, decimal_value, is_decimal_value}
 use Rattle.orc_value.specs.Scaled.{are_zeros, units}
-use Rattle.orc_value.proofs.IntegerLaws.{and_left, and_right, not_true, admitted-no}
+use Rattle.orc_value.proofs.IntegerLaws.{and_right}
 use Rattle.orc_value.proofs.Scales.{scaled-is, is_scalable-yes, is_scalable-no}
 
 -- the text is cut into these digits before and behind its point

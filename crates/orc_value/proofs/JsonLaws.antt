@@ -1,7 +1,7 @@
 -- JSON arrays that aren't `[null]`.
-use Rattle.std.proofs.Common.{◌≡◌, ℕ, ◌≢◌, Bool, false, List, [], ◌∷◌, length, Some, refl, arith, map}
+use Rattle.std.proofs.Common.{◌≡◌, ◌≢◌, false, List, [], ◌∷◌, length, Some, refl, arith, map}
 use Rattle.std.specs.Prelude.{is_ok}
-use Rattle.serde_json.specs.Data.{Data, Items, null, boolean, number, string, array, object, item, no_items}
+use Rattle.serde_json.specs.Data.{Data, Items, null, boolean, number, string, array, object, item}
 use Rattle.serde_json.specs.View.{view, items_of}
 use Rattle.serde_json.specs.declared.value.Value.{Value}
 use Rattle.orc_value.specs.Json.{canon_of_items}

@@ -1,7 +1,7 @@
 -- A text that is cut at its first point.
-use Rattle.std.proofs.Common.{◌≡◌, ◌≢◌, ℕ, ◌+◌, ◌<◌, Bool, true, false, cond, eqb, ltb, List, [], ◌∷◌, ◌++◌, length, get_or, take, drop, Option, Some, None, refl, sym, ap, ◌∙◌, arith, ◌↔◌, IsTrue, ◌^◌, ◌/◌, zero, suc, length-append}
-use Rattle.std.specs.Prelude.{is_some, not, is_none}
-use Rattle.std.specs.List.{position, position_or_len, before_first, after_first, list_all}
+use Rattle.std.proofs.Common.{◌≡◌, ◌≢◌, ℕ, ◌+◌, ◌<◌, Bool, true, false, cond, ltb, List, [], ◌∷◌, ◌++◌, length, get_or, take, drop, Some, None, refl, sym, ap, ◌∙◌, arith, ◌↔◌, IsTrue, ◌^◌, ◌/◌, suc, length-append}
+use Rattle.std.specs.Prelude.{is_some, not}
+use Rattle.std.specs.List.{position, position_or_len, before_first, after_first}
 use Rattle.std.specs.Char.{is_ascii_digit}
 use Rattle.std.proofs.lemmas.Bool.{false≢true}
 use Rattle.std.proofs.lemmas.Bool.Decides.{nat_tests, Decides-eqb, Decides-ltb}

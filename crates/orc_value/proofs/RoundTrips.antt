@@ -1,24 +1,24 @@
 -- The canonical text of a number denotes that number.
-use Rattle.std.proofs.Common.{◌≡◌, ℕ, ◌+◌, ◌-◌, ◌*◌, ◌/◌, ◌%◌, ◌<◌, ◌^◌, ◌≤◌, ℤ, pos, negsuc, neg_ℤ, Bool, true, false, cond, eqb, nat_eq, List, [], ◌∷◌, ◌++◌, length, take, drop, Option, Some, None, Result, Ok, Err, refl, sym, ap, ◌∙◌, arith, ⊎_elim, subst, zero, suc, ◌↔◌}
-use Rattle.std.specs.Prelude.{is_some, not, ◌&&◌, ◌||◌, int_lt, unsigned_abs, slice_index}
+use Rattle.std.proofs.Common.{◌≡◌, ℕ, ◌+◌, ◌-◌, ◌*◌, ◌/◌, ◌%◌, ◌<◌, ◌^◌, ◌≤◌, ℤ, pos, negsuc, Bool, true, false, cond, eqb, nat_eq, List, [], ◌∷◌, ◌++◌, length, take, drop, Option, Some, None, refl, sym, ap, ◌∙◌, arith, subst, zero, suc}
+use Rattle.std.specs.Prelude.{is_some, not, ◌&&◌, ◌||◌, int_lt, unsigned_abs}
 use Rattle.std.specs.List.{position, before_first, after_first}
 use Rattle.std.proofs.lemmas.List.{drop_all, take_all}
-use Rattle.std.proofs.lemmas.Bool.{false≢true, cases_lt}
+use Rattle.std.proofs.lemmas.Bool.{false≢true}
 use Rattle.std.proofs.lemmas.Bool.Decides.{nat_tests, Decides-eqb}
 use Rattle.std.proofs.lemmas.Nat.{pow-add, div-add-mod', mod_below}
 use Rattle.std.proofs.lemmas.Fmt.{decimal_is_IsNumeral}
 use Rattle.std.proofs.Math.Nat.{div-le_self}
 use Rattle.std.specs.Char.{digit_value, is_ascii_digit}
 use Rattle.std.specs.Fmt.{decimal}
-use Rattle.std.specs.Str.Parse.{digits_value, digits_value_after, starts_with_minus, without_leading_sign, signed_digits_value}
-use Rattle.orc_value.specs.Numerals.{all_digits, is_numeral, signed, sign_text, admitted, written}
+use Rattle.std.specs.Str.Parse.{digits_value, digits_value_after, starts_with_minus, without_leading_sign}
+use Rattle.orc_value.specs.Numerals.{all_digits, is_numeral, signed, sign_text}
 use Rattle.orc_value.specs.Integers.{int_value, int_text}
-use Rattle.orc_value.specs.Decimals.{is_point, is_decimal, is_fraction_digits, decimal_value, is_decimal_value, fraction_digits, fraction_text, places_text, decimal_text}
+use Rattle.orc_value.specs.Decimals.{is_point, is_decimal, decimal_value, fraction_digits, fraction_text, places_text, decimal_text}
 use Rattle.orc_value.specs.Scaled.{are_zeros, units}
-use Rattle.orc_value.proofs.IntegerLaws.{numerals, is_numeral-from, and_left, and_right}
+use Rattle.orc_value.proofs.IntegerLaws.{is_numeral-from, and_left, and_right}
 use Rattle.orc_value.proofs.Digits.{digit_value-is}
-use Rattle.orc_value.proofs.DecimalLaws.{ten_pow_pos, fraction-below_ten, fraction_digits-step, fraction_digits-none}
-use Rattle.orc_value.proofs.Points.{decimal-digits, before_first-digits, after_first-digits, position-digits}
+use Rattle.orc_value.proofs.DecimalLaws.{ten_pow_pos, fraction-below_ten, fraction_digits-step}
+use Rattle.orc_value.proofs.Points.{decimal-digits, before_first-digits, after_first-digits}
 use Rattle.orc_value.proofs.Scales.{digits_value_after-append, digits_value_after-split}
 use Rattle.orc_value.proofs.Cuts.{IsCut, decimal_value-some}
 

@@ -1,14 +1,12 @@
 -- The canonical text of a value: RFC 7950 section 9. The rules that a text can break are 1 lexical, 2 range, 3 length,
 -- 4 enumeration and 5 kind; where it breaks several, the least one counts.
-use Rattle.std.specs.Prelude.{ℕ, ◌≡◌, ℤ, Bool, false, ◌&&◌, ◌||◌, List, [], length, Option, Some, None, Result, Ok, Err, nat_le, if◌then◌else◌, ⊤, nat_eq, codes}
+use Rattle.std.specs.Prelude.{ℕ, ◌≡◌, Bool, false, ◌&&◌, ◌||◌, List, [], length, Option, Some, None, Result, Ok, Err, nat_le, if◌then◌else◌, ⊤, nat_eq}
 use Rattle.std.specs.List.{list_any}
 use Rattle.std.specs.Str.{chars}
 use Rattle.std.specs.Str.Parse.{true_text, false_text}
 use Rattle.std.specs.Cmp.Lexicographic.{pointwise}
-use Rattle.orc_text.specs.declared.memory.Memory.{Memory}
 use Rattle.orc_value.specs.declared.kind.Kind.{Kind}
 use Rattle.orc_value.specs.declared.kind.Kind.TheVariants.{Int, Decimal, Str, Bool as Boolean, Enum, Empty}
-use Rattle.orc_value.specs.declared.kind.IntKind.{IntKind}
 use Rattle.orc_value.specs.declared.fault.ValueFault.{ValueFault}
 use Rattle.orc_value.specs.declared.fault.ValueFault.TheVariants.{BadValue, Memory as NoMemory}
 use Rattle.orc_value.specs.Characters.{is_value_text}

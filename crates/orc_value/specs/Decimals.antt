@@ -1,5 +1,5 @@
 -- Decimal numbers: RFC 7950 section 9.3. A value is the number times ten to the power of the fraction digits.
-use Rattle.std.specs.Prelude.{ℕ, zero, suc, ◌+◌, ◌*◌, ◌/◌, ◌%◌, ◌^◌, ◌==◌, ℤ, pos, negsuc, Bool, ◌&&◌, ◌||◌, not, List, [], ◌∷◌, ◌++◌, length, Option, Some, None, int_le, int_lt, nat_le, unsigned_abs, is_some, if◌then◌else◌}
+use Rattle.std.specs.Prelude.{ℕ, zero, suc, ◌+◌, ◌*◌, ◌/◌, ◌%◌, ◌^◌, ◌==◌, ℤ, pos, negsuc, Bool, ◌&&◌, ◌||◌, not, List, [], ◌∷◌, ◌++◌, length, Option, Some, None, int_le, nat_le, unsigned_abs, is_some, if◌then◌else◌}
 use Rattle.std.specs.List.{position, before_first, after_first}
 use Rattle.std.specs.Str.Parse.{starts_with_minus, without_leading_sign, digits_value}
 use Rattle.std.specs.Fmt.{decimal}

@@ -1,5 +1,5 @@
 -- Integers: RFC 7950 section 9.2.
-use Rattle.std.specs.Prelude.{ℕ, ◌^◌, ℤ, pos, negsuc, Bool, ◌&&◌, List, ◌++◌, unsigned_abs, Option, Some, None, int_le, if◌then◌else◌}
+use Rattle.std.specs.Prelude.{ℕ, ℤ, pos, negsuc, Bool, ◌&&◌, List, ◌++◌, unsigned_abs, Option, Some, None, int_le, if◌then◌else◌}
 use Rattle.std.specs.List.{list_any}
 use Rattle.std.specs.Str.Parse.{without_leading_sign, signed_digits_value}
 use Rattle.std.specs.Fmt.{decimal}

@@ -1,7 +1,7 @@
 -- The JSON of one value: RFC 7951 section 6.
-use Rattle.std.specs.Prelude.{ℕ, ℤ, pos, Bool, true, false, List, [], Option, Some, None, Result, Ok, Err, unwrap_or, if◌then◌else◌, option_and_then}
+use Rattle.std.specs.Prelude.{ℕ, ℤ, pos, Bool, List, [], Option, Some, None, Result, Ok, Err, unwrap_or, if◌then◌else◌, option_and_then}
 use Rattle.std.specs.Str.Parse.{true_text, false_text}
-use Rattle.serde_json.specs.Data.{Data, null, boolean, number, string, array, object, item, no_items}
+use Rattle.serde_json.specs.Data.{Data, null, boolean, number, string, array, item, no_items}
 use Rattle.serde_json.specs.Find.{as_str, as_bool, as_number, as_array, as_integer, of_integer}
 use Rattle.serde_json.specs.Data.{Items}
 use Rattle.orc_value.specs.declared.kind.Kind.{Kind}

@@ -1,7 +1,7 @@
 //! The types of values.
 ghost use Rattle.std.specs.Prelude.{◌≡◌, IfOk};
 
-use orc_text::{Memory, Row, Text};
+use orc_text::{Copied, Memory, Row, Text};
 use std::alloc::Global;
 
 /// The type of a leaf's values. A leafref has the type of its target.
@@ -60,5 +60,17 @@ impl Kind {
             Kind::Enum(names) => Ok(Kind::Enum(names.copy(alloc)?)),
             Kind::Empty => Ok(Kind::Empty),
         }
+    }
+}
+
+impl Copied for IntKind {
+    fn copied(&self, alloc: Global) -> Result<IntKind, Memory> {
+        self.copy(alloc)
+    }
+}
+
+impl Copied for Kind {
+    fn copied(&self, alloc: Global) -> Result<Kind, Memory> {
+        self.copy(alloc)
     }
 }

@@ -1,4 +1,4 @@
-use Rattle.std.proofs.Common.{◌≡◌, ◌≤◌, ℕ, ℤ, List, arith, rules, ◌<◌, ◌^◌, Bool, sym, ap, ◌∙◌, Some, subst, true, false, take, drop}
+use Rattle.std.proofs.Common.{◌≡◌, ℕ, ℤ, List, rules, ◌<◌, ◌^◌, Bool, sym, ap, ◌∙◌, Some, subst, true, false, take, drop}
 use Rattle.std.specs.Str.Parse.{starts_with_minus}
 use Rattle.orc_value.specs.Numerals.{admitted, all_digits, signed}
 use Rattle.orc_value.specs.Decimals.{is_decimal_value}

@@ -1,4 +1,4 @@
-use Rattle.std.proofs.Common.{◌≡◌, ◌<◌, ◌^◌, ◌/◌, ◌%◌, arith, sym, ◌∙◌, true, false, IsTrue}
+use Rattle.std.proofs.Common.{◌^◌, ◌/◌, ◌%◌, arith, sym, ◌∙◌}
 use Rattle.std.proofs.lemmas.Bool.{false≢true}
 use Rattle.std.specs.Fmt.{decimal}
 use Rattle.orc_value.specs.Decimals.{fraction_text}

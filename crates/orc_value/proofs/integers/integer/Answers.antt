@@ -1,5 +1,4 @@
-use Rattle.std.proofs.Common.{subst, ◌≡◌, true, List, ℕ, ◌∙◌, sym}
-use Rattle.orc_value.specs.Numerals.{is_numeral}
+use Rattle.std.proofs.Common.{◌∙◌, sym}
 use Rattle.orc_value.proofs.IntegerLaws.{read_ok, read_out, read_large}
 use Rattle.orc_value.proofs.integers.integer.Goals as goal
 

@@ -1,4 +1,4 @@
-use Rattle.std.proofs.Common.{◌≡◌, ◌≢◌, length, Option, sym, ap, ◌∙◌}
+use Rattle.std.proofs.Common.{◌≢◌, length, Option, sym, ap, ◌∙◌}
 use Rattle.std.specs.Prelude.{is_ok}
 use Rattle.serde_json.specs.Data.{Items}
 use Rattle.orc_value.specs.Json.{canon_of_items}

@@ -1,4 +1,4 @@
-use Rattle.std.proofs.Common.{◌≡◌, ◌≤◌, ◌<◌, ◌^◌, ◌/◌, ◌-◌, arith, length, [], take, ap}
+use Rattle.std.proofs.Common.{◌<◌, ◌^◌, ◌/◌, ◌-◌, arith, length, [], take, ap}
 use Rattle.std.proofs.lemmas.Fmt.{decimal_nonempty, decimal_step}
 use Rattle.std.specs.Fmt.{decimal}
 use Rattle.orc_value.proofs.Digits.{never, iff_trans, empty_test, by_last, wrong_last, decimal-one, decimal-ends}
