@@ -1,0 +1,4 @@
+pub mod Fields
+pub mod Encoding
+pub mod Faults
+pub mod Reading

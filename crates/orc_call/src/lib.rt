@@ -7,6 +7,9 @@
 
 mod answer;
 mod call;
+mod fault;
+mod fields;
 
 pub use answer::{Answer, RecFault, Tag, Why};
+pub use fault::CodecFault;
 pub use call::{Action, Call, DevicePut, Put};

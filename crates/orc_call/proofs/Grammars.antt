@@ -1,0 +1,24 @@
+-- Reading one value behind another.
+use Rattle.std.proofs.Common.{◌≡◌, ℕ, zero, suc, ◌+◌, ◌-◌, ◌<◌, ◌≤◌, List, [], ◌∷◌, ◌++◌, length, take, Result, Ok, Err, refl, sym, ap, subst, ◌∙◌, append_assoc, arith, inl, inr}
+use Rattle.std.proofs.lemmas.Bool.{cases_lt}
+use Rattle.std.proofs.lemmas.List.{append-nil, append_cancel_left, length-append, take_all, take-append-le}
+use Rattle.std.proofs.lemmas.List.Concat.{flat_map-append}
+use Rattle.orc_call.specs.Fields.{Field, field_bytes, spelled, IsLawful, AreLawful}
+use Rattle.orc_call.specs.declared.fields.Stuck.{Stuck}
+use Rattle.orc_call.specs.declared.fields.Stuck.TheVariants.{Bad}
+use Rattle.orc_call.specs.Reading.{Grammar, Begins, IsWhole, IsStuck, Fails, one}
+
+-- no lawful value of the field begins the bytes
+pub one_stuck : {X : Type 0} (field : X → Field) (bytes : List ℕ) (some : X) → ((x : X) (rest : List ℕ) → IsLawful (field x) → bytes ≡ field_bytes (field x) ++ rest → ⊥) → IsStuck (one field) bytes (length bytes)
+one_stuck {X = X} field bytes some none = record {
+  begins = (some, 0, bytes, record { has = tt; lawful = tt; parts = refl }, refl);
+  no_further = λ x count rest. further x count rest;
+}
+  where
+  further : (x : X) (count : ℕ) (rest : List ℕ) → Begins (one field) bytes x count rest → (length bytes ≤ length rest) × (count < 1)
+  further x zero rest b = (omega (arith, ap length b.parts), omega arith)
+  further x (suc zero) rest b = absurd (none x rest b.lawful.0 (b.parts ∙ ap (λ t. t ++ rest) (append-nil (field_bytes (field x)))))
+  further x (suc (suc count)) rest b = absurd (none x rest b.lawful.0 (b.parts ∙ ap (λ t. t ++ rest) (append-nil (field_bytes (field x)))))
+
+pub one_fails : {X : Type 0} (field : X → Field) (bytes : List ℕ) (stuck : Stuck) (some : X) → stuck ≡ Bad (length bytes) → ((x : X) (rest : List ℕ) → IsLawful (field x) → bytes ≡ field_bytes (field x) ++ rest → ⊥) → Fails (one field) bytes stuck
+one_fails field bytes stuck some is none = subst (Fails (one field) bytes) (sym is) (one_stuck field bytes some none)

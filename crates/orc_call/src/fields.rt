@@ -1,0 +1,119 @@
+//! Reading one field from the front of the bytes.
+ghost use Rattle.std.specs.Prelude.{◌≡◌, ◌<◌, ◌^◌, ◌↔◌, IsTrue, IfSome, length, MatchOption};
+ghost use Rattle.std.specs.Option.{option_copied};
+ghost use Rattle.orc_path.specs.Items.{fits};
+ghost use Rattle.orc_call.specs.Fields.{a_text, a_number, a_count_of_actions, a_count_of_items, a_path, an_item};
+ghost use Rattle.orc_call.specs.Reading.{Reads, one, HasText, HasNoText};
+
+use orc_path::{Item, Path, PathFault};
+use orc_text::{Memory, Text};
+use std::alloc::Global;
+use std::cmp::Ordering;
+
+/// Why a value could not be read.
+#[derive(Clone, Copy, Debug, PartialEq, Eq)]
+pub(crate) enum Stuck {
+    /// From the first bad field on, so many bytes are left.
+    Bad { left: usize },
+    /// Memory could not be had.
+    Memory,
+}
+
+impl From<Memory> for Stuck {
+    ghost use Rattle.orc_call.specs.declared.fields.Stuck.TheVariants as stuck;
+    ghost use Rattle.std.specs.Prelude.{◌≡◌};
+
+    ghost from_gives = { λ _ e. e ≡ stuck.Memory };
+
+    fn from(_: Memory) -> Stuck {
+        Stuck::Memory
+    }
+}
+
+/// The field at the front of these bytes is bad.
+fn bad(bytes: &[u8]) -> Stuck
+    ensures { result ≡ Stuck.Bad (length bytes.now) }
+{
+    Stuck::Bad { left: bytes.len() }
+}
+
+/// The caller's number.
+pub(crate) fn number_at(bytes: &[u8]) -> Result<(u64, &[u8]), Stuck>
+    ensures { Reads (one a_number) (λ read. (read.0, read.1.now)) bytes.now result }
+{
+    if bytes.len() < 8 {
+        return Err(bad(bytes));
+    }
+    let (front, rest) = bytes.split_at(8);
+    let number = u64::from_be_bytes([
+        front[0], front[1], front[2], front[3], front[4], front[5], front[6], front[7],
+    ]);
+    Ok((number, rest))
+}
+
+/// How many actions there are.
+pub(crate) fn action_count_at(bytes: &[u8]) -> Result<(u16, &[u8]), Stuck>
+    ensures { Reads (one a_count_of_actions) (λ read. (read.0, read.1.now)) bytes.now result }
+{
+    if bytes.len() < 2 {
+        return Err(bad(bytes));
+    }
+    let (front, rest) = bytes.split_at(2);
+    let count = u16::from_be_bytes([front[0], front[1]]);
+    if count < 1 || count > 64 {
+        return Err(bad(bytes));
+    }
+    Ok((count, rest))
+}
+
+/// How many items there are.
+pub(crate) fn item_count_at(bytes: &[u8]) -> Result<(u32, &[u8]), Stuck>
+    ensures { Reads (one a_count_of_items) (λ read. (read.0, read.1.now)) bytes.now result }
+{
+    if bytes.len() < 4 {
+        return Err(bad(bytes));
+    }
+    let (front, rest) = bytes.split_at(4);
+    let count = u32::from_be_bytes([front[0], front[1], front[2], front[3]]);
+    Ok((count, rest))
+}
+
+/// The text at the front.
+fn str_at(bytes: &[u8]) -> Option<(&str, &[u8])>
+    ensures { MatchOption result (HasNoText bytes.now) (λ read. HasText bytes.now read.0.now read.1.now) }
+{
+    if bytes.len() < 4 {
+        return None;
+    }
+    let (front, rest) = bytes.split_at(4);
+    let len = u32::from_be_bytes([front[0], front[1], front[2], front[3]]) as usize;
+    if rest.len() < len {
+        return None;
+    }
+    let (text, rest) = rest.split_at(len);
+    match std::str::from_utf8(text) {
+        Ok(text) => Some((text, rest)),
+        Err(_) => None,
+    }
+}
+
+/// A text.
+pub(crate) fn text_at(alloc: Global, bytes: &[u8]) -> Result<(Text, &[u8]), Stuck>
+    ensures { Reads (one a_text) (λ read. (read.0, read.1.now)) bytes.now result }
+{
+    match str_at(bytes) {
+        Some((text, rest)) => Ok((Text::from_str(alloc, text)?, rest)),
+        None => Err(bad(bytes)),
+    }
+}
+
+/// Whether the item may stand at the path: an entry where the path ends in keys, a leaf where its
+/// last step has none. The root carries nothing.
+pub(crate) fn item_fits(path: &Path, item: &Item) -> bool
+    ensures { result ≡ fits path.now item.now }
+{
+    match item {
+        Item::Entry => path.ends_in_keys(),
+        Item::Leaf(_) => !path.steps.is_empty() && !path.ends_in_keys(),
+    }
+}
