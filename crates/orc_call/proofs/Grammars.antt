@@ -15,10 +15,10 @@ one_stuck {X = X} field bytes some none = record {
   no_further = λ x count rest. further x count rest;
 }
   where
-  further : (x : X) (count : ℕ) (rest : List ℕ) → Begins (one field) bytes x count rest → (length bytes ≤ length rest) × (count < 1)
-  further x zero rest b = (omega (arith, ap length b.parts), omega arith)
-  further x (suc zero) rest b = absurd (none x rest b.lawful.0 (b.parts ∙ ap (λ t. t ++ rest) (append-nil (field_bytes (field x)))))
-  further x (suc (suc count)) rest b = absurd (none x rest b.lawful.0 (b.parts ∙ ap (λ t. t ++ rest) (append-nil (field_bytes (field x)))))
+    further : (x : X) (count : ℕ) (rest : List ℕ) → Begins (one field) bytes x count rest → (length bytes ≤ length rest) × (count < 1)
+    further x zero rest b = (omega (arith, ap length b.parts), omega arith)
+    further x (suc zero) rest b = absurd (none x rest b.lawful.0 (b.parts ∙ ap (λ t. t ++ rest) (append-nil (field_bytes (field x)))))
+    further x (suc (suc count)) rest b = absurd (none x rest b.lawful.0 (b.parts ∙ ap (λ t. t ++ rest) (append-nil (field_bytes (field x)))))
 
 pub one_fails : {X : Type 0} (field : X → Field) (bytes : List ℕ) (stuck : Stuck) (some : X) → stuck ≡ Bad (length bytes) → ((x : X) (rest : List ℕ) → IsLawful (field x) → bytes ≡ field_bytes (field x) ++ rest → ⊥) → Fails (one field) bytes stuck
 one_fails field bytes stuck some is none = subst (Fails (one field) bytes) (sym is) (one_stuck field bytes some none)

@@ -1,1 +1,2 @@
 mod Grammars
+mod Singles

@@ -10,7 +10,7 @@ use Rattle.orc_call.specs.declared.call.Action.{Action}
 use Rattle.orc_call.specs.declared.call.Call.{Call}
 use Rattle.orc_call.specs.declared.fields.Stuck.{Stuck}
 use Rattle.orc_call.specs.declared.fields.Stuck.TheVariants.{Bad, Memory}
-use Rattle.orc_call.specs.Fields.{Field, spelled, AreLawful, IsText, text_bytes}
+use Rattle.orc_call.specs.Fields.{Field, spelled, AreLawful, IsText, text_bytes, IsItem, item_bytes}
 use Rattle.orc_call.specs.Encoding.{puts_fields, kind_byte, content_fields}
 
 -- a kind of value: which ones it has, and the fields of each
@@ -72,3 +72,12 @@ pub record HasText (bytes text rest : List ℕ) : Type 0 where
 -- the bytes begin with no text
 abbrev pub HasNoText : List ℕ → Type 0
 HasNoText bytes = (text rest : List ℕ) → HasText bytes text rest → ⊥
+
+-- the bytes begin with this item, and the rest follows
+pub record HasItem (bytes : List ℕ) (item : Item) (rest : List ℕ) : Type 0 where
+  pub is_item : IsItem item
+  pub parts : bytes ≡ item_bytes item ++ rest
+
+-- the bytes begin with no item
+abbrev pub HasNoItem : List ℕ → Type 0
+HasNoItem bytes = (item : Item) (rest : List ℕ) → HasItem bytes item rest → ⊥

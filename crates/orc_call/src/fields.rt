@@ -1,9 +1,11 @@
 //! Reading one field from the front of the bytes.
-ghost use Rattle.std.specs.Prelude.{◌≡◌, ◌<◌, ◌^◌, ◌↔◌, IsTrue, IfSome, length, MatchOption};
+ghost use Rattle.std.specs.Prelude.{◌≡◌, ◌<◌, ◌^◌, ◌↔◌, IsTrue, IfSome, length, IfOk, MatchOption};
 ghost use Rattle.std.specs.Option.{option_copied};
 ghost use Rattle.orc_path.specs.Items.{fits};
+ghost use Rattle.orc_path.specs.Order.{path_cmp};
+ghost use Rattle.std.specs.declared.cmp.Ordering.TheVariants.{Less};
 ghost use Rattle.orc_call.specs.Fields.{a_text, a_number, a_count_of_actions, a_count_of_items, a_path, an_item};
-ghost use Rattle.orc_call.specs.Reading.{Reads, one, HasText, HasNoText};
+ghost use Rattle.orc_call.specs.Reading.{Reads, one, HasText, HasNoText, HasItem, HasNoItem};
 
 use orc_path::{Item, Path, PathFault};
 use orc_text::{Memory, Text};
@@ -115,5 +117,74 @@ pub(crate) fn item_fits(path: &Path, item: &Item) -> bool
     match item {
         Item::Entry => path.ends_in_keys(),
         Item::Leaf(_) => !path.steps.is_empty() && !path.ends_in_keys(),
+    }
+}
+
+/// Whether the path may follow the one before it in a list in path order.
+fn follows(before: Option<&Path>, path: &Path) -> bool
+    ensures { IsTrue result ↔ IfSome (option_copied before.entry) (λ earlier. path_cmp earlier path.now ≡ Less) }
+{
+    match before {
+        None => true,
+        Some(earlier) => earlier.cmp(path) == Ordering::Less,
+    }
+}
+
+/// A path, behind the one before it where there is one.
+pub(crate) fn path_at<'a>(
+    alloc: Global,
+    before: Option<&Path>,
+    bytes: &'a [u8],
+) -> Result<(Path, &'a [u8]), Stuck>
+    ensures { Reads (one (a_path (option_copied before.entry))) (λ read. (read.0, read.1.now)) bytes.now result }
+{
+    let Some((text, rest)) = str_at(bytes) else {
+        return Err(bad(bytes));
+    };
+    match Path::parse(alloc, text) {
+        Ok(path) => {
+            let _ = &path.steps;
+            if follows(before, &path) {
+                Ok((path, rest))
+            } else {
+                Err(bad(bytes))
+            }
+        }
+        Err(PathFault::BadPath { .. }) => Err(bad(bytes)),
+        Err(PathFault::Memory) => Err(Stuck::Memory),
+    }
+}
+
+/// The item at the front, whatever path it belongs to.
+fn any_item_at(alloc: Global, bytes: &[u8]) -> Result<Option<(Item, &[u8])>, Memory>
+    ensures { IfOk result (λ found. MatchOption found (HasNoItem bytes.now) (λ read. HasItem bytes.now read.0 read.1.now)) }
+{
+    match bytes {
+        [0, rest @ ..] => Ok(Some((Item::Entry, rest))),
+        [1, rest @ ..] => match str_at(rest) {
+            Some((text, rest)) => Ok(Some((Item::Leaf(Text::from_str(alloc, text)?), rest))),
+            None => Ok(None),
+        },
+        _ => Ok(None),
+    }
+}
+
+/// The item of a path.
+pub(crate) fn item_at<'a>(
+    alloc: Global,
+    path: &Path,
+    bytes: &'a [u8],
+) -> Result<(Item, &'a [u8]), Stuck>
+    ensures { Reads (one (an_item path.now)) (λ read. (read.0, read.1.now)) bytes.now result }
+{
+    match any_item_at(alloc, bytes)? {
+        Some((item, rest)) => {
+            if item_fits(path, &item) {
+                Ok((item, rest))
+            } else {
+                Err(bad(bytes))
+            }
+        }
+        None => Err(bad(bytes)),
     }
 }

@@ -11,5 +11,5 @@ mod fault;
 mod fields;
 
 pub use answer::{Answer, RecFault, Tag, Why};
-pub use fault::CodecFault;
 pub use call::{Action, Call, DevicePut, Put};
+pub use fault::CodecFault;
