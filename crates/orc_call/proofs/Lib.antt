@@ -1,2 +1,3 @@
 mod Grammars
 mod Singles
+mod Sequels
