@@ -6,7 +6,9 @@ use Rattle.std.proofs.lemmas.List.Concat.{flat_map-append}
 use Rattle.orc_call.specs.Fields.{Field, field_bytes, spelled, IsLawful, AreLawful}
 use Rattle.orc_call.specs.declared.fields.Stuck.{Stuck}
 use Rattle.orc_call.specs.declared.fields.Stuck.TheVariants.{Bad}
-use Rattle.orc_call.specs.Reading.{Grammar, Begins, IsWhole, IsStuck, Fails, one}
+use Rattle.std.specs.Result.{IsErrAnd}
+use Rattle.std.proofs.lemmas.Result.{err_from_is_err_and}
+use Rattle.orc_call.specs.Reading.{Grammar, Begins, IsWhole, IsStuck, Fails, Reads, one}
 
 -- no lawful value of the field begins the bytes
 pub one_stuck : {X : Type 0} (field : X → Field) (bytes : List ℕ) (some : X) → ((x : X) (rest : List ℕ) → IsLawful (field x) → bytes ≡ field_bytes (field x) ++ rest → ⊥) → IsStuck (one field) bytes (length bytes)
@@ -22,3 +24,9 @@ one_stuck {X = X} field bytes some none = record {
 
 pub one_fails : {X : Type 0} (field : X → Field) (bytes : List ℕ) (stuck : Stuck) (some : X) → stuck ≡ Bad (length bytes) → ((x : X) (rest : List ℕ) → IsLawful (field x) → bytes ≡ field_bytes (field x) ++ rest → ⊥) → Fails (one field) bytes stuck
 one_fails field bytes stuck some is none = subst (Fails (one field) bytes) (sym is) (one_stuck field bytes some none)
+
+-- a fault that is handed on
+pub handed_on : {X Y : Type 0} (g : Grammar X) (view : Y → X × List ℕ) (bytes : List ℕ) (r : Result Y Stuck) (stuck : Stuck) → IsErrAnd r (λ y. y ≡ stuck) → Fails g bytes stuck → Reads g view bytes r
+handed_on g view bytes r stuck is h =
+    let p = err_from_is_err_and r is in
+    rw (p.1, p.2) h

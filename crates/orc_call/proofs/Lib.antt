@@ -1,3 +1,5 @@
 mod Grammars
 mod Singles
 mod Sequels
+mod Lists
+mod Determined

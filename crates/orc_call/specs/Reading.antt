@@ -10,8 +10,8 @@ use Rattle.orc_call.specs.declared.call.Action.{Action}
 use Rattle.orc_call.specs.declared.call.Call.{Call}
 use Rattle.orc_call.specs.declared.fields.Stuck.{Stuck}
 use Rattle.orc_call.specs.declared.fields.Stuck.TheVariants.{Bad, Memory}
-use Rattle.orc_call.specs.Fields.{Field, spelled, AreLawful, IsText, text_bytes, IsItem, item_bytes}
-use Rattle.orc_call.specs.Encoding.{puts_fields, kind_byte, content_fields}
+use Rattle.orc_call.specs.Fields.{Field, a_text, a_path, spelled, AreLawful, IsText, text_bytes, IsItem, item_bytes}
+use Rattle.orc_call.specs.Encoding.{puts_fields, body_fields, literal_fields, kind_byte, content_fields}
 
 -- a kind of value: which ones it has, and the fields of each
 pub record Grammar (X : Type 0) : Type 1 where
@@ -59,6 +59,23 @@ puts before count = record { has = λ xs. length xs ≡ count; fields = puts_fie
 -- so many values of these fields
 abbrev pub many : {X : Type 0} → (X → List Field) → ℕ → Grammar (List X)
 many fields count = record { has = λ xs. length xs ≡ count; fields = flat_map fields }
+
+-- the path of the last put
+abbrev pub last_path : Option (List PathStep) → List Put → Option (List PathStep)
+last_path before [] = before
+last_path before (put ∷ puts) = last_path (Some put.path) puts
+
+-- a service and its puts
+abbrev pub body : Grammar (List ℕ × List Put)
+body = any (λ read. body_fields read.0 read.1)
+
+-- a name and its writes
+abbrev pub literal : Grammar (List ℕ × List DevicePut)
+literal = any (λ read. literal_fields read.0 read.1)
+
+-- a device and a path of it
+abbrev pub device_path : Grammar (List ℕ × List PathStep)
+device_path = any (λ read. a_text read.0 ∷ a_path None read.1 ∷ [])
 
 -- the actions of a kind, behind its byte
 abbrev pub content : ℕ → Grammar Action

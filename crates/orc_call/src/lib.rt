@@ -9,6 +9,7 @@ mod answer;
 mod call;
 mod fault;
 mod fields;
+mod parts;
 
 pub use answer::{Answer, RecFault, Tag, Why};
 pub use call::{Action, Call, DevicePut, Put};
