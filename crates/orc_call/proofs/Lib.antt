@@ -3,3 +3,5 @@ mod Singles
 mod Sequels
 mod Lists
 mod Determined
+mod ActionKinds
+mod Prefixes

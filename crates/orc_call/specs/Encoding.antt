@@ -71,6 +71,12 @@ call_bytes call = spelled (call_fields call)
 abbrev pub IsCall : Call → Type 0
 IsCall call = AreLawful (call_fields call)
 
+-- the bytes begin with the encoding of this call, of this length
+pub record HasEncoding (bytes : List ℕ) (call : Call) (len : ℕ) : Type 0 where
+  pub lawful : IsCall call
+  pub within : len ≤ length bytes
+  pub spells : take len bytes ≡ call_bytes call
+
 -- the bytes up to this offset are the first fields of the call, each of them whole and lawful
 pub record BeginsAs (bytes : List ℕ) (call : Call) (count at : ℕ) : Type 0 where
   pub within : at ≤ length bytes

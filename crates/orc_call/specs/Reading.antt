@@ -10,7 +10,7 @@ use Rattle.orc_call.specs.declared.call.Action.{Action}
 use Rattle.orc_call.specs.declared.call.Call.{Call}
 use Rattle.orc_call.specs.declared.fields.Stuck.{Stuck}
 use Rattle.orc_call.specs.declared.fields.Stuck.TheVariants.{Bad, Memory}
-use Rattle.orc_call.specs.Fields.{Field, a_text, a_path, spelled, AreLawful, IsText, text_bytes, IsItem, item_bytes}
+use Rattle.orc_call.specs.Fields.{Field, a_text, a_kind, a_path, spelled, AreLawful, IsText, text_bytes, IsItem, item_bytes}
 use Rattle.orc_call.specs.Encoding.{puts_fields, body_fields, literal_fields, kind_byte, content_fields}
 
 -- a kind of value: which ones it has, and the fields of each
@@ -76,6 +76,10 @@ literal = any (λ read. literal_fields read.0 read.1)
 -- a device and a path of it
 abbrev pub device_path : Grammar (List ℕ × List PathStep)
 device_path = any (λ read. a_text read.0 ∷ a_path None read.1 ∷ [])
+
+-- the byte of an action's kind
+abbrev pub kind : Grammar ℕ
+kind = record { has = λ byte. (1 ≤ byte) × (byte ≤ 9); fields = λ byte. a_kind byte ∷ [] }
 
 -- the actions of a kind, behind its byte
 abbrev pub content : ℕ → Grammar Action

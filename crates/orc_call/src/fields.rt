@@ -5,7 +5,7 @@ ghost use Rattle.orc_path.specs.Items.{fits};
 ghost use Rattle.orc_path.specs.Order.{path_cmp};
 ghost use Rattle.std.specs.declared.cmp.Ordering.TheVariants.{Less};
 ghost use Rattle.orc_call.specs.Fields.{a_text, a_number, a_count_of_actions, a_count_of_items, a_path, an_item};
-ghost use Rattle.orc_call.specs.Reading.{Reads, one, HasText, HasNoText, HasItem, HasNoItem};
+ghost use Rattle.orc_call.specs.Reading.{Reads, one, kind, HasText, HasNoText, HasItem, HasNoItem};
 
 use orc_path::{Item, Path, PathFault};
 use orc_text::{Memory, Text};
@@ -78,6 +78,16 @@ pub(crate) fn item_count_at(bytes: &[u8]) -> Result<(u32, &[u8]), Stuck>
     let (front, rest) = bytes.split_at(4);
     let count = u32::from_be_bytes([front[0], front[1], front[2], front[3]]);
     Ok((count, rest))
+}
+
+/// The byte of an action's kind.
+pub(crate) fn kind_at(bytes: &[u8]) -> Result<(u8, &[u8]), Stuck>
+    ensures { Reads kind (λ read. (read.0, read.1.now)) bytes.now result }
+{
+    if bytes.is_empty() || bytes[0] < 1 || bytes[0] > 9 {
+        return Err(bad(bytes));
+    }
+    Ok((bytes[0], &bytes[1..]))
 }
 
 /// The text at the front.

@@ -5,12 +5,15 @@
 //! for all crates above.
 #![tactic(auto)]
 
+mod actions;
 mod answer;
 mod call;
+mod decoding;
 mod fault;
 mod fields;
 mod parts;
 
 pub use answer::{Answer, RecFault, Tag, Why};
 pub use call::{Action, Call, DevicePut, Put};
+pub use decoding::decode;
 pub use fault::CodecFault;
