@@ -1,5 +1,5 @@
 -- Items as values of a map, and which item fits a path.
-use Rattle.std.specs.Prelude.{◌≡◌, ℕ, Bool, true, false, not, List, [], ◌∷◌, Option, refl}
+use Rattle.std.specs.Prelude.{◌≡◌, ℕ, Bool, false, not, List, [], ◌∷◌, Option, refl}
 use Rattle.std.specs.declared.option.Option.TheVariants.{None, Some}
 use Rattle.std.specs.Coded.{Coded, code_by, coded_option, coded_list, coded_ℕ}
 use Rattle.orc_path.specs.Steps.{PathStep, ends_in_keys}

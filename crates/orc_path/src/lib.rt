@@ -9,6 +9,10 @@ mod alphabet;
 mod item;
 mod name;
 mod path;
+mod place;
+mod reader;
+#[cfg(test)]
+mod tests;
 mod text;
 
 pub use item::{Item, Write};

@@ -5,6 +5,7 @@ ghost use Rattle.orc_path.specs.Texts.{IsNameText};
 ghost use Rattle.orc_path.specs.Faults.{IsCauseOf};
 
 use crate::PathFault;
+use crate::place::{Place, is_name_end, name_place};
 use orc_text::{Copied, Memory, Text};
 use std::alloc::Global;
 use std::marker::Model;
@@ -36,9 +37,29 @@ impl Name {
         ensures ok { IfOk result (λ name. name ≡ text.now) }
         ensures fault { IfErr result (IsCauseOf IsNameText text.now) }
     {
-        let _ = alloc;
-        let _ = text;
-        Err(PathFault::Memory)
+        let mut place = Place::Slash;
+        for (at, byte) in text.as_bytes().iter().enumerate() {
+            match name_place(place, *byte) {
+                Some(next) => place = next,
+                None => return Err(PathFault::BadPath { at: at as u64 }),
+            }
+        }
+        if !is_name_end(place) {
+            return Err(PathFault::BadPath {
+                at: text.len() as u64,
+            });
+        }
+        Ok(Name {
+            text: Text::from_str(alloc, text)?,
+        })
+    }
+
+    /// The name of this text, which is one.
+    pub(crate) fn of_text(text: Text) -> Name
+        requires { IsTrue (is_node_name text) }
+        ensures { result ≡ text }
+    {
+        Name { text }
     }
 
     /// The bytes of the name.

@@ -1,12 +1,14 @@
 //! Steps and paths.
-ghost use Rattle.std.specs.Prelude.{◌≡◌, ◌≤◌, List, IfOk, IfErr, IsTrue, length, take};
+ghost use Rattle.std.specs.Prelude.{◌≡◌, ◌≢◌, ◌≤◌, List, IfOk, IfErr, IsTrue, length, take};
 ghost use Rattle.std.specs.Cmp.{IsTotalOrder};
+ghost use Rattle.std.specs.declared.cmp.Ordering.TheVariants.{Less};
 ghost use Rattle.orc_path.specs.Order.{path_cmp, is_prefix};
 ghost use Rattle.orc_path.specs.Steps.{PathStep, ends_in_keys, is_path};
 ghost use Rattle.orc_path.specs.Texts.{path_text, IsPathText};
 ghost use Rattle.orc_path.specs.Faults.{IsCauseOf};
 
 use crate::Name;
+use crate::reader::Reader;
 use orc_text::{Copied, Memory, Row, Text};
 use std::alloc::Global;
 use std::cmp::Ordering;
@@ -100,9 +102,18 @@ impl Path {
         ensures again { (p : List PathStep) → IsTrue (is_path p) → path_text p ≡ text.now → IfOk result (λ path. path ≡ p) }
         ensures fault { IfErr result (IsCauseOf IsPathText text.now) }
     {
-        let _ = alloc;
-        let _ = text;
-        Err(PathFault::Memory)
+        let mut reader = Reader::new(alloc);
+        for (at, byte) in text.as_bytes().iter().enumerate() {
+            if !reader.take(alloc, *byte)? {
+                return Err(PathFault::BadPath { at: at as u64 });
+            }
+        }
+        match reader.finish(alloc)? {
+            Some(path) => Ok(path),
+            None => Err(PathFault::BadPath {
+                at: text.len() as u64,
+            }),
+        }
     }
 
     /// An equal path.
@@ -122,9 +133,11 @@ impl Path {
         Ord::cmp(self, other)
     }
 
-    /// Whether the other path begins with this one's steps. A path comes before its extensions.
+    /// Whether the other path begins with this one's steps.
     pub fn is_prefix_of(&self, other: &Path) -> bool
-        ensures { result ≡ is_prefix self.now other.now }
+        ensures value { result ≡ is_prefix self.now other.now }
+        // A path comes before its extensions.
+        ensures before { IsTrue result → self.now ≢ other.now → path_cmp self.now other.now ≡ Less }
     {
         other.steps.as_slice().starts_with(self.steps.as_slice())
     }

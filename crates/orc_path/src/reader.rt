@@ -1,0 +1,178 @@
+//! Reads a path byte by byte.
+ghost use Rattle.std.specs.Prelude.{◌≡◌, ◌<◌, ◌++◌, ◌∷◌, [], IfOk, OnOk, IsTrue, IsSome, MatchBool, MatchOption};
+ghost use Rattle.std.specs.declared.option.Option.TheVariants.{None, Some};
+ghost use Rattle.orc_path.specs.Reading.{unescape, is_plain, feed_end, feed_key, feed_escape, feed_mark, feed, at_start, whole, present_step, Fits, IsStepRead};
+
+use crate::place::{Place, name_place};
+use crate::{Name, Path, Step};
+use orc_text::{Memory, Row, Text};
+use std::alloc::Global;
+use std::mem;
+
+/// The byte that this one means behind a backslash.
+fn unescaped(byte: u8) -> Option<u8>
+    ensures { result ≡ unescape byte }
+{
+    match byte {
+        b'\\' | b']' => Some(byte),
+        b's' => Some(b' '),
+        b't' => Some(b'\t'),
+        b'n' => Some(b'\n'),
+        b'r' => Some(b'\r'),
+        _ => None,
+    }
+}
+
+/// Whether this byte of a key stands for itself.
+fn is_plain(byte: u8) -> bool
+    ensures { result ≡ is_plain byte }
+{
+    byte > b' ' && byte <= 127 && byte != b'\\' && byte != b']'
+}
+
+/// The steps that are whole, and the parts of the one that is being read.
+#[derive(Drop)]
+pub(crate) struct Reader {
+    place: Place,
+    done: Row<Step>,
+    node: Text,
+    keys: Row<Text>,
+    key: Text,
+}
+
+impl Reader {
+    /// Nothing is read.
+    pub(crate) fn new(alloc: Global) -> Reader
+        ensures { result ≡ at_start }
+    {
+        Reader {
+            place: Place::Start,
+            done: Row::new(alloc),
+            node: Text::new(alloc),
+            keys: Row::new(alloc),
+            key: Text::new(alloc),
+        }
+    }
+
+    /// Takes a byte of a key.
+    fn take_key(&mut self, alloc: Global, byte: u8) -> Result<bool, Memory>
+        ensures { IfOk result (λ taken. MatchBool taken (feed_key self.old byte ≡ Some self.new) (feed_key self.old byte ≡ None)) }
+    {
+        if byte == b']' {
+            let key = mem::replace(&mut self.key, Text::new(alloc));
+            self.keys.push(key)?;
+            self.place = Place::Closed;
+            return Ok(true);
+        }
+        if byte == b'\\' {
+            self.place = Place::Escape;
+            return Ok(true);
+        }
+        if !is_plain(byte) {
+            return Ok(false);
+        }
+        self.key.push(char::from(byte))?;
+        Ok(true)
+    }
+
+    /// Takes a byte behind a backslash.
+    fn take_escaped(&mut self, byte: u8) -> Result<bool, Memory>
+        ensures { IfOk result (λ taken. MatchBool taken (feed_escape self.old byte ≡ Some self.new) (feed_escape self.old byte ≡ None)) }
+    {
+        match unescaped(byte) {
+            Some(meant) => {
+                self.key.push(char::from(meant))?;
+                self.place = Place::Key;
+                Ok(true)
+            }
+            None => Ok(false),
+        }
+    }
+
+    /// The step that was read. Its parts are empty from then on.
+    fn take_step(&mut self, alloc: Global) -> Step
+        requires { IsStepRead self.old }
+        ensures step { result ≡ present_step self.old }
+        ensures left { self.new ≡ record self.old { node = []; keys = [] } }
+    {
+        Step {
+            node: Name::of_text(mem::replace(&mut self.node, Text::new(alloc))),
+            keys: mem::replace(&mut self.keys, Row::new(alloc)),
+        }
+    }
+
+    /// Takes a byte behind a name or a key.
+    fn take_end(&mut self, alloc: Global, byte: u8) -> Result<bool, Memory>
+        requires { IsStepRead self.old }
+        ensures { IfOk result (λ taken. MatchBool taken (feed_end self.old byte ≡ Some self.new) (feed_end self.old byte ≡ None)) }
+    {
+        match byte {
+            b'[' => {
+                self.key = Text::new(alloc);
+                self.place = Place::Key;
+                Ok(true)
+            }
+            b'/' => {
+                let step = self.take_step(alloc);
+                self.done.push(step)?;
+                self.place = Place::Next;
+                Ok(true)
+            }
+            _ => Ok(false),
+        }
+    }
+
+    /// Takes a byte that is none of a name.
+    fn take_mark(&mut self, alloc: Global, byte: u8) -> Result<bool, Memory>
+        requires { Fits self.old }
+        ensures { IfOk result (λ taken. MatchBool taken (feed_mark self.old.place self.old byte ≡ Some self.new) (feed_mark self.old.place self.old byte ≡ None)) }
+    {
+        match self.place {
+            Place::Start if byte == b'/' => {
+                self.place = Place::Slash;
+                Ok(true)
+            }
+            Place::Inside | Place::Closed => self.take_end(alloc, byte),
+            Place::Key => self.take_key(alloc, byte),
+            Place::Escape => self.take_escaped(byte),
+            _ => Ok(false),
+        }
+    }
+
+    /// Takes a byte, where one may stand here.
+    pub(crate) fn take(&mut self, alloc: Global, byte: u8) -> Result<bool, Memory>
+        requires { Fits self.old }
+        ensures { IfOk result (λ taken. MatchBool taken (feed self.old byte ≡ Some self.new) (feed self.old byte ≡ None)) }
+    {
+        match name_place(self.place, byte) {
+            Some(next) => {
+                self.node.push(char::from(byte))?;
+                self.place = next;
+                Ok(true)
+            }
+            None => self.take_mark(alloc, byte),
+        }
+    }
+
+    /// The path with the step that was read.
+    fn with_step(mut self, alloc: Global) -> Result<Path, Memory>
+        requires { IsStepRead self }
+        ensures { IfOk result (λ path. path ≡ self.done ++ present_step self ∷ []) }
+    {
+        let step = self.take_step(alloc);
+        self.done.push(step)?;
+        Ok(Path { steps: self.done })
+    }
+
+    /// The path that was read, where its text may end here.
+    pub(crate) fn finish(self, alloc: Global) -> Result<Option<Path>, Memory>
+        requires { Fits self }
+        ensures { IfOk result (λ path. path ≡ whole self) }
+    {
+        match self.place {
+            Place::Slash => Ok(Some(Path { steps: self.done })),
+            Place::Inside | Place::Closed => Ok(Some(self.with_step(alloc)?)),
+            _ => Ok(None),
+        }
+    }
+}
