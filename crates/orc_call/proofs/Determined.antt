@@ -5,6 +5,7 @@ use Rattle.std.specs.List.{flat_map}
 use Rattle.std.proofs.lemmas.List.{append-nil, length-append, length-replicate}
 use Rattle.orc_path.specs.Steps.{PathStep, is_path}
 use Rattle.orc_path.specs.Texts.{path_text}
+use Rattle.orc_path.proofs.Texts.{path_text-injective}
 use Rattle.orc_path.specs.declared.item.Item.{Item}
 use Rattle.orc_path.specs.declared.item.Item.TheVariants.{Entry, Leaf}
 use Rattle.orc_call.specs.declared.call.Put.{Put}
@@ -51,12 +52,8 @@ action_count_determined = one_determined a_count_of_actions (λ x y r s h k e. s
 pub item_count_determined : Determined (one a_count_of_items)
 item_count_determined = one_determined a_count_of_items (λ x y r s h k e. same_4 x y r s h k e)
 
--- paths with one text are one
-pub same_paths : (p q : List PathStep) → IsTrue (is_path p) → IsTrue (is_path q) → path_text p ≡ path_text q → p ≡ q
-same_paths p q h k e = ?
-
 pub path_determined : (before : Option (List PathStep)) → Determined (one (a_path before))
-path_determined before = one_determined (a_path before) (λ x y r s h k e. same_paths x y h.0 k.0 (same_texts (path_text x) (path_text y) r s h.1 k.1 e))
+path_determined before = one_determined (a_path before) (λ x y r s h k e. path_text-injective x y h.0 k.0 (same_texts (path_text x) (path_text y) r s h.1 k.1 e))
 
 pub item_determined : (path : List PathStep) → Determined (one (an_item path))
 item_determined path = one_determined (an_item path) (λ x y r s h k e. same_items x y r s h.1 k.1 e)
