@@ -33,65 +33,65 @@ base_remove read = BaseRemove read.0 read.1
 pub create_renamed : Renamed body (content 1) create
 create_renamed = record { parts = parts; has = λ _ _. refl; fields = λ _. refl }
   where
-  parts : (z : Action) → kind_byte z ≡ 1 → (x : List ℕ × List Put) × (create x ≡ z) × Unit {0}
-  parts (Create service puts) e = ((service, puts), refl, tt)
-  parts _ e = absurd (omega arith)
+    parts : (z : Action) → kind_byte z ≡ 1 → (x : List ℕ × List Put) × (create x ≡ z) × Unit {0}
+    parts (Create service puts) e = ((service, puts), refl, tt)
+    parts _ e = absurd (omega arith)
 
 pub modify_renamed : Renamed body (content 2) modify
 modify_renamed = record { parts = parts; has = λ _ _. refl; fields = λ _. refl }
   where
-  parts : (z : Action) → kind_byte z ≡ 2 → (x : List ℕ × List Put) × (modify x ≡ z) × Unit {0}
-  parts (Modify service puts) e = ((service, puts), refl, tt)
-  parts _ e = absurd (omega arith)
+    parts : (z : Action) → kind_byte z ≡ 2 → (x : List ℕ × List Put) × (modify x ≡ z) × Unit {0}
+    parts (Modify service puts) e = ((service, puts), refl, tt)
+    parts _ e = absurd (omega arith)
 
 pub redeploy_renamed : Renamed (one a_text) (content 3) Redeploy
 redeploy_renamed = record { parts = parts; has = λ _ _. refl; fields = λ _. refl }
   where
-  parts : (z : Action) → kind_byte z ≡ 3 → (x : List ℕ) × (Redeploy x ≡ z) × Unit {0}
-  parts (Redeploy service) e = (service, refl, tt)
-  parts _ e = absurd (omega arith)
+    parts : (z : Action) → kind_byte z ≡ 3 → (x : List ℕ) × (Redeploy x ≡ z) × Unit {0}
+    parts (Redeploy service) e = (service, refl, tt)
+    parts _ e = absurd (omega arith)
 
 pub delete_renamed : Renamed (one a_text) (content 4) Delete
 delete_renamed = record { parts = parts; has = λ _ _. refl; fields = λ _. refl }
   where
-  parts : (z : Action) → kind_byte z ≡ 4 → (x : List ℕ) × (Delete x ≡ z) × Unit {0}
-  parts (Delete service) e = (service, refl, tt)
-  parts _ e = absurd (omega arith)
+    parts : (z : Action) → kind_byte z ≡ 4 → (x : List ℕ) × (Delete x ≡ z) × Unit {0}
+    parts (Delete service) e = (service, refl, tt)
+    parts _ e = absurd (omega arith)
 
 pub set_renamed : Renamed (any (put_fields None)) (content 5) Set
 set_renamed = record { parts = parts; has = λ _ _. refl; fields = λ _. refl }
   where
-  parts : (z : Action) → kind_byte z ≡ 5 → (x : Put) × (Set x ≡ z) × Unit {0}
-  parts (Set put) e = (put, refl, tt)
-  parts _ e = absurd (omega arith)
+    parts : (z : Action) → kind_byte z ≡ 5 → (x : Put) × (Set x ≡ z) × Unit {0}
+    parts (Set put) e = (put, refl, tt)
+    parts _ e = absurd (omega arith)
 
 pub unset_renamed : Renamed (one (a_path None)) (content 6) Unset
 unset_renamed = record { parts = parts; has = λ _ _. refl; fields = λ _. refl }
   where
-  parts : (z : Action) → kind_byte z ≡ 6 → (x : List PathStep) × (Unset x ≡ z) × Unit {0}
-  parts (Unset path) e = (path, refl, tt)
-  parts _ e = absurd (omega arith)
+    parts : (z : Action) → kind_byte z ≡ 6 → (x : List PathStep) × (Unset x ≡ z) × Unit {0}
+    parts (Unset path) e = (path, refl, tt)
+    parts _ e = absurd (omega arith)
 
 pub base_put_renamed : Renamed (any device_put_fields) (content 7) BasePut
 base_put_renamed = record { parts = parts; has = λ _ _. refl; fields = λ _. refl }
   where
-  parts : (z : Action) → kind_byte z ≡ 7 → (x : DevicePut) × (BasePut x ≡ z) × Unit {0}
-  parts (BasePut put) e = (put, refl, tt)
-  parts _ e = absurd (omega arith)
+    parts : (z : Action) → kind_byte z ≡ 7 → (x : DevicePut) × (BasePut x ≡ z) × Unit {0}
+    parts (BasePut put) e = (put, refl, tt)
+    parts _ e = absurd (omega arith)
 
 pub base_remove_renamed : Renamed device_path (content 8) base_remove
 base_remove_renamed = record { parts = parts; has = λ _ _. refl; fields = λ _. refl }
   where
-  parts : (z : Action) → kind_byte z ≡ 8 → (x : List ℕ × List PathStep) × (base_remove x ≡ z) × Unit {0}
-  parts (BaseRemove device path) e = ((device, path), refl, tt)
-  parts _ e = absurd (omega arith)
+    parts : (z : Action) → kind_byte z ≡ 8 → (x : List ℕ × List PathStep) × (base_remove x ≡ z) × Unit {0}
+    parts (BaseRemove device path) e = ((device, path), refl, tt)
+    parts _ e = absurd (omega arith)
 
 pub literal_renamed : Renamed literal (content 9) literal_action
 literal_renamed = record { parts = parts; has = λ _ _. refl; fields = λ _. refl }
   where
-  parts : (z : Action) → kind_byte z ≡ 9 → (x : List ℕ × List DevicePut) × (literal_action x ≡ z) × Unit {0}
-  parts (Literal name writes) e = ((name, writes), refl, tt)
-  parts _ e = absurd (omega arith)
+    parts : (z : Action) → kind_byte z ≡ 9 → (x : List ℕ × List DevicePut) × (literal_action x ≡ z) × Unit {0}
+    parts (Literal name writes) e = ((name, writes), refl, tt)
+    parts _ e = absurd (omega arith)
 
 -- some action of each kind
 some_action : (byte : ℕ) → (1 ≤ byte) × (byte ≤ 9) → (z : Action) × (kind_byte z ≡ byte)
@@ -126,18 +126,18 @@ content_determined byte = record {
   same = λ bytes x y r s w v. (at byte (x_kind x w.has)).same bytes x y r s w v;
 }
   where
-  at : (byte : ℕ) → (1 ≤ byte) × (byte ≤ 9) → Determined (content byte)
-  at zero h = absurd (omega (arith, h.0))
-  at (suc zero) h = renamed_determined _ _ _ create_renamed body_determined
-  at (suc (suc zero)) h = renamed_determined _ _ _ modify_renamed body_determined
-  at (suc (suc (suc zero))) h = renamed_determined _ _ _ redeploy_renamed text_determined
-  at (suc (suc (suc (suc zero)))) h = renamed_determined _ _ _ delete_renamed text_determined
-  at (suc (suc (suc (suc (suc zero))))) h = renamed_determined _ _ _ set_renamed (put_determined None)
-  at (suc (suc (suc (suc (suc (suc zero)))))) h = renamed_determined _ _ _ unset_renamed (path_determined None)
-  at (suc (suc (suc (suc (suc (suc (suc zero))))))) h = renamed_determined _ _ _ base_put_renamed device_put_determined
-  at (suc (suc (suc (suc (suc (suc (suc (suc zero)))))))) h = renamed_determined _ _ _ base_remove_renamed device_path_determined
-  at (suc (suc (suc (suc (suc (suc (suc (suc (suc zero))))))))) h = renamed_determined _ _ _ literal_renamed literal_determined
-  at (suc (suc (suc (suc (suc (suc (suc (suc (suc (suc n)))))))))) h = absurd (omega (arith, h.1))
+    at : (byte : ℕ) → (1 ≤ byte) × (byte ≤ 9) → Determined (content byte)
+    at zero h = absurd (omega (arith, h.0))
+    at (suc zero) h = renamed_determined _ _ _ create_renamed body_determined
+    at (suc (suc zero)) h = renamed_determined _ _ _ modify_renamed body_determined
+    at (suc (suc (suc zero))) h = renamed_determined _ _ _ redeploy_renamed text_determined
+    at (suc (suc (suc (suc zero)))) h = renamed_determined _ _ _ delete_renamed text_determined
+    at (suc (suc (suc (suc (suc zero))))) h = renamed_determined _ _ _ set_renamed (put_determined None)
+    at (suc (suc (suc (suc (suc (suc zero)))))) h = renamed_determined _ _ _ unset_renamed (path_determined None)
+    at (suc (suc (suc (suc (suc (suc (suc zero))))))) h = renamed_determined _ _ _ base_put_renamed device_put_determined
+    at (suc (suc (suc (suc (suc (suc (suc (suc zero)))))))) h = renamed_determined _ _ _ base_remove_renamed device_path_determined
+    at (suc (suc (suc (suc (suc (suc (suc (suc (suc zero))))))))) h = renamed_determined _ _ _ literal_renamed literal_determined
+    at (suc (suc (suc (suc (suc (suc (suc (suc (suc (suc n)))))))))) h = absurd (omega (arith, h.1))
 
 pub kind_determined : Determined kind
 kind_determined = record {
@@ -145,10 +145,10 @@ kind_determined = record {
   same = λ bytes x y r s w v. let e : x ∷ r ≡ y ∷ s = sym w.parts ∙ v.parts in cc;
 }
   where
-  ends : (bytes : List ℕ) (x y : ℕ) (r s : List ℕ) (n : ℕ) → IsWhole kind bytes x r → Begins kind bytes y n s → length r ≤ length s
-  ends bytes x y r s zero w b = omega (arith, ap length b.parts, ap length w.parts)
-  ends bytes x y r s (suc zero) w b = omega (arith, ap length b.parts, ap length w.parts)
-  ends bytes x y r s (suc (suc n)) w b = omega (arith, ap length b.parts, ap length w.parts)
+    ends : (bytes : List ℕ) (x y : ℕ) (r s : List ℕ) (n : ℕ) → IsWhole kind bytes x r → Begins kind bytes y n s → length r ≤ length s
+    ends bytes x y r s zero w b = omega (arith, ap length b.parts, ap length w.parts)
+    ends bytes x y r s (suc zero) w b = omega (arith, ap length b.parts, ap length w.parts)
+    ends bytes x y r s (suc (suc n)) w b = omega (arith, ap length b.parts, ap length w.parts)
 
 -- no byte of a kind begins the bytes
 pub kind_fails : (bytes : List ℕ) (stuck : Stuck) → stuck ≡ Bad (length bytes) → ((byte : ℕ) (rest : List ℕ) → 1 ≤ byte → byte ≤ 9 → bytes ≡ byte ∷ rest → ⊥) → Fails kind bytes stuck
@@ -157,10 +157,10 @@ kind_fails bytes stuck is none = subst (Fails kind bytes) (sym is) (record {
   no_further = λ x count rest b. further x count rest b;
 })
   where
-  further : (x : ℕ) (count : ℕ) (rest : List ℕ) → Begins kind bytes x count rest → (length bytes ≤ length rest) × (count < 1)
-  further x zero rest b = (omega (arith, ap length b.parts), omega arith)
-  further x (suc zero) rest b = absurd (none x rest b.has.0 b.has.1 b.parts)
-  further x (suc (suc count)) rest b = absurd (none x rest b.has.0 b.has.1 b.parts)
+    further : (x : ℕ) (count : ℕ) (rest : List ℕ) → Begins kind bytes x count rest → (length bytes ≤ length rest) × (count < 1)
+    further x zero rest b = (omega (arith, ap length b.parts), omega arith)
+    further x (suc zero) rest b = absurd (none x rest b.has.0 b.has.1 b.parts)
+    further x (suc (suc count)) rest b = absurd (none x rest b.has.0 b.has.1 b.parts)
 
 abbrev action_of : ℕ → Action → Action
 action_of byte action = action

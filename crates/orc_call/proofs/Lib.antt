@@ -5,3 +5,4 @@ mod Lists
 mod Determined
 mod ActionKinds
 mod Prefixes
+mod Written

@@ -43,12 +43,15 @@ pub bad_at : (bytes : List ℕ) (left : ℕ) → IsStuck calls bytes left → Is
 bad_at bytes left h = record {
   begins =
       let b = h.begins in
-      let at : length bytes - length b.2 ≡ length bytes - left = ap (λ n. length bytes - n) b.4 in
-      (b.0, b.1, record {
-        within = omega arith;
-        lawful = b.3.lawful;
-        spells = subst (λ n. take n bytes ≡ spelled (take b.1 (call_fields b.0))) at (front_is bytes (spelled (take b.1 (call_fields b.0))) b.2 b.3.parts);
-      });
+      let at : length bytes - length b.2 ≡ length bytes - left = ap (λ n. length bytes - n) b.4 in (
+        b.0,
+        b.1,
+        record {
+          within = omega arith;
+          lawful = b.3.lawful;
+          spells = subst (λ n. take n bytes ≡ spelled (take b.1 (call_fields b.0))) at (front_is bytes (spelled (take b.1 (call_fields b.0))) b.2 b.3.parts);
+        },
+      );
   no_further = λ call count other front.
       let there : Begins calls bytes call count (drop other bytes) = record {
         has = tt;

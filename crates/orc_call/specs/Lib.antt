@@ -2,3 +2,4 @@ pub mod Fields
 pub mod Encoding
 pub mod Faults
 pub mod Reading
+pub mod Writing
