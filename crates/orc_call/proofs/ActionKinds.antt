@@ -1,10 +1,9 @@
 -- The actions of each kind.
-use Rattle.std.proofs.Common.{◌≡◌, ℕ, zero, suc, ◌+◌, ◌<◌, ◌≤◌, List, [], ◌∷◌, ◌++◌, length, take, replicate, refl, sym, ap, subst, ◌∙◌, arith}
+use Rattle.std.proofs.Common.{◌≡◌, ℕ, zero, suc, ◌<◌, ◌≤◌, List, [], ◌∷◌, length, replicate, refl, sym, ap, subst, ◌∙◌, arith}
 use Rattle.std.specs.declared.option.Option.TheVariants.{None}
 use Rattle.std.specs.List.{flat_map}
 use Rattle.std.proofs.lemmas.List.{length-replicate}
 use Rattle.orc_path.specs.Steps.{PathStep}
-use Rattle.orc_path.specs.declared.item.Item.TheVariants.{Entry}
 use Rattle.orc_call.specs.declared.call.Put.{Put}
 use Rattle.orc_call.specs.declared.call.DevicePut.{DevicePut}
 use Rattle.orc_call.specs.declared.call.Action.{Action}
@@ -12,9 +11,9 @@ use Rattle.orc_call.specs.declared.call.Action.TheVariants.{Create, Modify, Rede
 use Rattle.orc_call.specs.declared.call.Call.{Call}
 use Rattle.orc_call.specs.declared.fields.Stuck.{Stuck}
 use Rattle.orc_call.specs.declared.fields.Stuck.TheVariants.{Bad}
-use Rattle.orc_call.specs.Fields.{Field, a_text, a_number, a_count_of_actions, a_kind, a_path, spelled, AreLawful}
+use Rattle.orc_call.specs.Fields.{a_text, a_number, a_count_of_actions, a_kind, a_path}
 use Rattle.orc_call.specs.Encoding.{put_fields, device_put_fields, kind_byte, content_fields, action_fields, call_fields}
-use Rattle.orc_call.specs.Reading.{Grammar, Begins, IsWhole, IsStuck, Fails, one, any, many, body, literal, device_path, kind, content}
+use Rattle.orc_call.specs.Reading.{Grammar, Begins, IsWhole, Fails, one, any, many, body, literal, device_path, kind, content}
 use Rattle.orc_call.proofs.Sequels.{Determined, Sequel, Renamed, renamed_determined, sequel_determined}
 use Rattle.orc_call.proofs.Determined.{text_determined, number_determined, action_count_determined, many_determined, path_determined, put_determined, device_put_determined, body_determined, literal_determined, device_path_determined, some_put, some_device_put}
 

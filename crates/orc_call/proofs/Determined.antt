@@ -1,22 +1,22 @@
 -- The parts of a call, and that each of them is determined by its bytes.
-use Rattle.std.proofs.Common.{◌≡◌, ℕ, zero, suc, ◌+◌, ◌<◌, ◌≤◌, ◌^◌, List, [], ◌∷◌, ◌++◌, length, take, replicate, Bool, true, IsTrue, Option, refl, sym, ap, subst, ◌∙◌, arith}
+use Rattle.std.proofs.Common.{◌≡◌, ℕ, zero, suc, ◌+◌, ◌<◌, ◌≤◌, List, [], ◌∷◌, ◌++◌, length, replicate, Option, refl, sym, ap, subst, ◌∙◌, arith}
 use Rattle.std.specs.declared.option.Option.TheVariants.{None, Some}
 use Rattle.std.specs.List.{flat_map}
 use Rattle.std.proofs.lemmas.List.{append-nil, length-append, length-replicate}
-use Rattle.orc_path.specs.Steps.{PathStep, is_path}
+use Rattle.orc_path.specs.Steps.{PathStep}
 use Rattle.orc_path.specs.Texts.{path_text}
 use Rattle.orc_path.proofs.Texts.{path_text-injective}
 use Rattle.orc_path.specs.declared.item.Item.{Item}
-use Rattle.orc_path.specs.declared.item.Item.TheVariants.{Entry, Leaf}
+use Rattle.orc_path.specs.declared.item.Item.TheVariants.{Entry}
 use Rattle.orc_call.specs.declared.call.Put.{Put}
 use Rattle.orc_call.specs.declared.call.DevicePut.{DevicePut}
 use Rattle.orc_call.specs.declared.fields.Stuck.{Stuck}
-use Rattle.orc_call.specs.Fields.{Field, a_text, a_number, a_count_of_actions, a_count_of_items, a_path, an_item, field_bytes, spelled, IsLawful, AreLawful}
-use Rattle.orc_call.specs.Encoding.{put_fields, puts_fields, device_put_fields, body_fields, literal_fields}
-use Rattle.orc_call.specs.Reading.{Grammar, Begins, IsWhole, IsStuck, Fails, one, any, puts, many, body, literal, device_path, last_path}
+use Rattle.orc_call.specs.Fields.{Field, a_text, a_number, a_count_of_actions, a_count_of_items, a_path, an_item, field_bytes, spelled, IsLawful}
+use Rattle.orc_call.specs.Encoding.{put_fields, puts_fields, device_put_fields}
+use Rattle.orc_call.specs.Reading.{Grammar, Begins, IsWhole, Fails, one, any, puts, many, body, literal, device_path, last_path}
 use Rattle.orc_call.proofs.Singles.{same_2, same_4, same_8, same_texts, same_items}
 use Rattle.orc_call.proofs.Sequels.{Determined, Sequel, sequel_determined}
-use Rattle.orc_call.proofs.Lists.{listed_determined, listed_more, listed_fails, listed_none, after}
+use Rattle.orc_call.proofs.Lists.{listed_determined, listed_more, listed_fails, after}
 
 one_determined : {X : Type 0} (field : X → Field) → ((x y : X) (r s : List ℕ) → IsLawful (field x) → IsLawful (field y) → field_bytes (field x) ++ r ≡ field_bytes (field y) ++ s → x ≡ y) → Determined (one field)
 one_determined {X = X} field only = record {

@@ -1,14 +1,12 @@
 -- Reading one value behind another.
-use Rattle.std.proofs.Common.{◌≡◌, ℕ, zero, suc, ◌+◌, ◌-◌, ◌<◌, ◌≤◌, List, [], ◌∷◌, ◌++◌, length, take, Result, Ok, Err, refl, sym, ap, subst, ◌∙◌, append_assoc, arith, inl, inr}
-use Rattle.std.proofs.lemmas.Bool.{cases_lt}
-use Rattle.std.proofs.lemmas.List.{append-nil, append_cancel_left, length-append, take_all, take-append-le}
-use Rattle.std.proofs.lemmas.List.Concat.{flat_map-append}
-use Rattle.orc_call.specs.Fields.{Field, field_bytes, spelled, IsLawful, AreLawful}
+use Rattle.std.proofs.Common.{◌≡◌, ℕ, zero, suc, ◌<◌, ◌≤◌, List, ◌++◌, length, Result, refl, sym, ap, subst, ◌∙◌, arith}
+use Rattle.std.proofs.lemmas.List.{append-nil}
+use Rattle.orc_call.specs.Fields.{Field, field_bytes, IsLawful}
 use Rattle.orc_call.specs.declared.fields.Stuck.{Stuck}
 use Rattle.orc_call.specs.declared.fields.Stuck.TheVariants.{Bad}
 use Rattle.std.specs.Result.{IsErrAnd}
 use Rattle.std.proofs.lemmas.Result.{err_from_is_err_and}
-use Rattle.orc_call.specs.Reading.{Grammar, Begins, IsWhole, IsStuck, Fails, Reads, one}
+use Rattle.orc_call.specs.Reading.{Grammar, Begins, IsStuck, Fails, Reads, one}
 
 -- no lawful value of the field begins the bytes
 pub one_stuck : {X : Type 0} (field : X → Field) (bytes : List ℕ) (some : X) → ((x : X) (rest : List ℕ) → IsLawful (field x) → bytes ≡ field_bytes (field x) ++ rest → ⊥) → IsStuck (one field) bytes (length bytes)

@@ -6,3 +6,4 @@ mod Determined
 mod ActionKinds
 mod Prefixes
 mod Written
+mod Elements

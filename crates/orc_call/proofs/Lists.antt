@@ -1,11 +1,11 @@
 -- Values that are read one behind another, so many of them.
-use Rattle.std.proofs.Common.{◌≡◌, ℕ, zero, suc, ◌+◌, ◌-◌, ◌<◌, ◌≤◌, List, [], ◌∷◌, ◌++◌, length, take, replicate, refl, sym, ap, subst, ◌∙◌, append_assoc, arith}
+use Rattle.std.proofs.Common.{◌≡◌, ℕ, zero, suc, ◌+◌, ◌<◌, List, [], ◌∷◌, ◌++◌, length, take, replicate, refl, sym, ap, subst, ◌∙◌, append_assoc, arith}
 use Rattle.std.proofs.lemmas.List.{append-nil, length-replicate, length_push}
 use Rattle.std.proofs.lemmas.List.Concat.{flat_map-append}
 use Rattle.orc_call.specs.Fields.{Field, field_bytes, spelled, AreLawful}
 use Rattle.orc_call.specs.declared.fields.Stuck.{Stuck}
-use Rattle.orc_call.specs.Reading.{Grammar, Begins, IsWhole, IsStuck, Fails, any}
-use Rattle.orc_call.proofs.Sequels.{Determined, Sequel, lawful-append, both_whole, whole_parts, first_fails, later_fails, sequel_determined}
+use Rattle.orc_call.specs.Reading.{Grammar, IsWhole, Fails, any}
+use Rattle.orc_call.proofs.Sequels.{Determined, Sequel, lawful-append, whole_parts, first_fails, later_fails, sequel_determined}
 
 abbrev no_fields : List Field
 no_fields = []

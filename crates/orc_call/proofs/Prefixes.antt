@@ -1,11 +1,11 @@
 -- The encoding that bytes begin with, and the first field that is bad.
-use Rattle.std.proofs.Common.{◌≡◌, ℕ, zero, suc, ◌+◌, ◌-◌, ◌<◌, ◌≤◌, List, [], ◌∷◌, ◌++◌, length, take, drop, refl, sym, ap, subst, ◌∙◌, arith}
+use Rattle.std.proofs.Common.{◌≡◌, ℕ, ◌-◌, List, [], ◌++◌, length, take, drop, sym, ap, subst, ◌∙◌, arith}
 use Rattle.std.proofs.lemmas.List.{take_at, take-append-drop, length-append, length-drop, append-nil, append_cancel_left}
 use Rattle.orc_call.specs.declared.call.Call.{Call}
 use Rattle.orc_call.specs.Fields.{spelled}
-use Rattle.orc_call.specs.Encoding.{IsCall, HasEncoding, BeginsAs, IsBadAt, call_bytes, call_fields}
+use Rattle.orc_call.specs.Encoding.{IsCall, HasEncoding, IsBadAt, call_bytes, call_fields}
 use Rattle.orc_call.specs.Reading.{Grammar, Begins, IsWhole, IsStuck, any}
-use Rattle.orc_call.proofs.Sequels.{whole_begins, same_rest}
+use Rattle.orc_call.proofs.Sequels.{whole_begins}
 use Rattle.orc_call.proofs.ActionKinds.{call_determined}
 
 abbrev calls : Grammar Call

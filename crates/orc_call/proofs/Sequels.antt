@@ -1,10 +1,10 @@
 -- A value that is read as a first part and a second one behind it.
-use Rattle.std.proofs.Common.{◌≡◌, ℕ, zero, suc, ◌+◌, ◌-◌, ◌<◌, ◌≤◌, List, [], ◌∷◌, ◌++◌, length, take, refl, sym, ap, subst, ◌∙◌, append_assoc, arith, inl, inr}
+use Rattle.std.proofs.Common.{◌≡◌, ℕ, ◌+◌, ◌-◌, ◌<◌, ◌≤◌, List, [], ◌∷◌, ◌++◌, length, take, refl, sym, ap, subst, ◌∙◌, append_assoc, arith, inl, inr}
 use Rattle.std.proofs.Math.Seq.{take-append-add, take-length}
 use Rattle.std.proofs.lemmas.Bool.{cases_lt}
 use Rattle.std.proofs.lemmas.List.{append_cancel_left, length-append, take-append-le}
 use Rattle.std.proofs.lemmas.List.Concat.{flat_map-append}
-use Rattle.orc_call.specs.Fields.{Field, field_bytes, spelled, IsLawful, AreLawful}
+use Rattle.orc_call.specs.Fields.{Field, field_bytes, spelled, AreLawful}
 use Rattle.orc_call.specs.declared.fields.Stuck.{Stuck}
 use Rattle.orc_call.specs.declared.fields.Stuck.TheVariants.{Bad, Memory}
 use Rattle.orc_call.specs.Reading.{Grammar, Begins, IsWhole, IsStuck, Fails}

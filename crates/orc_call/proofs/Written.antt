@@ -1,18 +1,16 @@
 -- What is written is the spelling.
-use Rattle.std.proofs.Common.{◌≡◌, ℕ, List, [], ◌∷◌, ◌++◌, length, All, Option, refl, sym, ap, subst, ◌∙◌, append_assoc, arith}
-use Rattle.std.specs.declared.option.Option.TheVariants.{None, Some}
+use Rattle.std.proofs.Common.{◌≡◌, ℕ, List, [], ◌∷◌, ◌++◌, All, Option, refl, sym, ap, ◌∙◌, append_assoc}
+use Rattle.std.specs.declared.option.Option.TheVariants.{Some}
 use Rattle.std.specs.List.{flat_map, AllByRecursion}
-use Rattle.std.proofs.lemmas.List.{append-nil}
 use Rattle.std.proofs.lemmas.List.Elements.{All-from_recursion}
 use Rattle.std.proofs.lemmas.List.Concat.{flat_map-append}
 use Rattle.orc_path.specs.Steps.{PathStep}
 use Rattle.orc_path.specs.Texts.{path_text}
-use Rattle.orc_path.specs.declared.item.Item.TheVariants.{Entry, Leaf}
 use Rattle.orc_call.specs.declared.call.Put.{Put}
 use Rattle.orc_call.specs.declared.call.DevicePut.{DevicePut}
 use Rattle.orc_call.specs.declared.call.Action.{Action}
-use Rattle.orc_call.specs.Fields.{Field, field_bytes, spelled, AreLawful, IsLawful, text_bytes, item_bytes}
-use Rattle.orc_call.specs.Encoding.{put_fields, puts_fields, device_put_fields, action_fields}
+use Rattle.orc_call.specs.Fields.{field_bytes, spelled, AreLawful, text_bytes, item_bytes}
+use Rattle.orc_call.specs.Encoding.{puts_fields, device_put_fields, action_fields}
 use Rattle.orc_call.specs.Writing.{put_bytes, device_put_bytes, IsPutFit, IsDevicePutFit}
 use Rattle.orc_call.proofs.Sequels.{lawful_parts}
 

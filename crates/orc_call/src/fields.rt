@@ -131,7 +131,7 @@ pub(crate) fn item_fits(path: &Path, item: &Item) -> bool
 }
 
 /// Whether the path may follow the one before it in a list in path order.
-fn follows(before: Option<&Path>, path: &Path) -> bool
+pub(crate) fn follows(before: Option<&Path>, path: &Path) -> bool
     ensures { IsTrue result ↔ IfSome (option_copied before.entry) (λ earlier. path_cmp earlier path.now ≡ Less) }
 {
     match before {

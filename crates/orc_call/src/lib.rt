@@ -12,6 +12,7 @@ mod decoding;
 mod encoding;
 mod fault;
 mod fields;
+mod lawful;
 mod parts;
 
 pub use answer::{Answer, RecFault, Tag, Why};
@@ -19,3 +20,4 @@ pub use call::{Action, Call, DevicePut, Put};
 pub use decoding::decode;
 pub use encoding::encode;
 pub use fault::CodecFault;
+pub use lawful::is_encodable;

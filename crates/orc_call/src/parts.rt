@@ -25,7 +25,7 @@ pub(crate) fn put_at<'a>(
 }
 
 /// The path of the last of these puts.
-fn last_path(puts: &[Put]) -> Option<&Path>
+pub(crate) fn last_path(puts: &[Put]) -> Option<&Path>
     ensures { option_copied result ≡ last_path None puts.now }
 {
     match puts.last() {

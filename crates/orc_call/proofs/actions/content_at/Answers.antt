@@ -1,4 +1,3 @@
-use Rattle.std.proofs.Common.{refl}
 use Rattle.orc_call.proofs.Grammars.{handed_on}
 use Rattle.orc_call.proofs.Sequels.{renamed_fails}
 use Rattle.orc_call.proofs.ActionKinds.{create_renamed, modify_renamed, redeploy_renamed, delete_renamed, set_renamed, unset_renamed, base_put_renamed, base_remove_renamed, literal_renamed}

@@ -1,4 +1,4 @@
-use Rattle.std.proofs.Common.{◌≡◌, ℕ, Bool, true, false, List, [], Option, IsTrue, ◌↔◌, ap, subst, sym, ◌∙◌}
+use Rattle.std.proofs.Common.{◌≡◌, Bool, false, [], IsTrue, ◌↔◌}
 use Rattle.std.specs.Option.{option_copied}
 use Rattle.orc_path.specs.Texts.{path_text}
 use Rattle.orc_call.specs.Fields.{a_path}

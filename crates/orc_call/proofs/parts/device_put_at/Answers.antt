@@ -1,4 +1,3 @@
-use Rattle.std.specs.declared.option.Option.TheVariants.{None}
 use Rattle.orc_call.proofs.Grammars.{handed_on}
 use Rattle.orc_call.proofs.Sequels.{first_fails, later_fails}
 use Rattle.orc_call.proofs.Determined.{device_put_sequel, text_determined}

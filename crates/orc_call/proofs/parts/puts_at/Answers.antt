@@ -1,7 +1,7 @@
 use Rattle.std.proofs.Common.{◌≡◌, ◌∙◌, ap}
 use Rattle.std.specs.declared.option.Option.TheVariants.{None}
 use Rattle.std.specs.Option.{option_copied}
-use Rattle.orc_call.specs.Reading.{last_path, IsWhole, puts}
+use Rattle.orc_call.specs.Reading.{last_path}
 use Rattle.orc_call.proofs.Grammars.{handed_on}
 use Rattle.orc_call.proofs.Determined.{puts_fail, puts_more}
 use Rattle.orc_call.proofs.parts.puts_at.Goals as goal
