@@ -14,6 +14,8 @@ mod fault;
 mod fields;
 mod lawful;
 mod parts;
+#[cfg(test)]
+mod tests;
 
 pub use answer::{Answer, RecFault, Tag, Why};
 pub use call::{Action, Call, DevicePut, Put};
