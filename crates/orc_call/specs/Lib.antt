@@ -1,0 +1,5 @@
+pub mod Fields
+pub mod Encoding
+pub mod Faults
+pub mod Reading
+pub mod Writing

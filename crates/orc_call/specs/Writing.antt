@@ -1,0 +1,22 @@
+-- The bytes of puts, as they are written one after another.
+use Rattle.std.specs.Prelude.{ℕ, List, ◌++◌}
+use Rattle.orc_path.specs.Texts.{path_text}
+use Rattle.orc_call.specs.declared.call.Put.{Put}
+use Rattle.orc_call.specs.declared.call.DevicePut.{DevicePut}
+use Rattle.orc_call.specs.Fields.{IsText, IsItem, text_bytes, item_bytes}
+
+abbrev pub put_bytes : Put → List ℕ
+put_bytes put = text_bytes (path_text put.path) ++ item_bytes put.item
+
+abbrev pub device_put_bytes : DevicePut → List ℕ
+device_put_bytes put = text_bytes put.device ++ text_bytes (path_text put.path) ++ item_bytes put.item
+
+-- its texts fit their fields
+pub record IsPutFit (put : Put) : Type 0 where
+  pub path : IsText (path_text put.path)
+  pub item : IsItem put.item
+
+pub record IsDevicePutFit (put : DevicePut) : Type 0 where
+  pub device : IsText put.device
+  pub path : IsText (path_text put.path)
+  pub item : IsItem put.item
