@@ -9,6 +9,7 @@ use std::alloc::Global;
 
 /// Adds the value of a double-quoted string to an argument: trailing blanks are dropped first, then
 /// the indentation up to the column of the opening quote, and escapes are read afterwards.
+#[tactic(auto, unfolding(crate::specs::Quoted::string_value))]
 pub fn add_value(
     alloc: Global,
     argument: &mut Text,
@@ -88,7 +89,7 @@ fn without_indentation(alloc: Global, column: u128, text: &[char]) -> Result<Vec
 fn add_spaces(out: &mut Vec<char>, count: u128) -> Result<(), Memory>
     ensures { OnOk result (out.new.items ≡ out.old.items ++ replicate count 32) }
 {
-    for _ in 0..count {
+    for _i in 0..count {
         out.push(' ')?;
     }
     Ok(())
