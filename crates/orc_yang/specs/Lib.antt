@@ -2,5 +2,6 @@ pub mod Sorts
 pub mod Statement
 pub mod Quoted
 pub mod Grammar
+pub mod Text
 pub mod Machine
 pub mod View

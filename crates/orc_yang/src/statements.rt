@@ -1,4 +1,10 @@
 //! From bytes to statements.
+ghost use Rattle.std.specs.Prelude.{◌≡◌, ◌<◌, ◌^◌, length, MatchResult, IfOk, List};
+ghost use Rattle.std.specs.Str.{chars};
+ghost use Rattle.orc_yang.specs.Text.{placed, next_column, Spells};
+ghost use Rattle.orc_yang.specs.Machine.{run, start};
+ghost use Rattle.orc_yang.specs.View.{Fails};
+ghost use Rattle.orc_yang.specs.declared.statement.Stmt.{Stmt};
 
 use crate::parser::{Character, Parser};
 use crate::{Stmt, YangFault};
@@ -6,7 +12,12 @@ use std::alloc::Global;
 use std::str::from_utf8;
 
 /// The statements that the bytes spell.
-pub fn parse(alloc: Global, bytes: &[u8]) -> Result<Vec<Stmt>, YangFault> {
+pub fn parse(alloc: Global, bytes: &[u8]) -> Result<Vec<Stmt>, YangFault>
+    // What is read is spelled so.
+    ensures found { IfOk result (λ list. Spells bytes.now list.items) }
+    // What is spelled so is read, unless memory runs out, and as no other list.
+    ensures only { (list : List Stmt) → Spells bytes.now list → MatchResult result (λ read. read.items ≡ list) (λ fault. fault ≡ YangFault.Memory) }
+{
     match from_utf8(bytes) {
         Ok(text) => read(alloc, text),
         Err(error) => Err(YangFault::NotUtf8 {
@@ -16,7 +27,12 @@ pub fn parse(alloc: Global, bytes: &[u8]) -> Result<Vec<Stmt>, YangFault> {
 }
 
 /// The statements of a text.
-fn read(alloc: Global, text: &str) -> Result<Vec<Stmt>, YangFault> {
+fn read(alloc: Global, text: &str) -> Result<Vec<Stmt>, YangFault>
+    ensures { MatchResult result
+        (λ list. run (placed 0 1 (chars text.now)) start (length text.now) ≡ Ok list.items)
+        (Fails (run (placed 0 1 (chars text.now)) start (length text.now))) }
+{
+    let end = text.len() as u64;
     let mut parser = Parser::new(alloc);
     let mut at = 0;
     let mut column = 1;
@@ -32,11 +48,14 @@ fn read(alloc: Global, text: &str) -> Result<Vec<Stmt>, YangFault> {
         at = next;
         column = next_column(code, column);
     }
-    parser.finish(at)
+    parser.finish(end)
 }
 
 /// The column behind a character: a line break begins a line, and a tab counts as eight columns.
-fn next_column(code: char, column: u128) -> u128 {
+fn next_column(code: char, column: u128) -> u128
+    requires { column < 2 ^ 100 }
+    ensures { result ≡ next_column code column }
+{
     match code {
         '\n' => 1,
         '\t' => column + 8,

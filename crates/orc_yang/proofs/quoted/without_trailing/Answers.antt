@@ -13,17 +13,17 @@ loop-i-preserved c =
     let is = c.index-text-i.is in
     let h = c.loop-i.invariant in
     elim c.if-is_space.branch [
-      then-is_space+in_ok-push w ↦
-        let k = turn_blank text c.loop-i.out.items c.loop-i.held.items _ i x below is h (sym c.is_space.ensures ∙ w.if-is_space.true) in cc (w.in_ok-push.ensures.items)
-    | else-is_space+in_ok-push-2 w ↦
-        elim w.if-not-begins_break.branch [
-          then-not-begins_break+in_ok-extend_from_slice w' ↦
-            let b = sym (w.begins_break.ensures ∙ ap (begins_break x) (rest_is text (i + 1))) ∙ w'.if-not-begins_break.true in
-            let k = turn_other text c.loop-i.out.items c.loop-i.held.items _ i x below is h (sym c.is_space.ensures ∙ w.if-is_space.false) b in
-            cc (w'.in_ok-extend_from_slice.ensures.items, w.in_ok-push-2.ensures.items, w.clear.ensures.items, w'.as_slice.ensures.value)
-        | else-not-begins_break w' ↦
-            let b = sym (w.begins_break.ensures ∙ ap (begins_break x) (rest_is text (i + 1))) ∙ w'.if-not-begins_break.false in
-            let k = turn_break text c.loop-i.out.items c.loop-i.held.items _ i x below is h (sym c.is_space.ensures ∙ w.if-is_space.false) b in
-            cc (w.in_ok-push-2.ensures.items, w.clear.ensures.items)
-        ]
+      | then-is_space+in_ok-push w ↦
+          let k = turn_blank text c.loop-i.out.items c.loop-i.held.items _ i x below is h (sym c.is_space.ensures ∙ w.if-is_space.true) in cc (w.in_ok-push.ensures.items)
+      | else-is_space+in_ok-push-2 w ↦
+          elim w.if-not-begins_break.branch [
+            | then-not-begins_break+in_ok-extend_from_slice w' ↦
+                let b = sym (w.begins_break.ensures ∙ ap (begins_break x) (rest_is text (i + 1))) ∙ w'.if-not-begins_break.true in
+                let k = turn_other text c.loop-i.out.items c.loop-i.held.items _ i x below is h (sym c.is_space.ensures ∙ w.if-is_space.false) b in
+                cc (w'.in_ok-extend_from_slice.ensures.items, w.in_ok-push-2.ensures.items, w.clear.ensures.items, w'.as_slice.ensures.value)
+            | else-not-begins_break w' ↦
+                let b = sym (w.begins_break.ensures ∙ ap (begins_break x) (rest_is text (i + 1))) ∙ w'.if-not-begins_break.false in
+                let k = turn_break text c.loop-i.out.items c.loop-i.held.items _ i x below is h (sym c.is_space.ensures ∙ w.if-is_space.false) b in
+                cc (w.in_ok-push-2.ensures.items, w.clear.ensures.items)
+          ]
     ]
