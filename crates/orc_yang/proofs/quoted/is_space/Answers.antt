@@ -1,0 +1,1 @@
+use Rattle.orc_yang.proofs.Complete.{step_is}
