@@ -1,1 +1,1 @@
-use Rattle.orc_yang.proofs.Complete.{step_is}
+use Rattle.orc_yang.proofs.Sound.{RestFed}
