@@ -1,3 +1,5 @@
 mod Values
 mod Complete
 mod Sound
+mod Reading
+mod Spelling

@@ -1,0 +1,49 @@
+-- The bytes of a text, and what the machine answers to them.
+use Rattle.std.proofs.Common.{◌≡◌, ℕ, List, [], ◌∷◌, ◌++◌, true, Result, Ok, Err, MatchResult, IfOk, refl, sym, ap, ◌∙◌, subst}
+use Rattle.std.specs.Str.{chars, IsUtf8, encode_utf8_all, all_scalars}
+use Rattle.std.proofs.lemmas.Str.{chars-encodes}
+use Rattle.orc_yang.specs.declared.fault.YangFault.{YangFault}
+use Rattle.orc_yang.specs.declared.fault.YangFault.TheVariants.{NotUtf8, BadToken, BadEscape, OpenString, OpenBlock, Depth, Memory}
+use Rattle.orc_yang.specs.declared.statement.Stmt.{Stmt}
+use Rattle.orc_yang.specs.Grammar.{Statements}
+use Rattle.orc_yang.specs.Text.{placed, Spells}
+use Rattle.orc_yang.specs.Machine.{run, start}
+use Rattle.orc_yang.specs.View.{Fails}
+use Rattle.orc_yang.proofs.Complete.{complete}
+use Rattle.orc_yang.proofs.Sound.{sound}
+use Rattle.orc_yang.proofs.Reading.{spelled}
+
+-- the answer to bytes that are UTF-8
+abbrev pub answer : List ℕ → ℕ → Result (List Stmt) YangFault
+answer bytes end = run (placed 0 1 (chars bytes)) start end
+
+pub scalars_of : (bytes : List ℕ) → IsUtf8 bytes → all_scalars (chars bytes) ≡ true
+scalars_of bytes u = ap all_scalars (ap chars (sym u.1.1) ∙ chars-encodes u.0 u.1.0) ∙ u.1.0
+
+pub found : (bytes : List ℕ) (end : ℕ) (list : List Stmt) → IsUtf8 bytes → answer bytes end ≡ Ok list → Spells bytes list
+found bytes end list u e = (chars bytes, scalars_of bytes u, spelled bytes u, sound end e)
+
+pub utf8_of : (bytes : List ℕ) (list : List Stmt) → Spells bytes list → IsUtf8 bytes
+utf8_of bytes list s = (s.0, (s.1, s.2))
+
+pub answered : (bytes : List ℕ) (end : ℕ) (list : List Stmt) → Spells bytes list → answer bytes end ≡ Ok list
+answered bytes end list s = ap (λ cs. run (placed 0 1 cs) start end) (ap chars (sym s.2) ∙ chars-encodes s.0 s.1) ∙ complete end s.3
+
+memory : (fault : YangFault) (list : List Stmt) (a : Result (List Stmt) YangFault) → Fails a fault → a ≡ Ok list → fault ≡ Memory
+memory Memory list a h e = refl
+memory (NotUtf8 at) list a h e = cc
+memory (BadToken at) list a h e = cc
+memory (BadEscape at) list a h e = cc
+memory (OpenString at) list a h e = cc
+memory (OpenBlock at) list a h e = cc
+memory (Depth at) list a h e = cc
+
+pub only : {V : Type 0} (items : V → List Stmt) (r : Result V YangFault) (a : Result (List Stmt) YangFault) (list : List Stmt) → MatchResult r (λ v. a ≡ Ok (items v)) (Fails a) → a ≡ Ok list
+    → MatchResult r (λ v. items v ≡ list) (λ fault. fault ≡ Memory)
+only items (Ok v) a list h e = let q : items v ≡ list = cc in q
+only items (Err fault) a list h e = memory fault list a h e
+
+pub found_all : {V : Type 0} (items : V → List Stmt) (r : Result V YangFault) (bytes : List ℕ) (end : ℕ) → IsUtf8 bytes → MatchResult r (λ v. answer bytes end ≡ Ok (items v)) (Fails (answer bytes end))
+    → IfOk r (λ v. Spells bytes (items v))
+found_all items (Ok v) bytes end u h = found bytes end (items v) u h
+found_all items (Err fault) bytes end u h = tt
