@@ -3,3 +3,5 @@ mod Complete
 mod Sound
 mod Reading
 mod Spelling
+mod Viable
+mod Faults

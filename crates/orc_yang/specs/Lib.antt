@@ -5,3 +5,4 @@ pub mod Grammar
 pub mod Text
 pub mod Machine
 pub mod View
+pub mod Faults

@@ -1,1 +1,1 @@
-use Rattle.orc_yang.proofs.Sound.{RestFed}
+use Rattle.orc_yang.proofs.Faults.{doomed}
