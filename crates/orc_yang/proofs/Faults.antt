@@ -100,14 +100,14 @@ stops_doomed front s t w c f e q b =
 pub can_follow : (front : List ℕ) (s t : State) (w : Came front s) (c : ℕ) → feed s (character (length (encode_utf8_all front)) w.column c) ≡ Ok t → pending t.work ≡ None → CanFollow front c
 can_follow front s t w c e q = begins (front ++ c ∷ []) t (came_more front s t w c e) q
 
-abbrev S : List Stmt → List Frame → Work → State
+abbrev pub S : List Stmt → List Frame → Work → State
 S done frames w = record { work = w; done = done; frames = frames }
 
 module _ (front : List ℕ) (done : List Stmt) (frames : List Frame) where
-  takes_keyed : (h : Head) → Came front (S done frames (Gap (Keyed h))) → TakesString front
+  pub takes_keyed : (h : Head) → Came front (S done frames (Gap (Keyed h))) → TakesString front
   takes_keyed h w = (can_follow front _ _ w 34 refl refl, can_follow front _ _ w 39 refl refl, stops_err front _ w 125 _ refl)
 
-  takes_joining : (h : Head) (a : List ℕ) → Came front (S done frames (Gap (Joining h a))) → TakesString front
+  pub takes_joining : (h : Head) (a : List ℕ) → Came front (S done frames (Gap (Joining h a))) → TakesString front
   takes_joining h a w = (can_follow front _ _ w 34 refl refl, can_follow front _ _ w 39 refl refl, stops_err front _ w 125 _ refl)
 
   regrouped : (P : List ℕ → Type 0) (cs ds : List ℕ) → P ((front ++ cs) ++ ds) → P (front ++ (cs ++ ds))
@@ -129,24 +129,24 @@ module _ (front : List ℕ) (done : List Stmt) (frames : List Frame) where
       let q : (((front ++ 47 ∷ []) ++ 42 ∷ []) ++ 42 ∷ []) ++ 47 ∷ [] ≡ front ++ 47 ∷ 42 ∷ 42 ∷ 47 ∷ [] = simp append_assoc in
       (subst Begins q b, λ b'. stops_err (front ++ 47 ∷ []) _ w 125 _ (e' _) (ungrouped Begins (47 ∷ []) (125 ∷ []) b'))
 
-  takes_gap : (spot : Spot) → Came front (S done frames (Gap spot)) → TakesComment front
+  pub takes_gap : (spot : Spot) → Came front (S done frames (Gap spot)) → TakesComment front
   takes_gap Between w = takes_slashed (Slashed Between _) Between _ (came_more front _ _ w 47 refl) (λ x. refl) (λ x. refl)
   takes_gap (Keyed h) w = takes_slashed (Lone h _ _) (Keyed h) _ (came_more front _ _ w 47 refl) (λ x. refl) (λ x. refl)
   takes_gap (Worded h a) w = takes_slashed (Slashed (Worded h a) _) (Worded h a) _ (came_more front _ _ w 47 refl) (λ x. refl) (λ x. refl)
   takes_gap (Strung h a) w = takes_slashed (Slashed (Strung h a) _) (Strung h a) _ (came_more front _ _ w 47 refl) (λ x. refl) (λ x. refl)
   takes_gap (Joining h a) w = takes_slashed (Slashed (Joining h a) _) (Joining h a) _ (came_more front _ _ w 47 refl) (λ x. refl) (λ x. refl)
 
-  takes_first : (h : Head) → Came front (S done frames (InKeyword h)) → TakesComment front
+  pub takes_first : (h : Head) → Came front (S done frames (InKeyword h)) → TakesComment front
   takes_first h w = takes_slashed (Slashed (Keyed h) _) (Keyed h) _ (came_more front _ _ w 47 refl) (λ x. refl) (λ x. refl)
 
-  takes_second : (h : Head) → Came front (S done frames (InSecond h)) → TakesComment front
+  pub takes_second : (h : Head) → Came front (S done frames (InSecond h)) → TakesComment front
   takes_second h w = takes_slashed (Slashed (Keyed h) _) (Keyed h) _ (came_more front _ _ w 47 refl) (λ x. refl) (λ x. refl)
 
   -- only behind a backslash in a double-quoted string
-  escaping : (h : Head) (a : List ℕ) (o column : ℕ) (raw : List ℕ) → Came front (S done frames (BehindBackslash h a o column raw None)) → IsEscaping front
+  pub escaping : (h : Head) (a : List ℕ) (o column : ℕ) (raw : List ℕ) → Came front (S done frames (BehindBackslash h a o column raw None)) → IsEscaping front
   escaping h a o column raw w = (can_follow front _ _ w 110 refl refl, can_follow front _ _ w 34 refl refl, stops_doomed front _ _ w 97 _ refl refl)
 
-  not_escaping : (w : Work) → pending w ≡ None → ((h : Head) (a : List ℕ) (o column : ℕ) (raw : List ℕ) → w ≡ BehindBackslash h a o column raw None → ⊥) → Came front (S done frames w) → IsEscaping front → ⊥
+  pub not_escaping : (w : Work) → pending w ≡ None → ((h : Head) (a : List ℕ) (o column : ℕ) (raw : List ℕ) → w ≡ BehindBackslash h a o column raw None → ⊥) → Came front (S done frames w) → IsEscaping front → ⊥
   not_escaping (Gap Between) q n w e = stops_err front _ w 34 _ refl e.1
   not_escaping (Gap (Keyed h)) q n w e = e.2 (can_follow front _ _ w 97 refl refl)
   not_escaping (Gap (Worded h a)) q n w e = stops_err front _ w 34 _ refl e.1

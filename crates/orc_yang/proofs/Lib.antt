@@ -5,3 +5,4 @@ mod Reading
 mod Spelling
 mod Viable
 mod Faults
+mod FaultSteps

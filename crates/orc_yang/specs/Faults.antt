@@ -3,7 +3,7 @@
 use Rattle.std.specs.Prelude.{ℕ, ◌≡◌, ◌+◌, ◌-◌, ◌||◌, ◌⊎◌, Bool, true, false, length, List, [], ◌∷◌, ◌++◌, encode_utf8}
 use Rattle.std.specs.Str.{encode_utf8_all, all_scalars, IsValidUpTo}
 use Rattle.orc_yang.specs.declared.sort.Sort.{Sort}
-use Rattle.orc_yang.specs.declared.sort.Sort.TheVariants.{SingleQuote, DoubleQuote, Backslash, Star, Slash, Forbidden}
+use Rattle.orc_yang.specs.declared.sort.Sort.TheVariants.{OpenBrace, SingleQuote, DoubleQuote, Backslash, Star, Slash, Forbidden}
 use Rattle.orc_yang.specs.declared.fault.YangFault.{YangFault}
 use Rattle.orc_yang.specs.declared.fault.YangFault.TheVariants.{NotUtf8, BadToken, BadEscape, OpenString, OpenBlock, Depth, Memory}
 use Rattle.orc_yang.specs.declared.statement.Stmt.{Stmt}
@@ -76,9 +76,9 @@ ends_comment false (c ∷ cs) = ends_comment (is_star (sort_of c)) cs
 
 -- A string or a comment begins behind these characters, and has no end in those that follow.
 abbrev pub IsUnclosed : List ℕ → List ℕ → Type 0
-IsUnclosed front rest = ((after : List ℕ) × TakesString front × (rest ≡ 39 ∷ after) × (ends_single after ≡ false))
-    ⊎ (((after : List ℕ) × TakesString front × (rest ≡ 34 ∷ after) × (ends_double false after ≡ false))
-    ⊎ ((after : List ℕ) × TakesComment front × (rest ≡ 47 ∷ 42 ∷ after) × (ends_comment false after ≡ false)))
+IsUnclosed front rest = ((q : ℕ) × (after : List ℕ) × (rest ≡ q ∷ after) × (sort_of q ≡ SingleQuote) × TakesString front × (ends_single after ≡ false))
+    ⊎ (((q : ℕ) × (after : List ℕ) × (rest ≡ q ∷ after) × (sort_of q ≡ DoubleQuote) × TakesString front × (ends_double false after ≡ false))
+    ⊎ ((x y : ℕ) × (after : List ℕ) × (rest ≡ x ∷ y ∷ after) × (sort_of x ≡ Slash) × (sort_of y ≡ Star) × TakesComment front × (ends_comment false after ≡ false)))
 
 -- c is the first character of a text that can't follow what stands before it
 pub record Stops (text front : List ℕ) (c : ℕ) : Type 0 where
@@ -94,9 +94,9 @@ IsPlace front c at = (at ≡ length (encode_utf8_all front)) ⊎ ((sort_of c ≡
 -- what a fault means for a text
 abbrev pub FaultOf : List ℕ → YangFault → Type 0
 FaultOf text (NotUtf8 at) = ⊥
-FaultOf text (BadToken at) = (front : List ℕ) × (c : ℕ) × Stops text front c × IsPlace front c at × ¬ IsEscaping front × (c ≡ 123 → ¬ CanFollow front 59)
+FaultOf text (BadToken at) = (front : List ℕ) × (c : ℕ) × Stops text front c × IsPlace front c at × ¬ IsEscaping front × (sort_of c ≡ OpenBrace → ¬ CanFollow front 59)
 FaultOf text (BadEscape at) = (front : List ℕ) × (c : ℕ) × Stops text front c × IsEscaping front × (at ≡ length (encode_utf8_all front) - 1)
 FaultOf text (OpenString at) = (front rest : List ℕ) × (text ≡ front ++ rest) × (at ≡ length (encode_utf8_all front)) × IsUnclosed front rest
 FaultOf text (OpenBlock at) = (at ≡ length (encode_utf8_all text)) × Begins text × ((list : List Stmt) → Reads text list → ⊥)
-FaultOf text (Depth at) = (front : List ℕ) × Stops text front 123 × CanFollow front 59 × (at ≡ length (encode_utf8_all front))
+FaultOf text (Depth at) = (front : List ℕ) × (c : ℕ) × Stops text front c × (sort_of c ≡ OpenBrace) × CanFollow front 59 × (at ≡ length (encode_utf8_all front))
 FaultOf text Memory = Unit {0}

@@ -1,1 +1,1 @@
-use Rattle.orc_yang.proofs.Faults.{doomed}
+use Rattle.orc_yang.proofs.FaultSteps.{After}
