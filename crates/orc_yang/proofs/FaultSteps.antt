@@ -371,3 +371,34 @@ module _ (front : List ℕ) (c : ℕ) (after : List ℕ) (done : List Stmt) wher
     backslash_work : (h : Head) (a : List ℕ) (o column : ℕ) (raw : List ℕ) (p : Option YangFault) (w : C (BehindBackslash h a o column raw p)) → OpenDouble true front o → Pends front p
         → After front c after (machine.behind_backslash h a o column raw p (S done frames (BehindBackslash h a o column raw p)) (x (BehindBackslash h a o column raw p) w))
     backslash_work h a o column raw p w op ps = (double_escaped front c op, escape_pends h a o column raw p w ps (is_escape c) refl)
+
+  -- a closing brace
+  closing : (frames : List Frame) (w : C frames (Gap Between)) → sort_of c ≡ CloseBrace → After front c after (machine.close frames (S done frames (Gap Between)) (x frames (Gap Between) w))
+  closing [] w e = bad_fault [] (Gap Between) w refl (λ h a o column raw i. cc) (f_is [] (Gap Between) w CloseBrace e) (not_brace [] CloseBrace (λ i. cc) e)
+  closing (f ∷ fs) w e = (tt, pends_none (front ++ c ∷ []))
+
+  between_step : (frames : List Frame) (w : C frames (Gap Between)) (k : Sort) → sort_of c ≡ k → After front c after (machine.between k (S done frames (Gap Between)) (x frames (Gap Between) w))
+  between_step frames w CloseBrace e = closing frames w e
+  between_step frames w k e = between_spot frames w k e (λ i. cc)
+
+  -- one step
+  pub step : (frames : List Frame) (v : Work) (w : C frames v) → Opened front v → Pends front (pending v) → (k : Sort) → sort_of c ≡ k → After front c after (feed_work v k (S done frames v) (x frames v w))
+  step frames (Gap Between) w op ps k e = between_step frames w k e
+  step frames (Gap (Keyed h)) w op ps k e = keyed_spot frames h w k e
+  step frames (Gap (Worded h a)) w op ps k e = worded_spot frames h a w k e
+  step frames (Gap (Strung h a)) w op ps k e = strung_spot frames h a w k e
+  step frames (Gap (Joining h a)) w op ps k e = joining_spot frames h a w k e
+  step frames (Slashed spot o) w op ps k e = slashed_work frames spot o w op k e
+  step frames (InLine spot) w op ps k e = line_work frames spot w k e
+  step frames (InBlock spot o p) w op ps k e = block_work frames spot o p w op ps k e
+  step frames (BehindStar spot o p) w op ps k e = star_work frames spot o p w op ps k e
+  step frames (InKeyword h) w op ps k e = keyword_work frames h w k e
+  step frames (BehindColon h) w op ps k e = colon_work frames h w k e
+  step frames (InSecond h) w op ps k e = second_work frames h w k e
+  step frames (Lone h a o) w op ps k e = lone_work frames h a o w op k e
+  step frames (WordSlash h a) w op ps k e = word_slash frames h a w k e
+  step frames (WordStar h a) w op ps k e = word_star frames h a w k e
+  step frames (InWord h a) w op ps k e = word_work frames h a (InWord h a) w refl (λ h a o column raw i. cc) (can_follow front _ _ w 59 refl refl) k e (f_is frames (InWord h a) w k e)
+  step frames (InSingle h a o p) w op ps k e = single_work frames h a o p w op ps k e
+  step frames (InDouble h a o column raw p) w op ps k e = double_work frames h a o column raw p w op ps k e
+  step frames (BehindBackslash h a o column raw p) w op ps k e = backslash_work frames h a o column raw p w op ps

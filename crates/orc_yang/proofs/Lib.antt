@@ -6,3 +6,4 @@ mod Spelling
 mod Viable
 mod Faults
 mod FaultSteps
+mod FaultRuns

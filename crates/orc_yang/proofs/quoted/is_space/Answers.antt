@@ -1,1 +1,1 @@
-use Rattle.orc_yang.proofs.FaultSteps.{After}
+use Rattle.orc_yang.proofs.FaultRuns.{fault_of}
