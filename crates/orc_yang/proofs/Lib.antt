@@ -2,8 +2,8 @@ mod Values
 mod Complete
 mod Sound
 mod Reading
-mod Spelling
 mod Viable
 mod Faults
 mod FaultSteps
 mod FaultRuns
+mod Spelling

@@ -1,5 +1,5 @@
 -- The bytes of a text, and what the machine answers to them.
-use Rattle.std.proofs.Common.{◌≡◌, ℕ, List, [], ◌∷◌, ◌++◌, true, Result, Ok, Err, MatchResult, IfOk, refl, sym, ap, ◌∙◌, subst}
+use Rattle.std.proofs.Common.{◌≡◌, ℕ, List, [], ◌∷◌, ◌++◌, true, Result, Ok, Err, MatchResult, IfOk, IfErr, length, refl, sym, ap, ◌∙◌, subst}
 use Rattle.std.specs.Str.{chars, IsUtf8, encode_utf8_all, all_scalars}
 use Rattle.std.proofs.lemmas.Str.{chars-encodes}
 use Rattle.orc_yang.specs.declared.fault.YangFault.{YangFault}
@@ -11,7 +11,9 @@ use Rattle.orc_yang.specs.Machine.{run, start}
 use Rattle.orc_yang.specs.View.{Fails}
 use Rattle.orc_yang.proofs.Complete.{complete}
 use Rattle.orc_yang.proofs.Sound.{sound}
+use Rattle.orc_yang.specs.Faults.{IsFault, FaultOf}
 use Rattle.orc_yang.proofs.Reading.{spelled}
+use Rattle.orc_yang.proofs.FaultRuns.{fault_of}
 
 -- the answer to bytes that are UTF-8
 abbrev pub answer : List ℕ → ℕ → Result (List Stmt) YangFault
@@ -47,3 +49,21 @@ pub found_all : {V : Type 0} (items : V → List Stmt) (r : Result V YangFault) 
     → IfOk r (λ v. Spells bytes (items v))
 found_all items (Ok v) bytes end u h = found bytes end (items v) u h
 found_all items (Err fault) bytes end u h = tt
+
+-- a fault of bytes that are UTF-8
+fault_in : (bytes : List ℕ) → IsUtf8 bytes → (f : YangFault) → answer bytes (length bytes) ≡ Err f → (text : List ℕ) × (all_scalars text ≡ true) × (encode_utf8_all text ≡ bytes) × FaultOf text f
+fault_in bytes u f e = (chars bytes, scalars_of bytes u, spelled bytes u, fault_of (chars bytes) (length bytes) (ap length (sym (spelled bytes u))) f e)
+
+fault_is : (bytes : List ℕ) → IsUtf8 bytes → (f : YangFault) → Fails (answer bytes (length bytes)) f → IsFault bytes f
+fault_is bytes u Memory h = tt
+fault_is bytes u (NotUtf8 at) h = absurd (fault_in bytes u (NotUtf8 at) h).3
+fault_is bytes u (BadToken at) h = fault_in bytes u (BadToken at) h
+fault_is bytes u (BadEscape at) h = fault_in bytes u (BadEscape at) h
+fault_is bytes u (OpenString at) h = fault_in bytes u (OpenString at) h
+fault_is bytes u (OpenBlock at) h = fault_in bytes u (OpenBlock at) h
+fault_is bytes u (Depth at) h = fault_in bytes u (Depth at) h
+
+pub faults : {V : Type 0} (items : V → List Stmt) (r : Result V YangFault) (bytes : List ℕ) → IsUtf8 bytes → MatchResult r (λ v. answer bytes (length bytes) ≡ Ok (items v)) (Fails (answer bytes (length bytes)))
+    → IfErr r (IsFault bytes)
+faults items (Ok v) bytes u h = tt
+faults items (Err f) bytes u h = fault_is bytes u f h

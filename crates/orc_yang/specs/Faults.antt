@@ -100,3 +100,9 @@ FaultOf text (OpenString at) = (front rest : List ℕ) × (text ≡ front ++ res
 FaultOf text (OpenBlock at) = (at ≡ length (encode_utf8_all text)) × Begins text × ((list : List Stmt) → Reads text list → ⊥)
 FaultOf text (Depth at) = (front : List ℕ) × (c : ℕ) × Stops text front c × (sort_of c ≡ OpenBrace) × CanFollow front 59 × (at ≡ length (encode_utf8_all front))
 FaultOf text Memory = Unit {0}
+
+-- what a fault means for bytes
+abbrev pub IsFault : List ℕ → YangFault → Type 0
+IsFault bytes (NotUtf8 at) = IsValidUpTo bytes at
+IsFault bytes Memory = Unit {0}
+IsFault bytes fault = (text : List ℕ) × (all_scalars text ≡ true) × (encode_utf8_all text ≡ bytes) × FaultOf text fault

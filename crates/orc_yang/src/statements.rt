@@ -1,8 +1,9 @@
 //! From bytes to statements.
-ghost use Rattle.std.specs.Prelude.{◌≡◌, ◌<◌, ◌^◌, length, MatchResult, IfOk, List};
+ghost use Rattle.std.specs.Prelude.{◌≡◌, ◌<◌, ◌^◌, length, MatchResult, IfOk, IfErr, List};
 ghost use Rattle.std.specs.Str.{chars};
 ghost use Rattle.orc_yang.specs.Text.{placed, next_column, Spells};
 ghost use Rattle.orc_yang.specs.Machine.{run, start};
+ghost use Rattle.orc_yang.specs.Faults.{IsFault};
 ghost use Rattle.orc_yang.specs.View.{Fails};
 ghost use Rattle.orc_yang.specs.declared.statement.Stmt.{Stmt};
 
@@ -17,6 +18,8 @@ pub fn parse(alloc: Global, bytes: &[u8]) -> Result<Vec<Stmt>, YangFault>
     ensures found { IfOk result (λ list. Spells bytes.now list.items) }
     // What is spelled so is read, unless memory runs out, and as no other list.
     ensures only { (list : List Stmt) → Spells bytes.now list → MatchResult result (λ read. read.items ≡ list) (λ fault. fault ≡ YangFault.Memory) }
+    // Where bytes that are not UTF-8 cease to be; else what the fault means for the characters.
+    ensures faults { IfErr result (IsFault bytes.now) }
 {
     match from_utf8(bytes) {
         Ok(text) => read(alloc, text),

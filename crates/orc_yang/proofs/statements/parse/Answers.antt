@@ -1,5 +1,5 @@
 use Rattle.std.proofs.Common.{◌≡◌, length, List}
-use Rattle.orc_yang.proofs.Spelling.{found_all, only, answered}
+use Rattle.orc_yang.proofs.Spelling.{found_all, only, answered, faults}
 use Rattle.orc_yang.proofs.statements.parse.Goals as goal
 
 pub returns-in-Ok-clause-found : goal.returns-in-Ok-clause-found
@@ -13,3 +13,9 @@ returns-in-Ok-clause-only c = λ list s.
     let bytes = c.args.bytes.now in
     let q = c.in-Ok.ensures.cases in
     only _ c.read.result _ list (rw q.0 at c.read.ensures) (answered bytes (length bytes) list s)
+
+pub returns-in-Ok-clause-faults : goal.returns-in-Ok-clause-faults
+returns-in-Ok-clause-faults c =
+    let bytes = c.args.bytes.now in
+    let q = c.in-Ok.ensures.cases in
+    faults _ c.read.result bytes q.1 (rw q.0 at c.read.ensures)
