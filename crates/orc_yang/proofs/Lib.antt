@@ -6,4 +6,5 @@ mod Viable
 mod Faults
 mod FaultSteps
 mod FaultRuns
+mod Unclosed
 mod Spelling

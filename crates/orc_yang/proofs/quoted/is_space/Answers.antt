@@ -1,1 +1,1 @@
-use Rattle.orc_yang.proofs.FaultRuns.{fault_of}
+use Rattle.orc_yang.proofs.Unclosed.{comes}
