@@ -230,3 +230,55 @@ module _ (done : List Stmt) (frames : List Frame) (end : ℕ) where
       let q = or_false (is_slash (sort_of c)) (ends_comment (is_star (sort_of c)) cs) e in
       on_star (sort_of c) spot o p _ _ q.0 (λ p'. comment_runs cs (is_star (sort_of c)) _ _ spot o p' q.1)
   comment_runs (c ∷ cs) false at col spot o p e = on_comment (sort_of c) spot o p _ _ (λ p'. comment_runs cs (is_star (sort_of c)) _ _ spot o p' e)
+
+module _ (front : List ℕ) (end : ℕ) where
+  abbrev at : ℕ
+  at = length (encode_utf8_all front)
+
+  single_from : (done : List Stmt) (frames : List Frame) (v : Work) → StringSpot front done frames v → (w : Came front (S done frames v)) → (q : ℕ) (after : List ℕ) → sort_of q ≡ SingleQuote → ends_single after ≡ false
+      → run (placed at w.column (q ∷ after)) (S done frames v) end ≡ Err (OpenString at)
+  single_from done frames v StringSpot.keyed w q after e n =
+      ap (λ k. fed (feed_work v k (S done frames v) (character at w.column q)) (λ t. run (placed (at + length (encode_utf8 q)) (next_column q w.column) after) t end)) e ∙ single_runs done frames end after _ _ _ _ _ _ n
+  single_from done frames v StringSpot.joining w q after e n =
+      ap (λ k. fed (feed_work v k (S done frames v) (character at w.column q)) (λ t. run (placed (at + length (encode_utf8 q)) (next_column q w.column) after) t end)) e ∙ single_runs done frames end after _ _ _ _ _ _ n
+
+  double_from : (done : List Stmt) (frames : List Frame) (v : Work) → StringSpot front done frames v → (w : Came front (S done frames v)) → (q : ℕ) (after : List ℕ) → sort_of q ≡ DoubleQuote → ends_double false after ≡ false
+      → run (placed at w.column (q ∷ after)) (S done frames v) end ≡ Err (OpenString at)
+  double_from done frames v StringSpot.keyed w q after e n =
+      ap (λ k. fed (feed_work v k (S done frames v) (character at w.column q)) (λ t. run (placed (at + length (encode_utf8 q)) (next_column q w.column) after) t end)) e ∙ double_runs done frames end after false _ _ _ _ _ _ _ _ n
+  double_from done frames v StringSpot.joining w q after e n =
+      ap (λ k. fed (feed_work v k (S done frames v) (character at w.column q)) (λ t. run (placed (at + length (encode_utf8 q)) (next_column q w.column) after) t end)) e ∙ double_runs done frames end after false _ _ _ _ _ _ _ _ n
+
+  comment_from : (done : List Stmt) (frames : List Frame) (v : Work) → CommentSpot front done frames v → (w : Came front (S done frames v)) → (c d : ℕ) (after : List ℕ) → sort_of c ≡ Slash → sort_of d ≡ Star → ends_comment false after ≡ false
+      → run (placed at w.column (c ∷ d ∷ after)) (S done frames v) end ≡ Err (OpenString at)
+  comment_from done frames v m w c d after e e' n =
+      let x = character at w.column c in
+      let y = character (at + length (encode_utf8 c)) (next_column c w.column) d in
+      let next = λ (t : State). run (placed (at + length (encode_utf8 c)) (next_column c w.column) (d ∷ after)) t end in
+      let last = λ (t : State). run (placed ((at + length (encode_utf8 c)) + length (encode_utf8 d)) (next_column d (next_column c w.column)) after) t end in
+      ap (λ k. fed (feed_work v k (S done frames v) x) next) e ∙ (ap (λ a. fed a next) (m.slash x)
+      ∙ (ap (λ k. fed (feed_work (m.mid x) k (S done frames (m.mid x)) y) last) e' ∙ (ap (λ a. fed a last) (m.star x y) ∙ comment_runs done frames end after false _ _ _ _ _ n)))
+
+-- a string or comment without end is the fault
+pub unclosed : (front rest : List ℕ) (end : ℕ) → IsUnclosed front rest → run (placed 0 1 (front ++ rest)) start end ≡ Err (OpenString (length (encode_utf8_all front)))
+unclosed front rest end (inl (q, after, e, sort, t, n)) =
+    let s = comes front (34 ∷ []) t.0 in
+    let done = s.state.done in
+    let frames = s.state.frames in
+    let v = s.state.work in
+    s.came.goes rest end ∙ (ap (λ l. run (placed (length (encode_utf8_all front)) s.came.column l) s.state end) e
+    ∙ single_from front end done frames v (string_spot front done frames v s.came s.clean t) s.came q after sort n)
+unclosed front rest end (inr (inl (q, after, e, sort, t, n))) =
+    let s = comes front (34 ∷ []) t.0 in
+    let done = s.state.done in
+    let frames = s.state.frames in
+    let v = s.state.work in
+    s.came.goes rest end ∙ (ap (λ l. run (placed (length (encode_utf8_all front)) s.came.column l) s.state end) e
+    ∙ double_from front end done frames v (string_spot front done frames v s.came s.clean t) s.came q after sort n)
+unclosed front rest end (inr (inr (x, y, after, e, sort, sort', t, n))) =
+    let s = comes front (47 ∷ 42 ∷ 42 ∷ 47 ∷ []) t.0 in
+    let done = s.state.done in
+    let frames = s.state.frames in
+    let v = s.state.work in
+    s.came.goes rest end ∙ (ap (λ l. run (placed (length (encode_utf8_all front)) s.came.column l) s.state end) e
+    ∙ comment_from front end done frames v (comment_spot front done frames v s.came s.clean t) s.came x y after sort sort' n)
