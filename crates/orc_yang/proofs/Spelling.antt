@@ -1,5 +1,5 @@
 -- The bytes of a text, and what the machine answers to them.
-use Rattle.std.proofs.Common.{◌≡◌, ℕ, List, [], ◌∷◌, ◌++◌, true, Result, Ok, Err, MatchResult, IfOk, IfErr, length, refl, sym, ap, ◌∙◌, subst}
+use Rattle.std.proofs.Common.{◌≡◌, ℕ, List, [], ◌∷◌, ◌++◌, true, Result, Ok, Err, MatchResult, IfOk, IfErr, length, refl, sym, ap, ◌∙◌, subst, inl, inr, ◌⊎◌}
 use Rattle.std.specs.Str.{chars, IsUtf8, encode_utf8_all, all_scalars}
 use Rattle.std.proofs.lemmas.Str.{chars-encodes}
 use Rattle.orc_yang.specs.declared.fault.YangFault.{YangFault}
@@ -11,9 +11,10 @@ use Rattle.orc_yang.specs.Machine.{run, start}
 use Rattle.orc_yang.specs.View.{Fails}
 use Rattle.orc_yang.proofs.Complete.{complete}
 use Rattle.orc_yang.proofs.Sound.{sound}
-use Rattle.orc_yang.specs.Faults.{IsFault, FaultOf}
+use Rattle.orc_yang.specs.Faults.{IsFault, FaultOf, IsUnclosed}
 use Rattle.orc_yang.proofs.Reading.{spelled}
 use Rattle.orc_yang.proofs.FaultRuns.{fault_of}
+use Rattle.orc_yang.proofs.Unclosed.{unclosed}
 
 -- the answer to bytes that are UTF-8
 abbrev pub answer : List ℕ → ℕ → Result (List Stmt) YangFault
@@ -67,3 +68,24 @@ pub faults : {V : Type 0} (items : V → List Stmt) (r : Result V YangFault) (by
     → IfErr r (IsFault bytes)
 faults items (Ok v) bytes u h = tt
 faults items (Err f) bytes u h = fault_is bytes u f h
+
+open_or_memory : (o : ℕ) (a : Result (List Stmt) YangFault) → a ≡ Err (OpenString o) → (f : YangFault) → Fails a f → (f ≡ OpenString o) ⊎ (f ≡ Memory)
+open_or_memory o a e Memory h = inr refl
+open_or_memory o a e (NotUtf8 at) h = cc
+open_or_memory o a e (BadToken at) h = cc
+open_or_memory o a e (BadEscape at) h = cc
+open_or_memory o a e (OpenString at) h = inl (let q : OpenString at ≡ OpenString o = cc in q)
+open_or_memory o a e (OpenBlock at) h = cc
+open_or_memory o a e (Depth at) h = cc
+
+never : {V : Type 0} (items : V → List Stmt) (v : V) (o : ℕ) (a : Result (List Stmt) YangFault) → a ≡ Err (OpenString o) → a ≡ Ok (items v) → ⊥
+never items v o a e h = cc
+
+-- a string or comment without end, in bytes
+pub open_in : {V : Type 0} (items : V → List Stmt) (r : Result V YangFault) (bytes : List ℕ) (end : ℕ) → MatchResult r (λ v. answer bytes end ≡ Ok (items v)) (Fails (answer bytes end))
+    → (front rest : List ℕ) → all_scalars (front ++ rest) ≡ true → encode_utf8_all (front ++ rest) ≡ bytes → IsUnclosed front rest
+    → MatchResult r (λ v. ⊥) (λ f. (f ≡ OpenString (length (encode_utf8_all front))) ⊎ (f ≡ Memory))
+open_in items (Ok v) bytes end h front rest q q' u =
+    never items v (length (encode_utf8_all front)) (answer bytes end) (ap (λ cs. run (placed 0 1 cs) start end) (ap chars (sym q') ∙ chars-encodes (front ++ rest) q) ∙ unclosed front rest end u) h
+open_in items (Err f) bytes end h front rest q q' u =
+    open_or_memory (length (encode_utf8_all front)) (answer bytes end) (ap (λ cs. run (placed 0 1 cs) start end) (ap chars (sym q') ∙ chars-encodes (front ++ rest) q) ∙ unclosed front rest end u) f h

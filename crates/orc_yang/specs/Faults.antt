@@ -87,9 +87,12 @@ pub record Stops (text front : List ℕ) (c : ℕ) : Type 0 where
   pub begins : Begins front
   pub stops : ¬ CanFollow front c
 
--- the place of a character behind these: its first byte, or of a forbidden one its last
+-- The first byte that can't follow, of a character that can't: its first, but of a forbidden
+-- character its last where other characters of two bytes or more can follow, which share the bytes
+-- before.
 abbrev pub IsPlace : List ℕ → ℕ → ℕ → Type 0
-IsPlace front c at = (at ≡ length (encode_utf8_all front)) ⊎ ((sort_of c ≡ Forbidden) × (at + 1 ≡ length (encode_utf8_all front) + length (encode_utf8 c)))
+IsPlace front c at = ((at ≡ length (encode_utf8_all front)) × (sort_of c ≡ Forbidden → ¬ CanFollow front 128))
+    ⊎ ((at + 1 ≡ length (encode_utf8_all front) + length (encode_utf8 c)) × (sort_of c ≡ Forbidden) × CanFollow front 128)
 
 -- what a fault means for a text
 abbrev pub FaultOf : List ℕ → YangFault → Type 0

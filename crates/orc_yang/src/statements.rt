@@ -1,9 +1,9 @@
 //! From bytes to statements.
-ghost use Rattle.std.specs.Prelude.{◌≡◌, ◌<◌, ◌^◌, length, MatchResult, IfOk, IfErr, List};
-ghost use Rattle.std.specs.Str.{chars};
+ghost use Rattle.std.specs.Prelude.{◌≡◌, ◌<◌, ◌^◌, ◌++◌, ◌⊎◌, ℕ, true, length, MatchResult, IfOk, IfErr, List};
+ghost use Rattle.std.specs.Str.{chars, all_scalars, encode_utf8_all};
 ghost use Rattle.orc_yang.specs.Text.{placed, next_column, Spells};
 ghost use Rattle.orc_yang.specs.Machine.{run, start};
-ghost use Rattle.orc_yang.specs.Faults.{IsFault};
+ghost use Rattle.orc_yang.specs.Faults.{IsFault, IsUnclosed};
 ghost use Rattle.orc_yang.specs.View.{Fails};
 ghost use Rattle.orc_yang.specs.declared.statement.Stmt.{Stmt};
 
@@ -20,6 +20,9 @@ pub fn parse(alloc: Global, bytes: &[u8]) -> Result<Vec<Stmt>, YangFault>
     ensures only { (list : List Stmt) → Spells bytes.now list → MatchResult result (λ read. read.items ≡ list) (λ fault. fault ≡ YangFault.Memory) }
     // Where bytes that are not UTF-8 cease to be; else what the fault means for the characters.
     ensures faults { IfErr result (IsFault bytes.now) }
+    // A string or a comment without end is the fault, whatever stands in it, unless memory runs out.
+    ensures unclosed { (front rest : List ℕ) → all_scalars (front ++ rest) ≡ true → encode_utf8_all (front ++ rest) ≡ bytes.now → IsUnclosed front rest
+        → MatchResult result (λ _. ⊥) (λ fault. (fault ≡ YangFault.OpenString (length (encode_utf8_all front))) ⊎ (fault ≡ YangFault.Memory)) }
 {
     match from_utf8(bytes) {
         Ok(text) => read(alloc, text),

@@ -1,5 +1,5 @@
 use Rattle.std.proofs.Common.{◌≡◌, length, List}
-use Rattle.orc_yang.proofs.Spelling.{found_all, only, answered, faults}
+use Rattle.orc_yang.proofs.Spelling.{found_all, only, answered, faults, open_in}
 use Rattle.orc_yang.proofs.statements.parse.Goals as goal
 
 pub returns-in-Ok-clause-found : goal.returns-in-Ok-clause-found
@@ -19,3 +19,9 @@ returns-in-Ok-clause-faults c =
     let bytes = c.args.bytes.now in
     let q = c.in-Ok.ensures.cases in
     faults _ c.read.result bytes q.1 (rw q.0 at c.read.ensures)
+
+pub returns-in-Ok-clause-unclosed : goal.returns-in-Ok-clause-unclosed
+returns-in-Ok-clause-unclosed c =
+    let bytes = c.args.bytes.now in
+    let q = c.in-Ok.ensures.cases in
+    open_in _ c.read.result bytes (length bytes) (rw q.0 at c.read.ensures)
