@@ -2,12 +2,12 @@
 use Rattle.std.proofs.Common.{◌≡◌, ℕ, suc, Bool, true, false, nat_lt, ◌-◌, List, [], ◌∷◌, ◌++◌, length, Option, Some, None, Result, Ok, Err, refl, sym, ap, ◌∙◌, subst, cond, append_assoc, append-nil, arith}
 use Rattle.std.specs.Char.{encode_utf8}
 use Rattle.std.proofs.lemmas.Bool.{false≢true}
-use Rattle.orc_yang.specs.declared.sort.Sort.{Sort}
-use Rattle.orc_yang.specs.declared.sort.Sort.TheVariants.{LineFeed, Blank, Semicolon, OpenBrace, CloseBrace, DoubleQuote, SingleQuote, Slash, Star, Plus, Colon, Backslash, Start, Inner, Forbidden, Other}
+use Rattle.orc_yang.specs.declared.character.Sort.{Sort}
+use Rattle.orc_yang.specs.declared.character.Sort.TheVariants.{LineFeed, Blank, Semicolon, OpenBrace, CloseBrace, DoubleQuote, SingleQuote, Slash, Star, Plus, Colon, Backslash, Start, Inner, Forbidden, Other}
 use Rattle.orc_yang.specs.declared.fault.YangFault.{YangFault}
 use Rattle.orc_yang.specs.declared.fault.YangFault.TheVariants.{BadEscape}
 use Rattle.orc_yang.specs.declared.statement.Stmt.{Stmt}
-use Rattle.orc_yang.specs.declared.parser.Character.{Character}
+use Rattle.orc_yang.specs.declared.character.Character.{Character}
 use Rattle.orc_yang.specs.declared.parser.Frame.{Frame}
 use Rattle.orc_yang.specs.Sorts.{sort_of}
 use Rattle.orc_yang.specs.Statement.{statement}
@@ -195,11 +195,13 @@ module _ (done : List Stmt) (frames : List Frame) (end : ℕ) where
   keyword (grammar.Keyword.prefixed {x} {c} {y} {xs} {ys} {zs} {p} {k} e d e' e'' d') =
       let u = encode_utf8 x.code in
       let h : Head = record { keyword = u; at = x.at } in
-      let g = machine.grown (machine.grown (longer h p) c) y in
-      (InSecond (record { keyword = u ++ (p ++ (encode_utf8 c.code ++ (encode_utf8 y.code ++ k))); at = x.at }), second,
+      let g = machine.grown (machine.grown (longer h p) c) y in (
+        InSecond (record { keyword = u ++ (p ++ (encode_utf8 c.code ++ (encode_utf8 y.code ++ k))); at = x.at }),
+        second,
         step_is Start (Gap Between) x xs e ∙ (letters h d ∙ (step_is Colon (InKeyword (longer h p)) c (y ∷ ys) e'
-        ∙ (step_is Start (BehindColon (machine.grown (longer h p) c)) y ys e'' ∙ (seconds g d'
-        ∙ rekeyed InSecond x.at zs ((((u ++ p) ++ encode_utf8 c.code) ++ encode_utf8 y.code) ++ k) (u ++ (p ++ (encode_utf8 c.code ++ (encode_utf8 y.code ++ k)))) (simp append_assoc))))))
+            ∙ (step_is Start (BehindColon (machine.grown (longer h p) c)) y ys e'' ∙ (seconds g d'
+            ∙ rekeyed InSecond x.at zs ((((u ++ p) ++ encode_utf8 c.code) ++ encode_utf8 y.code) ++ k) (u ++ (p ++ (encode_utf8 c.code ++ (encode_utf8 y.code ++ k)))) (simp append_assoc))))),
+      )
 
   -- an unquoted string
   abbrev word_work : grammar.Last → Head → List ℕ → Work

@@ -2,7 +2,7 @@
 use Rattle.std.proofs.Common.{◌≡◌, ℕ, ◌+◌, ◌-◌, Bool, true, false, List, [], ◌∷◌, ◌++◌, length, Option, Some, None, Result, Ok, Err, refl, sym, ap, ◌∙◌, subst, append_assoc, append-nil, inl, inr, ◌⊎◌}
 use Rattle.std.specs.Char.{encode_utf8}
 use Rattle.std.specs.Str.{encode_utf8_all}
-use Rattle.orc_yang.specs.declared.sort.Sort.TheVariants.{SingleQuote, DoubleQuote}
+use Rattle.orc_yang.specs.declared.character.Sort.TheVariants.{SingleQuote, DoubleQuote}
 use Rattle.orc_yang.specs.declared.fault.YangFault.{YangFault}
 use Rattle.orc_yang.specs.declared.fault.YangFault.TheVariants.{OpenString, OpenBlock}
 use Rattle.orc_yang.specs.declared.statement.Stmt.{Stmt}
@@ -32,21 +32,40 @@ never e = cc
 -- at the end of the text
 module _ (front : List ℕ) (end : ℕ) (q : end ≡ length (encode_utf8_all front)) where
   single_open : (o : ℕ) → OpenSingle front o → FaultOf front (OpenString o)
-  single_open o w = (w.before, w.quote ∷ w.inner, w.is, w.place,
-    inl (w.quote, w.inner, refl, w.sort, w.takes, ap ends_single (sym (append-nil w.inner)) ∙ w.goes []))
+  single_open o w = (
+    w.before,
+    w.quote ∷ w.inner,
+    w.is,
+    w.place,
+    inl (w.quote, w.inner, refl, w.sort, w.takes, ap ends_single (sym (append-nil w.inner)) ∙ w.goes []),
+  )
 
   double_open : (b : Bool) (o : ℕ) → ends_double b [] ≡ false → OpenDouble b front o → FaultOf front (OpenString o)
-  double_open b o e w = (w.before, w.quote ∷ w.inner, w.is, w.place,
-    inr (inl (w.quote, w.inner, refl, w.sort, w.takes, ap (ends_double false) (sym (append-nil w.inner)) ∙ (w.goes [] ∙ e))))
+  double_open b o e w = (
+    w.before,
+    w.quote ∷ w.inner,
+    w.is,
+    w.place,
+    inr (inl (w.quote, w.inner, refl, w.sort, w.takes, ap (ends_double false) (sym (append-nil w.inner)) ∙ (w.goes [] ∙ e))),
+  )
 
   comment_open : (b : Bool) (o : ℕ) → ends_comment b [] ≡ false → OpenComment b front o → FaultOf front (OpenString o)
-  comment_open b o e w = (w.before, w.slash ∷ w.star ∷ w.inner, w.is, w.place,
-    inr (inr (w.slash, w.star, w.inner, refl, w.slash_sort, w.star_sort, w.takes, ap (ends_comment false) (sym (append-nil w.inner)) ∙ (w.goes [] ∙ e))))
+  comment_open b o e w = (
+    w.before,
+    w.slash ∷ w.star ∷ w.inner,
+    w.is,
+    w.place,
+    inr (inr (w.slash, w.star, w.inner, refl, w.slash_sort, w.star_sort, w.takes, ap (ends_comment false) (sym (append-nil w.inner)) ∙ (w.goes [] ∙ e))),
+  )
 
   module _ (s : State) (w : Came front s) (h : run [] s end ≡ Err (OpenBlock end)) (clean : pending s.work ≡ None) where
     block_open : FaultOf front (OpenBlock end)
-    block_open = (q, begins front s w clean, λ list d.
-      never (sym (complete end d) ∙ (ap (λ l. run (placed 0 1 l) start end) (sym (append-nil front)) ∙ (w.goes [] end ∙ h))))
+    block_open = (
+      q,
+      begins front s w clean,
+      λ list d.
+          never (sym (complete end d) ∙ (ap (λ l. run (placed 0 1 l) start end) (sym (append-nil front)) ∙ (w.goes [] end ∙ h))),
+    )
 
   to : (f g : YangFault) → f ≡ g → FaultOf front f → FaultOf front g
   to f g e r = let P : YangFault → Type 0 = λ v. FaultOf front v in subst P e r
@@ -96,10 +115,10 @@ faulty [] front s w end q op ps f e =
 faulty (c ∷ rest) front s w end q op ps f e =
     let joined = append_assoc front (c ∷ []) rest in
     fed_on front c rest s w end f (feed s (character (length (encode_utf8_all front)) w.column c)) refl (step front c rest s.done s.frames s.work w op ps (sort_of c) refl)
-      (λ t v op' ps'.
-        let P : List ℕ → Type 0 = λ l. FaultOf l f in
-        subst P joined (faulty rest (front ++ c ∷ []) t v end (q ∙ ap (λ l. length (encode_utf8_all l)) (sym joined)) op' ps' f (ap (λ l. run (placed 0 1 l) start end) joined ∙ e)))
-      (sym (w.goes (c ∷ rest) end) ∙ e)
+    (λ t v op' ps'.
+    let P : List ℕ → Type 0 = λ l. FaultOf l f in
+    subst P joined (faulty rest (front ++ c ∷ []) t v end (q ∙ ap (λ l. length (encode_utf8_all l)) (sym joined)) op' ps' f (ap (λ l. run (placed 0 1 l) start end) joined ∙ e)))
+    (sym (w.goes (c ∷ rest) end) ∙ e)
 
 -- a fault of a whole text
 pub fault_of : (text : List ℕ) (end : ℕ) → end ≡ length (encode_utf8_all text) → (f : YangFault) → run (placed 0 1 text) start end ≡ Err f → FaultOf text f

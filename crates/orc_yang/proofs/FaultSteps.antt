@@ -4,12 +4,12 @@ use Rattle.std.specs.Char.{encode_utf8}
 use Rattle.std.specs.Str.{encode_utf8_all}
 use Rattle.std.proofs.lemmas.Str.{length-le-encodes}
 use Rattle.std.proofs.lemmas.Bool.{false≢true}
-use Rattle.orc_yang.specs.declared.sort.Sort.{Sort}
-use Rattle.orc_yang.specs.declared.sort.Sort.TheVariants.{LineFeed, Blank, Semicolon, OpenBrace, CloseBrace, DoubleQuote, SingleQuote, Slash, Star, Plus, Colon, Backslash, Start, Inner, Forbidden, Other}
+use Rattle.orc_yang.specs.declared.character.Sort.{Sort}
+use Rattle.orc_yang.specs.declared.character.Sort.TheVariants.{LineFeed, Blank, Semicolon, OpenBrace, CloseBrace, DoubleQuote, SingleQuote, Slash, Star, Plus, Colon, Backslash, Start, Inner, Forbidden, Other}
 use Rattle.orc_yang.specs.declared.fault.YangFault.{YangFault}
 use Rattle.orc_yang.specs.declared.fault.YangFault.TheVariants.{NotUtf8, BadToken, BadEscape, OpenString, OpenBlock, Depth, Memory}
 use Rattle.orc_yang.specs.declared.statement.Stmt.{Stmt}
-use Rattle.orc_yang.specs.declared.parser.Character.{Character}
+use Rattle.orc_yang.specs.declared.character.Character.{Character}
 use Rattle.orc_yang.specs.declared.parser.Frame.{Frame}
 use Rattle.orc_yang.specs.Sorts.{sort_of}
 use Rattle.orc_yang.specs.Quoted.{is_escape}
@@ -88,37 +88,66 @@ After front c after (Err f) = FaultOf (front ++ c ∷ after) f
 module _ (front : List ℕ) (c : ℕ) where
   single_more : {o : ℕ} → is_quote (sort_of c) ≡ false → OpenSingle front o → OpenSingle (front ++ c ∷ []) o
   single_more e w = record {
-    before = w.before; inner = w.inner ++ c ∷ []; place = w.place; takes = w.takes; quote = w.quote; sort = w.sort;
+    before = w.before;
+    inner = w.inner ++ c ∷ [];
+    place = w.place;
+    takes = w.takes;
+    quote = w.quote;
+    sort = w.sort;
     is = ap (λ l. l ++ c ∷ []) w.is ∙ append_assoc w.before (w.quote ∷ w.inner) (c ∷ []);
-    goes = λ rest. ap ends_single (append_assoc w.inner (c ∷ []) rest) ∙ (w.goes (c ∷ rest) ∙ ap (λ b. b || ends_single rest) e)
+    goes = λ rest. ap ends_single (append_assoc w.inner (c ∷ []) rest) ∙ (w.goes (c ∷ rest) ∙ ap (λ b. b || ends_single rest) e);
   }
 
   double_more : {o : ℕ} (b : Bool) → is_double_quote (sort_of c) ≡ false → is_backslash (sort_of c) ≡ b → OpenDouble false front o → OpenDouble b (front ++ c ∷ []) o
   double_more b e e' w = record {
-    before = w.before; inner = w.inner ++ c ∷ []; place = w.place; takes = w.takes; quote = w.quote; sort = w.sort;
+    before = w.before;
+    inner = w.inner ++ c ∷ [];
+    place = w.place;
+    takes = w.takes;
+    quote = w.quote;
+    sort = w.sort;
     is = ap (λ l. l ++ c ∷ []) w.is ∙ append_assoc w.before (w.quote ∷ w.inner) (c ∷ []);
-    goes = λ rest. ap (ends_double false) (append_assoc w.inner (c ∷ []) rest) ∙ (w.goes (c ∷ rest) ∙ (ap (λ q. q || ends_double (is_backslash (sort_of c)) rest) e ∙ ap (λ q. ends_double q rest) e'))
+    goes = λ rest. ap (ends_double false) (append_assoc w.inner (c ∷ []) rest) ∙ (w.goes (c ∷ rest) ∙ (ap (λ q. q || ends_double (is_backslash (sort_of c)) rest) e ∙ ap (λ q. ends_double q rest) e'));
   }
 
   double_escaped : {o : ℕ} → OpenDouble true front o → OpenDouble false (front ++ c ∷ []) o
   double_escaped w = record {
-    before = w.before; inner = w.inner ++ c ∷ []; place = w.place; takes = w.takes; quote = w.quote; sort = w.sort;
+    before = w.before;
+    inner = w.inner ++ c ∷ [];
+    place = w.place;
+    takes = w.takes;
+    quote = w.quote;
+    sort = w.sort;
     is = ap (λ l. l ++ c ∷ []) w.is ∙ append_assoc w.before (w.quote ∷ w.inner) (c ∷ []);
-    goes = λ rest. ap (ends_double false) (append_assoc w.inner (c ∷ []) rest) ∙ w.goes (c ∷ rest)
+    goes = λ rest. ap (ends_double false) (append_assoc w.inner (c ∷ []) rest) ∙ w.goes (c ∷ rest);
   }
 
   comment_more : {o : ℕ} (b : Bool) → is_star (sort_of c) ≡ b → OpenComment false front o → OpenComment b (front ++ c ∷ []) o
   comment_more b e w = record {
-    before = w.before; inner = w.inner ++ c ∷ []; place = w.place; takes = w.takes; slash = w.slash; star = w.star; slash_sort = w.slash_sort; star_sort = w.star_sort;
+    before = w.before;
+    inner = w.inner ++ c ∷ [];
+    place = w.place;
+    takes = w.takes;
+    slash = w.slash;
+    star = w.star;
+    slash_sort = w.slash_sort;
+    star_sort = w.star_sort;
     is = ap (λ l. l ++ c ∷ []) w.is ∙ append_assoc w.before (w.slash ∷ w.star ∷ w.inner) (c ∷ []);
-    goes = λ rest. ap (ends_comment false) (append_assoc w.inner (c ∷ []) rest) ∙ (w.goes (c ∷ rest) ∙ ap (λ q. ends_comment q rest) e)
+    goes = λ rest. ap (ends_comment false) (append_assoc w.inner (c ∷ []) rest) ∙ (w.goes (c ∷ rest) ∙ ap (λ q. ends_comment q rest) e);
   }
 
   comment_star : {o : ℕ} (b : Bool) → is_slash (sort_of c) ≡ false → is_star (sort_of c) ≡ b → OpenComment true front o → OpenComment b (front ++ c ∷ []) o
   comment_star b e e' w = record {
-    before = w.before; inner = w.inner ++ c ∷ []; place = w.place; takes = w.takes; slash = w.slash; star = w.star; slash_sort = w.slash_sort; star_sort = w.star_sort;
+    before = w.before;
+    inner = w.inner ++ c ∷ [];
+    place = w.place;
+    takes = w.takes;
+    slash = w.slash;
+    star = w.star;
+    slash_sort = w.slash_sort;
+    star_sort = w.star_sort;
     is = ap (λ l. l ++ c ∷ []) w.is ∙ append_assoc w.before (w.slash ∷ w.star ∷ w.inner) (c ∷ []);
-    goes = λ rest. ap (ends_comment false) (append_assoc w.inner (c ∷ []) rest) ∙ (w.goes (c ∷ rest) ∙ (ap (λ q. q || ends_comment (is_star (sort_of c)) rest) e ∙ ap (λ q. ends_comment q rest) e'))
+    goes = λ rest. ap (ends_comment false) (append_assoc w.inner (c ∷ []) rest) ∙ (w.goes (c ∷ rest) ∙ (ap (λ q. q || ends_comment (is_star (sort_of c)) rest) e ∙ ap (λ q. ends_comment q rest) e'));
   }
 
 module _ (front : List ℕ) (c : ℕ) (done : List Stmt) (frames : List Frame) where
@@ -134,9 +163,16 @@ module _ (front : List ℕ) (c : ℕ) (done : List Stmt) (frames : List Frame) w
 
   comment_opens : {o : ℕ} → sort_of c ≡ Star → OpenSlash front o → OpenComment false (front ++ c ∷ []) o
   comment_opens e w = record {
-    before = w.before; inner = []; slash = w.slash; star = c; slash_sort = w.sort; star_sort = e; place = w.place; takes = w.takes;
+    before = w.before;
+    inner = [];
+    slash = w.slash;
+    star = c;
+    slash_sort = w.sort;
+    star_sort = e;
+    place = w.place;
+    takes = w.takes;
     is = ap (λ l. l ++ c ∷ []) w.is ∙ append_assoc w.before (w.slash ∷ []) (c ∷ []);
-    goes = λ rest. refl
+    goes = λ rest. refl;
   }
 
 pends_more : (front : List ℕ) (c : ℕ) (p : Option YangFault) → Pends front p → Pends (front ++ c ∷ []) p
@@ -259,8 +295,14 @@ module _ (front : List ℕ) (c : ℕ) (after : List ℕ) (done : List Stmt) wher
         let g = BadToken (at + length (encode_utf8 c) - 1) in
         let j : g ≡ f = cc in
         let P : YangFault → Type 0 = λ h. FaultOf ((front ++ c ∷ []) ++ rest) h in
-        subst P j (front, c, record { after = rest; is = append_assoc front (c ∷ []) rest; begins = begins front (S done frames v) w q; stops = stops_doomed front (S done frames v) t w c g e p },
-          last_place k b, not_escaping front done frames v q n w, not_brace Forbidden (λ z. cc) k)
+        subst P j (
+          front,
+          c,
+          record { after = rest; is = append_assoc front (c ∷ []) rest; begins = begins front (S done frames v) w q; stops = stops_doomed front (S done frames v) t w c g e p },
+          last_place k b,
+          not_escaping front done frames v q n w,
+          not_brace Forbidden (λ z. cc) k,
+        )
 
     block_work : (spot : Spot) (o : ℕ) (p : Option YangFault) (w : C (InBlock spot o p)) → OpenComment false front o → Pends front p → (k : Sort) → sort_of c ≡ k
         → After front c after (machine.in_block k spot o p (S done frames (InBlock spot o p)) (x (InBlock spot o p) w))
@@ -352,9 +394,10 @@ module _ (front : List ℕ) (c : ℕ) (after : List ℕ) (done : List Stmt) wher
         → After front c after (machine.in_double k h a o column raw p (S done frames (InDouble h a o column raw p)) (x (InDouble h a o column raw p) w))
     double_work h a o column raw p w op ps DoubleQuote e = unspoilt p (S done frames _) ps tt refl
     double_work h a o column raw p w op ps Backslash e = (double_more front c true (ap is_double_quote e) (ap is_backslash e) op, pends_more front c p ps)
-    double_work h a o column raw None w op ps Forbidden e =
-        (double_more front c false (ap is_double_quote e) (ap is_backslash e) op,
-          λ f i rest. spoils (InDouble h a o column raw None) w _ f refl (λ h a o column raw i. cc) (f_is (InDouble h a o column raw None) w Forbidden e) refl e (can_follow front _ _ w 128 refl refl) i rest)
+    double_work h a o column raw None w op ps Forbidden e = (
+      double_more front c false (ap is_double_quote e) (ap is_backslash e) op,
+      λ f i rest. spoils (InDouble h a o column raw None) w _ f refl (λ h a o column raw i. cc) (f_is (InDouble h a o column raw None) w Forbidden e) refl e (can_follow front _ _ w 128 refl refl) i rest,
+    )
     double_work h a o column raw (Some g) w op ps Forbidden e = (double_more front c false (ap is_double_quote e) (ap is_backslash e) op, pends_more front c (Some g) ps)
     double_work h a o column raw p w op ps _ e = (double_more front c false (ap is_double_quote e) (ap is_backslash e) op, pends_more front c p ps)
 
@@ -369,8 +412,13 @@ module _ (front : List ℕ) (c : ℕ) (after : List ℕ) (done : List Stmt) wher
         let P : YangFault → Type 0 = λ h. FaultOf ((front ++ c ∷ []) ++ rest) h in
         let v = BehindBackslash h a o column raw None in
         let q : cond (is_escape c) None (Some g) ≡ Some g = ap (λ b. cond b None (Some g)) e in
-        subst P j (front, c, record { after = rest; is = append_assoc front (c ∷ []) rest; begins = begins front (S done frames v) w refl; stops = stops_doomed front (S done frames v) _ w c g refl q },
-          escaping front done frames h a o column raw w, refl)
+        subst P j (
+          front,
+          c,
+          record { after = rest; is = append_assoc front (c ∷ []) rest; begins = begins front (S done frames v) w refl; stops = stops_doomed front (S done frames v) _ w c g refl q },
+          escaping front done frames h a o column raw w,
+          refl,
+        )
 
     backslash_work : (h : Head) (a : List ℕ) (o column : ℕ) (raw : List ℕ) (p : Option YangFault) (w : C (BehindBackslash h a o column raw p)) → OpenDouble true front o → Pends front p
         → After front c after (machine.behind_backslash h a o column raw p (S done frames (BehindBackslash h a o column raw p)) (x (BehindBackslash h a o column raw p) w))

@@ -4,12 +4,12 @@ use Rattle.std.specs.Char.{encode_utf8}
 use Rattle.std.specs.Str.{all_scalars, encode_utf8_all}
 use Rattle.std.proofs.lemmas.Str.{encodes-append}
 use Rattle.std.proofs.lemmas.Bool.{false≢true}
-use Rattle.orc_yang.specs.declared.sort.Sort.{Sort}
-use Rattle.orc_yang.specs.declared.sort.Sort.TheVariants.{LineFeed, Blank, Semicolon, OpenBrace, CloseBrace, DoubleQuote, SingleQuote, Slash, Star, Plus, Colon, Backslash, Start, Inner, Forbidden, Other}
+use Rattle.orc_yang.specs.declared.character.Sort.{Sort}
+use Rattle.orc_yang.specs.declared.character.Sort.TheVariants.{LineFeed, Blank, Semicolon, OpenBrace, CloseBrace, DoubleQuote, SingleQuote, Slash, Star, Plus, Colon, Backslash, Start, Inner, Forbidden, Other}
 use Rattle.orc_yang.specs.declared.fault.YangFault.{YangFault}
 use Rattle.orc_yang.specs.declared.fault.YangFault.TheVariants.{NotUtf8, BadToken, BadEscape, OpenString, OpenBlock, Depth, Memory}
 use Rattle.orc_yang.specs.declared.statement.Stmt.{Stmt}
-use Rattle.orc_yang.specs.declared.parser.Character.{Character}
+use Rattle.orc_yang.specs.declared.character.Character.{Character}
 use Rattle.orc_yang.specs.declared.parser.Frame.{Frame}
 use Rattle.orc_yang.specs.Sorts.{sort_of}
 use Rattle.orc_yang.specs.Quoted.{is_escape}
@@ -38,13 +38,13 @@ pub came_more : (front : List ℕ) (s t : State) (w : Came front s) (c : ℕ) �
 came_more front s t w c e = record {
   column = next_column c w.column;
   goes = λ rest end.
-    let at = length (encode_utf8_all front) in
-    let q : length (encode_utf8_all (front ++ c ∷ [])) ≡ at + length (encode_utf8 c) =
+      let at = length (encode_utf8_all front) in
+      let q : length (encode_utf8_all (front ++ c ∷ [])) ≡ at + length (encode_utf8 c) =
       ap length (encodes-append front (c ∷ [])) ∙ (length-append (encode_utf8_all front) (encode_utf8_all (c ∷ [])) ∙ ap (λ l. at + length l) (append-nil (encode_utf8 c))) in
-    ap (λ l. run (placed 0 1 l) start end) (append_assoc front (c ∷ []) rest)
-    ∙ (w.goes (c ∷ rest) end
-    ∙ (ap (λ f. fed f (λ u. run (placed (at + length (encode_utf8 c)) (next_column c w.column) rest) u end)) e
-    ∙ ap (λ m. run (placed m (next_column c w.column) rest) t end) (sym q)))
+      ap (λ l. run (placed 0 1 l) start end) (append_assoc front (c ∷ []) rest)
+      ∙ (w.goes (c ∷ rest) end
+      ∙ (ap (λ f. fed f (λ u. run (placed (at + length (encode_utf8 c)) (next_column c w.column) rest) u end)) e
+      ∙ ap (λ m. run (placed m (next_column c w.column) rest) t end) (sym q)));
 }
 
 -- what an accepted end says of the front
@@ -57,7 +57,7 @@ pub refused_by : (front : List ℕ) (s : State) → Came front s → (cs : List 
     → Begins (front ++ cs) → ⊥
 refused_by front s w cs h b =
     h (length (encode_utf8_all front)) w.column 0 b.0 b.1
-      (sym (w.goes (cs ++ b.0) 0) ∙ (ap (λ l. run (placed 0 1 l) start 0) (sym (append_assoc front cs b.0)) ∙ complete 0 b.3))
+    (sym (w.goes (cs ++ b.0) 0) ∙ (ap (λ l. run (placed 0 1 l) start 0) (sym (append_assoc front cs b.0)) ∙ complete 0 b.3))
 
 pub begins : (front : List ℕ) (s : State) → Came front s → pending s.work ≡ None → Begins front
 begins front s w q =

@@ -7,7 +7,7 @@ use Rattle.std.proofs.Math.Seq.{drop-length}
 use Rattle.orc_yang.specs.declared.fault.YangFault.{YangFault}
 use Rattle.orc_yang.specs.declared.fault.YangFault.TheVariants.{NotUtf8, BadToken, BadEscape, OpenString, OpenBlock, Depth, Memory}
 use Rattle.orc_yang.specs.declared.statement.Stmt.{Stmt}
-use Rattle.orc_yang.specs.declared.parser.Character.{Character}
+use Rattle.orc_yang.specs.declared.character.Character.{Character}
 use Rattle.orc_yang.specs.Text.{placed, next_column}
 use Rattle.orc_yang.specs.Machine.{State, Fed, run, feed, fed, finish}
 use Rattle.orc_yang.specs.View.{Fails}
@@ -34,7 +34,7 @@ module _ (cs : List ℕ) (n c at len column end : ℕ) (found : (n < length cs) 
   pub place_turn : (m : ℕ) → m ≡ n + 1 → at + length (encode_utf8_all (drop n cs)) ≡ end → (at + len) + length (encode_utf8_all (drop m cs)) ≡ end
   place_turn m q h =
       let e : length (encode_utf8_all (drop n cs)) ≡ length (encode_utf8 c) + length (encode_utf8_all (drop (n + 1) cs)) =
-        ap (λ r. length (encode_utf8_all r)) here ∙ length-append (encode_utf8 c) (encode_utf8_all (drop (n + 1) cs)) in
+      ap (λ r. length (encode_utf8_all r)) here ∙ length-append (encode_utf8 c) (encode_utf8_all (drop (n + 1) cs)) in
       let e' : length (encode_utf8_all (drop m cs)) ≡ length (encode_utf8_all (drop (n + 1) cs)) = ap (λ r. length (encode_utf8_all (drop r cs))) q in
       omega arith
 

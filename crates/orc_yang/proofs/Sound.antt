@@ -3,12 +3,12 @@
 use Rattle.std.proofs.Common.{◌≡◌, ℕ, suc, Bool, true, false, nat_lt, ◌-◌, List, [], ◌∷◌, ◌++◌, length, Option, Some, None, Result, Ok, Err, refl, sym, ap, ◌∙◌, subst, cond, append_assoc, append-nil, arith}
 use Rattle.std.specs.Char.{encode_utf8}
 use Rattle.std.proofs.lemmas.Bool.{false≢true}
-use Rattle.orc_yang.specs.declared.sort.Sort.{Sort}
-use Rattle.orc_yang.specs.declared.sort.Sort.TheVariants.{LineFeed, Blank, Semicolon, OpenBrace, CloseBrace, DoubleQuote, SingleQuote, Slash, Star, Plus, Colon, Backslash, Start, Inner, Forbidden, Other}
+use Rattle.orc_yang.specs.declared.character.Sort.{Sort}
+use Rattle.orc_yang.specs.declared.character.Sort.TheVariants.{LineFeed, Blank, Semicolon, OpenBrace, CloseBrace, DoubleQuote, SingleQuote, Slash, Star, Plus, Colon, Backslash, Start, Inner, Forbidden, Other}
 use Rattle.orc_yang.specs.declared.fault.YangFault.{YangFault}
 use Rattle.orc_yang.specs.declared.fault.YangFault.TheVariants.{BadToken, BadEscape, Depth}
 use Rattle.orc_yang.specs.declared.statement.Stmt.{Stmt}
-use Rattle.orc_yang.specs.declared.parser.Character.{Character}
+use Rattle.orc_yang.specs.declared.character.Character.{Character}
 use Rattle.orc_yang.specs.declared.parser.Frame.{Frame}
 use Rattle.orc_yang.specs.Sorts.{sort_of}
 use Rattle.orc_yang.specs.Statement.{statement}
@@ -196,7 +196,7 @@ module _ (done : List Stmt) (frames : List Frame) (list : List Stmt) where
       let st : ℕ → Stmt = λ at. statement h.keyword a [] at in
       let C : List Stmt → Type 0 = λ m. Closed frames m t.rest list in
       let closed' : Closed frames (done ++ st x.at ∷ t.more) t.rest list =
-        subst C (append_assoc done (st x.at ∷ []) t.more) (subst (λ (at : ℕ). Closed frames ((done ++ st at ∷ []) ++ t.more) t.rest list) q t.closed) in
+      subst C (append_assoc done (st x.at ∷ []) t.more) (subst (λ (at : ℕ). Closed frames ((done ++ st at ∷ []) ++ t.more) t.rest list) q t.closed) in
       record { more = st x.at ∷ t.more; rest = t.rest; body = Statements.leaf d is t.body; closed = closed' }
   tail_statement {x} {xs} {h = h} {a = a} q d (Ending.brace {o} {ys} is deep' t) =
       let (c, zs, more, us, e, is', body, closed) = t.closed in
@@ -204,7 +204,7 @@ module _ (done : List Stmt) (frames : List Frame) (list : List Stmt) where
       let C : List Stmt → Type 0 = λ m. Closed frames m us list in
       let B : List Character → Type 0 = λ r. Statements (suc (length frames)) ys t.more r in
       let closed' : Closed frames (done ++ st x.at ∷ more) us list =
-        subst C (append_assoc done (st x.at ∷ []) more) (subst (λ (at : ℕ). Closed frames ((done ++ st at ∷ []) ++ more) us list) q closed) in
+      subst C (append_assoc done (st x.at ∷ []) more) (subst (λ (at : ℕ). Closed frames ((done ++ st at ∷ []) ++ more) us list) q closed) in
       record { more = st x.at ∷ more; rest = us; body = Statements.block d is deep' (subst B e t.body) is' body; closed = closed' }
 
   headed : {x : Character} {xs ys : List Character} {h : Head} → h.at ≡ x.at → Keyword (x ∷ xs) h.keyword ys → KeyEnd done frames list h ys → Tail done frames list (x ∷ xs)

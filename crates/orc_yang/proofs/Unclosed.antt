@@ -3,12 +3,12 @@ use Rattle.std.proofs.Common.{◌≡◌, ℕ, ◌+◌, ◌-◌, ◌||◌, Bool, 
 use Rattle.std.specs.Char.{encode_utf8}
 use Rattle.std.specs.Str.{encode_utf8_all, all_scalars}
 use Rattle.std.proofs.lemmas.Bool.{false≢true}
-use Rattle.orc_yang.specs.declared.sort.Sort.{Sort}
-use Rattle.orc_yang.specs.declared.sort.Sort.TheVariants.{LineFeed, Blank, Semicolon, OpenBrace, CloseBrace, DoubleQuote, SingleQuote, Slash, Star, Plus, Colon, Backslash, Start, Inner, Forbidden, Other}
+use Rattle.orc_yang.specs.declared.character.Sort.{Sort}
+use Rattle.orc_yang.specs.declared.character.Sort.TheVariants.{LineFeed, Blank, Semicolon, OpenBrace, CloseBrace, DoubleQuote, SingleQuote, Slash, Star, Plus, Colon, Backslash, Start, Inner, Forbidden, Other}
 use Rattle.orc_yang.specs.declared.fault.YangFault.{YangFault}
 use Rattle.orc_yang.specs.declared.fault.YangFault.TheVariants.{BadToken, BadEscape, OpenString}
 use Rattle.orc_yang.specs.declared.statement.Stmt.{Stmt}
-use Rattle.orc_yang.specs.declared.parser.Character.{Character}
+use Rattle.orc_yang.specs.declared.character.Character.{Character}
 use Rattle.orc_yang.specs.declared.parser.Frame.{Frame}
 use Rattle.orc_yang.specs.Sorts.{sort_of}
 use Rattle.orc_yang.specs.Quoted.{is_escape}
@@ -55,7 +55,7 @@ module _ (more : List ℕ) (list : List Stmt) where
       let joined = append_assoc front (c ∷ []) rest in
       let e' = sym (w.goes (c ∷ (rest ++ more)) 0) ∙ (ap (λ l. run (placed 0 1 l) start 0) (sym (append_assoc front (c ∷ rest) more)) ∙ e) in
       arrives_on c rest front s w (feed s (character (length (encode_utf8_all front)) w.column c)) refl e'
-        (λ t v. subst P joined (arrives rest (front ++ c ∷ []) t v (ap (λ l. run (placed 0 1 (l ++ more)) start 0) joined ∙ e)))
+      (λ t v. subst P joined (arrives rest (front ++ c ∷ []) t v (ap (λ l. run (placed 0 1 (l ++ more)) start 0) joined ∙ e)))
 
 comes_by : (front more : List ℕ) (list : List Stmt) → Reads (front ++ more) list → Comes front
 comes_by front more list d = arrives more list front [] start came_nil (complete 0 d)

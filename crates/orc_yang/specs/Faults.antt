@@ -2,8 +2,8 @@
 -- before them.
 use Rattle.std.specs.Prelude.{ℕ, ◌≡◌, ◌+◌, ◌-◌, ◌||◌, ◌⊎◌, Bool, true, false, length, List, [], ◌∷◌, ◌++◌, encode_utf8}
 use Rattle.std.specs.Str.{encode_utf8_all, all_scalars, IsValidUpTo}
-use Rattle.orc_yang.specs.declared.sort.Sort.{Sort}
-use Rattle.orc_yang.specs.declared.sort.Sort.TheVariants.{OpenBrace, SingleQuote, DoubleQuote, Backslash, Star, Slash, Forbidden}
+use Rattle.orc_yang.specs.declared.character.Sort.{Sort}
+use Rattle.orc_yang.specs.declared.character.Sort.TheVariants.{OpenBrace, SingleQuote, DoubleQuote, Backslash, Star, Slash, Forbidden}
 use Rattle.orc_yang.specs.declared.fault.YangFault.{YangFault}
 use Rattle.orc_yang.specs.declared.fault.YangFault.TheVariants.{NotUtf8, BadToken, BadEscape, OpenString, OpenBlock, Depth, Memory}
 use Rattle.orc_yang.specs.declared.statement.Stmt.{Stmt}

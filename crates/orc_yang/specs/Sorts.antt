@@ -1,7 +1,7 @@
 -- What a character can be to the grammar (RFC 7950 sections 6.1.2, 6.2 and 14).
 use Rattle.std.specs.Prelude.{ℕ, Bool, true, false, ◌||◌, ◌&&◌, ◌==◌, ◌%◌, nat_lt, nat_le, if◌then◌else◌}
-use Rattle.orc_yang.specs.declared.sort.Sort.{Sort}
-use Rattle.orc_yang.specs.declared.sort.Sort.TheVariants.{LineFeed, Blank, Semicolon, OpenBrace, CloseBrace, DoubleQuote, SingleQuote, Slash, Star, Plus, Colon, Backslash, Start, Inner, Forbidden, Other}
+use Rattle.orc_yang.specs.declared.character.Sort.{Sort}
+use Rattle.orc_yang.specs.declared.character.Sort.TheVariants.{LineFeed, Blank, Semicolon, OpenBrace, CloseBrace, DoubleQuote, SingleQuote, Slash, Star, Plus, Colon, Backslash, Start, Inner, Forbidden, Other}
 
 -- a control character, or a noncharacter: U+FDD0 to U+FDEF and the last two of each plane
 abbrev pub other_sort : ℕ → Sort

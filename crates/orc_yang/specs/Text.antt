@@ -2,7 +2,7 @@
 use Rattle.std.specs.Prelude.{ℕ, Bool, true, ◌≡◌, ◌==◌, ◌+◌, ◌-◌, length, List, [], ◌∷◌, encode_utf8, if◌then◌else◌}
 use Rattle.std.specs.Str.{encode_utf8_all, all_scalars}
 use Rattle.orc_yang.specs.declared.statement.Stmt.{Stmt}
-use Rattle.orc_yang.specs.declared.parser.Character.{Character}
+use Rattle.orc_yang.specs.declared.character.Character.{Character}
 use Rattle.orc_yang.specs.Grammar.{Statements}
 
 -- the column behind a character: a line feed begins a line, and a tab counts as eight columns

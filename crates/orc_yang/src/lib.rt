@@ -5,13 +5,18 @@
 //! meaning of the keywords is the business of the layer above.
 #![tactic(auto)]
 
+mod character;
+mod comments;
 mod fault;
+mod keywords;
+#[cfg(test)]
+mod module;
 mod parser;
 mod quoted;
-mod sort;
 mod statement;
 mod statements;
 mod steps;
+mod strings;
 #[cfg(test)]
 mod tests;
 

@@ -3,6 +3,7 @@ ghost use Rattle.std.specs.Prelude.{◌≡◌, Some, None, MatchResult, [], reve
 ghost use Rattle.orc_yang.specs.Machine.{leaf, enter, close, finish, Gap, Between, State, ended, spoilt};
 ghost use Rattle.orc_yang.specs.View.{view, head_of, Steps, Fails};
 
+use crate::character::Character;
 use crate::{Stmt, YangFault};
 use orc_text::{Memory, Row, Text};
 use std::alloc::Global;
@@ -10,16 +11,6 @@ use std::mem;
 
 /// The most blocks in one another.
 const MAX_DEPTH: usize = 32;
-
-/// A character as it stands in a text: the places of its first and last byte, and its column, counted
-/// from 1.
-#[derive(Clone, Copy, Debug)]
-pub struct Character {
-    pub code: char,
-    pub at: u64,
-    pub last: u64,
-    pub column: u128,
-}
 
 /// Between which parts of a statement white space and comments stand.
 #[derive(Clone, Copy, Debug)]

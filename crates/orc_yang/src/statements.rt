@@ -7,7 +7,8 @@ ghost use Rattle.orc_yang.specs.Faults.{IsFault, IsUnclosed};
 ghost use Rattle.orc_yang.specs.View.{Fails};
 ghost use Rattle.orc_yang.specs.declared.statement.Stmt.{Stmt};
 
-use crate::parser::{Character, Parser};
+use crate::character::Character;
+use crate::parser::Parser;
 use crate::{Stmt, YangFault};
 use std::alloc::Global;
 use std::str::from_utf8;

@@ -16,7 +16,7 @@ loop-code-init c =
     record {
       place = omega (arith, ap length (spelled text c.utf8.text));
       column = omega arith;
-      rest = ap (λ s. run (placed 0 1 (chars text)) s (length text)) c.new-parser.ensures
+      rest = ap (λ s. run (placed 0 1 (chars text)) s (length text)) c.new-parser.ensures;
     }
 
 pub returns-in_err-step : goal.returns-in_err-step
@@ -25,7 +25,7 @@ returns-in_err-step c =
     let t = YieldsList-turn (YieldsList-from_chars text c.utf8.text cc) c.loop-code.yielded _ c.loop-code.yielded_by _ _ c.in-Some.code c.in-Some.is c.next.ensures.steps in
     let p = err_from_is_err_and c.from_residual.result c.from_residual.ensures.1 in
     let f = fault_turn (chars text) (length c.loop-code.yielded) c.in-Some.code c.loop-code.at c.len_utf8.result c.loop-code.column (length text) t c.len_utf8.ensures.len
-      (view c.loop-code.parser) c.in_err-step.field-0.0 (run (placed 0 1 (chars text)) start (length text)) c.loop-code.invariant.rest c.in_err-step.ensures in
+    (view c.loop-code.parser) c.in_err-step.field-0.0 (run (placed 0 1 (chars text)) start (length text)) c.loop-code.invariant.rest c.in_err-step.ensures in
     rw (p.1, p.2) f
 
 pub loop-code-preserved : goal.loop-code-preserved
@@ -41,7 +41,7 @@ loop-code-preserved c =
     record {
       place = place_turn cs n x at len c.loop-code.column (length text) t c.len_utf8.ensures.len _ m c.loop-code.invariant.place;
       column = rw c.next_column-column.ensures (next_column-le x c.loop-code.column at len c.loop-code.invariant.column c.len_utf8.ensures.lower_bound);
-      rest = rw c.next_column-column.ensures (run_turn cs n x at len c.loop-code.column (length text) t c.len_utf8.ensures.len (view c.loop-code.parser) (view c.step.new.self) _ _ m c.loop-code.invariant.rest c.in_ok-step.ensures)
+      rest = rw c.next_column-column.ensures (run_turn cs n x at len c.loop-code.column (length text) t c.len_utf8.ensures.len (view c.loop-code.parser) (view c.step.new.self) _ _ m c.loop-code.invariant.rest c.in_ok-step.ensures);
     }
 
 pub returns : goal.returns

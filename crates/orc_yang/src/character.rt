@@ -1,6 +1,16 @@
-//! The sorts of characters that the grammar tells apart.
+//! The characters of a text, and the sorts that the grammar tells apart.
 ghost use Rattle.std.specs.Prelude.{◌≡◌};
 ghost use Rattle.orc_yang.specs.Sorts.{sort_of, other_sort};
+
+/// A character as it stands in a text: the places of its first and last byte, and its column, counted
+/// from 1.
+#[derive(Clone, Copy, Debug)]
+pub struct Character {
+    pub code: char,
+    pub at: u64,
+    pub last: u64,
+    pub column: u128,
+}
 
 /// What a character can be to the grammar.
 #[derive(Clone, Copy, Debug, PartialEq, Eq)]

@@ -1,1 +1,0 @@
-use Rattle.orc_yang.proofs.Unclosed.{comes}
