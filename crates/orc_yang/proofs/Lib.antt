@@ -1,0 +1,10 @@
+mod Values
+mod Complete
+mod Sound
+mod Reading
+mod Viable
+mod Faults
+mod FaultSteps
+mod FaultRuns
+mod Unclosed
+mod Spelling

@@ -1,0 +1,83 @@
+//! What each character does in a keyword (RFC 7950 sections 6.1.2 and 6.2).
+ghost use Rattle.std.specs.Prelude.{◌≡◌, [], ◌++◌, ◌∷◌, Some, None, encode_utf8};
+ghost use Rattle.orc_yang.specs.Quoted.{string_value};
+ghost use Rattle.orc_yang.specs.Machine.{feed, bad, cut, go, leaf, enter, between, keyed, worded, strung, joining, in_gap, slashed, in_line, in_block, behind_star, unspoilt, in_keyword, behind_colon, in_second, end_keyword, lone, word_slash, word_star, in_word, in_single, in_double, behind_backslash, Work, Gap, Slashed, InKeyword, InDouble, InSingle, InWord, Strung, Between};
+ghost use Rattle.orc_yang.specs.View.{view, head_of, spot, spot_of, work_of, Steps};
+
+use crate::YangFault;
+use crate::character::{Character, Sort};
+use crate::parser::{Mode, Parser, Spot};
+use crate::steps::bad;
+use orc_text::Text;
+use std::alloc::Global;
+
+impl Parser {
+    /// The first character of a keyword.
+    pub fn begin_keyword(&mut self, alloc: Global, x: Character) -> Result<(), YangFault>
+        ensures { Steps (go (view self.old) (InKeyword (record { keyword = encode_utf8 x.code; at = x.at }))) (view self.new) result }
+    {
+        let mut keyword = Text::new(alloc);
+        keyword.push(x.code)?;
+        self.keyword = keyword;
+        self.at = x.at;
+        self.mode = Mode::First;
+        Ok(())
+    }
+
+    /// In a keyword, up to its colon.
+    pub fn first(&mut self, alloc: Global, sort: Sort, x: Character) -> Result<(), YangFault>
+        ensures { Steps (in_keyword sort (head_of self.old) (view self.old) x) (view self.new) result }
+    {
+        match sort {
+            Sort::Start | Sort::Inner => self.more_keyword(x, Mode::First),
+            Sort::Colon => self.more_keyword(x, Mode::Colon),
+            _ => self.end_keyword(alloc, sort, x),
+        }
+    }
+
+    /// One more character of a keyword.
+    pub fn more_keyword(&mut self, x: Character, mode: Mode) -> Result<(), YangFault>
+        ensures { Steps (go (view self.old) (work_of mode (record self.old { keyword = self.old.keyword ++ encode_utf8 x.code }))) (view self.new) result }
+    {
+        self.keyword.push(x.code)?;
+        self.mode = mode;
+        Ok(())
+    }
+
+    /// In a keyword, behind its colon.
+    pub fn colon(&mut self, sort: Sort, x: Character) -> Result<(), YangFault>
+        ensures { Steps (behind_colon sort (head_of self.old) (view self.old) x) (view self.new) result }
+    {
+        match sort {
+            Sort::Start => self.more_keyword(x, Mode::Second),
+            _ => bad(x),
+        }
+    }
+
+    /// In a keyword, behind its prefix.
+    pub fn second(&mut self, alloc: Global, sort: Sort, x: Character) -> Result<(), YangFault>
+        ensures { Steps (in_second sort (head_of self.old) (view self.old) x) (view self.new) result }
+    {
+        match sort {
+            Sort::Start | Sort::Inner => self.more_keyword(x, Mode::Second),
+            _ => self.end_keyword(alloc, sort, x),
+        }
+    }
+
+    /// The first character behind a keyword.
+    pub fn end_keyword(&mut self, alloc: Global, sort: Sort, x: Character) -> Result<(), YangFault>
+        ensures { Steps (end_keyword sort (head_of self.old) (view self.old) x) (view self.new) result }
+    {
+        self.spot = Spot::Keyed;
+        match sort {
+            Sort::LineFeed | Sort::Blank => {
+                self.mode = Mode::Gap;
+                Ok(())
+            }
+            Sort::Slash => self.slash(x),
+            Sort::Semicolon => self.leaf(alloc, None),
+            Sort::OpenBrace => self.enter(alloc, None, x),
+            _ => bad(x),
+        }
+    }
+}

@@ -1,0 +1,25 @@
+//! YANG statements: the bytes of a module as a list of statements, or the first fault with its
+//! exact place (RFC 7950 section 6).
+//!
+//! A statement is a keyword, an optional argument, and then `;` or a block of statements. The
+//! meaning of the keywords is the business of the layer above.
+#![tactic(auto)]
+
+mod character;
+mod comments;
+mod fault;
+mod keywords;
+#[cfg(test)]
+mod module;
+mod parser;
+mod quoted;
+mod statement;
+mod statements;
+mod steps;
+mod strings;
+#[cfg(test)]
+mod tests;
+
+pub use fault::YangFault;
+pub use statement::Stmt;
+pub use statements::parse;

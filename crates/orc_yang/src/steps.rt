@@ -1,0 +1,168 @@
+//! One character at a time: what each does between the parts of a statement.
+ghost use Rattle.std.specs.Prelude.{◌≡◌, [], ◌++◌, ◌∷◌, Some, None, encode_utf8};
+ghost use Rattle.orc_yang.specs.Quoted.{string_value};
+ghost use Rattle.orc_yang.specs.Machine.{feed, bad, cut, go, leaf, enter, between, keyed, worded, strung, joining, in_gap, slashed, in_line, in_block, behind_star, unspoilt, in_keyword, behind_colon, in_second, end_keyword, lone, word_slash, word_star, in_word, in_single, in_double, behind_backslash, Work, Gap, Slashed, InKeyword, InDouble, InSingle, InWord, Strung, Between};
+ghost use Rattle.orc_yang.specs.View.{view, head_of, spot, spot_of, work_of, Steps};
+
+use crate::YangFault;
+use crate::character::{Character, Sort, sort_of};
+use crate::parser::{Mode, Parser, Spot};
+use orc_text::Text;
+use std::alloc::Global;
+
+/// A character that can't stand where it stands.
+pub fn bad(x: Character) -> Result<(), YangFault>
+    ensures { result ≡ Err (YangFault.BadToken x.at) }
+{
+    Err(YangFault::BadToken { at: x.at })
+}
+
+/// A forbidden character where others stand: its last byte can't follow the bytes before it.
+pub fn forbidden(x: Character) -> YangFault
+    ensures { result ≡ YangFault.BadToken x.last }
+{
+    YangFault::BadToken { at: x.last }
+}
+
+impl Parser {
+    /// Takes the next character.
+    pub fn step(&mut self, alloc: Global, x: Character) -> Result<(), YangFault>
+        ensures { Steps (feed (view self.old) x) (view self.new) result }
+    {
+        let sort = sort_of(x.code);
+        match self.mode {
+            Mode::Gap => self.gap(alloc, sort, x),
+            Mode::Slashed => self.slashed(sort, x),
+            Mode::Line => self.line(sort, x),
+            Mode::Block => self.block(sort, x),
+            Mode::BlockStar => self.block_star(sort, x),
+            Mode::First => self.first(alloc, sort, x),
+            Mode::Colon => self.colon(sort, x),
+            Mode::Second => self.second(alloc, sort, x),
+            Mode::Lone => self.lone(alloc, sort, x),
+            Mode::WordSlash => self.word_slash(alloc, sort, x),
+            Mode::WordStar => self.word_star(alloc, sort, x),
+            Mode::Word => self.word(alloc, sort, x),
+            Mode::Single => self.single(sort, x),
+            Mode::Double => self.double(alloc, sort, x),
+            Mode::Escape => self.escape(x),
+        }
+    }
+
+    /// White space, or what comes next.
+    pub fn gap(&mut self, alloc: Global, sort: Sort, x: Character) -> Result<(), YangFault>
+        ensures { Steps (in_gap (spot self.old) sort (view self.old) x) (view self.new) result }
+    {
+        match self.spot {
+            Spot::Between => self.between(alloc, sort, x),
+            Spot::Keyed => self.keyed(alloc, sort, x),
+            Spot::Worded => self.worded(alloc, sort, x),
+            Spot::Strung => self.strung(alloc, sort, x),
+            Spot::Joining => self.joining(alloc, sort, x),
+        }
+    }
+
+    /// Between two statements.
+    pub fn between(&mut self, alloc: Global, sort: Sort, x: Character) -> Result<(), YangFault>
+        requires { self.old.spot ≡ Spot.Between }
+        ensures { Steps (between sort (view self.old) x) (view self.new) result }
+    {
+        match sort {
+            Sort::LineFeed | Sort::Blank => Ok(()),
+            Sort::Slash => self.slash(x),
+            Sort::CloseBrace => self.close(alloc, x),
+            Sort::Start => self.begin_keyword(alloc, x),
+            _ => bad(x),
+        }
+    }
+
+    /// Behind a keyword.
+    pub fn keyed(&mut self, alloc: Global, sort: Sort, x: Character) -> Result<(), YangFault>
+        ensures { Steps (keyed sort (head_of self.old) (view self.old) x) (view self.new) result }
+    {
+        match sort {
+            Sort::LineFeed | Sort::Blank => Ok(()),
+            Sort::Semicolon => self.leaf(alloc, None),
+            Sort::OpenBrace => self.enter(alloc, None, x),
+            Sort::CloseBrace => bad(x),
+            Sort::Forbidden => Err(forbidden(x)),
+            Sort::DoubleQuote => {
+                self.argument = Text::new(alloc);
+                self.open_double(alloc, x)
+            }
+            Sort::SingleQuote => {
+                self.argument = Text::new(alloc);
+                self.open_single(x)
+            }
+            Sort::Slash => {
+                self.opened = x.at;
+                self.begin_word(alloc, x, Mode::Lone)
+            }
+            Sort::Star => self.begin_word(alloc, x, Mode::WordStar),
+            _ => self.begin_word(alloc, x, Mode::Word),
+        }
+    }
+
+    /// Behind an unquoted argument.
+    pub fn worded(&mut self, alloc: Global, sort: Sort, x: Character) -> Result<(), YangFault>
+        requires { self.old.spot ≡ Spot.Worded }
+        ensures { Steps (worded sort (head_of self.old) self.old.argument (view self.old) x) (view self.new) result }
+    {
+        match sort {
+            Sort::LineFeed | Sort::Blank => Ok(()),
+            Sort::Slash => self.slash(x),
+            Sort::Semicolon => self.leaf_with_argument(alloc),
+            Sort::OpenBrace => self.enter_with_argument(alloc, x),
+            _ => bad(x),
+        }
+    }
+
+    /// Behind a quoted string.
+    pub fn strung(&mut self, alloc: Global, sort: Sort, x: Character) -> Result<(), YangFault>
+        requires { self.old.spot ≡ Spot.Strung }
+        ensures { Steps (strung sort (head_of self.old) self.old.argument (view self.old) x) (view self.new) result }
+    {
+        match sort {
+            Sort::LineFeed | Sort::Blank => Ok(()),
+            Sort::Slash => self.slash(x),
+            Sort::Semicolon => self.leaf_with_argument(alloc),
+            Sort::OpenBrace => self.enter_with_argument(alloc, x),
+            Sort::Plus => {
+                self.mode = Mode::Gap;
+                self.spot = Spot::Joining;
+                Ok(())
+            }
+            _ => bad(x),
+        }
+    }
+
+    /// Behind a plus.
+    pub fn joining(&mut self, alloc: Global, sort: Sort, x: Character) -> Result<(), YangFault>
+        requires { self.old.spot ≡ Spot.Joining }
+        ensures { Steps (joining sort (head_of self.old) self.old.argument (view self.old) x) (view self.new) result }
+    {
+        match sort {
+            Sort::LineFeed | Sort::Blank => Ok(()),
+            Sort::Slash => self.slash(x),
+            Sort::DoubleQuote => self.open_double(alloc, x),
+            Sort::SingleQuote => self.open_single(x),
+            _ => bad(x),
+        }
+    }
+
+    /// Ends a statement that has an argument and no block.
+    pub fn leaf_with_argument(&mut self, alloc: Global) -> Result<(), YangFault>
+        ensures { Steps (leaf (view self.old) (head_of self.old) (Some self.old.argument)) (view self.new) result }
+    {
+        let argument = self.take_argument(alloc);
+        self.leaf(alloc, Some(argument))
+    }
+
+    /// Opens the block of a statement that has an argument.
+    pub fn enter_with_argument(&mut self, alloc: Global, x: Character) -> Result<(), YangFault>
+        ensures { Steps (enter (view self.old) (head_of self.old) (Some self.old.argument) x) (view self.new) result }
+    {
+        let argument = self.take_argument(alloc);
+        self.enter(alloc, Some(argument), x)
+    }
+}

@@ -1,0 +1,186 @@
+//! What each character does in an unquoted or quoted string (RFC 7950 section 6.1.3).
+ghost use Rattle.std.specs.Prelude.{◌≡◌, [], ◌++◌, ◌∷◌, Some, None, encode_utf8};
+ghost use Rattle.orc_yang.specs.Quoted.{string_value};
+ghost use Rattle.orc_yang.specs.Machine.{feed, bad, cut, go, leaf, enter, between, keyed, worded, strung, joining, in_gap, slashed, in_line, in_block, behind_star, unspoilt, in_keyword, behind_colon, in_second, end_keyword, lone, word_slash, word_star, in_word, in_single, in_double, behind_backslash, Work, Gap, Slashed, InKeyword, InDouble, InSingle, InWord, Strung, Between};
+ghost use Rattle.orc_yang.specs.View.{view, head_of, spot, spot_of, work_of, Steps};
+
+use crate::character::{Character, Sort};
+use crate::parser::{Mode, Parser, Spot};
+use crate::steps::{bad, forbidden};
+use crate::{YangFault, quoted};
+use orc_text::{Row, Text};
+use std::alloc::Global;
+
+impl Parser {
+    /// The first character of an unquoted string.
+    pub fn begin_word(&mut self, alloc: Global, x: Character, mode: Mode) -> Result<(), YangFault>
+        ensures { Steps (go (view self.old) (work_of mode (record self.old { argument = encode_utf8 x.code }))) (view self.new) result }
+    {
+        let mut argument = Text::new(alloc);
+        argument.push(x.code)?;
+        self.argument = argument;
+        self.mode = mode;
+        Ok(())
+    }
+
+    /// Behind a slash that begins an argument or a comment.
+    pub fn lone(&mut self, alloc: Global, sort: Sort, x: Character) -> Result<(), YangFault>
+        ensures { Steps (lone sort (head_of self.old) self.old.argument self.old.opened (view self.old) x) (view self.new) result }
+    {
+        match sort {
+            Sort::Slash | Sort::Star => {
+                self.spot = Spot::Keyed;
+                self.slashed(sort, x)
+            }
+            _ => self.word(alloc, sort, x),
+        }
+    }
+
+    /// In an unquoted string, behind a slash.
+    pub fn word_slash(&mut self, alloc: Global, sort: Sort, x: Character) -> Result<(), YangFault>
+        ensures { Steps (word_slash sort (head_of self.old) self.old.argument (view self.old) x) (view self.new) result }
+    {
+        match sort {
+            Sort::Slash | Sort::Star => bad(x),
+            _ => self.word(alloc, sort, x),
+        }
+    }
+
+    /// In an unquoted string, behind a `*`.
+    pub fn word_star(&mut self, alloc: Global, sort: Sort, x: Character) -> Result<(), YangFault>
+        ensures { Steps (word_star sort (head_of self.old) self.old.argument (view self.old) x) (view self.new) result }
+    {
+        match sort {
+            Sort::Slash => bad(x),
+            _ => self.word(alloc, sort, x),
+        }
+    }
+
+    /// In an unquoted string.
+    pub fn word(&mut self, alloc: Global, sort: Sort, x: Character) -> Result<(), YangFault>
+        ensures { Steps (in_word sort (head_of self.old) self.old.argument (view self.old) x) (view self.new) result }
+    {
+        match sort {
+            Sort::LineFeed | Sort::Blank => {
+                self.mode = Mode::Gap;
+                self.spot = Spot::Worded;
+                Ok(())
+            }
+            Sort::Semicolon => self.leaf_with_argument(alloc),
+            Sort::OpenBrace => self.enter_with_argument(alloc, x),
+            Sort::CloseBrace | Sort::DoubleQuote | Sort::SingleQuote => bad(x),
+            Sort::Forbidden => Err(forbidden(x)),
+            Sort::Slash => self.more_argument(x, Mode::WordSlash),
+            Sort::Star => self.more_argument(x, Mode::WordStar),
+            _ => self.more_argument(x, Mode::Word),
+        }
+    }
+
+    /// One more character of an unquoted or single-quoted string.
+    pub fn more_argument(&mut self, x: Character, mode: Mode) -> Result<(), YangFault>
+        ensures { Steps (go (view self.old) (work_of mode (record self.old { argument = self.old.argument ++ encode_utf8 x.code }))) (view self.new) result }
+    {
+        self.argument.push(x.code)?;
+        self.mode = mode;
+        Ok(())
+    }
+
+    /// An opening double quote.
+    pub fn open_double(&mut self, alloc: Global, x: Character) -> Result<(), YangFault>
+        ensures { Steps (go (view self.old) (InDouble (head_of self.old) self.old.argument x.at x.column [] None)) (view self.new) result }
+    {
+        self.mode = Mode::Double;
+        self.opened = x.at;
+        self.column = x.column;
+        self.raw = Row::new(alloc);
+        self.pending = None;
+        Ok(())
+    }
+
+    /// An opening single quote.
+    pub fn open_single(&mut self, x: Character) -> Result<(), YangFault>
+        ensures { Steps (go (view self.old) (InSingle (head_of self.old) self.old.argument x.at None)) (view self.new) result }
+    {
+        self.mode = Mode::Single;
+        self.opened = x.at;
+        self.pending = None;
+        Ok(())
+    }
+
+    /// In a single-quoted string.
+    pub fn single(&mut self, sort: Sort, x: Character) -> Result<(), YangFault>
+        ensures { Steps (in_single sort (head_of self.old) self.old.argument self.old.opened self.old.pending (view self.old) x) (view self.new) result }
+    {
+        match sort {
+            Sort::SingleQuote => self.end_string(),
+            Sort::Forbidden => {
+                self.mode = Mode::Single;
+                self.spoil(forbidden(x));
+                Ok(())
+            }
+            _ => self.more_argument(x, Mode::Single),
+        }
+    }
+
+    /// The end of a string: a fault in it counts now.
+    pub fn end_string(&mut self) -> Result<(), YangFault>
+        ensures { Steps (unspoilt self.old.pending (go (view self.old) (Gap (Strung (head_of self.old) self.old.argument)))) (view self.new) result }
+    {
+        match self.pending {
+            Some(fault) => Err(fault),
+            None => {
+                self.mode = Mode::Gap;
+                self.spot = Spot::Strung;
+                Ok(())
+            }
+        }
+    }
+
+    /// In a double-quoted string.
+    pub fn double(&mut self, alloc: Global, sort: Sort, x: Character) -> Result<(), YangFault>
+        ensures { Steps (in_double sort (head_of self.old) self.old.argument self.old.opened self.old.column self.old.raw self.old.pending (view self.old) x) (view self.new) result }
+    {
+        match sort {
+            Sort::DoubleQuote => self.end_double(alloc),
+            Sort::Backslash => self.more_raw(x, Mode::Escape),
+            Sort::Forbidden => {
+                self.mode = Mode::Double;
+                self.spoil(forbidden(x));
+                Ok(())
+            }
+            _ => self.more_raw(x, Mode::Double),
+        }
+    }
+
+    /// The end of a double-quoted string.
+    pub fn end_double(&mut self, alloc: Global) -> Result<(), YangFault>
+        ensures { Steps (unspoilt self.old.pending (go (view self.old) (Gap (Strung (head_of self.old) (self.old.argument ++ string_value self.old.column self.old.raw))))) (view self.new) result }
+    {
+        if self.pending.is_none() {
+            quoted::add_value(alloc, &mut self.argument, self.column, self.raw.as_slice())?;
+        }
+        self.end_string()
+    }
+
+    /// One more character of a double-quoted string.
+    pub fn more_raw(&mut self, x: Character, mode: Mode) -> Result<(), YangFault>
+        ensures { Steps (go (view self.old) (work_of mode (record self.old { raw = self.old.raw ++ x.code ∷ [] }))) (view self.new) result }
+    {
+        self.raw.push(x.code)?;
+        self.mode = mode;
+        Ok(())
+    }
+
+    /// In a double-quoted string, behind a backslash.
+    pub fn escape(&mut self, x: Character) -> Result<(), YangFault>
+        ensures { Steps (behind_backslash (head_of self.old) self.old.argument self.old.opened self.old.column self.old.raw self.old.pending (view self.old) x) (view self.new) result }
+    {
+        match x.code {
+            'n' | 't' | '"' | '\\' => {}
+            _ => self.spoil(YangFault::BadEscape {
+                at: x.at.saturating_sub(1),
+            }),
+        }
+        self.more_raw(x, Mode::Double)
+    }
+}
