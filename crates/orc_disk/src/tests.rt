@@ -1,4 +1,7 @@
 //! Disks in memory, stopped and real, and the crash images that they leave.
+ghost use Rattle.std.specs.Prelude.{◌≡◌, IfOk};
+ghost use Rattle.orc_disk.specs.Memory.{disk_content};
+
 use super::*;
 use orc_io::Failed;
 use std::alloc::Global;
@@ -7,7 +10,9 @@ use std::fs::File;
 use std::test::Fail;
 
 // A disk that holds these bytes, with ample room and no call that fails.
-fn ample(alloc: Global, bytes: &[u8]) -> Result<MemDisk, Fail> {
+fn ample(alloc: Global, bytes: &[u8]) -> Result<MemDisk, Fail>
+    ensures { IfOk result (λ disk. disk_content disk ≡ bytes.now) }
+{
     let bytes = bytes.to_vec(alloc)?;
     Ok(MemDisk::new(alloc, bytes, 1000, Vec::new(alloc))?)
 }
