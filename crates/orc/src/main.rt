@@ -4,10 +4,9 @@
 
 use orc_io::{StdSink, StdSource};
 use orc_run::{Done, Stop, orchestrate, status};
-use std::env;
-use std::io;
 use std::process::ExitCode;
 use std::rt::Env;
+use std::{env, io};
 
 /// Ends with the status of the run. A fault is named on standard error.
 fn main(rt: HostRuntime) -> ExitCode {
