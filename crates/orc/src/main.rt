@@ -2,11 +2,17 @@
 //! output.
 #![tactic(auto)]
 
+use orc_disk::MemDisk;
 use orc_io::{StdSink, StdSource};
 use orc_run::{Done, Stop, orchestrate, status};
+use orc_text::Memory;
+use std::alloc::Global;
 use std::process::ExitCode;
 use std::rt::Env;
 use std::{env, io};
+
+/// The room of the journal, in bytes.
+const JOURNAL_ROOM: u64 = 67_108_864;
 
 /// Ends with the status of the run. A fault is named on standard error.
 fn main(rt: HostRuntime) -> ExitCode {
@@ -17,12 +23,22 @@ fn main(rt: HostRuntime) -> ExitCode {
     ExitCode::from(status(&ended))
 }
 
-/// Runs the bundle on standard input.
+/// Runs the bundle on standard input, over a journal in memory.
 fn run<R: Env + Input + Print + AllocGlobal>(rt: &R) -> Result<Done, Stop> {
     let words = words(rt)?;
+    let disk = journal_disk(rt.alloc())?;
     let mut source = StdSource::new(rt.reader());
     let mut sink = StdSink::new(io::writer(rt));
-    orchestrate(rt.alloc(), words.as_slice(), &mut source, &mut sink)
+    let ended = orchestrate(rt.alloc(), words.as_slice(), &mut source, &mut sink, disk);
+    ended.status
+}
+
+/// An empty disk in memory.
+fn journal_disk(alloc: Global) -> Result<MemDisk, Stop> {
+    match MemDisk::new(alloc, Vec::new(alloc), JOURNAL_ROOM, Vec::new(alloc)) {
+        Ok(disk) => Ok(disk),
+        Err(Memory) => Err(Stop::Memory),
+    }
 }
 
 /// The command words, which are the arguments behind the program's name. Words that are not UTF-8

@@ -1,9 +1,9 @@
 mod Grammars
-mod Singles
-mod Sequels
+pub mod Singles
+pub mod Sequels
 mod Lists
 mod Determined
-mod ActionKinds
+pub mod ActionKinds
 mod Prefixes
-mod Written
+pub mod Written
 mod Elements

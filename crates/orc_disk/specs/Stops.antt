@@ -39,13 +39,14 @@ left_in left_since s = left_since s.inner
 abbrev pub leaves_in : {D : Type 0} → (D → List ℕ → Type 0) → Stopping D → List ℕ → Type 0
 leaves_in may_leave s = may_leave s.inner
 
--- What calls may make of it: the disk inside went its own way, a stop stays until `disarm`, and a call failed only
--- where a call of the disk inside failed or where it is stopped.
+-- What calls may make of it: the disk inside went its own way, a stop stays until `disarm`, one comes only where one was
+-- armed, and a call failed only where a call of the disk inside failed or where it is stopped.
 pub record Led {D : Type 0} (leads : Bool → D → D → Type 0) (failed : Bool) (old new : Stopping D) : Type 0 where
   pub inner_failed : Bool
   pub inner : leads inner_failed old.inner new.inner
   pub stops : old.stops ≤ new.stops
   pub still : old.stopped ≡ true → new.stopped ≡ true
+  pub unarmed : old.call ≡ 0 → old.stopped ≡ false → (new.call ≡ 0) × (new.stopped ≡ false)
   pub cause : failed ≡ true → (inner_failed ≡ true) ⊎ ((new.stopped ≡ true) × Rose old.stops new.stops)
 
 -- ---- the laws of these words
@@ -60,7 +61,7 @@ or_else false y e = e
 
 module _ {D : Type 0} (leads : Bool → D → D → Type 0) where
   pub Led-refl : ((d : D) → leads false d d) → (s : Stopping D) → Led leads false s s
-  Led-refl stays s = record { inner_failed = false; inner = stays s.inner; stops = omega arith; still = λ h. h; cause = λ f. grind (arith, f) }
+  Led-refl stays s = record { inner_failed = false; inner = stays s.inner; stops = omega arith; still = λ h. h; unarmed = λ call stopped. (call, stopped); cause = λ f. grind (arith, f) }
 
   cause_of : (x y : Bool) (a b c : Stopping D) → (p : Led leads x a b) → (q : Led leads y b c) → (x || y) ≡ true
       → ((p.inner_failed || q.inner_failed) ≡ true) ⊎ ((c.stopped ≡ true) × Rose a.stops c.stops)
@@ -74,17 +75,19 @@ module _ {D : Type 0} (leads : Bool → D → D → Type 0) where
     inner = goes_on _ _ _ _ _ p.inner q.inner;
     stops = omega (arith, p.stops, q.stops);
     still = λ h. q.still (p.still h);
+    unarmed = λ call stopped. let mid = p.unarmed call stopped in q.unarmed mid.0 mid.1;
     cause = cause_of x y a b c p q;
   }
 
 -- a call that it failed by itself, being stopped
 pub Led-stopped : {D : Type 0} (leads : Bool → D → D → Type 0) (x : Bool) (a b : Stopping D) → leads x a.inner b.inner
-    → b.stopped ≡ true → Counted true a.stops b.stops → Led leads true a b
-Led-stopped leads x a b inner stopped count = record {
+    → (a.call ≡ 0 → a.stopped ≡ false → ⊥) → b.stopped ≡ true → Counted true a.stops b.stops → Led leads true a b
+Led-stopped leads x a b inner armed stopped count = record {
   inner_failed = x;
   inner = inner;
   stops = count.later;
   still = λ h. stopped;
+  unarmed = λ call running. absurd (armed call running);
   cause = λ f. inr (stopped, count.rose refl);
 }
 

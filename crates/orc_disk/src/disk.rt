@@ -96,6 +96,9 @@ pub trait Disk: Drop {
     /// Since this moment there is no other.
     ghost only_now: { (disk : Self) (c : List ℕ) → left_since disk (moment disk) c → may_leave disk c };
 
+    /// A disk that doesn't tell what it holds has no image, at no moment.
+    ghost told: { (disk : Self) (t : ℕ) (c : List ℕ) → left_since disk t c → is_some (content disk) ≡ true };
+
     /// The moments since an earlier moment are more.
     ghost earlier: { (disk : Self) (t u : ℕ) (c : List ℕ) → t ≤ u → left_since disk u c → left_since disk t c };
 

@@ -100,6 +100,8 @@ impl Disk for FileDisk {
 
     ghost only_now = { λ _ _ left. left };
 
+    ghost told = { λ _ _ _ left. absurd left };
+
     ghost earlier = { λ _ _ _ _ _ left. left };
 
     ghost stays = { λ faults. Counted-refl faults };

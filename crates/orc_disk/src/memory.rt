@@ -104,6 +104,7 @@ impl MemDisk {
 impl Disk for MemDisk {
     ghost use Rattle.orc_disk.specs.HistoryLaws.{IsImage-content, WasImage-now, WasImage-only, WasImage-earlier};
     ghost use Rattle.orc_disk.specs.Course.{Counted-refl, Counted-trans};
+    ghost use Rattle.std.proofs.Common.{refl};
 
     ghost content = { λ d. Some (disk_content d) };
 
@@ -208,6 +209,8 @@ impl Disk for MemDisk {
     ghost counts_now = { λ d t c le now. WasImage-now d.history.start d.history.changes t c now };
 
     ghost only_now = { λ d c was. WasImage-only d.history.start d.history.changes c was };
+
+    ghost told = { λ d t c was. refl };
 
     ghost earlier = { λ d t u c le was. WasImage-earlier d.history.start d.history.changes t u c le was };
 

@@ -250,6 +250,8 @@ impl<D: Disk> Disk for StopDisk<D> {
 
     ghost only_now = { λ s. D.only_now s.inner };
 
+    ghost told = { λ s. D.told s.inner };
+
     ghost earlier = { λ s. D.earlier s.inner };
 
     ghost stays = { Led-refl D.leads D.stays };

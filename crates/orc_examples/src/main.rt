@@ -1,6 +1,7 @@
 //! Runs each example that the words name, and says whether it prints what stands beside it.
 #![tactic(auto)]
 
+use orc_disk::MemDisk;
 use orc_io::{MemSink, MemSource};
 use orc_run::orchestrate;
 use std::rt::{Env, Files};
@@ -8,6 +9,9 @@ use std::{env, fs, io};
 
 /// The most bytes that an example prints.
 const ROOM: usize = 65_536;
+
+/// The room of an example's journal, in bytes.
+const JOURNAL_ROOM: u64 = 1_048_576;
 
 /// Prints a line for each example.
 fn main(rt: HostRuntime) -> io::Result<()> {
@@ -34,6 +38,9 @@ fn is_as_printed<R: Files + Env + AllocGlobal>(rt: &R, name: &str) -> io::Result
     let Ok(mut sink) = MemSink::new(alloc, ROOM, Vec::new(alloc)) else {
         return Ok(false);
     };
-    let ended = orchestrate(alloc, words.as_slice(), &mut source, &mut sink);
-    Ok(ended.is_ok() && sink.bytes() == wanted.as_slice())
+    let Ok(disk) = MemDisk::new(alloc, Vec::new(alloc), JOURNAL_ROOM, Vec::new(alloc)) else {
+        return Ok(false);
+    };
+    let ended = orchestrate(alloc, words.as_slice(), &mut source, &mut sink, disk);
+    Ok(ended.status.is_ok() && sink.bytes() == wanted.as_slice())
 }

@@ -1,5 +1,5 @@
 -- Services that live together agree.
-use Rattle.std.proofs.Common.{◌≡◌, ℕ, zero, suc, ◌+◌, Bool, true, false, cond, not, List, [], ◌∷◌, ◌++◌, inl, inr, map, All, None, Some, refl, sym, ap, subst, ◌∙◌, arith}
+use Rattle.std.proofs.Common.{◌≡◌, ℕ, zero, suc, ◌+◌, Bool, true, false, cond, not, List, [], ◌∷◌, inl, inr, map, All, None, Some, refl, sym, ap, subst, ◌∙◌, arith}
 use Rattle.std.specs.declared.option.Option.{Option}
 use Rattle.std.specs.declared.cmp.Ordering.{Ordering}
 use Rattle.std.specs.declared.cmp.Ordering.TheVariants.{Less, Equal, Greater}
@@ -14,14 +14,14 @@ use Rattle.orc_path.specs.Order.{path_cmp, path_cmp_exact}
 use Rattle.orc_path.specs.Configurations.{Config}
 use Rattle.orc_path.specs.declared.item.Item.{Item}
 use Rattle.orc_path.specs.declared.item.Item.TheVariants.{Entry, Leaf}
-use Rattle.orc_run.specs.States.{is_text, config_of, part, has_id, opening, others, after, expansion, differs, rivals, least, clash_among, clash_on, clash, misplaced, refusal}
+use Rattle.orc_run.specs.States.{action_of, is_text, config_of, part, has_id, opening, others, after, expansion, differs, rivals, least, clash_among, clash_on, clash, misplaced, refusal}
 use Rattle.orc_run.specs.Histories.{fold_from, IsUnrefused}
 use Rattle.orc_run.specs.Laws.{Agree, AllAgree, ServicesAgree}
-use Rattle.orc_run.specs.declared.call.Answer.{Answer}
-use Rattle.orc_run.specs.declared.call.Answer.TheVariants.{Clash}
-use Rattle.orc_run.specs.declared.call.Call.{Call}
-use Rattle.orc_run.specs.declared.call.Action.{Action}
-use Rattle.orc_run.specs.declared.call.Action.TheVariants.{Literal, Delete}
+use Rattle.orc_call.specs.declared.answer.Answer.{Answer}
+use Rattle.orc_call.specs.declared.answer.Answer.TheVariants.{Clash}
+use Rattle.orc_call.specs.declared.call.Call.{Call}
+use Rattle.orc_call.specs.declared.call.Action.{Action}
+use Rattle.orc_call.specs.declared.call.Action.TheVariants.{Literal, Delete}
 use Rattle.orc_run.specs.declared.state.Service.{Service}
 use Rattle.orc_run.specs.declared.state.State.{State}
 
@@ -140,11 +140,7 @@ only s a c = elim (Contains-push_cases [] s a c) [ inl none ↦ absurd (none_in_
 
 -- an action that is not refused leaves services that agree
 after_agree : (names : List (List ℕ)) (s : State) (action : Action) → refusal names s action ≡ None → AllAgree s.live → AllAgree (after names s action).live
-after_agree names s (Delete id) h all a b c e =
-    all a b (others_live s.live id a (kept a c)) (others_live s.live id b (kept b e))
-  where
-    kept : (a : Service) → Contains (others s.live id ++ []) a → Contains (others s.live id) a
-    kept a c = elim (Contains-append_cases (others s.live id) [] a c) [ inl old ↦ old | inr none ↦ absurd (none_in_nil a none) ]
+after_agree names s (Delete id) h all a b c e = all a b (others_live s.live id a c) (others_live s.live id b e)
 after_agree names s (Literal id writes) h all a b c e =
     elim (Contains-append_cases (others s.live id) (new ∷ []) a c) [
       | inl old ↦ elim (Contains-append_cases (others s.live id) (new ∷ []) b e) [
@@ -162,10 +158,11 @@ after_agree names s (Literal id writes) h all a b c e =
 
     none : clash names s (Literal id writes) ≡ None
     none = unrefused_clash names s (Literal id writes) h
+after_agree names s other h all a b c e = all a b c e
 
 fold_agree : (names : List (List ℕ)) (s : State) (calls : List Call) → IsUnrefused names s calls → AllAgree s.live → AllAgree (fold_from names s calls).live
 fold_agree names s [] h all = all
-fold_agree names s (call ∷ calls) h all = fold_agree names (after names s call.action) calls h.1 (after_agree names s call.action h.0 all)
+fold_agree names s (call ∷ calls) h all = fold_agree names (after names s (action_of call)) calls h.1 (after_agree names s (action_of call) h.0 all)
 
 pub living_agree : ServicesAgree
 living_agree names devices history h = fold_agree names (opening devices) history h (λ a b c e. absurd (none_in_nil a c))

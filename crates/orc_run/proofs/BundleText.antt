@@ -2,17 +2,18 @@
 use Rattle.std.proofs.Common.{◌≡◌, ℕ, List, [], ◌∷◌, ◌++◌, map, codes, refl, ap, ap₂, sym, ◌∙◌, append_assoc, append-nil, decimal}
 use Rattle.std.specs.List.{flat_map}
 use Rattle.std.proofs.lemmas.List.Concat.{flat_map-append}
+use Rattle.orc_run.specs.States.{action_of}
 use Rattle.orc_run.specs.Printed.{item_text, name_of, names_of}
 use Rattle.orc_run.specs.Bundles as bundles
 use Rattle.orc_run.specs.Lines.{line_text, lines_text}
 use Rattle.orc_run.specs.declared.bundle.Bundle.{Bundle}
 use Rattle.orc_run.specs.declared.bundle.Device.{Device}
-use Rattle.orc_run.specs.declared.bundle.Put.{Put}
+use Rattle.orc_call.specs.declared.call.Put.{Put}
 use Rattle.orc_run.specs.declared.bundle.ScriptStep.{ScriptStep}
 use Rattle.orc_run.specs.declared.bundle.ScriptStep.TheVariants as step
-use Rattle.orc_run.specs.declared.call.Action.{Action}
-use Rattle.orc_run.specs.declared.call.Action.TheVariants as action
-use Rattle.orc_run.specs.declared.call.DevicePut.{DevicePut}
+use Rattle.orc_call.specs.declared.call.Action.{Action}
+use Rattle.orc_call.specs.declared.call.Action.TheVariants as action
+use Rattle.orc_call.specs.declared.call.DevicePut.{DevicePut}
 use Rattle.orc_run.specs.declared.read.line.Line.{Line}
 use Rattle.orc_run.specs.declared.read.line.Line.TheVariants as line
 use Rattle.orc_run.proofs.Story.{put_line, device_lines, action_lines, call_lines, step_lines, bundle_lines}
@@ -46,14 +47,21 @@ devices_text (d ∷ ds) = ap₂ (λ (x y : List ℕ). x ++ y) (device_text d) (d
 action_text : (a : Action) → bundles.action_lines a ≡ lines_text (action_lines a)
 action_text (action.Literal id writes) = ap (λ (y : List ℕ). (codes "literal " ++ (id ++ 10 ∷ [])) ++ y) (writes_text writes)
 action_text (action.Delete id) = sym (append-nil (codes "delete " ++ (id ++ 10 ∷ [])))
+action_text other = refl
 
 call_text : (caller : List ℕ) (number : ℕ) → codes "call " ++ caller ++ 32 ∷ [] ++ decimal number ++ 10 ∷ [] ≡ line_text (line.Call caller number) ++ 10 ∷ []
 call_text caller number = ap (λ (z : List ℕ). codes "call " ++ (z ++ 10 ∷ [])) (append_assoc caller (32 ∷ []) (decimal number))
 
 step_text : (names : List (List ℕ)) (x : ScriptStep) → bundles.step_lines names x ≡ lines_text (step_lines names x)
 step_text names (step.Show d) = sym (append-nil (codes "show " ++ (name_of names d ++ 10 ∷ [])))
+step_text names step.Stop = refl
+step_text names (step.StopAt k b) =
+    ap (λ (z : List ℕ). codes "stop " ++ (z ++ 10 ∷ [])) (append_assoc (decimal k) (32 ∷ []) (decimal b))
+    ∙ sym (append-nil (line_text (line.StopAt k b) ++ 10 ∷ []))
+step_text names step.Recover = refl
+step_text names step.History = refl
 step_text names (step.Serve call) =
-    ap₂ (λ (x y : List ℕ). (x ++ y) ++ codes "end\nsettle\n") (call_text call.caller call.number) (action_text call.action) ∙ sym (lines-append (call_lines call) (line.End ∷ line.Settle ∷ []))
+    ap₂ (λ (x y : List ℕ). (x ++ y) ++ codes "end\nsettle\n") (call_text call.caller call.number) (action_text (action_of call)) ∙ sym (lines-append (call_lines call) (line.End ∷ line.Settle ∷ []))
 
 steps_text : (names : List (List ℕ)) (xs : List ScriptStep) → flat_map (bundles.step_lines names) xs ≡ lines_text (flat_map (step_lines names) xs)
 steps_text names [] = refl

@@ -1,18 +1,17 @@
 -- Tests of all elements of a list, and what the tests of a bundle say.
-use Rattle.std.proofs.Common.{◌≡◌, ℕ, ◌<◌, Bool, true, false, ◌&&◌, List, [], ◌∷◌, length, get_or, IsTrue, All, sym, subst, refl}
+use Rattle.std.proofs.Common.{◌≡◌, ℕ, ◌<◌, Bool, true, false, ◌&&◌, ◌==◌, eqb-true, List, length, get_or, IsTrue, sym, subst, refl}
 use Rattle.std.specs.List.{list_all}
 use Rattle.std.proofs.lemmas.List.Elements.{All-get_or, All-weaker}
 use Rattle.std.proofs.lemmas.List.Sums.{AllPass-from_list_all, list_all-from_AllPass}
 use Rattle.orc_path.specs.Items.{fits}
 use Rattle.orc_path.specs.Steps.{PathStep}
 use Rattle.orc_path.specs.declared.item.Item.{Item}
-use Rattle.orc_run.specs.States.{fits_action, fits_puts, fits_devices}
-use Rattle.orc_run.specs.Bundles.{is_item, is_put, is_device, is_write, is_action}
-use Rattle.orc_run.specs.declared.bundle.Put.{Put}
+use Rattle.orc_run.specs.States.{action_of, fits_action, fits_puts, fits_devices}
+use Rattle.orc_run.specs.Bundles.{is_item, is_put, is_device, is_write, is_action, is_call}
 use Rattle.orc_run.specs.declared.bundle.Device.{Device}
-use Rattle.orc_run.specs.declared.call.DevicePut.{DevicePut}
-use Rattle.orc_run.specs.declared.call.Action.{Action}
-use Rattle.orc_run.specs.declared.call.Action.TheVariants.{Literal, Delete}
+use Rattle.orc_call.specs.declared.call.Call.{Call}
+use Rattle.orc_call.specs.declared.call.Action.{Action}
+use Rattle.orc_call.specs.declared.call.Action.TheVariants.{Literal}
 
 -- what all elements pass, one passes
 pub list_all-read : {X : Type 0} (p : X → Bool) (xs : List X) (i : ℕ) (x : X) → i < length xs → x ≡ get_or xs i x → IsTrue (list_all p xs) → IsTrue (p x)
@@ -46,4 +45,12 @@ pub action-fits : (names : List (List ℕ)) (action : Action) → IsTrue (is_act
 action-fits names (Literal id writes) h =
     list_all_weaker (is_write names) (λ w. fits w.path w.item)
     (λ w q. item-fits w.path w.item (and_second _ (is_item w.path w.item) q)) writes (and_second _ (list_all (is_write names) writes) h)
-action-fits names (Delete id) h = refl
+action-fits names other h = refl
+
+-- a call of a bundle has one action, and it is one of a bundle
+
+pub call-action : (names : List (List ℕ)) (call : Call) → IsTrue (is_call names call) → IsTrue (is_action names (action_of call))
+call-action names call h = and_second _ (is_action names (action_of call)) h
+
+pub call-one : (names : List (List ℕ)) (call : Call) → IsTrue (is_call names call) → length call.actions ≡ 1
+call-one names call h = eqb-true (length call.actions) 1 (and_second _ (length call.actions == 1) (and_first _ (is_action names (action_of call)) h))

@@ -11,7 +11,7 @@ use Rattle.orc_path.specs.Texts.{escape, key_text, step_text, path_text}
 use Rattle.orc_run.specs.Bundles.{is_plain, has_plain_keys}
 use Rattle.orc_run.specs.Lines.{lacks}
 use Rattle.orc_run.proofs.Bytes.{both, either, not_true, list_all-weaker, list_all-joined}
-use Rattle.orc_run.proofs.Numbers.{own}
+use Rattle.orc_run.proofs.Decimals.{own}
 
 abbrev pub is_graphic : ℕ → Bool
 is_graphic b = nat_lt 32 b && nat_lt b 127
@@ -128,6 +128,9 @@ graphic_lacks bs h = list_all-weaker is_graphic (λ b. not (b == 32)) not_space 
 
 pub name_lacks : (bs : List ℕ) → is_identifier bs ≡ true → lacks 32 bs ≡ true
 name_lacks bs h = graphic_lacks bs (identifier_graphic bs h)
+
+pub number_lacks : (n : ℕ) → n < 2 ^ 64 → lacks 32 (decimal n) ≡ true
+number_lacks n h = graphic_lacks (decimal n) (decimal_graphic n h)
 
 pub path_lacks : (p : List PathStep) → is_path p ≡ true → list_all has_plain_keys p ≡ true → lacks 32 (path_text p) ≡ true
 path_lacks p h k = graphic_lacks (path_text p) (path_graphic p h k)

@@ -1,121 +1,88 @@
--- What was committed is a legal history.
-use Rattle.std.proofs.Common.{◌≡◌, ℕ, zero, suc, Bool, true, false, ◌&&◌, ◌||◌, not, List, [], ◌∷◌, ◌++◌, map, take, All, None, Some, refl, sym, ap, subst, ◌∙◌, arith, append_assoc}
-use Rattle.std.specs.declared.option.Option.{Option}
-use Rattle.std.specs.List.{list_all, list_any}
-use Rattle.std.specs.Cmp.{first_so, second_so}
-use Rattle.std.proofs.lemmas.List.Elements.{All-nil, All-cons, All-append}
-use Rattle.orc_run.specs.States.{after, refusal, opening}
-use Rattle.orc_run.specs.Histories.{fold_from, IsUnrefused, extended}
-use Rattle.orc_run.specs.Printed.{names_of, history_after}
-use Rattle.orc_run.specs.Bundles.{is_step, is_same_call, has_distinct_calls}
-use Rattle.orc_run.specs.Laws.{IsLegal, CommittedIsLegal}
-use Rattle.orc_run.specs.declared.bundle.ScriptStep.{ScriptStep}
-use Rattle.orc_run.specs.declared.bundle.ScriptStep.TheVariants.{Serve, Show}
-use Rattle.orc_run.specs.declared.call.Call.{Call}
-use Rattle.orc_run.specs.declared.call.Answer.{Answer}
+-- Legal histories, one call more.
+use Rattle.std.proofs.Common.{◌≡◌, ℕ, List, [], ◌∷◌, ◌++◌, length, All, IsTrue, None, refl, sym, ap, subst, ◌∙◌, append_assoc, append-nil}
+use Rattle.std.proofs.lemmas.List.Elements.{All-nil, All-cons, All-append, All-take, All-contains, Contains-push}
+use Rattle.std.proofs.Math.Seq.{take-append_seam}
+use Rattle.orc_call.specs.declared.call.Call.{Call}
+use Rattle.orc_journal.specs.Committed.{commits, history_from, history_of}
+use Rattle.orc_journal.specs.declared.entry.Entry.{Entry}
+use Rattle.orc_run.specs.States.{action_of, after, opening, refusal}
+use Rattle.orc_run.specs.Histories.{fold_from, IsUnrefused}
+use Rattle.orc_run.specs.Bundles.{is_call}
+use Rattle.orc_run.specs.Legal.{IsNew, AreDistinct, IsLegal, IsDue}
+use Rattle.orc_run.specs.declared.decls.Decls.{Decls}
 use Rattle.orc_run.specs.declared.state.State.{State}
 
-none_without : {X : Type 0} (p : X → Bool) (xs : List X) (x : X) (ys : List X) → list_any p (xs ++ x ∷ ys) ≡ false → list_any p (xs ++ ys) ≡ false
-none_without p [] x ys h = grind arith
-none_without p (y ∷ xs) x ys h = step (p y) (list_any p (xs ++ x ∷ ys)) (list_any p (xs ++ ys)) (none_without p xs x ys) h
-  where
-    step : (a b c : Bool) → (b ≡ false → c ≡ false) → (a || b) ≡ false → (a || c) ≡ false
-    step true b c f e = e
-    step false b c f e = f e
+-- a history, one entry more
+history_from-append : (before entries : List Entry) (entry : Entry) → history_from before (entries ++ entry ∷ []) ≡ history_from before entries ++ commits (before ++ entries) entry
+history_from-append before [] entry = append-nil (commits before entry) ∙ ap (λ (l : List Entry). commits l entry) (sym (append-nil before))
+history_from-append before (first ∷ entries) entry =
+    ap (λ (l : List Call). commits before first ++ l) (history_from-append (before ++ first ∷ []) entries entry)
+    ∙ sym (append_assoc (commits before first) (history_from (before ++ first ∷ []) entries) (commits ((before ++ first ∷ []) ++ entries) entry))
+    ∙ ap (λ (l : List Entry). (commits before first ++ history_from (before ++ first ∷ []) entries) ++ commits l entry) (append_assoc before (first ∷ []) entries)
 
-none_front : {X : Type 0} (p : X → Bool) (xs ys : List X) → list_any p (xs ++ ys) ≡ false → list_any p xs ≡ false
-none_front p [] ys h = refl
-none_front p (y ∷ xs) ys h = step (p y) (list_any p (xs ++ ys)) (list_any p xs) (none_front p xs ys) h
-  where
-    step : (a b c : Bool) → (b ≡ false → c ≡ false) → (a || b) ≡ false → (a || c) ≡ false
-    step true b c f e = e
-    step false b c f e = f e
+pub history_of-append : (entries : List Entry) (entry : Entry) → history_of (entries ++ entry ∷ []) ≡ history_of entries ++ commits entries entry
+history_of-append entries entry = history_from-append [] entries entry
 
-weaker : (a b c d : Bool) → (a ≡ false → c ≡ false) → (b ≡ true → d ≡ true) → (not a && b) ≡ true → (not c && d) ≡ true
-weaker true b c d f g e = absurd (apart e)
-  where
-    apart : false ≡ true → ⊥
-    apart q = cc
-weaker false b c d f g e = both _ _ (ap not (f refl)) (g e)
-  where
-    both : (a b : Bool) → a ≡ true → b ≡ true → (a && b) ≡ true
-    both true b p q = q
-    both false b p q = p
-
--- a step fewer leaves the calls distinct
-distinct_without : (xs : List ScriptStep) (x : ScriptStep) (ys : List ScriptStep) → has_distinct_calls (xs ++ x ∷ ys) ≡ true → has_distinct_calls (xs ++ ys) ≡ true
-distinct_without [] (Show d) ys h = h
-distinct_without [] (Serve call) ys h = second_so _ _ h
-distinct_without (Show d ∷ xs) x ys h = distinct_without xs x ys h
-distinct_without (Serve call ∷ xs) x ys h =
-    weaker _ _ _ _ (none_without (is_same_call call) xs x ys) (distinct_without xs x ys) h
-
-distinct_front : (xs ys : List ScriptStep) → has_distinct_calls (xs ++ ys) ≡ true → has_distinct_calls xs ≡ true
-distinct_front [] ys h = refl
-distinct_front (Show d ∷ xs) ys h = distinct_front xs ys h
-distinct_front (Serve call ∷ xs) ys h = weaker _ _ _ _ (none_front (is_same_call call) xs ys) (distinct_front xs ys) h
+-- the state behind a history, one call more
+pub fold_from-append : (names : List (List ℕ)) (s : State) (calls : List Call) (call : Call)
+    → fold_from names s (calls ++ call ∷ []) ≡ after names (fold_from names s calls) (action_of call)
+fold_from-append names s [] call = refl
+fold_from-append names s (c ∷ calls) call = fold_from-append names (after names s (action_of c)) calls call
 
 unrefused_more : (names : List (List ℕ)) (s : State) (history : List Call) (call : Call) → IsUnrefused names s history
-    → refusal names (fold_from names s history) call.action ≡ None → IsUnrefused names s (history ++ call ∷ [])
+    → refusal names (fold_from names s history) (action_of call) ≡ None → IsUnrefused names s (history ++ call ∷ [])
 unrefused_more names s [] call h none = (none, tt)
-unrefused_more names s (first ∷ rest) call h none = (h.0, unrefused_more names (after names s first.action) rest call h.1 none)
+unrefused_more names s (first ∷ rest) call h none = (h.0, unrefused_more names (after names s (action_of first)) rest call h.1 none)
 
-abbrev IsLawful : List (List ℕ) → Call → Type 0
-IsLawful names call = is_step names (Serve call) ≡ true
+unrefused_last : (names : List (List ℕ)) (s : State) (history : List Call) (call : Call) → IsUnrefused names s (history ++ call ∷ [])
+    → refusal names (fold_from names s history) (action_of call) ≡ None
+unrefused_last names s [] call h = h.0
+unrefused_last names s (first ∷ rest) call h = unrefused_last names (after names s (action_of first)) rest call h.1
 
-map-append : (xs ys : List Call) → map (λ c. Serve c) (xs ++ ys) ≡ map (λ c. Serve c) xs ++ map (λ c. Serve c) ys
-map-append [] ys = refl
-map-append (x ∷ xs) ys = ap (λ l. Serve x ∷ l) (map-append xs ys)
+distinct_more : (before history : List Call) (call : Call) → AreDistinct before history → IsNew (before ++ history) call → AreDistinct before (history ++ call ∷ [])
+distinct_more before [] call h new = (subst (λ (l : List Call). IsNew l call) (append-nil before) new, tt)
+distinct_more before (first ∷ rest) call h new =
+    (h.0, distinct_more (before ++ first ∷ []) rest call h.1 (subst (λ (l : List Call). IsNew l call) (sym (append_assoc before (first ∷ []) rest)) new))
 
--- what is known of the history so far and the steps that are left
-record Stands (names : List (List ℕ)) (s : State) (history : List Call) (steps : List ScriptStep) : Type 0 where
-  lawful : All (IsLawful names) history
-  unrefused : IsUnrefused names s history
-  distinct : has_distinct_calls (map (λ c. Serve c) history ++ steps) ≡ true
-  steps_are : list_all (is_step names) steps ≡ true
+distinct_last : (before history : List Call) (call : Call) → AreDistinct before (history ++ call ∷ []) → IsNew (before ++ history) call
+distinct_last before [] call h = subst (λ (l : List Call). IsNew l call) (sym (append-nil before)) h.0
+distinct_last before (first ∷ rest) call h =
+    subst (λ (l : List Call). IsNew l call) (append_assoc before (first ∷ []) rest) (distinct_last (before ++ first ∷ []) rest call h.1)
 
-shown : (names : List (List ℕ)) (s : State) (history : List Call) (d : ℕ) (steps : List ScriptStep) → Stands names s history (Show d ∷ steps) → Stands names s history steps
-shown names s history d steps so = record {
-  lawful = so.lawful;
-  unrefused = so.unrefused;
-  distinct = distinct_without (map (λ c. Serve c) history) (Show d) steps so.distinct;
-  steps_are = second_so _ _ so.steps_are;
+pub legal_none : (decls : Decls) → IsLegal decls []
+legal_none decls = record { lawful = All-nil (λ call. IsTrue (is_call decls.names call)); unrefused = tt; distinct = tt }
+
+pub legal_more : (decls : Decls) (history : List Call) (call : Call) → IsLegal decls history → IsTrue (is_call decls.names call) → IsDue decls history call
+    → IsLegal decls (history ++ call ∷ [])
+legal_more decls history call legal lawful due = record {
+  lawful = All-append (λ c. IsTrue (is_call decls.names c)) history (call ∷ []) legal.lawful (All-cons (λ c. IsTrue (is_call decls.names c)) call [] lawful (All-nil (λ c. IsTrue (is_call decls.names c))));
+  unrefused = unrefused_more decls.names (opening decls.devices) history call legal.unrefused due.unrefused;
+  distinct = distinct_more [] history call legal.distinct due.new;
 }
 
-served : (names : List (List ℕ)) (s : State) (history : List Call) (call : Call) (steps : List ScriptStep)
-    → Stands names s history (Serve call ∷ steps) → Stands names s (extended names s history call) steps
-served names s history call steps so = on (refusal names (fold_from names s history) call.action) refl
-  where
-    on : (o : Option Answer) → refusal names (fold_from names s history) call.action ≡ o
-        → Stands names s (elim o [ None ↦ history ++ call ∷ [] | Some answer ↦ history ]) steps
-    on None none = record {
-      lawful = All-append (IsLawful names) history (call ∷ []) so.lawful (All-cons (IsLawful names) call [] (first_so _ _ so.steps_are) (All-nil (IsLawful names)));
-      unrefused = unrefused_more names s history call so.unrefused none;
-      distinct =
-          subst (λ (l : List ScriptStep). has_distinct_calls l ≡ true)
-          (sym (append_assoc (map (λ c. Serve c) history) (Serve call ∷ []) steps) ∙ ap (λ (l : List ScriptStep). l ++ steps) (sym (map-append history (call ∷ [])))) so.distinct;
-      steps_are = second_so _ _ so.steps_are;
-    }
-    on (Some answer) refused = record {
-      lawful = so.lawful;
-      unrefused = so.unrefused;
-      distinct = distinct_without (map (λ c. Serve c) history) (Serve call) steps so.distinct;
-      steps_are = second_so _ _ so.steps_are;
-    }
+pub legal_last : (decls : Decls) (history : List Call) (call : Call) → IsLegal decls (history ++ call ∷ []) → IsTrue (is_call decls.names call) × IsDue decls history call
+legal_last decls history call legal = (
+  All-contains (λ c. IsTrue (is_call decls.names c)) (history ++ call ∷ []) call legal.lawful (Contains-push history call),
+  record {
+    new = distinct_last [] history call legal.distinct;
+    unrefused = unrefused_last decls.names (opening decls.devices) history call legal.unrefused;
+  },
+)
 
-legal_so_far : (names : List (List ℕ)) (s : State) (history : List Call) (steps : List ScriptStep) → Stands names s history steps → IsLegal names s history
-legal_so_far names s history steps so =
-    record { lawful = so.lawful; unrefused = so.unrefused; distinct = distinct_front (map (λ c. Serve c) history) steps so.distinct }
+unrefused_front : (names : List (List ℕ)) (s : State) (a b : List Call) → IsUnrefused names s (a ++ b) → IsUnrefused names s a
+unrefused_front names s [] b h = tt
+unrefused_front names s (call ∷ a) b h = (h.0, unrefused_front names (after names s (action_of call)) a b h.1)
 
-legal_after : (names : List (List ℕ)) (s : State) (history : List Call) (steps : List ScriptStep) (n : ℕ) → Stands names s history steps
-    → IsLegal names s (history_after names s history (take n steps))
-legal_after names s history steps zero so = legal_so_far names s history steps so
-legal_after names s history [] (suc n) so = legal_so_far names s history [] so
-legal_after names s history (Show d ∷ steps) (suc n) so = legal_after names s history steps n (shown names s history d steps so)
-legal_after names s history (Serve call ∷ steps) (suc n) so =
-    legal_after names s (extended names s history call) steps n (served names s history call steps so)
+distinct_front : (before a b : List Call) → AreDistinct before (a ++ b) → AreDistinct before a
+distinct_front before [] b h = tt
+distinct_front before (call ∷ a) b h = (h.0, distinct_front (before ++ call ∷ []) a b h.1)
 
-pub committed_legal : CommittedIsLegal
-committed_legal b n h =
-    legal_after (names_of b.devices) (opening b.devices) [] b.steps n
-    (record { lawful = All-nil (IsLawful (names_of b.devices)); unrefused = tt; distinct = second_so _ _ h; steps_are = second_so _ _ (first_so _ _ h) })
+-- a front of a legal history is legal
+pub legal_front : (decls : Decls) (a b : List Call) → IsLegal decls (a ++ b) → IsLegal decls a
+legal_front decls a b legal = record {
+  lawful =
+      subst (λ (l : List Call). All (λ call. IsTrue (is_call decls.names call)) l) (take-append_seam a b)
+      (All-take (λ call. IsTrue (is_call decls.names call)) (length a) (a ++ b) legal.lawful);
+  unrefused = unrefused_front decls.names (opening decls.devices) a b legal.unrefused;
+  distinct = distinct_front [] a b legal.distinct;
+}

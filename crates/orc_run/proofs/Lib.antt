@@ -2,15 +2,22 @@ pub mod Agreement
 pub mod Traces
 pub mod Overlays
 pub mod Trees
-pub mod Legality
 mod Fits
 mod Refusals
-mod Transcripts
 mod OneWord
 mod Services
+mod Newest
+pub mod Legality
+mod Pasts
+mod Equality
+mod AtOnce
+mod Ranges
+mod Runs
+mod Keeps
+mod Tops
 mod Bytes
 mod Cuts
-mod Numbers
+mod Decimals
 mod Graphic
 mod Marks
 mod Readers
@@ -22,4 +29,14 @@ mod Story
 mod BundleText
 mod Rereading
 mod WholeBundle
-mod Distinct
+pub mod Encodable
+mod Fronts
+mod Openings
+mod Recoveries
+mod Outcomes
+mod Servings
+mod Soundness
+mod Deciding
+mod Commits
+mod Committing
+mod Answering

@@ -7,14 +7,14 @@ use Rattle.orc_path.specs.Alphabet.{is_identifier}
 use Rattle.orc_run.specs.Printed.{item_text}
 use Rattle.orc_run.specs.Lines.{lacks, word_of, rest_of, joined}
 use Rattle.orc_run.specs.Reading.{IsOnly, Reads, IsNameOf, IsNumberOf, IsPutOf, IsDevicePutOf, IsBehind, IsLineOf}
-use Rattle.orc_run.specs.declared.bundle.Put.{Put}
-use Rattle.orc_run.specs.declared.call.DevicePut.{DevicePut}
+use Rattle.orc_call.specs.declared.call.Put.{Put}
+use Rattle.orc_call.specs.declared.call.DevicePut.{DevicePut}
 use Rattle.orc_run.specs.declared.read.BundleFault.{BundleFault}
 use Rattle.orc_run.specs.declared.read.line.Line.{Line}
 use Rattle.orc_run.specs.declared.read.line.Line.TheVariants as line
 use Rattle.orc_run.proofs.Bytes.{both}
 use Rattle.orc_run.proofs.Cuts.{cut_once, has_cut}
-use Rattle.orc_run.proofs.Graphic.{name_lacks}
+use Rattle.orc_run.proofs.Graphic.{name_lacks, number_lacks}
 use Rattle.orc_run.proofs.Readers.{reads_alike}
 
 -- a call
@@ -37,6 +37,29 @@ call_only a b rest caller number e k name num =
       only = λ l h.
           let p = call_parts a b rest e k l h in
           p.4 ∙ ap₂ (λ (x : List ℕ) (n : ℕ). line.Call x n) (name.only p.0 p.2) (num.only p.1 p.3);
+    }
+
+-- an armed stop
+
+pub stop_parts : (a b rest : List ℕ) → rest ≡ a ++ 32 ∷ b → lacks 32 a ≡ true → (l : Line) → IsBehind (codes "stop") rest l → (count : ℕ) × (bytes : ℕ) × IsNumberOf a count × IsNumberOf b bytes × (l ≡ line.StopAt count bytes)
+stop_parts a b rest e k line.Stop h = let none : None ≡ Some rest = h.rest in cc
+stop_parts a b rest e k (line.StopAt count bytes) h =
+    let first : count < 2 ^ 64 = ltb-true count (2 ^ 64) (first_so (nat_lt count (2 ^ 64)) (nat_lt bytes (2 ^ 64)) h.lawful) in
+    let second : bytes < 2 ^ 64 = ltb-true bytes (2 ^ 64) (second_so (nat_lt count (2 ^ 64)) (nat_lt bytes (2 ^ 64)) h.lawful) in
+    let some : Some (decimal count ++ 32 ∷ decimal bytes) ≡ Some rest = h.rest in
+    let whole : decimal count ++ 32 ∷ decimal bytes ≡ rest = cc in
+    let parts = cut_once 32 (decimal count) (decimal bytes) a b (number_lacks count first) k (whole ∙ e) in
+    (count, bytes, record { lawful = first; text = parts.0 }, record { lawful = second; text = parts.1 }, refl)
+stop_parts a b rest e k l h = let other : bytes_eq (codes "stop") (word_of l) ≡ true = ap (bytes_eq (codes "stop")) h.word in absurd (false≢true other)
+
+pub stop_only : (a b rest : List ℕ) (count bytes : ℕ) → rest ≡ a ++ 32 ∷ b → lacks 32 a ≡ true → IsOnly (IsNumberOf a) count → IsOnly (IsNumberOf b) bytes → IsOnly (IsBehind (codes "stop") rest) (line.StopAt count bytes)
+stop_only a b rest count bytes e k first second =
+    let whole : decimal count ++ 32 ∷ decimal bytes ≡ rest = ap₂ (λ (x y : List ℕ). x ++ 32 ∷ y) first.holds.text second.holds.text ∙ sym e in
+    record {
+      holds = record { lawful = both _ _ (lt-ltb count (2 ^ 64) first.holds.lawful) (lt-ltb bytes (2 ^ 64) second.holds.lawful); word = refl; rest = ap Some whole };
+      only = λ l h.
+          let p = stop_parts a b rest e k l h in
+          p.4 ∙ ap₂ (λ (x y : ℕ). line.StopAt x y) (first.only p.0 p.2) (second.only p.1 p.3);
     }
 
 -- a device
@@ -98,6 +121,10 @@ word_lacks (line.Write w) = refl
 word_lacks (line.Delete id) = refl
 word_lacks line.End = refl
 word_lacks line.Settle = refl
+word_lacks line.Stop = refl
+word_lacks (line.StopAt k b) = refl
+word_lacks line.Recover = refl
+word_lacks line.History = refl
 
 joined_parts : (first rest a b : List ℕ) (behind : Option (List ℕ)) → lacks 32 first ≡ true → lacks 32 a ≡ true → joined first behind ≡ a ++ 32 ∷ b → (first ≡ a) × (behind ≡ Some b)
 joined_parts first rest a b None k j e = absurd (has_cut 32 a b (rw e at k))

@@ -9,13 +9,14 @@ use Rattle.orc_path.specs.Steps.{PathStep}
 use Rattle.orc_path.specs.Configurations.{Config, overlay}
 use Rattle.orc_path.specs.ConfigurationLaws.{same_config, get-overlay}
 use Rattle.orc_path.specs.declared.item.Item.{Item}
-use Rattle.orc_run.specs.States.{part, over, opening, overlaid, config_of, after}
+use Rattle.orc_run.specs.States.{action_of, part, over, opening, overlaid, config_of, after}
 use Rattle.orc_run.specs.Histories.{fold_from}
 use Rattle.orc_run.specs.Laws.{AllAgree, IsOverlay, OverlayIsOne, OrderOfCreationIsFree}
-use Rattle.orc_run.specs.declared.call.Call.{Call}
+use Rattle.orc_call.specs.declared.call.Call.{Call}
 use Rattle.orc_run.specs.declared.state.Service.{Service}
 use Rattle.orc_run.specs.declared.state.State.{State}
 use Rattle.orc_run.proofs.Agreement.{living_agree, only, none_in_nil}
+use Rattle.orc_run.proofs.Services.{after-bases}
 
 first_in : (a : Service) (rest : List Service) → Contains (a ∷ rest) a
 first_in a rest = Contains-append_left (a ∷ []) rest a (Contains-push [] a)
@@ -102,7 +103,7 @@ overlay_one names devices history d h =
 
 bases_stay : (names : List (List ℕ)) (s : State) (calls : List Call) → (fold_from names s calls).bases ≡ s.bases
 bases_stay names s [] = refl
-bases_stay names s (call ∷ calls) = bases_stay names (after names s call.action) calls
+bases_stay names s (call ∷ calls) = bases_stay names (after names s (action_of call)) calls ∙ after-bases names s (action_of call)
 
 pub order_free : OrderOfCreationIsFree
 order_free names devices one other d h g there back =

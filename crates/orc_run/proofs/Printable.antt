@@ -14,7 +14,7 @@ use Rattle.orc_run.specs.Printed.{item_text}
 use Rattle.orc_run.specs.Bundles.{has_plain_keys, is_plain_item, is_item}
 use Rattle.orc_run.specs.Lines.{lacks, put_text, line_text, is_line}
 use Rattle.orc_run.specs.Reading.{IsLineOf}
-use Rattle.orc_run.specs.declared.call.DevicePut.{DevicePut}
+use Rattle.orc_call.specs.declared.call.DevicePut.{DevicePut}
 use Rattle.orc_run.specs.declared.read.line.Line.{Line}
 use Rattle.orc_run.specs.declared.read.line.Line.TheVariants as line
 use Rattle.orc_run.proofs.Bytes.{both, not_true, list_all-weaker, list_all-joined}
@@ -65,6 +65,13 @@ line_printable (line.Write w) h = spaced (codes "write") (put_text w) refl (put_
 line_printable (line.Delete id) h = spaced (codes "delete") id refl (name_printable id h)
 line_printable line.End h = refl
 line_printable line.Settle h = refl
+line_printable line.Stop h = refl
+line_printable (line.StopAt k b) h =
+    let first : k < 2 ^ 64 = ltb-true k (2 ^ 64) (first_so (nat_lt k (2 ^ 64)) (nat_lt b (2 ^ 64)) h) in
+    let second : b < 2 ^ 64 = ltb-true b (2 ^ 64) (second_so (nat_lt k (2 ^ 64)) (nat_lt b (2 ^ 64)) h) in
+    spaced (codes "stop") (decimal k ++ 32 ∷ decimal b) refl (spaced (decimal k) (decimal b) (word_printable (decimal k) (decimal_graphic k first)) (word_printable (decimal b) (decimal_graphic b second)))
+line_printable line.Recover h = refl
+line_printable line.History h = refl
 
 not_line_feed : (b : ℕ) → is_printable b ≡ true → not (b == 10) ≡ true
 not_line_feed b h =
@@ -78,6 +85,9 @@ printable_ascii [] h = IsAscii-nil
 printable_ascii (b ∷ bs) h =
     let high : b < 127 = ltb-true b 127 (second_so (nat_lt 31 b) (nat_lt b 127) (first_so (is_printable b) (list_all is_printable bs) h)) in
     IsAscii-cons b bs (omega arith) (printable_ascii bs (second_so (is_printable b) (list_all is_printable bs) h))
+
+pub graphic_utf8 : (bs : List ℕ) → list_all is_graphic bs ≡ true → IsUtf8 bs
+graphic_utf8 bs h = IsUtf8-from_ascii bs (printable_ascii bs (word_printable bs h))
 
 -- what is no text in UTF-8 is no line
 pub unreadable : (bytes : List ℕ) → (IsUtf8 bytes → ⊥) → (l : Line) → IsLineOf bytes l → ⊥

@@ -11,7 +11,7 @@ use Rattle.orc_run.specs.Printed.{item_text}
 use Rattle.orc_run.specs.Bundles.{has_plain_keys, is_plain_item, is_item}
 use Rattle.orc_run.specs.Lines.{lacks}
 use Rattle.orc_run.specs.Reading.{Reads, IsEntryOf, IsLeafOf, IsPutOf}
-use Rattle.orc_run.specs.declared.bundle.Put.{Put}
+use Rattle.orc_call.specs.declared.call.Put.{Put}
 use Rattle.orc_run.specs.declared.read.BundleFault.{BundleFault}
 use Rattle.orc_run.proofs.Cuts.{cut_once, has_cut}
 use Rattle.orc_run.proofs.Graphic.{path_lacks}

@@ -1,5 +1,5 @@
 -- The device that a refusal names.
-use Rattle.std.proofs.Common.{◌≡◌, ℕ, suc, ◌+◌, ◌≤◌, ◌<◌, Bool, true, false, cond, List, [], ◌∷◌, length, map, None, Some, IsTrue, refl, sym, ap, subst, ◌∙◌, arith}
+use Rattle.std.proofs.Common.{ℕ, suc, ◌+◌, ◌≤◌, ◌<◌, true, false, cond, List, [], ◌∷◌, length, map, None, Some, IsTrue, refl, arith}
 use Rattle.std.proofs.lemmas.List.{length-map}
 use Rattle.std.specs.Prelude.{nat_lt}
 use Rattle.std.specs.declared.option.Option.{Option}
@@ -10,10 +10,10 @@ use Rattle.orc_path.specs.Steps.{PathStep}
 use Rattle.orc_path.specs.declared.item.Item.{Item}
 use Rattle.orc_run.specs.States.{clash, clash_among, clash_on, expansion, least, lives, misplaced, others, refusal, rivals}
 use Rattle.orc_run.specs.Printed.{is_answer_among}
-use Rattle.orc_run.specs.declared.call.Action.{Action}
-use Rattle.orc_run.specs.declared.call.Action.TheVariants.{Literal, Delete}
-use Rattle.orc_run.specs.declared.call.Answer.{Answer}
-use Rattle.orc_run.specs.declared.call.Answer.TheVariants.{Clash, Exists, Missing}
+use Rattle.orc_call.specs.declared.call.Action.{Action}
+use Rattle.orc_call.specs.declared.call.Action.TheVariants.{Literal, Delete}
+use Rattle.orc_call.specs.declared.answer.Answer.{Answer}
+use Rattle.orc_call.specs.declared.answer.Answer.TheVariants.{Clash, Exists, Missing}
 use Rattle.orc_run.specs.declared.state.Service.{Service}
 use Rattle.orc_run.specs.declared.state.State.{State}
 
@@ -51,3 +51,4 @@ refusal-device names s (Literal id writes) =
 refusal-device names s (Delete id) =
     placed (length names) (misplaced s (Delete id)) None
     (elim (lives s id) as (λ b. IsAmong (length names) (cond b None (Some (Missing id)))) [ true ↦ tt | false ↦ refl ]) tt
+refusal-device names s other = tt

@@ -1,23 +1,24 @@
 -- The lines of a bundle are read as that bundle.
-use Rattle.std.proofs.Common.{◌≡◌, ℕ, zero, suc, ◌<◌, ◌^◌, Bool, true, false, cond, ◌&&◌, nat_lt, List, [], ◌∷◌, ◌++◌, map, Some, None, refl, ap, sym, ◌∙◌, arith, append_assoc, append-nil, ltb-true, inl, inr}
+use Rattle.std.proofs.Common.{◌≡◌, ℕ, zero, suc, ◌<◌, ◌^◌, Bool, true, false, cond, ◌&&◌, nat_lt, List, [], ◌∷◌, ◌++◌, ◌==◌, length, map, Some, None, refl, ap, sym, ◌∙◌, arith, append_assoc, append-nil, eqb-true, ltb-true, inl, inr}
 use Rattle.std.specs.List.{list_all, list_any, flat_map}
 use Rattle.std.specs.Option.{option_and_then}
 use Rattle.std.specs.Cmp.{first_so, second_so}
 use Rattle.std.proofs.lemmas.Bool.{false≢true}
 use Rattle.std.proofs.lemmas.Slice.Eq.{bytes_eq-Decides}
 use Rattle.orc_path.specs.Alphabet.{is_identifier}
-use Rattle.orc_run.specs.States.{is_text}
+use Rattle.orc_run.specs.States.{first_action, action_of, is_text}
 use Rattle.orc_run.specs.Bundles.{is_item, is_put, is_device, is_write, is_action, is_step}
 use Rattle.orc_run.specs.Lines.{is_line}
 use Rattle.orc_run.specs.Places.{behind, behind_all, with_step}
 use Rattle.orc_run.specs.declared.bundle.Bundle.{Bundle}
 use Rattle.orc_run.specs.declared.bundle.Device.{Device}
-use Rattle.orc_run.specs.declared.bundle.Put.{Put}
+use Rattle.orc_call.specs.declared.call.Put.{Put}
 use Rattle.orc_run.specs.declared.bundle.ScriptStep.{ScriptStep}
 use Rattle.orc_run.specs.declared.bundle.ScriptStep.TheVariants as step
-use Rattle.orc_run.specs.declared.call.Action.{Action}
-use Rattle.orc_run.specs.declared.call.Action.TheVariants as action
-use Rattle.orc_run.specs.declared.call.DevicePut.{DevicePut}
+use Rattle.orc_call.specs.declared.call.Call.{Call}
+use Rattle.orc_call.specs.declared.call.Action.{Action}
+use Rattle.orc_call.specs.declared.call.Action.TheVariants as action
+use Rattle.orc_call.specs.declared.call.DevicePut.{DevicePut}
 use Rattle.orc_run.specs.declared.read.line.Line.{Line}
 use Rattle.orc_run.specs.declared.read.line.Line.TheVariants as line
 use Rattle.orc_run.specs.declared.read.place.Place.{Place}
@@ -52,11 +53,21 @@ reads_writes s caller number id ws (u ∷ us) ls h =
     ∙ reads_writes s caller number id (ws ++ u ∷ []) us ls (second_so (is_write (names s) u) (list_all (is_write (names s)) us) h)
     ∙ ap (λ (b : List DevicePut). behind_all (place.Write s caller number id b) ls) (append_assoc ws (u ∷ []) us)
 
-reads_call : (s : Script) (caller : List ℕ) (number : ℕ) (a : Action) (ls : List Line) → is_action (names s) a ≡ true → behind_all (place.Step s) ((line.Call caller number ∷ action_lines a ++ line.End ∷ line.Settle ∷ []) ++ ls) ≡ behind_all (place.Step (with_step s (step.Serve (record { caller = caller; number = number; action = a })))) ls
+reads_call : (s : Script) (caller : List ℕ) (number : ℕ) (a : Action) (ls : List Line) → is_action (names s) a ≡ true → behind_all (place.Step s) ((line.Call caller number ∷ action_lines a ++ line.End ∷ line.Settle ∷ []) ++ ls) ≡ behind_all (place.Step (with_step s (step.Serve (record { caller = caller; number = number; actions = a ∷ [] })))) ls
 reads_call s caller number (action.Literal id writes) ls h =
     ap (behind_all (place.Write s caller number id [])) (append_assoc (map line.Write writes) (line.End ∷ line.Settle ∷ []) ls)
     ∙ reads_writes s caller number id [] writes (line.End ∷ line.Settle ∷ ls) (second_so (is_identifier id) (list_all (is_write (names s)) writes) h)
 reads_call s caller number (action.Delete id) ls h = refl
+reads_call s caller number other ls h = absurd (false≢true h)
+
+pub one_action : (actions : List Action) → (length actions == 1) ≡ true → first_action actions ∷ [] ≡ actions
+one_action [] e = absurd (false≢true e)
+one_action (a ∷ []) e = refl
+one_action (a ∷ b ∷ more) e = let one : suc (suc (length more)) ≡ 1 = eqb-true (suc (suc (length more))) 1 e in absurd (omega arith)
+
+-- what is_call asks of the caller and the number
+abbrev is_numbered : Call → Bool
+is_numbered call = is_identifier call.caller && nat_lt call.number (2 ^ 64)
 
 reads_step : (s : Script) (x : ScriptStep) (ls : List Line) → is_step (names s) x ≡ true → behind_all (place.Step s) (step_lines (names s) x ++ ls) ≡ behind_all (place.Step (with_step s x)) ls
 reads_step s (step.Show zero) ls h =
@@ -65,8 +76,14 @@ reads_step s (step.Show zero) ls h =
     ap (option_and_then (λ (x : Place). behind_all x ls)) next
 reads_step s (step.Show (suc d)) ls h =
     let within : suc d < 1 = ltb-true (suc d) 1 h in absurd (omega arith)
+reads_step s step.Stop ls h = refl
+reads_step s (step.StopAt k b) ls h = refl
+reads_step s step.Recover ls h = refl
+reads_step s step.History ls h = refl
 reads_step s (step.Serve call) ls h =
-    reads_call s call.caller call.number call.action ls (second_so (is_identifier call.caller && nat_lt call.number (2 ^ 64)) (is_action (names s) call.action) h)
+    let one = second_so (is_numbered call) (length call.actions == 1) (first_so (is_numbered call && (length call.actions == 1)) (is_action (names s) (action_of call)) h) in
+    reads_call s call.caller call.number (action_of call) ls (second_so (is_numbered call && (length call.actions == 1)) (is_action (names s) (action_of call)) h)
+    ∙ ap (λ (z : List Action). behind_all (place.Step (with_step s (step.Serve (record call { actions = z })))) ls) (one_action call.actions one)
 
 reads_steps : (s : Script) (xs : List ScriptStep) → list_all (is_step (names s)) xs ≡ true → behind_all (place.Step s) (flat_map (step_lines (names s)) xs) ≡ Some (place.Step (record s { steps = s.steps ++ xs }))
 reads_steps s [] h = ap (λ (b : List ScriptStep). Some (place.Step (record s { steps = b }))) (sym (append-nil s.steps))
@@ -108,14 +125,19 @@ action_lawful : (s : Script) (a : Action) → is_identifier s.device.name ≡ tr
 action_lawful s (action.Literal id writes) k h =
     both (is_identifier id) (list_all is_line (map line.Write writes)) (first_so (is_identifier id) (list_all (is_write (names s)) writes) h) (writes_lawful s writes k (second_so (is_identifier id) (list_all (is_write (names s)) writes) h))
 action_lawful s (action.Delete id) k h = both (is_identifier id) true h refl
+action_lawful s other k h = refl
 
 step_lawful : (s : Script) (x : ScriptStep) → is_identifier s.device.name ≡ true → is_step (names s) x ≡ true → list_all is_line (step_lines (names s) x) ≡ true
 step_lawful s (step.Show zero) k h = both (is_identifier s.device.name) true k refl
 step_lawful s (step.Show (suc d)) k h = let within : suc d < 1 = ltb-true (suc d) 1 h in absurd (omega arith)
+step_lawful s step.Stop k h = refl
+step_lawful s (step.StopAt count bytes) k h = both (nat_lt count (2 ^ 64) && nat_lt bytes (2 ^ 64)) true h refl
+step_lawful s step.Recover k h = refl
+step_lawful s step.History k h = refl
 step_lawful s (step.Serve call) k h =
-    let head = first_so (is_identifier call.caller && nat_lt call.number (2 ^ 64)) (is_action (names s) call.action) h in
-    let action = second_so (is_identifier call.caller && nat_lt call.number (2 ^ 64)) (is_action (names s) call.action) h in
-    list_all-joined is_line (call_lines call) (line.End ∷ line.Settle ∷ []) (both (is_identifier call.caller && nat_lt call.number (2 ^ 64)) (list_all is_line (action_lines call.action)) head (action_lawful s call.action k action)) refl
+    let head = first_so (is_numbered call) (length call.actions == 1) (first_so (is_numbered call && (length call.actions == 1)) (is_action (names s) (action_of call)) h) in
+    let action = second_so (is_numbered call && (length call.actions == 1)) (is_action (names s) (action_of call)) h in
+    list_all-joined is_line (call_lines call) (line.End ∷ line.Settle ∷ []) (both (is_numbered call) (list_all is_line (action_lines (action_of call))) head (action_lawful s (action_of call) k action)) refl
 
 steps_lawful : (s : Script) (xs : List ScriptStep) → is_identifier s.device.name ≡ true → list_all (is_step (names s)) xs ≡ true → list_all is_line (flat_map (step_lines (names s)) xs) ≡ true
 steps_lawful s [] k h = refl

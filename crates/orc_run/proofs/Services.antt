@@ -1,14 +1,13 @@
 -- The living services before and after an action.
-use Rattle.std.proofs.Common.{◌≡◌, ℕ, Bool, true, false, not, cond, List, [], ◌∷◌, ◌++◌, None, Some, length, map, All, refl, sym, ap, subst, ◌∙◌, append-nil}
-use Rattle.std.specs.List.{filter, list_any}
+use Rattle.std.proofs.Common.{◌≡◌, ℕ, Bool, true, false, not, cond, List, [], ◌∷◌, ◌++◌, None, Some, length, refl, ap, ◌∙◌}
+use Rattle.std.specs.List.{list_any}
 use Rattle.std.specs.Prelude.{◌||◌}
 use Rattle.std.proofs.lemmas.List.Elements.{All-filter}
 use Rattle.orc_run.specs.States.{IsComplete, after, clash_on, expansion, has_id, lives, others, refusal}
-use Rattle.orc_run.specs.declared.call.Action.{Action}
-use Rattle.orc_run.specs.declared.call.Action.TheVariants.{Literal}
-use Rattle.orc_run.specs.declared.call.Answer.{Answer}
-use Rattle.orc_run.specs.declared.call.Answer.TheVariants.{Exists}
-use Rattle.orc_run.specs.declared.call.DevicePut.{DevicePut}
+use Rattle.orc_call.specs.declared.call.Action.{Action}
+use Rattle.orc_call.specs.declared.call.Action.TheVariants.{Literal, Delete}
+use Rattle.orc_call.specs.declared.answer.Answer.TheVariants.{Exists}
+use Rattle.orc_call.specs.declared.call.DevicePut.{DevicePut}
 use Rattle.orc_run.specs.declared.state.Service.{Service}
 use Rattle.orc_run.specs.declared.state.State.{State}
 
@@ -36,6 +35,12 @@ literal-after names s id writes h =
     let made : Service = record { id = id; parts = expansion names writes } in
     let added : List Service → State = λ live. record s { live = live ++ made ∷ [] } in
     ap added (others-absent s.live id h)
+
+-- no action changes the bases
+pub after-bases : (names : List (List ℕ)) (s : State) (action : Action) → (after names s action).bases ≡ s.bases
+after-bases names s (Literal id writes) = refl
+after-bases names s (Delete id) = refl
+after-bases names s other = refl
 
 pub others-complete : (s : State) (id : List ℕ) → IsComplete s → IsComplete (record s { live = others s.live id })
 others-complete s id h = All-filter (λ (x : Service). not (has_id id x)) (λ (x : Service). length x.parts ≡ length s.bases) s.live h

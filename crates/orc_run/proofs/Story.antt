@@ -8,20 +8,20 @@ use Rattle.std.proofs.lemmas.List.{map-append}
 use Rattle.std.proofs.lemmas.List.Concat.{flat_map-append}
 use Rattle.std.proofs.lemmas.Slice.Eq.{bytes_eq-Decides}
 use Rattle.orc_path.specs.Alphabet.{is_identifier}
-use Rattle.orc_run.specs.States.{is_text}
+use Rattle.orc_run.specs.States.{action_of, is_text}
 use Rattle.orc_run.specs.Printed.{name_of, names_of}
 use Rattle.orc_run.specs.Bundles.{is_item, is_put, is_device, is_write, is_action, is_step}
 use Rattle.orc_run.specs.Lines.{is_line}
 use Rattle.orc_run.specs.Places.{behind, behind_header, behind_device, behind_base, behind_step, behind_action, behind_write, behind_end, behind_settle, behind_all, with_step}
 use Rattle.orc_run.specs.declared.bundle.Bundle.{Bundle}
 use Rattle.orc_run.specs.declared.bundle.Device.{Device}
-use Rattle.orc_run.specs.declared.bundle.Put.{Put}
+use Rattle.orc_call.specs.declared.call.Put.{Put}
 use Rattle.orc_run.specs.declared.bundle.ScriptStep.{ScriptStep}
 use Rattle.orc_run.specs.declared.bundle.ScriptStep.TheVariants as step
-use Rattle.orc_run.specs.declared.call.Action.{Action}
-use Rattle.orc_run.specs.declared.call.Action.TheVariants as action
-use Rattle.orc_run.specs.declared.call.Call.{Call}
-use Rattle.orc_run.specs.declared.call.DevicePut.{DevicePut}
+use Rattle.orc_call.specs.declared.call.Action.{Action}
+use Rattle.orc_call.specs.declared.call.Action.TheVariants as action
+use Rattle.orc_call.specs.declared.call.Call.{Call}
+use Rattle.orc_call.specs.declared.call.DevicePut.{DevicePut}
 use Rattle.orc_run.specs.declared.read.line.Line.{Line}
 use Rattle.orc_run.specs.declared.read.line.Line.TheVariants as line
 use Rattle.orc_run.specs.declared.read.place.Place.{Place}
@@ -40,13 +40,18 @@ device_lines d = line.Device d.name ∷ map (put_line d.name) d.base
 abbrev pub action_lines : Action → List Line
 action_lines (action.Literal id writes) = line.Literal id ∷ map line.Write writes
 action_lines (action.Delete id) = line.Delete id ∷ []
+action_lines other = []
 
 abbrev pub call_lines : Call → List Line
-call_lines call = line.Call call.caller call.number ∷ action_lines call.action
+call_lines call = line.Call call.caller call.number ∷ action_lines (action_of call)
 
 abbrev pub step_lines : List (List ℕ) → ScriptStep → List Line
 step_lines names (step.Show d) = line.Show (name_of names d) ∷ []
 step_lines names (step.Serve call) = call_lines call ++ line.End ∷ line.Settle ∷ []
+step_lines names step.Stop = line.Stop ∷ []
+step_lines names (step.StopAt k b) = line.StopAt k b ∷ []
+step_lines names step.Recover = line.Recover ∷ []
+step_lines names step.History = line.History ∷ []
 
 abbrev pub bundle_lines : Bundle → List Line
 bundle_lines b =
@@ -154,13 +159,29 @@ show_grows s name same =
       lawful = λ h k. step_lawful s (step.Show 0) h refl;
     }
 
+-- a step that one line spells
+line_grows : (s : Script) (l : Line) (x : ScriptStep) (q : Place) → Some (place.Step (with_step s x)) ≡ Some q → step_lines (names s) x ≡ l ∷ [] → is_line l ≡ is_step (names s) x → Grows (place.Step s) l q
+line_grows s l x q e spelled same =
+    subst (λ (p : Place). Grows (place.Step s) l p) (some_is (place.Step (with_step s x)) q e) (record {
+      lines = step_added s x ∙ ap (λ (z : List Line). script_lines s ++ z) spelled;
+      lawful = λ h k. step_lawful s x h (sym same ∙ k);
+    })
+
 grows_step : (s : Script) (l : Line) (q : Place) → behind_step s l ≡ Some q → Grows (place.Step s) l q
 grows_step s (line.Show name) q e =
     let p = chosen_is (is_text name s.device.name) (place.Step (with_step s (step.Show 0))) q e in
     subst (λ (x : Place). Grows (place.Step s) (line.Show name) x) p.1 (show_grows s name p.0)
 grows_step s (line.Call caller number) q e =
     subst (λ (x : Place). Grows (place.Step s) (line.Call caller number) x) (some_is (place.Action s caller number) q e) (record { lines = refl; lawful = λ h k. (h, first_so (is_identifier caller) (nat_lt number (2 ^ 64)) k, second_so (is_identifier caller) (nat_lt number (2 ^ 64)) k) })
+grows_step s line.Stop q e = line_grows s line.Stop step.Stop q e refl refl
+grows_step s (line.StopAt k b) q e = line_grows s (line.StopAt k b) (step.StopAt k b) q e refl refl
+grows_step s line.Recover q e = line_grows s line.Recover step.Recover q e refl refl
+grows_step s line.History q e = line_grows s line.History step.History q e refl refl
 grows_step s l q e = absurd (none_is q e)
+
+-- what is_call asks in front of the action
+numbered : (caller : List ℕ) (number : ℕ) → is_identifier caller ≡ true → nat_lt number (2 ^ 64) ≡ true → (is_identifier caller && nat_lt number (2 ^ 64) && true) ≡ true
+numbered caller number h k = both (is_identifier caller && nat_lt number (2 ^ 64)) true (both (is_identifier caller) (nat_lt number (2 ^ 64)) h k) refl
 
 grows_action : (s : Script) (caller : List ℕ) (number : ℕ) (l : Line) (q : Place) → behind_action s caller number l ≡ Some q → Grows (place.Action s caller number) l q
 grows_action s caller number (line.Literal id) q e =
@@ -169,10 +190,10 @@ grows_action s caller number (line.Literal id) q e =
       lawful = λ h k. (h.0, h.1, h.2, k, refl);
     })
 grows_action s caller number (line.Delete id) q e =
-    let call : Call = record { caller = caller; number = number; action = action.Delete id } in
+    let call : Call = record { caller = caller; number = number; actions = action.Delete id ∷ [] } in
     subst (λ (x : Place). Grows (place.Action s caller number) (line.Delete id) x) (some_is (place.End s call) q e) (record {
       lines = sym (append_assoc (script_lines s) (line.Call caller number ∷ []) (line.Delete id ∷ []));
-      lawful = λ h k. (h.0, both (is_identifier caller && nat_lt number (2 ^ 64)) (is_identifier id) (both (is_identifier caller) (nat_lt number (2 ^ 64)) h.1 h.2) k);
+      lawful = λ h k. (h.0, both (is_identifier caller && nat_lt number (2 ^ 64) && true) (is_identifier id) (numbered caller number h.1 h.2) k);
     })
 grows_action s caller number l q e = absurd (none_is q e)
 
@@ -191,10 +212,10 @@ grows_write s caller number id writes (line.Write w) q e =
     let p = chosen_is (is_text w.device s.device.name) (place.Write s caller number id (writes ++ w ∷ [])) q e in
     subst (λ (x : Place). Grows (place.Write s caller number id writes) (line.Write w) x) p.1 (write_grows s caller number id writes w p.0)
 grows_write s caller number id writes line.End q e =
-    let call : Call = record { caller = caller; number = number; action = action.Literal id writes } in
+    let call : Call = record { caller = caller; number = number; actions = action.Literal id writes ∷ [] } in
     subst (λ (x : Place). Grows (place.Write s caller number id writes) line.End x) (some_is (place.Settle s call) q e) (record {
       lines = sym (append_assoc (script_lines s) (call_lines call) (line.End ∷ []));
-      lawful = λ h k. (h.0, both (is_identifier caller && nat_lt number (2 ^ 64)) (is_action (names s) call.action) (both (is_identifier caller) (nat_lt number (2 ^ 64)) h.1 h.2) (both (is_identifier id) (list_all (is_write (names s)) writes) h.3 h.4));
+      lawful = λ h k. (h.0, both (is_identifier caller && nat_lt number (2 ^ 64) && true) (is_action (names s) (action_of call)) (numbered caller number h.1 h.2) (both (is_identifier id) (list_all (is_write (names s)) writes) h.3 h.4));
     })
 grows_write s caller number id writes l q e = absurd (none_is q e)
 

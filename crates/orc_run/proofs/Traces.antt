@@ -3,19 +3,19 @@ use Rattle.std.proofs.Common.{◌≡◌, ℕ, Bool, true, false, cond, not, List
 use Rattle.std.specs.List.{filter, list_any}
 use Rattle.std.proofs.lemmas.List.Elements.{filter-append, All-tail}
 use Rattle.std.specs.Cmp.Lexicographic.{bytes_decides}
-use Rattle.orc_run.specs.States.{is_text, has_id, lives, named, others, made, after, expansion}
+use Rattle.orc_run.specs.States.{action_of, is_text, has_id, lives, named, others, after, expansion}
 use Rattle.orc_run.specs.Histories.{fold_from}
 use Rattle.orc_run.specs.Laws.{NamesOther, DeletedWithoutTrace}
-use Rattle.orc_run.specs.declared.call.Call.{Call}
-use Rattle.orc_run.specs.declared.call.Action.{Action}
-use Rattle.orc_run.specs.declared.call.Action.TheVariants.{Literal, Delete}
-use Rattle.orc_run.specs.declared.call.DevicePut.{DevicePut}
+use Rattle.orc_call.specs.declared.call.Call.{Call}
+use Rattle.orc_call.specs.declared.call.Action.{Action}
+use Rattle.orc_call.specs.declared.call.Action.TheVariants.{Literal, Delete}
+use Rattle.orc_call.specs.declared.call.DevicePut.{DevicePut}
 use Rattle.orc_run.specs.declared.state.Service.{Service}
 use Rattle.orc_run.specs.declared.state.State.{State}
 
 pub fold_from-append : (names : List (List ℕ)) (s : State) (xs ys : List Call) → fold_from names s (xs ++ ys) ≡ fold_from names (fold_from names s xs) ys
 fold_from-append names s [] ys = refl
-fold_from-append names s (x ∷ xs) ys = fold_from-append names (after names s x.action) xs ys
+fold_from-append names s (x ∷ xs) ys = fold_from-append names (after names s (action_of x)) xs ys
 
 -- the state without the service of a name
 abbrev without : List ℕ → State → State
@@ -38,26 +38,25 @@ filter-filter : (p q : Service → Bool) (xs : List Service) → filter p (filte
 filter-filter p q [] = refl
 filter-filter p q (x ∷ xs) = filter_head p q x xs (filter-filter p q xs)
 
-made_stays : (names : List (List ℕ)) (action : Action) (id : List ℕ) → is_text (named action) id ≡ false → others (made names action) id ≡ made names action
-made_stays names (Literal own writes) id h =
-    let service : Service = record { id = own; parts = expansion names writes } in ap (λ t. cond (not t) (service ∷ []) []) h
-made_stays names (Delete own) id h = refl
-
 -- to go without a service and to do an action on another one come to the same in either order
 after-without : (names : List (List ℕ)) (s : State) (action : Action) (id : List ℕ) → is_text (named action) id ≡ false
     → without id (after names s action) ≡ after names (without id s) action
-after-without names s action id h =
+after-without names s (Literal own writes) id h =
+    let service : Service = record { id = own; parts = expansion names writes } in
     ap (λ (l : List Service). record s { live = l })
-    (filter-append (λ x. not (has_id id x)) (others s.live (named action)) (made names action)
-    ∙ ap (λ (l : List Service). l ++ others (made names action) id) (filter-filter (λ x. not (has_id id x)) (λ x. not (has_id (named action) x)) s.live)
-    ∙ ap (λ (l : List Service). others (others s.live id) (named action) ++ l) (made_stays names action id h))
+    (filter-append (λ x. not (has_id id x)) (others s.live own) (service ∷ [])
+    ∙ ap (λ (l : List Service). l ++ others (service ∷ []) id) (filter-filter (λ x. not (has_id id x)) (λ x. not (has_id own x)) s.live)
+    ∙ ap (λ t. others (others s.live id) own ++ cond (not t) (service ∷ []) []) h)
+after-without names s (Delete own) id h =
+    ap (λ (l : List Service). record s { live = l }) (filter-filter (λ x. not (has_id id x)) (λ x. not (has_id own x)) s.live)
+after-without names s other id h = refl
 
 fold-without : (names : List (List ℕ)) (s : State) (calls : List Call) (id : List ℕ) → All (NamesOther id) calls
     → without id (fold_from names s calls) ≡ fold_from names (without id s) calls
 fold-without names s [] id h = refl
 fold-without names s (call ∷ calls) id h =
-    fold-without names (after names s call.action) calls id (All-tail (NamesOther id) call calls h)
-    ∙ ap (λ (z : State). fold_from names z calls) (after-without names s call.action id (h 0 call (omega arith)))
+    fold-without names (after names s (action_of call)) calls id (All-tail (NamesOther id) call calls h)
+    ∙ ap (λ (z : State). fold_from names z calls) (after-without names s (action_of call) id (h 0 call (omega arith)))
 
 -- the services but one that doesn't live are all
 without_absent : (id : List ℕ) (live : List Service) → list_any (has_id id) live ≡ false → others live id ≡ live
@@ -88,10 +87,8 @@ deleted_leaves_no_trace names s before between create delete id writes makes goe
     fold_from-append names s (before ++ create ∷ []) between
     ∙ ap (λ (z : State). fold_from names z between) (fold_from-append names s before (create ∷ []) ∙ ap (after names at) makes) in
     fold_from-append names s (before ++ create ∷ [] ++ between) (delete ∷ [])
-    ∙ ap (λ (z : State). after names z delete.action) middle
+    ∙ ap (λ (z : State). after names z (action_of delete)) middle
     ∙ ap (after names (fold_from names (after names at (Literal id writes)) between)) goes
-    ∙ ap (λ (l : List Service). record (fold_from names (after names at (Literal id writes)) between) { live = l })
-    (append-nil (others (fold_from names (after names at (Literal id writes)) between).live id))
     ∙ fold-without names (after names at (Literal id writes)) between id other
     ∙ ap (λ (z : State). fold_from names z between) (gone_again names at id writes absent)
     ∙ sym (fold_from-append names s before between)

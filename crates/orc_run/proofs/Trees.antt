@@ -1,5 +1,5 @@
 -- The trees of devices are configurations.
-use Rattle.std.proofs.Common.{◌≡◌, ℕ, zero, suc, Bool, true, false, ◌&&◌, List, [], ◌∷◌, map, All, refl, arith}
+use Rattle.std.proofs.Common.{◌≡◌, ℕ, zero, suc, Bool, true, false, ◌&&◌, List, [], ◌∷◌, map, All, refl, sym, subst, arith}
 use Rattle.std.specs.Prelude.{if◌then◌else◌}
 use Rattle.std.specs.List.{list_all}
 use Rattle.std.specs.Cmp.{first_so, second_so}
@@ -7,16 +7,17 @@ use Rattle.std.specs.FinMap.{empty}
 use Rattle.std.proofs.lemmas.List.Elements.{All-nil, All-cons, All-tail, All-append, All-filter}
 use Rattle.orc_path.specs.Configurations.{Config, IsConfig, put_item}
 use Rattle.orc_path.specs.ConfigurationLaws.{IsConfig-empty, IsConfig-put_item, IsConfig-overlay}
-use Rattle.orc_run.specs.States.{is_text, config_of, part, put_all, puts_on, expansion, opening, overlaid, after, made}
+use Rattle.orc_run.specs.States.{action_of, is_text, config_of, part, put_all, puts_on, expansion, opening, overlaid, after}
 use Rattle.orc_run.specs.Histories.{fold_from}
 use Rattle.orc_run.specs.Bundles.{is_put, is_item, is_write, is_device, is_action}
 use Rattle.orc_run.specs.Laws.{TreeIsConfiguration}
-use Rattle.orc_run.specs.declared.bundle.Put.{Put}
+use Rattle.orc_run.proofs.Services.{after-bases}
+use Rattle.orc_call.specs.declared.call.Put.{Put}
 use Rattle.orc_run.specs.declared.bundle.Device.{Device}
-use Rattle.orc_run.specs.declared.call.Call.{Call}
-use Rattle.orc_run.specs.declared.call.Action.{Action}
-use Rattle.orc_run.specs.declared.call.Action.TheVariants.{Literal, Delete}
-use Rattle.orc_run.specs.declared.call.DevicePut.{DevicePut}
+use Rattle.orc_call.specs.declared.call.Call.{Call}
+use Rattle.orc_call.specs.declared.call.Action.{Action}
+use Rattle.orc_call.specs.declared.call.Action.TheVariants.{Literal, Delete}
+use Rattle.orc_call.specs.declared.call.DevicePut.{DevicePut}
 use Rattle.orc_run.specs.declared.state.Service.{Service}
 use Rattle.orc_run.specs.declared.state.State.{State}
 
@@ -67,19 +68,22 @@ overlaid_config (a ∷ rest) d base h c =
     overlaid_config rest d _ (All-tail WritesConfigs a rest h)
     (IsConfig-overlay (part a d) base (IsConfig-config_of a.parts d (h 0 a (omega arith))) c)
 
-made_configs : (names : List (List ℕ)) (action : Action) → is_action names action ≡ true → All WritesConfigs (made names action)
-made_configs names (Literal id writes) h =
+after_configs : (names : List (List ℕ)) (s : State) (action : Action) → is_action names action ≡ true → All WritesConfigs s.live → All WritesConfigs (after names s action).live
+after_configs names s (Literal id writes) h live =
     let service : Service = record { id = id; parts = expansion names writes } in
-    All-cons WritesConfigs service [] (expansion_configs names names writes (second_so _ _ h)) (All-nil WritesConfigs)
-made_configs names (Delete id) h = All-nil WritesConfigs
+    All-append WritesConfigs _ _ (All-filter (λ x. _) WritesConfigs s.live live)
+    (All-cons WritesConfigs service [] (expansion_configs names names writes (second_so _ _ h)) (All-nil WritesConfigs))
+after_configs names s (Delete id) h live = All-filter (λ x. _) WritesConfigs s.live live
+after_configs names s other h live = live
 
-fold_configs : (names : List (List ℕ)) (s : State) (calls : List Call) → All (λ call. is_action names call.action ≡ true) calls
+fold_configs : (names : List (List ℕ)) (s : State) (calls : List Call) → All (λ call. is_action names (action_of call) ≡ true) calls
     → All WritesConfigs s.live → All IsConfig s.bases
     → All WritesConfigs (fold_from names s calls).live × All IsConfig (fold_from names s calls).bases
 fold_configs names s [] h live bases = (live, bases)
 fold_configs names s (call ∷ calls) h live bases =
-    fold_configs names (after names s call.action) calls (All-tail (λ (c : Call). is_action names c.action ≡ true) call calls h)
-    (All-append WritesConfigs _ _ (All-filter (λ x. _) WritesConfigs s.live live) (made_configs names call.action (h 0 call (omega arith)))) bases
+    fold_configs names (after names s (action_of call)) calls (All-tail (λ (c : Call). is_action names (action_of c) ≡ true) call calls h)
+    (after_configs names s (action_of call) (h 0 call (omega arith)) live)
+    (subst (All IsConfig) (sym (after-bases names s (action_of call))) bases)
 
 pub trees_are_configs : TreeIsConfiguration
 trees_are_configs names devices history d devices_are calls_are =

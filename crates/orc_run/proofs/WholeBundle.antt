@@ -1,10 +1,10 @@
 -- Reading a bundle.
-use Rattle.std.proofs.Common.{◌≡◌, ℕ, suc, true, false, ◌&&◌, ◌==◌, List, [], ◌∷◌, ◌++◌, length, Some, None, refl, ap, sym, subst, ◌∙◌, arith, append-nil, eqb-true, Result, Err}
+use Rattle.std.proofs.Common.{◌≡◌, ℕ, suc, true, ◌&&◌, ◌==◌, List, [], ◌∷◌, ◌++◌, length, Some, None, refl, ap, sym, subst, ◌∙◌, arith, append-nil, eqb-true, Result, Err, Ok, IfOk}
 use Rattle.std.specs.List.{list_all, flat_map}
 use Rattle.std.specs.Cmp.{first_so, second_so}
 use Rattle.std.proofs.lemmas.Bool.{false≢true}
 use Rattle.orc_run.specs.Printed.{names_of}
-use Rattle.orc_run.specs.Bundles.{is_device, is_step, has_distinct_calls, is_bundle, bundle_text, Spells}
+use Rattle.orc_run.specs.Bundles.{is_device, is_step, is_bundle, bundle_text, Spells}
 use Rattle.orc_run.specs.Lines.{lines_text}
 use Rattle.orc_run.specs.Places.{behind_all, whole, Gives, AreLinesOf, IsReached, Reaches}
 use Rattle.orc_run.specs.declared.read.BundleFault.{BundleFault}
@@ -49,9 +49,8 @@ pub record IsRead (bytes : List ℕ) (b : Bundle) : Type 0 where
 
 script_read : (bytes : List ℕ) (s : Script) → Spells bytes (bundle_of s) → IsRead bytes (bundle_of s)
 script_read bytes s h =
-    let three = first_so ((length (s.device ∷ []) == 1) && list_all is_device (s.device ∷ []) && list_all (is_step (names s)) s.steps) (has_distinct_calls s.steps) h.bundle in
-    let steps = second_so ((length (s.device ∷ []) == 1) && list_all is_device (s.device ∷ [])) (list_all (is_step (names s)) s.steps) three in
-    let two = first_so ((length (s.device ∷ []) == 1) && list_all is_device (s.device ∷ [])) (list_all (is_step (names s)) s.steps) three in
+    let steps = second_so ((length (s.device ∷ []) == 1) && list_all is_device (s.device ∷ [])) (list_all (is_step (names s)) s.steps) h.bundle in
+    let two = first_so ((length (s.device ∷ []) == 1) && list_all is_device (s.device ∷ [])) (list_all (is_step (names s)) s.steps) h.bundle in
     let device = first_so (is_device s.device) true (second_so (length (s.device ∷ []) == 1) (list_all is_device (s.device ∷ [])) two) in
     record {
       script = s;
@@ -62,8 +61,7 @@ script_read bytes s h =
 
 bundle_first : (b : Bundle) → is_bundle b ≡ true → (s : Script) × (b ≡ bundle_of s)
 bundle_first b h =
-    let three = first_so ((length b.devices == 1) && list_all is_device b.devices && list_all (is_step (names_of b.devices)) b.steps) (has_distinct_calls b.steps) h in
-    let two = first_so ((length b.devices == 1) && list_all is_device b.devices) (list_all (is_step (names_of b.devices)) b.steps) three in
+    let two = first_so ((length b.devices == 1) && list_all is_device b.devices) (list_all (is_step (names_of b.devices)) b.steps) h in
     let one = one_device b.devices (first_so (length b.devices == 1) (list_all is_device b.devices) two) in
     let s : Script = record { device = one.0; steps = b.steps } in
     (s, ap (λ (ds : List Device). record b { devices = ds }) one.1)
@@ -94,32 +92,22 @@ spelled_here bytes p reached b h =
     let same : place.Step r.script ≡ p = cc in
     subst (λ (x : Place). whole x ≡ Some b) same (ap Some (sym r.same))
 
-pub spelled : (bytes : List ℕ) (p : Place) (b : Bundle) → IsReached bytes [] p → whole p ≡ Some b → has_distinct_calls b.steps ≡ true → Spells bytes b
-spelled bytes (place.Step s) b h e d =
+spelled : (bytes : List ℕ) (p : Place) (b : Bundle) → IsReached bytes [] p → whole p ≡ Some b → Spells bytes b
+spelled bytes (place.Step s) b h e =
     let same : bundle_of s ≡ b = some_bundle (bundle_of s) b e in
     let grown = all_grow place.Header h.before (place.Step s) h.reached tt h.lawful in
     let script : IsScript s = grown.1 in
     let lines : script_lines s ≡ h.before = grown.0 in
     let listed : bundle_lines (bundle_of s) ≡ script_lines s = ap (λ (z : List Line). (line.Header ∷ z) ++ line.Script ∷ flat_map (step_lines (names s)) s.steps) (append-nil (device_lines s.device)) in
     let text : bundle_text (bundle_of s) ≡ bytes = bundle_text-lines (bundle_of s) ∙ ap lines_text (listed ∙ lines) ∙ sym (append-nil (lines_text h.before)) ∙ h.text in
-    let distinct : has_distinct_calls s.steps ≡ true = ap (λ (x : Bundle). has_distinct_calls x.steps) same ∙ d in
     subst (λ (x : Bundle). Spells bytes x) same (record {
-      bundle = both _ (has_distinct_calls s.steps) (both _ (list_all (is_step (names s)) s.steps) (both true (list_all is_device (s.device ∷ [])) refl (both (is_device s.device) true script.device refl)) script.steps) distinct;
+      bundle = both _ (list_all (is_step (names s)) s.steps) (both true (list_all is_device (s.device ∷ [])) refl (both (is_device s.device) true script.device refl)) script.steps;
       text = text;
     })
-spelled bytes p b h e d = absurd (bundle_none b e)
+spelled bytes p b h e = absurd (bundle_none b e)
 
-pub none_here : (bytes : List ℕ) (p : Place) → IsReached bytes [] p → whole p ≡ None → (b : Bundle) → Spells bytes b → ⊥
+none_here : (bytes : List ℕ) (p : Place) → IsReached bytes [] p → whole p ≡ None → (b : Bundle) → Spells bytes b → ⊥
 none_here bytes p h none b s = bundle_none b (sym none ∙ spelled_here bytes p h b s)
-
-pub indistinct : (bytes : List ℕ) (p : Place) (found : Bundle) → IsReached bytes [] p → whole p ≡ Some found → has_distinct_calls found.steps ≡ false → (b : Bundle) → Spells bytes b → ⊥
-indistinct bytes p found h e d b s =
-    let same : found ≡ b = some_bundle found b (sym e ∙ spelled_here bytes p h b s) in
-    let distinct : has_distinct_calls b.steps ≡ true = second_so ((length b.devices == 1) && list_all is_device b.devices && list_all (is_step (names_of b.devices)) b.steps) (has_distinct_calls b.steps) s.bundle in
-    false≢true (sym d ∙ ap (λ (x : Bundle). has_distinct_calls x.steps) same ∙ distinct)
-
-abbrev pub Fails_at : Place → BundleFault → Type 0
-Fails_at p e = Gives {X = Bundle} (Err e) (whole p)
 
 memory_refused : fault.Memory ≡ fault.Refused → ⊥
 memory_refused e = cc
@@ -131,6 +119,11 @@ pub reached_refused : (bytes : List ℕ) (e : BundleFault) → Reaches bytes (Er
 reached_refused bytes fault.Refused h same b s = none_spelled bytes h b s
 reached_refused bytes fault.Memory h same b s = memory_refused same
 
-pub finish_refused : (bytes : List ℕ) (p : Place) (e : BundleFault) → IsReached bytes [] p → Fails_at p e → e ≡ fault.Refused → (b : Bundle) → Spells bytes b → ⊥
-finish_refused bytes p fault.Refused h none same b s = none_here bytes p h none b s
-finish_refused bytes p fault.Memory h none same b s = memory_refused same
+pub finished : (bytes : List ℕ) (p : Place) (r : Result Bundle BundleFault) → IsReached bytes [] p → Gives r (whole p) → IfOk r (λ b. Spells bytes b)
+finished bytes p (Ok b) h found = spelled bytes p b h found
+finished bytes p (Err e) h none = tt
+
+pub finish_refused : (bytes : List ℕ) (p : Place) (r : Result Bundle BundleFault) → IsReached bytes [] p → Gives r (whole p) → r ≡ Err fault.Refused → (b : Bundle) → Spells bytes b → ⊥
+finish_refused bytes p (Ok found) h some same b s = cc
+finish_refused bytes p (Err fault.Refused) h none same b s = none_here bytes p h none b s
+finish_refused bytes p (Err fault.Memory) h none same b s = memory_refused (err_is fault.Memory fault.Refused Bundle same)

@@ -1,20 +1,18 @@
 -- What users rely on, over whole histories.
-use Rattle.std.specs.Prelude.{◌≡◌, ℕ, false, List, [], ◌∷◌, ◌++◌, All, Contains, IsTrue, map, take}
+use Rattle.std.specs.Prelude.{◌≡◌, ℕ, false, List, [], ◌∷◌, ◌++◌, All, Contains, IsTrue, Bool, true, not, ◌&&◌, ◌==◌}
 use Rattle.std.specs.declared.option.Option.TheVariants.{None, Some}
 use Rattle.std.specs.FinMap.{get}
+use Rattle.std.specs.List.{list_any}
 use Rattle.orc_path.specs.Steps.{PathStep}
 use Rattle.orc_path.specs.Configurations.{Config, IsConfig}
 use Rattle.orc_path.specs.declared.item.Item.{Item}
-use Rattle.orc_run.specs.States.{is_text, part, lives, named, opening, over, config_of}
+use Rattle.orc_run.specs.States.{action_of, is_text, part, lives, named, opening, over, config_of}
 use Rattle.orc_run.specs.Histories.{fold_from, IsUnrefused}
-use Rattle.orc_run.specs.Printed.{names_of, history_after}
-use Rattle.orc_run.specs.Bundles.{is_step, is_action, is_device, is_bundle, has_distinct_calls}
-use Rattle.orc_run.specs.declared.bundle.Bundle.{Bundle}
-use Rattle.orc_run.specs.declared.bundle.ScriptStep.TheVariants.{Serve}
+use Rattle.orc_run.specs.Bundles.{is_action, is_device, is_call}
 use Rattle.orc_run.specs.declared.bundle.Device.{Device}
-use Rattle.orc_run.specs.declared.call.Call.{Call}
-use Rattle.orc_run.specs.declared.call.Action.TheVariants.{Literal, Delete}
-use Rattle.orc_run.specs.declared.call.DevicePut.{DevicePut}
+use Rattle.orc_call.specs.declared.call.Call.{Call}
+use Rattle.orc_call.specs.declared.call.Action.TheVariants.{Literal, Delete}
+use Rattle.orc_call.specs.declared.call.DevicePut.{DevicePut}
 use Rattle.orc_run.specs.declared.state.Service.{Service}
 use Rattle.orc_run.specs.declared.state.State.{State}
 
@@ -22,24 +20,11 @@ use Rattle.orc_run.specs.declared.state.State.{State}
 abbrev pub Agree : Service → Service → Type 0
 Agree a b = (d : ℕ) (p : List PathStep) (x y : Item) → get (part a d) p ≡ Some x → get (part b d) p ≡ Some y → x ≡ y
 
--- A history is legal: each call is one that a call block can give, none is refused where it stands, and no caller and
--- number stand twice.
-pub record IsLegal (names : List (List ℕ)) (s : State) (history : List Call) : Type 0 where
-  pub lawful : All (λ call. IsTrue (is_step names (Serve call))) history
-  pub unrefused : IsUnrefused names s history
-  pub distinct : IsTrue (has_distinct_calls (map Serve history))
-
--- Whatever part of a bundle's script was done, the calls committed by then are a legal history.
-abbrev pub CommittedIsLegal : Type 0
-CommittedIsLegal =
-    (b : Bundle) (n : ℕ) → IsTrue (is_bundle b)
-    → IsLegal (names_of b.devices) (opening b.devices) (history_after (names_of b.devices) (opening b.devices) [] (take n b.steps))
-
 -- Where the calls of a history are ones that call blocks can give, the tree of each device is a configuration.
 abbrev pub TreeIsConfiguration : Type 0
 TreeIsConfiguration =
     (names : List (List ℕ)) (devices : List Device) (history : List Call) (d : ℕ)
-    → All (λ device. IsTrue (is_device device)) devices → All (λ call. IsTrue (is_action names call.action)) history
+    → All (λ device. IsTrue (is_device device)) devices → All (λ call. IsTrue (is_action names (action_of call))) history
     → IsConfig (over (fold_from names (opening devices) history) d)
 
 -- no two of the services write unequal items at one path of a device
@@ -68,14 +53,14 @@ OverlayIsOne =
 
 -- the call names another service
 abbrev pub NamesOther : List ℕ → Call → Type 0
-NamesOther id call = is_text (named call.action) id ≡ false
+NamesOther id call = is_text (named (action_of call)) id ≡ false
 
 -- Deleting a service leaves the state, and so each device's tree, as if it had never been created: whatever calls on
 -- other services came between.
 abbrev pub DeletedWithoutTrace : Type 0
 DeletedWithoutTrace =
     (names : List (List ℕ)) (s : State) (before between : List Call) (create delete : Call) (id : List ℕ) (writes : List DevicePut)
-    → create.action ≡ Literal id writes → delete.action ≡ Delete id
+    → action_of create ≡ Literal id writes → action_of delete ≡ Delete id
     → lives (fold_from names s before) id ≡ false → All (NamesOther id) between
     → fold_from names s (before ++ create ∷ [] ++ between ++ delete ∷ []) ≡ fold_from names s (before ++ between)
 

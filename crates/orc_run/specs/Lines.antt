@@ -6,7 +6,7 @@ use Rattle.std.specs.List.{list_all, flat_map}
 use Rattle.orc_path.specs.Alphabet.{is_identifier}
 use Rattle.orc_run.specs.Printed.{item_text}
 use Rattle.orc_run.specs.Bundles.{is_item}
-use Rattle.orc_run.specs.declared.call.DevicePut.{DevicePut}
+use Rattle.orc_call.specs.declared.call.DevicePut.{DevicePut}
 use Rattle.orc_run.specs.declared.read.line.Line.{Line}
 use Rattle.orc_run.specs.declared.read.line.Line.TheVariants as line
 
@@ -31,6 +31,10 @@ word_of (line.Write w) = codes "write"
 word_of (line.Delete id) = codes "delete"
 word_of line.End = codes "end"
 word_of line.Settle = codes "settle"
+word_of line.Stop = codes "stop"
+word_of (line.StopAt k b) = codes "stop"
+word_of line.Recover = codes "recover"
+word_of line.History = codes "history"
 
 -- what stands behind it and a space
 abbrev pub rest_of : Line → Option (List ℕ)
@@ -45,6 +49,10 @@ rest_of (line.Write w) = Some (put_text w)
 rest_of (line.Delete id) = Some id
 rest_of line.End = None
 rest_of line.Settle = None
+rest_of line.Stop = None
+rest_of (line.StopAt k b) = Some (decimal k ++ 32 ∷ decimal b)
+rest_of line.Recover = None
+rest_of line.History = None
 
 abbrev pub joined : List ℕ → Option (List ℕ) → List ℕ
 joined word None = word
@@ -66,6 +74,10 @@ is_line (line.Write w) = is_identifier w.device && is_item w.path w.item
 is_line (line.Delete id) = is_identifier id
 is_line line.End = true
 is_line line.Settle = true
+is_line line.Stop = true
+is_line (line.StopAt k b) = nat_lt k (2 ^ 64) && nat_lt b (2 ^ 64)
+is_line line.Recover = true
+is_line line.History = true
 
 -- each line ended by a line feed
 abbrev pub lines_text : List Line → List ℕ

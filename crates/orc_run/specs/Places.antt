@@ -11,9 +11,9 @@ use Rattle.orc_run.specs.declared.bundle.Bundle.{Bundle}
 use Rattle.orc_run.specs.declared.bundle.Device.{Device}
 use Rattle.orc_run.specs.declared.bundle.ScriptStep.{ScriptStep}
 use Rattle.orc_run.specs.declared.bundle.ScriptStep.TheVariants as step
-use Rattle.orc_run.specs.declared.call.Action.TheVariants as action
-use Rattle.orc_run.specs.declared.call.Call.{Call}
-use Rattle.orc_run.specs.declared.call.DevicePut.{DevicePut}
+use Rattle.orc_call.specs.declared.call.Action.TheVariants as action
+use Rattle.orc_call.specs.declared.call.Call.{Call}
+use Rattle.orc_call.specs.declared.call.DevicePut.{DevicePut}
 use Rattle.orc_run.specs.declared.read.BundleFault.{BundleFault}
 use Rattle.orc_run.specs.declared.read.BundleFault.TheVariants as fault
 use Rattle.orc_run.specs.declared.read.line.Line.{Line}
@@ -45,18 +45,22 @@ with_step s x = record s { steps = s.steps ++ x ∷ [] }
 abbrev pub behind_step : Script → Line → Option Place
 behind_step s (line.Show name) = if is_text name s.device.name then Some (place.Step (with_step s (step.Show 0))) else None
 behind_step s (line.Call caller number) = Some (place.Action s caller number)
+behind_step s line.Stop = Some (place.Step (with_step s step.Stop))
+behind_step s (line.StopAt k b) = Some (place.Step (with_step s (step.StopAt k b)))
+behind_step s line.Recover = Some (place.Step (with_step s step.Recover))
+behind_step s line.History = Some (place.Step (with_step s step.History))
 behind_step s _ = None
 
 abbrev pub behind_action : Script → List ℕ → ℕ → Line → Option Place
 behind_action s caller number (line.Literal id) = Some (place.Write s caller number id [])
-behind_action s caller number (line.Delete id) = Some (place.End s (record { caller = caller; number = number; action = action.Delete id }))
+behind_action s caller number (line.Delete id) = Some (place.End s (record { caller = caller; number = number; actions = action.Delete id ∷ [] }))
 behind_action s caller number _ = None
 
 abbrev pub behind_write : Script → List ℕ → ℕ → List ℕ → List DevicePut → Line → Option Place
 behind_write s caller number id writes (line.Write w) =
     if is_text w.device s.device.name then Some (place.Write s caller number id (writes ++ w ∷ [])) else None
 behind_write s caller number id writes line.End =
-    Some (place.Settle s (record { caller = caller; number = number; action = action.Literal id writes }))
+    Some (place.Settle s (record { caller = caller; number = number; actions = action.Literal id writes ∷ [] }))
 behind_write s caller number id writes _ = None
 
 abbrev pub behind_end : Script → Call → Line → Option Place

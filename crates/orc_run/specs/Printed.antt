@@ -1,5 +1,5 @@
 -- What a script prints.
-use Rattle.std.specs.Prelude.{ℕ, nat_lt, Bool, true, List, [], ◌∷◌, ◌++◌, codes, map}
+use Rattle.std.specs.Prelude.{ℕ, suc, nat_lt, Bool, true, false, List, [], ◌∷◌, ◌++◌, codes, map, length}
 use Rattle.std.specs.Fmt.{decimal}
 use Rattle.std.specs.List.{flat_map, slice_get}
 use Rattle.std.specs.Option.{option_map_or}
@@ -9,16 +9,14 @@ use Rattle.orc_path.specs.Texts.{path_text}
 use Rattle.orc_path.specs.Configurations.{Config}
 use Rattle.orc_path.specs.declared.item.Item.{Item}
 use Rattle.orc_path.specs.declared.item.Item.TheVariants.{Entry, Leaf}
-use Rattle.orc_run.specs.States.{over, opening}
-use Rattle.orc_run.specs.Histories.{fold_from, answer_of, extended}
-use Rattle.orc_run.specs.declared.bundle.Bundle.{Bundle}
+use Rattle.orc_run.specs.States.{action_of}
 use Rattle.orc_run.specs.declared.bundle.Device.{Device}
-use Rattle.orc_run.specs.declared.bundle.ScriptStep.{ScriptStep}
-use Rattle.orc_run.specs.declared.bundle.ScriptStep.TheVariants.{Serve, Show}
-use Rattle.orc_run.specs.declared.call.Call.{Call}
-use Rattle.orc_run.specs.declared.call.Answer.{Answer}
-use Rattle.orc_run.specs.declared.call.Answer.TheVariants.{Committed, Exists, Missing, Clash}
-use Rattle.orc_run.specs.declared.state.State.{State}
+use Rattle.orc_call.specs.declared.call.Action.{Action}
+use Rattle.orc_call.specs.declared.call.Action.TheVariants.{Literal, Delete}
+use Rattle.orc_call.specs.declared.call.DevicePut.{DevicePut}
+use Rattle.orc_call.specs.declared.call.Call.{Call}
+use Rattle.orc_call.specs.declared.answer.Answer.{Answer}
+use Rattle.orc_call.specs.declared.answer.Answer.TheVariants.{Committed, Exists, Missing, Clash, Reused, Down, JournalFault}
 
 -- the name of the device of a number
 abbrev pub name_of : List (List ℕ) → ℕ → List ℕ
@@ -41,35 +39,50 @@ answer_words names (Committed n) = codes "Committed " ++ decimal n
 answer_words names (Exists id) = codes "Exists " ++ id
 answer_words names (Missing id) = codes "Missing " ++ id
 answer_words names (Clash d p id) = codes "Clash " ++ name_of names d ++ 32 ∷ [] ++ path_text p ++ 32 ∷ [] ++ id
+answer_words names (Reused n) = codes "Reused " ++ decimal n
+answer_words names Down = codes "Down"
+answer_words names JournalFault = codes "JournalFault"
+answer_words names other = []
 
--- where the answer names a device, the device is one of so many
+-- an answer that calls get so far, the others are not built yet; where it names a device, the device is one of so many
 abbrev pub is_answer_among : ℕ → Answer → Bool
 is_answer_among devices (Committed n) = true
 is_answer_among devices (Exists id) = true
 is_answer_among devices (Missing id) = true
 is_answer_among devices (Clash d p id) = nat_lt d devices
+is_answer_among devices (Reused n) = true
+is_answer_among devices Down = true
+is_answer_among devices JournalFault = true
+is_answer_among devices other = false
 
 -- the caller, the call's number and the answer
 abbrev pub answer_line : List (List ℕ) → Call → Answer → List ℕ
 answer_line names call answer = call.caller ++ 32 ∷ [] ++ decimal call.number ++ 32 ∷ [] ++ answer_words names answer ++ 10 ∷ []
 
--- the calls committed once the steps are done
-abbrev pub history_after : List (List ℕ) → State → List Call → List ScriptStep → List Call
-history_after names s history [] = history
-history_after names s history (Show d ∷ steps) = history_after names s history steps
-history_after names s history (Serve call ∷ steps) = history_after names s (extended names s history call) steps
-
--- the answers and the trees, each at its step, for the calls that were committed before it
-abbrev pub transcript : List (List ℕ) → State → List Call → List ScriptStep → List ℕ
-transcript names s history [] = []
-transcript names s history (Show d ∷ steps) =
-    tree_text (name_of names d) (over (fold_from names s history) d) ++ transcript names s history steps
-transcript names s history (Serve call ∷ steps) =
-    answer_line names call (answer_of names s history call) ++ transcript names s (extended names s history call) steps
-
 abbrev pub names_of : List Device → List (List ℕ)
 names_of devices = map (λ device. device.name) devices
 
--- what the run of a bundle prints
-abbrev pub printed : Bundle → List ℕ
-printed b = transcript (names_of b.devices) (opening b.devices) [] b.steps
+-- the lines of an action in a history
+abbrev pub history_write : DevicePut → List ℕ
+history_write w = codes "  " ++ w.device ++ 32 ∷ [] ++ item_text w.path w.item ++ 10 ∷ []
+
+abbrev pub history_action : Action → List ℕ
+history_action (Literal id writes) = codes "literal " ++ id ++ 10 ∷ [] ++ flat_map history_write writes
+history_action (Delete id) = codes "delete " ++ id ++ 10 ∷ []
+history_action other = []
+
+-- a call of a history, with its number in it
+abbrev pub history_call : ℕ → Call → List ℕ
+history_call n call = decimal n ++ 32 ∷ [] ++ call.caller ++ 32 ∷ [] ++ decimal call.number ++ 10 ∷ [] ++ history_action (action_of call)
+
+-- the calls of a history, from this number on
+abbrev pub history_lines : ℕ → List Call → List ℕ
+history_lines n [] = []
+history_lines n (call ∷ calls) = history_call n call ++ history_lines (suc n) calls
+
+abbrev pub history_text : List Call → List ℕ
+history_text calls = codes "history " ++ decimal (length calls) ++ 10 ∷ [] ++ history_lines 1 calls ++ codes "end\n"
+
+-- how many calls the history has behind a recovery
+abbrev pub recovered_line : ℕ → List ℕ
+recovered_line n = codes "recovered " ++ decimal n ++ 10 ∷ []

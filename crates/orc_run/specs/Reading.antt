@@ -11,8 +11,8 @@ use Rattle.orc_path.specs.declared.item.Item.TheVariants as item
 use Rattle.orc_run.specs.Printed.{item_text}
 use Rattle.orc_run.specs.Bundles.{is_plain, has_plain_keys, is_item, is_put}
 use Rattle.orc_run.specs.Lines.{word_of, rest_of, line_text, is_line, put_text}
-use Rattle.orc_run.specs.declared.bundle.Put.{Put}
-use Rattle.orc_run.specs.declared.call.DevicePut.{DevicePut}
+use Rattle.orc_call.specs.declared.call.Put.{Put}
+use Rattle.orc_call.specs.declared.call.DevicePut.{DevicePut}
 use Rattle.orc_run.specs.declared.read.line.Line.{Line}
 use Rattle.orc_run.specs.declared.read.BundleFault.{BundleFault}
 use Rattle.orc_run.specs.declared.read.BundleFault.TheVariants as fault

@@ -1,10 +1,9 @@
 -- The state and what an action does to it.
-use Rattle.std.specs.Prelude.{ℕ, zero, suc, ◌+◌, Bool, true, false, not, nat_eq, ◌≡◌, List, [], ◌∷◌, ◌++◌, length, map, filter, find, is_some, All, Option, if◌then◌else◌}
+use Rattle.std.specs.Prelude.{ℕ, suc, Bool, true, false, not, nat_eq, ◌≡◌, List, [], ◌∷◌, ◌++◌, length, map, filter, All, Option, if◌then◌else◌}
 use Rattle.std.specs.declared.option.Option.TheVariants.{None, Some}
-use Rattle.std.specs.declared.cmp.Ordering.TheVariants.{Less, Equal, Greater}
 use Rattle.std.specs.Ordering.{is_lt}
 use Rattle.std.specs.List.{list_all, list_any, slice_get, fold}
-use Rattle.std.specs.Option.{option_map, option_map_or}
+use Rattle.std.specs.Option.{option_map_or}
 use Rattle.std.specs.Cmp.Lexicographic.{pointwise}
 use Rattle.std.specs.FinMap.{empty, entries, get}
 use Rattle.orc_path.specs.Steps.{PathStep}
@@ -13,18 +12,27 @@ use Rattle.orc_path.specs.Items.{fits}
 use Rattle.orc_path.specs.Configurations.{Config, put_item, overlay}
 use Rattle.orc_path.specs.declared.item.Item.{Item}
 use Rattle.orc_path.specs.declared.item.Item.TheVariants.{Entry, Leaf}
-use Rattle.orc_run.specs.declared.bundle.Put.{Put}
+use Rattle.orc_call.specs.declared.call.Put.{Put}
 use Rattle.orc_run.specs.declared.bundle.Device.{Device}
-use Rattle.orc_run.specs.declared.call.DevicePut.{DevicePut}
-use Rattle.orc_run.specs.declared.call.Action.{Action}
-use Rattle.orc_run.specs.declared.call.Action.TheVariants.{Literal, Delete}
-use Rattle.orc_run.specs.declared.call.Answer.{Answer}
-use Rattle.orc_run.specs.declared.call.Answer.TheVariants.{Exists, Missing, Clash}
+use Rattle.orc_call.specs.declared.call.DevicePut.{DevicePut}
+use Rattle.orc_call.specs.declared.call.Call.{Call}
+use Rattle.orc_call.specs.declared.call.Action.{Action}
+use Rattle.orc_call.specs.declared.call.Action.TheVariants.{Literal, Delete}
+use Rattle.orc_call.specs.declared.answer.Answer.{Answer}
+use Rattle.orc_call.specs.declared.answer.Answer.TheVariants.{Exists, Missing, Clash}
 use Rattle.orc_run.specs.declared.state.Service.{Service}
 use Rattle.orc_run.specs.declared.state.State.{State}
 
 abbrev pub is_text : List ℕ → List ℕ → Bool
 is_text = pointwise nat_eq
+
+abbrev pub first_action : List Action → Action
+first_action [] = Delete []
+first_action (action ∷ actions) = action
+
+-- the one action of a call: a call of a bundle has no other
+abbrev pub action_of : Call → Action
+action_of call = first_action call.actions
 
 -- what the configurations of the devices hold for the device of a number
 abbrev pub config_of : List Config → ℕ → Config
@@ -64,9 +72,11 @@ fits_devices devices = list_all (λ device. fits_puts device.base) devices
 abbrev pub fits_writes : List DevicePut → Bool
 fits_writes writes = list_all (λ w. fits w.path w.item) writes
 
+-- Of the kinds of actions these two are built: another one is no action of a bundle's call; it is never refused, and leaves
+-- the state as it is.
 abbrev pub fits_action : Action → Bool
 fits_action (Literal id writes) = fits_writes writes
-fits_action (Delete id) = true
+fits_action other = true
 
 -- the declared bases and no service
 abbrev pub opening : List Device → State
@@ -89,19 +99,17 @@ over s d = overlaid (map (λ service. part service d) s.live) (config_of s.bases
 abbrev pub named : Action → List ℕ
 named (Literal id writes) = id
 named (Delete id) = id
+named other = []
 
 -- the living services but that of this name
 abbrev pub others : List Service → List ℕ → List Service
 others live id = filter (λ service. not (has_id id service)) live
 
--- the service that an action makes, if it makes one
-abbrev pub made : List (List ℕ) → Action → List Service
-made names (Literal id writes) = record { id = id; parts = expansion names writes } ∷ []
-made names (Delete id) = []
-
 -- the state after an action that is not refused: the service that it names goes, and the one that it makes comes
 abbrev pub after : List (List ℕ) → State → Action → State
-after names s action = record s { live = others s.live (named action) ++ made names action }
+after names s (Literal id writes) = record s { live = others s.live id ++ record { id = id; parts = expansion names writes } ∷ [] }
+after names s (Delete id) = record s { live = others s.live id }
+after names s other = s
 
 -- whether two items that stand at one path differ
 abbrev pub differs : Item → Option Item → Bool
@@ -138,12 +146,13 @@ clash_on live d (m ∷ ms) = elim (clash_among live d (entries m)) [ None ↦ cl
 -- the clash of the services that an action makes with the other living ones
 abbrev pub clash : List (List ℕ) → State → Action → Option Answer
 clash names s (Literal id writes) = clash_on (others s.live id) 0 (expansion names writes)
-clash names s (Delete id) = None
+clash names s other = None
 
 -- whether the action creates what lives, or deletes what does not
 abbrev pub misplaced : State → Action → Option Answer
 misplaced s (Literal id writes) = if lives s id then Some (Exists id) else None
 misplaced s (Delete id) = if lives s id then None else Some (Missing id)
+misplaced s other = None
 
 -- why an action is refused, if it is
 abbrev pub refusal : List (List ℕ) → State → Action → Option Answer

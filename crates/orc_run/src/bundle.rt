@@ -1,14 +1,6 @@
 //! A bundle as read: the declared devices with their bases, and the steps of the script.
-use crate::Call;
-use orc_path::{Item, Path};
+use orc_call::{Call, Put};
 use orc_text::{Row, Text};
-
-/// An item and where it stands.
-#[derive(Debug, Drop)]
-pub struct Put {
-    pub path: Path,
-    pub item: Item,
-}
 
 /// A declared device: its name, and the items of its base in the order of their lines.
 #[derive(Debug, Drop)]
@@ -24,6 +16,17 @@ pub enum ScriptStep {
     Show(u32),
     /// Submit a call and settle it.
     Serve(Call),
+    /// Stop the controller.
+    Stop,
+    /// Arm a stop, in place of one that is armed: so many calls of the disk from now on, the last of
+    /// them stops the controller, and none does where the count is 0. Where that one is a write, so
+    /// many of its bytes are put as the second number says; where it is a sync, it is done exactly
+    /// where that number is at least 1.
+    StopAt(u64, u64),
+    /// Stop the controller where it is up, disarm, and open the journal again.
+    Recover,
+    /// Print the history.
+    History,
 }
 
 /// The declarations and the script.

@@ -4,7 +4,8 @@ ghost use Rattle.std.specs.FinMap.{entries};
 ghost use Rattle.std.specs.Option.{option_copied, option_map_or};
 ghost use Rattle.orc_run.specs.States.{clash_among, clash_on, differs, least, lesser, rivals};
 
-use crate::{Answer, Service};
+use crate::Service;
+use orc_call::Answer;
 use orc_path::{Item, Path};
 use orc_text::{Memory, Text};
 use orc_tree::Tree;

@@ -3,7 +3,7 @@ ghost use Rattle.std.specs.Prelude.{◌≡◌, IfOk, IsTrue};
 ghost use Rattle.std.specs.FinMap.{empty};
 ghost use Rattle.orc_run.specs.States.{expansion, fits_writes, put_all, puts_on};
 
-use crate::DevicePut;
+use orc_call::DevicePut;
 use orc_text::{Memory, Row, Text};
 use orc_tree::Tree;
 use std::alloc::Global;

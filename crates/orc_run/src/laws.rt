@@ -1,5 +1,5 @@
 //! What users rely on, over whole histories. Each function does nothing: its contract is the law.
-ghost use Rattle.orc_run.specs.Laws.{CommittedIsLegal, TreeIsConfiguration, ServicesAgree, OverlayIsOne, DeletedWithoutTrace, OrderOfCreationIsFree};
+ghost use Rattle.orc_run.specs.Laws.{TreeIsConfiguration, ServicesAgree, OverlayIsOne, DeletedWithoutTrace, OrderOfCreationIsFree};
 
 /// The services that a history of calls, none of them refused, leaves alive write no unequal items
 /// at one path of a device.
@@ -22,11 +22,6 @@ pub fn deleted_without_trace()
 /// Each device's tree doesn't depend on the order in which the services that live now were created.
 pub fn order_of_creation_is_free()
     ensures { OrderOfCreationIsFree }
-{}
-
-/// Whatever part of a bundle's script was done, the calls committed by then are a legal history.
-pub fn committed_is_legal()
-    ensures { CommittedIsLegal }
 {}
 
 /// The tree of each device is a configuration: every entry on the way to an item is there.

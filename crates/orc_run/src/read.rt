@@ -3,7 +3,6 @@ ghost use Rattle.std.specs.Prelude.{◌≡◌, ◌++◌, ◌∷◌, IfOk, IsErrO
 ghost use Rattle.orc_run.specs.Lines.{lacks};
 ghost use Rattle.orc_run.specs.Places.{Turns, Reaches};
 
-mod calls;
 mod item;
 mod line;
 mod place;
@@ -11,7 +10,6 @@ mod place;
 mod tests;
 mod words;
 
-use self::calls::has_distinct_calls;
 use self::line::read_line;
 use self::place::Place;
 use crate::Bundle;
@@ -83,9 +81,5 @@ pub fn read_bundle(alloc: Global, bytes: &[u8]) -> Result<Bundle, BundleFault>
     ensures refused { IsErrOf result BundleFault.Refused → (bundle : Bundle) → Spells bytes.now bundle → ⊥ }
 {
     let place = read_lines(alloc, bytes)?;
-    let bundle = place.finish(alloc)?;
-    if !has_distinct_calls(alloc, bundle.steps.as_slice())? {
-        return Err(BundleFault::Refused);
-    }
-    Ok(bundle)
+    place.finish(alloc)
 }

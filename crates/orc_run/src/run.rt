@@ -1,103 +1,91 @@
 //! The steps of a script, each of which is written as it is done.
-ghost use Rattle.std.specs.Prelude.{◌≡◌, ◌+◌, ◌-◌, ◌<◌, ◌≤◌, ◌^◌, List, IfOk, OnOk, OnErr, IsErrOf, IsTrue, length};
+ghost use Rattle.std.specs.Prelude.{◌≡◌, [], ◌≤◌, ◌<◌, ◌^◌, List, ℕ, Option, length, IfOk, IfErr, OnOk, IsErrOf, IsTrue, All};
 ghost use Rattle.std.specs.List.{list_all};
 ghost use Rattle.std.specs.Io.KnownBytes.{Appends};
-ghost use Rattle.std.specs.String.{string_bytes};
 ghost use Rattle.orc_io.specs.Counts.{Rose};
-ghost use Rattle.orc_io.specs.Pieces.{TakesFront};
-ghost use Rattle.orc_run.specs.States.{IsComplete};
 ghost use Rattle.orc_run.specs.Bundles.{is_step};
-ghost use Rattle.orc_run.specs.Fronts.{step_front, step_text, steps_text};
+ghost use Rattle.orc_run.specs.Pasts.{AreDecls};
+ghost use Rattle.orc_run.specs.Encodable.{IsEncodable};
+ghost use Rattle.orc_run.specs.Worlds.{Outlives};
+ghost use Rattle.orc_run.specs.Steps.{Does};
+ghost use Rattle.orc_run.specs.Controllers.{world_of, IsSound};
+ghost use Rattle.orc_run.specs.Ends.{RunsFrom, Wrote};
+ghost use Rattle.orc_run.specs.Halts.{Halts, Finishes};
+ghost use Rattle.orc_run.specs.declared.stop.Stop.{Stop};
 
-use crate::ScriptStep;
-use crate::front::Front;
-use crate::print::{answer_text, device_name, tree_lines};
-use orc_io::{Failed, Sink, write_whole};
-use orc_text::{Memory, Text};
+use crate::controller::{Controller, Outcome};
+use crate::{Decls, Done, Ended, ScriptStep, Stop};
+use orc_disk::Disk;
+use orc_io::{Sink, write_whole};
+use orc_text::Text;
 use std::alloc::Global;
 
-/// Why a script was not done to its end.
-#[derive(Clone, Copy, Debug, PartialEq, Eq)]
-pub enum RunFault {
-    /// A call of the sink failed.
-    Failed,
-    /// Memory could not be had.
-    Memory,
-}
-
-impl From<Memory> for RunFault {
-    ghost use Rattle.orc_run.specs.declared.run.RunFault.TheVariants as fault;
-    ghost use Rattle.std.specs.Prelude.{◌≡◌};
-
-    ghost from_gives = { λ _ e. e ≡ fault.Memory };
-
-    fn from(_: Memory) -> RunFault {
-        RunFault::Memory
-    }
-}
-
-impl From<Failed> for RunFault {
-    ghost use Rattle.orc_run.specs.declared.run.RunFault.TheVariants as fault;
-    ghost use Rattle.std.specs.Prelude.{◌≡◌};
-
-    ghost from_gives = { λ _ e. e ≡ fault.Failed };
-
-    fn from(_: Failed) -> RunFault {
-        RunFault::Failed
-    }
-}
-
-/// Does one step, and answers what it prints.
-fn step_output(
-    alloc: Global,
-    names: &[Text],
-    front: &mut Front,
-    step: &ScriptStep,
-) -> Result<String, Memory>
-    requires step { IsTrue (is_step names.now step.now) }
-    requires complete { IsComplete front.old.state }
-    requires devices { length names.now ≡ length front.old.state.bases }
-    requires few { length names.now < 2 ^ 32 }
-    requires room { front.old.count < 2 ^ 64 - 1 }
-    ensures text { IfOk result (λ text. string_bytes text ≡ step_text names.now front.old step.now) }
-    ensures front { OnOk result (front.new ≡ step_front names.now front.old step.now) }
-    ensures complete { IsComplete front.new.state }
-    ensures bases { front.new.state.bases ≡ front.old.state.bases }
-    ensures count { front.new.count ≤ front.old.count + 1 }
-{
-    match step {
-        ScriptStep::Show(device) => {
-            let tree = front.state.overlaid(alloc, *device)?;
-            tree_lines(alloc, device_name(names, *device), &tree)
-        }
-        ScriptStep::Serve(call) => {
-            let answer = front.serve(alloc, names, &call.action)?;
-            answer_text(alloc, names, call, &answer)
-        }
-    }
-}
-
 /// Does the steps in order, and writes what each prints as it is done.
-pub(crate) fn run_steps<K: Sink>(
+pub(crate) fn run_steps<K: Sink, D: Disk>(
     alloc: Global,
-    names: &[Text],
-    front: &mut Front,
+    decls: &Decls,
+    controller: Controller<D>,
     steps: &[ScriptStep],
     sink: &mut K,
-) -> Result<(), RunFault>
-    requires steps { IsTrue (list_all (is_step names.now) steps.now) }
-    requires complete { IsComplete front.old.state }
-    requires devices { length names.now ≡ length front.old.state.bases }
-    requires few { length names.now < 2 ^ 32 }
-    requires room { front.old.count + length steps.now < 2 ^ 64 }
-    ensures done { OnOk result (Appends (K.held sink.old) (K.held sink.new) (steps_text names.now front.old steps.now)) }
-    ensures begun { OnErr result (TakesFront (K.held sink.old) (K.held sink.new) (steps_text names.now front.old steps.now)) }
+) -> Ended<D>
+    requires decls { AreDecls decls.now }
+    requires short { length decls.now.text < 2 ^ 32 }
+    requires sound { IsSound D.content D.may_leave D.moment D.left_since decls.now controller }
+    requires steps { IsTrue (list_all (is_step decls.now.names) steps.now) }
+    requires encodable { All IsEncodable steps.now }
+    ensures ends { Finishes D.content D.may_leave D.moment D.left_since D.faults (K.held sink.old) (K.held sink.new) decls.now (world_of controller) steps.now [] result.disk result.status }
     ensures later { K.faults sink.old ≤ K.faults sink.new }
-    ensures write { IsErrOf result RunFault.Failed → Rose (K.faults sink.old) (K.faults sink.new) }
+    ensures write { IsErrOf result.status Stop.WriteFault → Rose (K.faults sink.old) (K.faults sink.new) }
 {
+    let mut controller = controller;
     for step in steps {
-        let text = step_output(alloc, names, front, step)?;
-        write_whole(sink, text.as_bytes())?;
+        controller = match run_step(alloc, decls, controller, step, sink) {
+            Ok(controller) => controller,
+            Err(ended) => return ended,
+        };
     }
-    Ok(())
+    Ended {
+        disk: controller.into_disk(),
+        status: Ok(Done),
+    }
+}
+
+// Does one step, and writes what it prints.
+fn run_step<K: Sink, D: Disk>(
+    alloc: Global,
+    decls: &Decls,
+    controller: Controller<D>,
+    step: &ScriptStep,
+    sink: &mut K,
+) -> Result<Controller<D>, Ended<D>>
+    requires decls { AreDecls decls.now }
+    requires short { length decls.now.text < 2 ^ 32 }
+    requires sound { IsSound D.content D.may_leave D.moment D.left_since decls.now controller }
+    requires step { IsTrue (is_step decls.now.names step.now) }
+    requires encodable { IsEncodable step.now }
+    ensures sound { IfOk result (λ c. IsSound D.content D.may_leave D.moment D.left_since decls.now c) }
+    ensures done { IfOk result (λ c. (text : List ℕ) × Does D.content decls.now (world_of controller) step.now text (world_of c) × Outlives D.content D.may_leave D.moment D.left_since D.faults decls.now (world_of controller) (world_of c) × Appends (K.held sink.old) (K.held sink.new) text) }
+    ensures halts { IfErr result (λ ended. Halts D.content D.may_leave D.moment D.left_since D.faults (K.held sink.old) (K.held sink.new) decls.now (world_of controller) step.now ended.disk ended.status) }
+    ensures later { K.faults sink.old ≤ K.faults sink.new }
+    ensures write { IfErr result (λ ended. IsErrOf ended.status Stop.WriteFault → Rose (K.faults sink.old) (K.faults sink.new)) }
+{
+    match controller.step(alloc, decls, step) {
+        Outcome::On(controller, text) => match write_whole(sink, text.as_str().as_bytes()) {
+            Ok(()) => Ok(controller),
+            Err(_) => Err(Ended {
+                disk: controller.into_disk(),
+                status: Err(Stop::WriteFault),
+            }),
+        },
+        Outcome::Ended { disk, text, stop } => match write_whole(sink, text.as_str().as_bytes()) {
+            Ok(()) => Err(Ended {
+                disk,
+                status: Err(stop),
+            }),
+            Err(_) => Err(Ended {
+                disk,
+                status: Err(Stop::WriteFault),
+            }),
+        },
+    }
 }

@@ -3,9 +3,10 @@ ghost use Rattle.std.specs.Prelude.{◌≡◌, ◌≢◌, ◌<◌, ◌^◌, fals
 ghost use Rattle.orc_run.specs.States.{IsComplete, after, fits_action, fits_devices, fits_puts, fits_writes, lives, opening, others, over, part, put_all, refusal};
 ghost use Rattle.std.specs.FinMap.{empty};
 
+use crate::Device;
 use crate::clash::clash;
 use crate::expansion::expansion;
-use crate::{Action, Answer, Device, DevicePut, Put};
+use orc_call::{Action, Answer, DevicePut, Put};
 use orc_text::{Memory, Row, Text};
 use orc_tree::Tree;
 use std::alloc::Global;
@@ -99,6 +100,8 @@ impl State {
                 self.delete(alloc, id);
                 Ok(None)
             }
+            // The other kinds are not built yet: they leave the state as it is.
+            _ => Ok(None),
         }
     }
 

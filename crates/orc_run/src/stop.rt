@@ -1,7 +1,8 @@
 //! How a run ends.
-ghost use Rattle.std.specs.Prelude.{◌≡◌};
+ghost use Rattle.std.specs.Prelude.{◌≡◌, Err};
 ghost use Rattle.orc_run.specs.Statuses.{status_of, stop_status};
 
+use orc_disk::Disk;
 use std::fmt;
 use thiserror::Error;
 
@@ -24,6 +25,25 @@ impl fmt::Display for Rule {
 #[derive(Clone, Copy, Debug, PartialEq, Eq)]
 pub struct Done;
 
+/// The end of a run: the disk that was handed in, and the status.
+#[derive(Drop)]
+pub struct Ended<D: Disk> {
+    pub disk: D,
+    pub status: Result<Done, Stop>,
+}
+
+impl<D: Disk> Ended<D> {
+    // It ended before it was done.
+    pub(crate) fn at(disk: D, stop: Stop) -> Ended<D>
+        ensures { result ≡ record { disk = disk; status = Err stop } }
+    {
+        Ended {
+            disk,
+            status: Err(stop),
+        }
+    }
+}
+
 /// Why a run ended before it was done.
 #[derive(Debug, PartialEq, Eq, Drop, Error)]
 pub enum Stop {
@@ -40,9 +60,25 @@ pub enum Stop {
     /// A call of the sink failed.
     #[error("WriteFault")]
     WriteFault,
+    /// A call of the journal's disk failed.
+    #[error("JournalFault")]
+    JournalFault,
     /// Memory could not be had.
     #[error("Memory")]
     Memory,
+    /// The disk holds the journal of other declarations, which differ first at this offset in them.
+    #[error("Foreign {at}")]
+    Foreign { at: u64 },
+    /// An entry would make the journal, which has this length, too long.
+    #[error("Full {len}")]
+    Full { len: u64 },
+    /// The disk isn't empty and holds no journal.
+    #[error("NotJournal")]
+    NotJournal,
+    /// At this offset of the journal no lawful entry stands where one should, or a Decide that makes
+    /// the history illegal.
+    #[error("Damaged {at}")]
+    Damaged { at: u64 },
 }
 
 impl Stop {
@@ -55,7 +91,12 @@ impl Stop {
             Stop::Usage => 2,
             Stop::ReadFault => 3,
             Stop::WriteFault => 4,
+            Stop::JournalFault => 5,
             Stop::Memory => 6,
+            Stop::Foreign { .. } => 7,
+            Stop::Full { .. } => 8,
+            Stop::NotJournal => 9,
+            Stop::Damaged { .. } => 10,
         }
     }
 }

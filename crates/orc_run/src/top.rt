@@ -1,48 +1,67 @@
 //! The top call.
-ghost use Rattle.std.specs.Prelude.{◌≡◌, ◌↔◌, ◌⊎◌, ◌≤◌, ◌∷◌, [], ℕ, map, codes, IfOk, OnOk, OnErr, IsErrOf, IsTrue};
+ghost use Rattle.std.specs.Prelude.{◌≡◌, ◌↔◌, ◌<◌, ◌^◌, ◌∷◌, [], ℕ, map, codes, length, IfOk, IfErr, OnOk, IsErrOf, IsTrue, All};
+ghost use Rattle.std.specs.List.{list_all};
 ghost use Rattle.std.specs.String.{string_bytes};
-ghost use Rattle.std.specs.Io.KnownBytes.{Appends};
+ghost use Rattle.std.specs.Io.KnownBytes.{IsAtEnd};
 ghost use Rattle.orc_io.specs.Counts.{Rose};
-ghost use Rattle.orc_io.specs.Pieces.{TakesFront};
-ghost use Rattle.orc_run.specs.Bundles.{is_bundle};
-ghost use Rattle.orc_run.specs.Ends.{GivesNone, IsBegun, IsDone};
-ghost use Rattle.orc_run.specs.Printed.{names_of, printed};
+ghost use Rattle.orc_run.specs.Bundles.{is_step};
+ghost use Rattle.orc_run.specs.Pasts.{AreDecls};
+ghost use Rattle.orc_run.specs.Encodable.{IsEncodable};
+ghost use Rattle.orc_run.specs.Controllers.{IsSound};
+ghost use Rattle.orc_run.specs.Ends.{EndsBy, EndsOver, Gives, GivesNone, IsInputStop, IsRunStop, IsSmall};
+ghost use Rattle.orc_run.specs.Halts.{greeting, GreetsAndFinishes};
 ghost use Rattle.orc_run.specs.declared.stop.Rule.{Rule};
 
-use crate::front::Front;
-use crate::run::{RunFault, run_steps};
+use crate::controller::Controller;
+use crate::print::recovered_text;
+use crate::run::run_steps;
 use crate::words::is_run;
-use crate::{Bundle, BundleFault, Device, Done, Rule, State, Stop, read_bundle};
-use orc_io::{Sink, Source, WholeFault, read_whole};
+use crate::{Bundle, BundleFault, Decls, Ended, Rule, ScriptStep, Stop, read_bundle};
+use orc_disk::{Disk, StopDisk};
+use orc_io::{Sink, Source, WholeFault, read_whole, write_whole};
 use orc_text::{Memory, Text};
 use std::alloc::Global;
 
 /// The largest bundle, in bytes.
 const LIMIT: usize = 16_777_216;
 
-/// Runs the script of the bundle that a source gives, and writes what it prints to a sink, step by
-/// step.
+/// Runs the script of the bundle that a source gives over the journal on a disk, and writes what it
+/// prints to a sink, step by step. The disk is handed back.
 ///
-/// The words come first, then the whole source, the bundle, and the steps. `Usage` and `Bundle` leave
-/// the sink as it was. After `WriteFault` the sink took a front of what the bundle prints. Memory may
-/// be wanting at any place.
-pub fn orchestrate<S: Source, K: Sink>(
+/// The words come first, then the whole source, the bundle, the journal, and the steps. `Usage` and
+/// `Bundle` leave the sink and the disk as they were. After `WriteFault` the sink took a front of
+/// what the run printed. Memory may be wanting at any place.
+pub fn orchestrate<S: Source, K: Sink, D: Disk>(
     alloc: Global,
     words: &[String],
     source: &mut S,
     sink: &mut K,
-) -> Result<Done, Stop>
-    ensures done { OnOk result (IsDone (S.left source.old) (S.left source.new) (K.held sink.old) (K.held sink.new)) }
+    disk: D,
+) -> Ended<D>
+    ensures ends { EndsBy D.content D.may_leave D.moment D.left_since D.faults (S.left source.old) (S.left source.new) (K.held sink.old) (K.held sink.new) disk result.disk result.status }
+    ensures usage { IsErrOf result.status Stop.Usage ↔ (map (λ w. string_bytes w) words.now ≡ codes "run" ∷ [] → ⊥) }
+    ensures usage_keeps { IsErrOf result.status Stop.Usage → (source.new ≡ source.old) × (sink.new ≡ sink.old) × (result.disk ≡ disk) }
+    ensures bundle_keeps { (line : ℕ) (rule : Rule) → IsErrOf result.status (Stop.Bundle line rule) → (sink.new ≡ sink.old) × (result.disk ≡ disk) }
+    ensures read { IsErrOf result.status Stop.ReadFault → Rose (S.faults source.old) (S.faults source.new) }
+    ensures read_keeps { IsErrOf result.status Stop.ReadFault → (sink.new ≡ sink.old) × (result.disk ≡ disk) }
+    ensures write { IsErrOf result.status Stop.WriteFault → Rose (K.faults sink.old) (K.faults sink.new) }
+    ensures journal { IsErrOf result.status Stop.JournalFault → Rose (D.faults disk) (D.faults result.disk) }
+{
+    match read_input(alloc, words, source) {
+        Ok(bundle) => run_bundle(alloc, bundle, sink, disk),
+        Err(stop) => Ended::at(disk, stop),
+    }
+}
+
+/// The bundle that the source gives, where the words are those of a run.
+fn read_input<S: Source>(alloc: Global, words: &[String], source: &mut S) -> Result<Bundle, Stop>
+    ensures gives { IfOk result (λ bundle. Gives (S.left source.old) (S.left source.new) bundle) }
+    ensures end { OnOk result (IsAtEnd (S.left source.new)) }
     ensures usage { IsErrOf result Stop.Usage ↔ (map (λ w. string_bytes w) words.now ≡ codes "run" ∷ [] → ⊥) }
-    ensures usage_keeps { IsErrOf result Stop.Usage → (source.new ≡ source.old) × (sink.new ≡ sink.old) }
-    ensures bundle { (line : ℕ) (rule : Rule) → IsErrOf result (Stop.Bundle line rule) → GivesNone (S.left source.old) (S.left source.new) }
-    ensures bundle_place { (line : ℕ) (rule : Rule) → IsErrOf result (Stop.Bundle line rule) → (line ≡ 0) × (rule ≡ Rule.Line) }
-    ensures bundle_keeps { (line : ℕ) (rule : Rule) → IsErrOf result (Stop.Bundle line rule) → sink.new ≡ sink.old }
+    ensures usage_keeps { IsErrOf result Stop.Usage → source.new ≡ source.old }
+    ensures bundle { (line : ℕ) (rule : Rule) → IsErrOf result (Stop.Bundle line rule) → GivesNone (S.left source.old) (S.left source.new) × (line ≡ 0) × (rule ≡ Rule.Line) }
     ensures read { IsErrOf result Stop.ReadFault → Rose (S.faults source.old) (S.faults source.new) }
-    ensures read_keeps { IsErrOf result Stop.ReadFault → sink.new ≡ sink.old }
-    ensures write { IsErrOf result Stop.WriteFault → Rose (K.faults sink.old) (K.faults sink.new) }
-    ensures write_begun { IsErrOf result Stop.WriteFault → IsBegun (S.left source.old) (S.left source.new) (K.held sink.old) (K.held sink.new) }
-    ensures memory { IsErrOf result Stop.Memory → (sink.new ≡ sink.old) ⊎ IsBegun (S.left source.old) (S.left source.new) (K.held sink.old) (K.held sink.new) }
+    ensures causes { IfErr result IsInputStop }
 {
     if !is_run(words) {
         return Err(Stop::Usage);
@@ -53,15 +72,10 @@ pub fn orchestrate<S: Source, K: Sink>(
         Err(WholeFault::TooLong) => return Err(refused()),
         Err(WholeFault::Memory) => return Err(Stop::Memory),
     };
-    let bundle = match read_bundle(alloc, bytes.as_slice()) {
-        Ok(bundle) => bundle,
-        Err(BundleFault::Refused) => return Err(refused()),
-        Err(BundleFault::Memory) => return Err(Stop::Memory),
-    };
-    match run_bundle(alloc, &bundle, sink) {
-        Ok(()) => Ok(Done),
-        Err(RunFault::Failed) => Err(Stop::WriteFault),
-        Err(RunFault::Memory) => Err(Stop::Memory),
+    match read_bundle(alloc, bytes.as_slice()) {
+        Ok(bundle) => Ok(bundle),
+        Err(BundleFault::Refused) => Err(refused()),
+        Err(BundleFault::Memory) => Err(Stop::Memory),
     }
 }
 
@@ -75,35 +89,57 @@ fn refused() -> Stop
     }
 }
 
-/// Runs the script of a bundle.
-fn run_bundle<K: Sink>(alloc: Global, bundle: &Bundle, sink: &mut K) -> Result<(), RunFault>
-    requires { IsTrue (is_bundle bundle.now) }
-    ensures done { OnOk result (Appends (K.held sink.old) (K.held sink.new) (printed bundle.now)) }
-    ensures begun { OnErr result (TakesFront (K.held sink.old) (K.held sink.new) (printed bundle.now)) }
-    ensures write { IsErrOf result RunFault.Failed → Rose (K.faults sink.old) (K.faults sink.new) }
+/// Runs the script of a bundle over the journal on a disk.
+fn run_bundle<K: Sink, D: Disk>(alloc: Global, bundle: Bundle, sink: &mut K, disk: D) -> Ended<D>
+    requires bundle { IsSmall bundle }
+    ensures ends { EndsOver D.content D.may_leave D.moment D.left_since D.faults (K.held sink.old) (K.held sink.new) bundle disk result.disk result.status }
+    ensures write { IsErrOf result.status Stop.WriteFault → Rose (K.faults sink.old) (K.faults sink.new) }
+    ensures journal { IsErrOf result.status Stop.JournalFault → Rose (D.faults disk) (D.faults result.disk) }
+    ensures causes { IfErr result.status IsRunStop }
 {
-    let devices = bundle.devices.as_slice();
-    let names = device_names(alloc, devices)?;
-    let mut front = Front {
-        state: State::open(alloc, devices)?,
-        count: 0,
+    let Bundle { devices, steps } = bundle;
+    let decls = match Decls::new(alloc, devices) {
+        Ok(decls) => decls,
+        Err(Memory) => return Ended::at(disk, Stop::Memory),
     };
-    run_steps(
-        alloc,
-        names.as_slice(),
-        &mut front,
-        bundle.steps.as_slice(),
-        sink,
-    )
+    match Controller::open(alloc, &decls, StopDisk::new(disk)) {
+        Ok(controller) => run_script(alloc, &decls, controller, steps.as_slice(), sink),
+        Err((stop, disk)) => Ended::at(disk, stop),
+    }
 }
 
-/// The names of the devices.
-fn device_names(alloc: Global, devices: &[Device]) -> Result<Vec<Text>, Memory>
-    ensures { IfOk result (λ names. names.items ≡ names_of devices.now) }
+/// Greets where the disk was not empty, and does the steps.
+fn run_script<K: Sink, D: Disk>(
+    alloc: Global,
+    decls: &Decls,
+    controller: Controller<D>,
+    steps: &[ScriptStep],
+    sink: &mut K,
+) -> Ended<D>
+    requires decls { AreDecls decls.now }
+    requires short { length decls.now.text < 2 ^ 32 }
+    requires sound { IsSound D.content D.may_leave D.moment D.left_since decls.now controller }
+    requires steps { IsTrue (list_all (is_step decls.now.names) steps.now) }
+    requires encodable { All IsEncodable steps.now }
+    ensures ends { GreetsAndFinishes D.content D.may_leave D.moment D.left_since D.faults (K.held sink.old) (K.held sink.new) decls.now controller steps.now result.disk result.status }
+    ensures write { IsErrOf result.status Stop.WriteFault → Rose (K.faults sink.old) (K.faults sink.new) }
 {
-    let mut names = Vec::new(alloc);
-    for device in devices {
-        names.push(device.name.copy(alloc)?)?;
+    let greeting = match greeting(alloc, &controller) {
+        Ok(greeting) => greeting,
+        Err(Memory) => return Ended::at(controller.into_disk(), Stop::Memory),
+    };
+    if write_whole(sink, greeting.as_str().as_bytes()).is_err() {
+        return Ended::at(controller.into_disk(), Stop::WriteFault);
     }
-    Ok(names)
+    run_steps(alloc, decls, controller, steps, sink)
+}
+
+/// What is printed at the start: on a disk that was not empty, that the history was recovered.
+fn greeting<D: Disk>(alloc: Global, controller: &Controller<D>) -> Result<Text, Memory>
+    ensures { IfOk result (λ text. text ≡ greeting controller.now) }
+{
+    if controller.journal.fresh() {
+        return Ok(Text::new(alloc));
+    }
+    recovered_text(alloc, controller.known)
 }

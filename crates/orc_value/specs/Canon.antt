@@ -1,6 +1,6 @@
 -- The canonical text of a value: RFC 7950 section 9. The rules that a text can break are 1 lexical, 2 range, 3 length,
 -- 4 enumeration and 5 kind; where it breaks several, the least one counts.
-use Rattle.std.specs.Prelude.{ℕ, ◌≡◌, Bool, false, ◌&&◌, ◌||◌, List, [], length, Option, Some, None, Result, Ok, Err, nat_le, if◌then◌else◌, ⊤, nat_eq}
+use Rattle.std.specs.Prelude.{ℕ, ◌≡◌, Bool, false, ◌&&◌, ◌||◌, List, [], length, Option, Some, None, Result, Ok, Err, nat_le, if◌then◌else◌, IsOk, nat_eq}
 use Rattle.std.specs.List.{list_any}
 use Rattle.std.specs.Str.{chars}
 use Rattle.std.specs.Str.Parse.{true_text, false_text}
@@ -67,8 +67,8 @@ SameValue Boolean a b = a ≡ b
 SameValue (Enum names) a b = a ≡ b
 SameValue Empty a b = a ≡ b
 
--- the answer is this text or this rule, or want of memory
+-- the answer is this text or this rule; want of memory comes only where there is a text
 abbrev pub Answers : Result (List ℕ) ℕ → Result (List ℕ) ValueFault → Type 0
 Answers verdict (Ok text) = verdict ≡ Ok text
 Answers verdict (Err (BadValue rule)) = verdict ≡ Err rule
-Answers verdict (Err NoMemory) = ⊤
+Answers verdict (Err NoMemory) = IsOk verdict

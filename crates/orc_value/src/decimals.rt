@@ -1,7 +1,7 @@
 //! Decimal numbers.
-ghost use Rattle.std.specs.Prelude.{◌≡◌, drop, ◌<◌, ◌≤◌, ◌^◌, ◌*◌, ◌-◌, ◌++◌, ◌↔◌, IsTrue, IfOk, OnOk, SomeIff, IfSome, is_some, ◌&&◌, ◌||◌, not, length, take, Some};
+ghost use Rattle.std.specs.Prelude.{◌≡◌, drop, ◌<◌, ◌≤◌, ◌^◌, ◌-◌, ◌++◌, ◌↔◌, IsTrue, IfOk, OnOk, SomeIff, IfSome, is_some, ◌&&◌, ◌||◌, not, length, take, Some};
 ghost use Rattle.std.specs.List.{position, before_first, after_first};
-ghost use Rattle.std.specs.Str.Parse.{digits_value, starts_with_minus};
+ghost use Rattle.std.specs.Str.Parse.{starts_with_minus};
 ghost use Rattle.orc_value.specs.Numerals.{admitted, all_digits, is_numeral, signed};
 ghost use Rattle.orc_value.specs.Decimals.{is_point, decimal_value, is_decimal_value, decimal_text, places_text, fraction_digits, fraction_text};
 ghost use Rattle.orc_value.specs.Scaled.{are_zeros, units};

@@ -1,6 +1,5 @@
 //! Why a text or a JSON value is no value of a type.
 use orc_text::Memory;
-use std::alloc::AllocError;
 
 /// The text has not the form of the type, or a character that no value has.
 pub(crate) const LEXICAL: u8 = 1;

@@ -1,14 +1,13 @@
 //! Items and where they stand.
 ghost use Rattle.std.specs.Prelude.{◌≡◌, ◌≢◌, ◌∷◌, List, ℕ, MatchOption};
-ghost use Rattle.std.specs.List.{list_all};
 ghost use Rattle.orc_path.specs.Alphabet.{is_identifier};
-ghost use Rattle.orc_run.specs.Bundles.{has_plain_keys};
 ghost use Rattle.orc_run.specs.Reading.{Reads, IsPathOf, IsPlainPathOf, IsEntryOf, IsLeafOf, IsPutOf};
 
 use super::BundleFault;
-use super::words::{cut, is_plain, read_value};
-use crate::Put;
-use orc_path::{Item, Path, PathFault, Step};
+use super::words::{cut, read_value};
+use crate::lawful::is_plain_path;
+use orc_call::Put;
+use orc_path::{Item, Path, PathFault};
 use std::alloc::Global;
 
 fn parse_path(alloc: Global, word: &str) -> Result<Path, BundleFault>
@@ -19,21 +18,6 @@ fn parse_path(alloc: Global, word: &str) -> Result<Path, BundleFault>
         Err(PathFault::BadPath { .. }) => Err(BundleFault::Refused),
         Err(PathFault::Memory) => Err(BundleFault::Memory),
     }
-}
-
-fn has_plain_keys(step: &Step) -> bool
-    ensures { result ≡ has_plain_keys step.now }
-{
-    step.keys
-        .as_slice()
-        .iter()
-        .all(|key| is_plain(key.as_str()))
-}
-
-fn is_plain_path(path: &Path) -> bool
-    ensures { result ≡ list_all has_plain_keys path.now }
-{
-    path.steps.as_slice().iter().all(has_plain_keys)
 }
 
 /// A path whose keys are plain.

@@ -5,7 +5,7 @@ ghost use Rattle.orc_run.specs.Reading.{Reads, IsBare, IsBehind, IsDevicePutOf, 
 use super::BundleFault;
 use super::item::read_put;
 use super::words::{cut, read_name, read_number};
-use crate::{DevicePut, Put};
+use orc_call::{DevicePut, Put};
 use orc_text::Text;
 use std::alloc::Global;
 use std::str;
@@ -35,6 +35,14 @@ pub(super) enum Line {
     End,
     /// `settle`.
     Settle,
+    /// `stop`.
+    Stop,
+    /// `stop K B`.
+    StopAt(u64, u64),
+    /// `recover`.
+    Recover,
+    /// `history`.
+    History,
 }
 
 fn read_header(rest: &str) -> Result<Line, BundleFault>
@@ -112,6 +120,17 @@ fn read_delete(alloc: Global, rest: &str) -> Result<Line, BundleFault>
     Ok(Line::Delete(read_name(alloc, rest)?))
 }
 
+fn read_stop(rest: &str) -> Result<Line, BundleFault>
+    ensures { Reads (IsBehind (codes "stop") rest.now) result }
+{
+    let Some((count, bytes)) = cut(rest) else {
+        return Err(BundleFault::Refused);
+    };
+    let count = read_number(count)?;
+    let bytes = read_number(bytes)?;
+    Ok(Line::StopAt(count, bytes))
+}
+
 /// A line of this first word and this rest.
 fn read_behind(alloc: Global, word: &str, rest: &str) -> Result<Line, BundleFault>
     ensures { Reads (IsBehind word.now rest.now) result }
@@ -125,6 +144,7 @@ fn read_behind(alloc: Global, word: &str, rest: &str) -> Result<Line, BundleFaul
         "literal" => read_literal(alloc, rest),
         "write" => read_write(alloc, rest),
         "delete" => read_delete(alloc, rest),
+        "stop" => read_stop(rest),
         _ => Err(BundleFault::Refused),
     }
 }
@@ -137,6 +157,9 @@ fn read_bare(word: &str) -> Result<Line, BundleFault>
         "script" => Ok(Line::Script),
         "end" => Ok(Line::End),
         "settle" => Ok(Line::Settle),
+        "stop" => Ok(Line::Stop),
+        "recover" => Ok(Line::Recover),
+        "history" => Ok(Line::History),
         _ => Err(BundleFault::Refused),
     }
 }

@@ -1,11 +1,12 @@
 //! Places in a bundle: which line may stand where, and what is read with it.
-ghost use Rattle.std.specs.Prelude.{List, ℕ};
-ghost use Rattle.orc_run.specs.Places.{Gives, behind_header, behind_device, behind_base, behind_step, behind_action, behind_write, behind_end, behind_settle, behind, whole};
+ghost use Rattle.std.specs.Prelude.{◌≡◌, ◌∷◌, [], List, ℕ, IfOk, Some};
+ghost use Rattle.orc_run.specs.Places.{Gives, behind_header, behind_device, behind_base, behind_step, behind_action, behind_write, behind_end, behind_settle, behind, whole, with_step};
 
 use super::BundleFault;
 use super::line::Line;
-use crate::{Action, Bundle, Call, Device, DevicePut, Put, ScriptStep};
-use orc_text::{Row, Text};
+use crate::{Bundle, Device, ScriptStep};
+use orc_call::{Action, Call, DevicePut, Put};
+use orc_text::{Memory, Row, Text};
 use std::alloc::Global;
 
 /// The device that the script speaks of, and the steps that were read.
@@ -83,7 +84,15 @@ fn take_base(alloc: Global, mut device: Device, line: Line) -> Result<Place, Bun
     }
 }
 
-fn take_step(mut script: Script, line: Line) -> Result<Place, BundleFault>
+/// The place behind one more step.
+fn with_step(mut script: Script, step: ScriptStep) -> Result<Place, BundleFault>
+    ensures { Gives result (Some (Place.Step (with_step script step))) }
+{
+    script.steps.push(step)?;
+    Ok(Place::Step(script))
+}
+
+fn take_step(script: Script, line: Line) -> Result<Place, BundleFault>
     ensures { Gives result (behind_step script line) }
 {
     match line {
@@ -91,12 +100,28 @@ fn take_step(mut script: Script, line: Line) -> Result<Place, BundleFault>
             if name != script.device.name {
                 return Err(BundleFault::Refused);
             }
-            script.steps.push(ScriptStep::Show(0))?;
-            Ok(Place::Step(script))
+            with_step(script, ScriptStep::Show(0))
         }
         Line::Call(caller, number) => Ok(Place::Action(script, caller, number)),
+        Line::Stop => with_step(script, ScriptStep::Stop),
+        Line::StopAt(count, bytes) => with_step(script, ScriptStep::StopAt(count, bytes)),
+        Line::Recover => with_step(script, ScriptStep::Recover),
+        Line::History => with_step(script, ScriptStep::History),
         _ => Err(BundleFault::Refused),
     }
+}
+
+/// A call of one action.
+fn call_of(alloc: Global, caller: Text, number: u64, action: Action) -> Result<Call, Memory>
+    ensures { IfOk result (λ call. call ≡ record { caller = caller; number = number; actions = action ∷ [] }) }
+{
+    let mut actions = Row::new(alloc);
+    actions.push(action)?;
+    Ok(Call {
+        caller,
+        number,
+        actions,
+    })
 }
 
 fn take_action(
@@ -110,19 +135,16 @@ fn take_action(
 {
     match line {
         Line::Literal(id) => Ok(Place::Write(script, caller, number, id, Row::new(alloc))),
-        Line::Delete(id) => Ok(Place::End(
-            script,
-            Call {
-                caller,
-                number,
-                action: Action::Delete(id),
-            },
-        )),
+        Line::Delete(id) => {
+            let call = call_of(alloc, caller, number, Action::Delete(id))?;
+            Ok(Place::End(script, call))
+        }
         _ => Err(BundleFault::Refused),
     }
 }
 
 fn take_write(
+    alloc: Global,
     script: Script,
     caller: Text,
     number: u64,
@@ -140,14 +162,10 @@ fn take_write(
             writes.push(write)?;
             Ok(Place::Write(script, caller, number, id, writes))
         }
-        Line::End => Ok(Place::Settle(
-            script,
-            Call {
-                caller,
-                number,
-                action: Action::Literal(id, writes),
-            },
-        )),
+        Line::End => {
+            let call = call_of(alloc, caller, number, Action::Literal(id, writes))?;
+            Ok(Place::Settle(script, call))
+        }
         _ => Err(BundleFault::Refused),
     }
 }
@@ -161,14 +179,11 @@ fn take_end(script: Script, call: Call, line: Line) -> Result<Place, BundleFault
     }
 }
 
-fn take_settle(mut script: Script, call: Call, line: Line) -> Result<Place, BundleFault>
+fn take_settle(script: Script, call: Call, line: Line) -> Result<Place, BundleFault>
     ensures { Gives result (behind_settle script call line) }
 {
     match line {
-        Line::Settle => {
-            script.steps.push(ScriptStep::Serve(call))?;
-            Ok(Place::Step(script))
-        }
+        Line::Settle => with_step(script, ScriptStep::Serve(call)),
         _ => Err(BundleFault::Refused),
     }
 }
@@ -187,7 +202,7 @@ impl Place {
                 take_action(alloc, script, caller, number, line)
             }
             Place::Write(script, caller, number, id, writes) => {
-                take_write(script, caller, number, id, writes, line)
+                take_write(alloc, script, caller, number, id, writes, line)
             }
             Place::End(script, call) => take_end(script, call, line),
             Place::Settle(script, call) => take_settle(script, call, line),

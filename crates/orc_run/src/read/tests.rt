@@ -1,6 +1,7 @@
 //! Texts that are read as bundles, and texts that are refused.
 use super::*;
-use crate::{Action, ScriptStep};
+use crate::ScriptStep;
+use orc_call::Action;
 use orc_path::Item;
 use std::test::Fail;
 
@@ -35,7 +36,9 @@ fn a_bundle_is_read_with_its_base_and_its_steps(rt: HostRuntime) -> Result<(), F
     };
     assert_eq!(rt; call.caller.as_str(), "ann");
     assert_eq!(rt; call.number, 7);
-    let Action::Literal(id, writes) = &call.action else {
+    let actions = call.actions.as_slice();
+    assert_eq!(rt; actions.len(), 1);
+    let Action::Literal(id, writes) = &actions[0] else {
         assert!(rt; false);
         return Ok(());
     };
@@ -44,6 +47,19 @@ fn a_bundle_is_read_with_its_base_and_its_steps(rt: HostRuntime) -> Result<(), F
     let write = &writes.as_slice()[0];
     assert_eq!(rt; write.device.as_str(), "r1");
     assert_eq!(rt; write.path.text(rt.alloc())?.as_str(), "/if:port[b]/speed");
+    Ok(())
+}
+
+#[test]
+fn stops_recoveries_and_histories_are_steps(rt: HostRuntime) -> Result<(), Fail> {
+    let text = "orc 1\ndevice r1 plain\nscript\nstop\nrecover\nstop 8 1\nhistory\n";
+    let bundle = read_bundle(rt.alloc(), text.as_bytes())?;
+    let steps = bundle.steps.as_slice();
+    assert_eq!(rt; steps.len(), 4);
+    assert!(rt; matches!(&steps[0], ScriptStep::Stop));
+    assert!(rt; matches!(&steps[1], ScriptStep::Recover));
+    assert!(rt; matches!(&steps[2], ScriptStep::StopAt(8, 1)));
+    assert!(rt; matches!(&steps[3], ScriptStep::History));
     Ok(())
 }
 
@@ -61,6 +77,8 @@ fn these_texts_are_read(rt: HostRuntime) -> Result<(), Fail> {
         "call c 1\nliteral s\nend\nsettle\nshow r1\nshow r1\n",
         "call c 1\ndelete s\nend\nsettle\ncall d 1\ndelete s\nend\nsettle\ncall c 2\ndelete s\nend\nsettle\n",
         "call c 1\nliteral s\nwrite r1 /if:a[k]\nwrite r1 /if:a[k]\nwrite r1 /if:b = a-_.1\nend\nsettle\n",
+        "call c 1\ndelete s\nend\nsettle\nshow r1\ncall c 1\nliteral t\nend\nsettle\n",
+        "stop 0 0\nstop 18446744073709551615 18446744073709551615\n",
     ] {
         let mut text = String::from_str(rt.alloc(), "orc 1\ndevice r1 plain\nscript\n")?;
         text.push_str(script)?;
@@ -154,7 +172,17 @@ fn these_scripts_are_refused(rt: HostRuntime) -> Result<(), Fail> {
         "call c 1\nliteral s\nwrite r2 /if:a[k]\nend\nsettle\n",
         "call c 1\nliteral s\nwrite r1 /if:a\nend\nsettle\n",
         "call c 1\nliteral s\nend\nshow r1\nsettle\n",
-        "call c 1\ndelete s\nend\nsettle\nshow r1\ncall c 1\nliteral t\nend\nsettle\n",
+        "stop 1\n",
+        "stop \n",
+        "stop 1 \n",
+        "stop 01 1\n",
+        "stop 1 01\n",
+        "stop +1 1\n",
+        "stop 1 2 3\n",
+        "stop 18446744073709551616 0\n",
+        "stop 0 18446744073709551616\n",
+        "recover x\n",
+        "history 1\n",
     ] {
         let mut text = String::from_str(rt.alloc(), "orc 1\ndevice r1 plain\nscript\n")?;
         text.push_str(script)?;

@@ -1,13 +1,13 @@
 //! The words of a line: names, values, numbers and paths.
 ghost use Rattle.std.specs.Prelude.{◌≡◌, ◌++◌, ◌∷◌, ℕ, ◌<◌, ◌^◌, IsTrue, MatchOption};
 ghost use Rattle.std.specs.Fmt.{decimal};
-ghost use Rattle.orc_path.specs.Alphabet.{is_identifier, is_name_byte};
-ghost use Rattle.orc_run.specs.Bundles.{is_plain};
+ghost use Rattle.orc_path.specs.Alphabet.{is_identifier};
 ghost use Rattle.orc_run.specs.Lines.{lacks};
 ghost use Rattle.orc_run.specs.Reading.{Reads, IsNameOf, IsValueOf, IsNumberOf, is_padded};
 
 use super::BundleFault;
-use orc_path::{are_name_bytes, is_identifier};
+use crate::lawful::is_plain;
+use orc_path::is_identifier;
 use orc_text::Text;
 use std::alloc::Global;
 
@@ -26,13 +26,6 @@ pub(super) fn read_name(alloc: Global, word: &str) -> Result<Text, BundleFault>
         return Err(BundleFault::Refused);
     }
     Ok(Text::from_str(alloc, word)?)
-}
-
-/// Whether the word is one or more letters, digits, `-`, `_` and `.`.
-pub(super) fn is_plain(word: &str) -> bool
-    ensures { result ≡ is_plain word.now }
-{
-    !word.is_empty() && are_name_bytes(word.as_bytes())
 }
 
 /// The text of a leaf.

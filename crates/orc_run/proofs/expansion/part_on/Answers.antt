@@ -1,7 +1,6 @@
-use Rattle.std.proofs.Common.{◌≡◌, IsTrue}
 use Rattle.orc_path.specs.Items.{fits}
 use Rattle.orc_run.proofs.Fits.{list_all-read}
-use Rattle.orc_run.specs.declared.call.DevicePut.{DevicePut}
+use Rattle.orc_call.specs.declared.call.DevicePut.{DevicePut}
 use Rattle.orc_run.proofs.expansion.part_on.Goals as goal
 
 pub set-requires : goal.set-requires

@@ -1,33 +1,45 @@
-use Rattle.std.proofs.Common.{◌≡◌, ◌≤◌, ◌+◌, ◌++◌, ◌∷◌, ℕ, List, length, drop, ap, sym, ◌∙◌, arith}
+use Rattle.std.proofs.Common.{◌≡◌, ◌≤◌, ℕ, List, [], ◌++◌, IsTrue, refl, sym, ap, subst, ◌∙◌, arith}
+use Rattle.std.specs.Io.KnownBytes.{Appends}
+use Rattle.std.proofs.lemmas.List.{take_all}
 use Rattle.orc_io.proofs.Fronts.{Appends-trans}
-use Rattle.orc_run.proofs.Transcripts.{one_more, one_more_split, begins, begins_more, on_err}
+use Rattle.orc_run.specs.Controllers.{world_of}
+use Rattle.orc_run.specs.Runs.Runs.{begun}
+use Rattle.orc_run.proofs.Runs.{takes_nothing, runs_more, finishes_whole, finishes_here}
 use Rattle.orc_run.proofs.run.run_steps.Goals as goal
+
+pub loop-step-init : goal.loop-step-init
+loop-step-init g c = record {
+  sound = c.requires.sound;
+  later = omega arith;
+  done = ([], begun, takes_nothing (g.K.Sink.held c.args.sink.now));
+}
 
 pub loop-step-preserved : goal.loop-step-preserved
 loop-step-preserved g c =
     let so = c.loop-step.invariant in
-    let text = c.as_bytes.result.now in
+    let more = c.in-Ok.ensures.done in
+    let disk = g.D.Disk in
     record {
-      complete = c.in_ok-text.ensures.complete;
-      bases = c.in_ok-text.ensures.bases ∙ so.bases;
-      count = omega (arith, so.count, c.in_ok-text.ensures.count);
-      later = omega (arith, so.later, c.write_whole.ensures.cause.later);
-      written = (
-        so.written.0 ++ text,
-        one_more c.args.names.now c.loop-step.front c.step_output.new.front c.args.steps.now c.loop-step.step-index c.step-item.result so.written.0 text _
-            c.loop-step-test.true c.step-item.is (c.as_bytes.ensures.value ∙ c.in_ok-text.ensures.text) c.in_ok-text.ensures.front so.written.1,
-        Appends-trans _ _ _ _ _ so.written.2 c.in_ok-write_whole.ensures.ok,
+      sound = c.in-Ok.ensures.sound;
+      later = omega (arith, so.later, c.in-Ok.ensures.later);
+      done = (
+        so.done.0 ++ more.0,
+        runs_more disk.content disk.may_leave disk.moment disk.left_since disk.faults c.args.decls.now (world_of c.args.controller) (world_of c.loop-step.controller) (world_of c.in-Ok.controller)
+            c.args.steps.now c.loop-step.step-index c.step-item.result so.done.0 more.0 c.loop-step-test.true c.step-item.is so.done.1 more.1 more.2,
+        Appends-trans _ _ _ so.done.0 more.0 so.done.2 more.3,
       );
     }
 
-pub returns-in_err-text-clause-begun : goal.returns-in_err-text-clause-begun
-returns-in_err-text-clause-begun g c =
-    let so = c.loop-step.invariant.written in on_err _ (begins _ _ so.0 _ _ so.1 so.2)
+pub returns-in-Err-clause-ends : goal.returns-in-Err-clause-ends
+returns-in-Err-clause-ends g c =
+    let so = c.loop-step.invariant in
+    let disk = g.D.Disk in
+    finishes_here disk.content disk.may_leave disk.moment disk.left_since disk.faults c.args.decls.now _ _ _ (world_of c.args.controller) (world_of c.loop-step.controller)
+    c.args.steps.now c.loop-step.step-index c.step-item.result so.done.0 c.in-Err.ended.disk c.in-Err.ended.status c.loop-step-test.true c.step-item.is so.done.1 so.done.2 c.in-Err.ensures.halts
 
-pub returns-in_err-write_whole-clause-begun : goal.returns-in_err-write_whole-clause-begun
-returns-in_err-write_whole-clause-begun g c =
-    let so = c.loop-step.invariant.written in
-    let i = c.loop-step.step-index in
-    let whole = one_more_split c.args.names.now c.loop-step.front c.step_output.new.front c.args.steps.now i c.step-item.result so.0 c.as_bytes.result.now _
-    c.loop-step-test.true c.step-item.is (c.as_bytes.ensures.value ∙ c.in_ok-text.ensures.text) c.in_ok-text.ensures.front so.1 in
-    on_err _ (begins_more _ _ _ so.0 c.as_bytes.result.now _ _ whole so.2 c.in_err-write_whole.ensures.err)
+pub returns-clause-ends : goal.returns-clause-ends
+returns-clause-ends g c =
+    let so = c.loop-step.invariant in
+    let disk = g.D.Disk in
+    finishes_whole disk.content disk.may_leave disk.moment disk.left_since disk.faults c.args.decls.now _ _ (world_of c.args.controller) (world_of c.loop-step.controller)
+    c.args.steps.now c.loop-step.step-index so.done.0 c.into_disk.result (take_all c.loop-step.step-index c.args.steps.now (omega (arith, c.loop-step-test.false))) so.done.1 (sym c.into_disk.ensures) so.sound.rests so.done.2

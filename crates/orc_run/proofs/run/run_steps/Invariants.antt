@@ -1,18 +1,18 @@
-use Rattle.std.proofs.Common.{◌≡◌, ◌≤◌, ◌+◌, ◌++◌, ℕ, List, drop}
+use Rattle.std.proofs.Common.{◌≡◌, ◌≤◌, ℕ, List, take}
 use Rattle.std.specs.Io.KnownBytes.{Appends}
-use Rattle.orc_run.specs.States.{IsComplete}
-use Rattle.orc_run.specs.Fronts.{steps_text}
+use Rattle.orc_run.specs.Controllers.{world_of, IsSound}
+use Rattle.orc_run.specs.Runs.{Runs}
 use Rattle.orc_run.proofs.run.run_steps.Given as goal
 
--- what was written so far and what the steps left print is the whole
+-- what was done so far, and what the sink took
 abbrev pub invariant-loop-step : goal.invariant-loop-step
 invariant-loop-step g l =
     let held = g.K.Sink.held in
     let faults = g.K.Sink.faults in
+    let disk = g.D.Disk in
     record {
-      complete : IsComplete l.front.state;
-      bases : l.front.state.bases ≡ l.fn.front.state.bases;
-      count : l.front.count ≤ l.fn.front.count + l.step-index;
+      sound : IsSound disk.content disk.may_leave disk.moment disk.left_since l.decls l.controller;
       later : faults l.fn.sink ≤ faults l.sink;
-      written : (front : List ℕ) × (front ++ steps_text l.names l.front (drop l.step-index l.steps) ≡ steps_text l.names l.fn.front l.steps) × Appends (held l.fn.sink) (held l.sink) front;
+      done : (text : List ℕ) × Runs disk.content disk.may_leave disk.moment disk.left_since disk.faults l.decls (world_of l.fn.controller) (take l.step-index l.steps) text (world_of l.controller)
+          × Appends (held l.fn.sink) (held l.sink) text;
     }

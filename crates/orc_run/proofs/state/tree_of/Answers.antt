@@ -1,7 +1,6 @@
-use Rattle.std.proofs.Common.{◌≡◌, List, IsTrue, sym, ap, ◌∙◌, subst}
 use Rattle.orc_path.specs.Items.{fits}
 use Rattle.orc_run.proofs.Fits.{list_all-read}
-use Rattle.orc_run.specs.declared.bundle.Put.{Put}
+use Rattle.orc_call.specs.declared.call.Put.{Put}
 use Rattle.orc_run.proofs.state.tree_of.Goals as goal
 
 pub set-requires : goal.set-requires

@@ -1,34 +1,70 @@
-use Rattle.std.proofs.Common.{◌≡◌, ◌&&◌, List, [], ℕ, IsTrue, OnOk, OnErr, length, eqb, ap, sym, subst, ◌∙◌}
-use Rattle.std.specs.List.{list_all}
-use Rattle.std.specs.Io.KnownBytes.{Appends}
-use Rattle.orc_io.specs.Pieces.{TakesFront}
-use Rattle.orc_run.specs.States.{fits_devices, opening}
-use Rattle.orc_run.specs.Bundles.{has_distinct_calls, is_device, is_step}
-use Rattle.orc_run.specs.Printed.{names_of, printed}
-use Rattle.orc_run.specs.declared.bundle.Device.{Device}
-use Rattle.orc_run.proofs.Fits.{and_first, and_second, devices-fit}
-use Rattle.orc_run.proofs.Transcripts.{printed-fronts}
+use Rattle.std.proofs.Common.{◌≡◌, List, ℕ, All, Err, refl, sym, ap, subst, ◌∙◌}
+use Rattle.orc_disk.specs.Moments.{LeavesOnly}
+use Rattle.orc_disk.specs.Stops.{Stopping}
+use Rattle.orc_run.specs.Bundles.{decls_of}
+use Rattle.orc_run.specs.Encodable.{IsEncodable}
+use Rattle.orc_run.specs.Controllers.{world_of, IsOpenCauseOf, MayBeOpening}
+use Rattle.orc_run.specs.Ends.{EndsOver, Starts}
+use Rattle.orc_run.specs.Halts.{greeting, GreetsAndFinishes}
+use Rattle.orc_run.specs.declared.bundle.ScriptStep.{ScriptStep}
+use Rattle.orc_run.specs.declared.decls.Decls.{Decls}
+use Rattle.orc_run.specs.declared.stop.Ended.{Ended}
+use Rattle.orc_run.proofs.Tops.{all_encodable, decls_are, starts, over_script, over_unopened, run_rose}
 use Rattle.orc_run.proofs.top.run_bundle.Goals as goal
 
-pub open-requires : goal.open-requires
-open-requires g c =
-    let b = c.args.bundle.now in
-    let steps = list_all (is_step (names_of b.devices)) b.steps in
-    let devices = list_all is_device b.devices in
-    let first = and_first ((eqb (length b.devices) 1 && devices) && steps) (has_distinct_calls b.steps) c.requires in
-    let h = and_second (eqb (length b.devices) 1) devices (and_first (eqb (length b.devices) 1 && devices) steps first) in
-    subst (λ (ds : List Device). IsTrue (fits_devices ds)) (sym c.as_slice-devices.ensures) (devices-fit b.devices h)
+pub run_script-requires-clause-encodable : goal.run_script-requires-clause-encodable
+run_script-requires-clause-encodable g c = subst (λ (l : List ScriptStep). All IsEncodable l) (sym c.as_slice.ensures) (all_encodable c.args.bundle c.requires.bundle)
 
-pub returns-clause-done : goal.returns-clause-done
-returns-clause-done g c =
-    let same = printed-fronts c.args.bundle.now c.as_slice.result.now c.in_ok-open.field-0 c.as_slice-2.result.now
-    (c.as_slice.ensures.value ∙ c.in_ok-names.ensures ∙ ap names_of c.as_slice-devices.ensures)
-    (c.in_ok-open.ensures.opening ∙ ap opening c.as_slice-devices.ensures) c.as_slice-2.ensures in
-    subst (λ (t : List ℕ). OnOk c.run_steps.result (Appends (g.K.Sink.held c.args.sink.now) (g.K.Sink.held c.run_steps.new.sink) t)) same c.run_steps.ensures.done
+pub returns-in-Ok-open-clause-ends : goal.returns-in-Ok-open-clause-ends
+returns-in-Ok-open-clause-ends g c =
+    let d = g.D.Disk in
+    let held = g.K.Sink.held in
+    let b = c.args.bundle in
+    let opened = c.in-Ok-open.controller in
+    let at = ap (λ (s : Stopping g.row.D.Denot). s.inner) c.new-2.ensures in
+    let is = decls_are c.in-Ok.decls b c.in-Ok.ensures.text c.in-Ok.ensures.names c.in-Ok.ensures.devices in
+    let so = c.in-Ok-open.ensures in
+    let start = starts d.content d.may_leave d.moment d.left_since d.faults c.in-Ok.decls c.new-2.result.inner opened so.sound so.up so.tells so.fresh so.any_moment so.told so.later in
+    let start_b = subst (λ (x : Decls). Starts d.content d.may_leave d.moment d.left_since d.faults x c.new-2.result.inner (world_of opened) (greeting opened)) is start in
+    let start_at = subst (λ (x : g.row.D.Denot). Starts d.content d.may_leave d.moment d.left_since d.faults (decls_of b) x (world_of opened) (greeting opened)) at start_b in
+    let ends_b = subst (λ (x : Decls). GreetsAndFinishes d.content d.may_leave d.moment d.left_since d.faults (held c.args.sink.now) (held c.run_script.new.sink) x opened c.as_slice.result.now c.run_script.result.disk c.run_script.result.status) is
+    c.run_script.ensures.ends in
+    let ends = subst (λ (l : List ScriptStep). GreetsAndFinishes d.content d.may_leave d.moment d.left_since d.faults (held c.args.sink.now) (held c.run_script.new.sink) (decls_of b) opened l c.run_script.result.disk c.run_script.result.status)
+    c.as_slice.ensures ends_b in
+    over_script d.content d.may_leave d.moment d.left_since d.faults g.met.D.Disk.only_now (held c.args.sink.now) (held c.run_script.new.sink) b c.args.disk c.run_script.result.disk opened c.run_script.result.status
+    start_at ends
 
-pub returns-clause-begun : goal.returns-clause-begun
-returns-clause-begun g c =
-    let same = printed-fronts c.args.bundle.now c.as_slice.result.now c.in_ok-open.field-0 c.as_slice-2.result.now
-    (c.as_slice.ensures.value ∙ c.in_ok-names.ensures ∙ ap names_of c.as_slice-devices.ensures)
-    (c.in_ok-open.ensures.opening ∙ ap opening c.as_slice-devices.ensures) c.as_slice-2.ensures in
-    subst (λ (t : List ℕ). OnErr c.run_steps.result (TakesFront (g.K.Sink.held c.args.sink.now) (g.K.Sink.held c.run_steps.new.sink) t)) same c.run_steps.ensures.begun
+pub returns-in-Ok-open-clause-journal : goal.returns-in-Ok-open-clause-journal
+returns-in-Ok-open-clause-journal g c =
+    let d = g.D.Disk in
+    let held = g.K.Sink.held in
+    let b = c.args.bundle in
+    let opened = c.in-Ok-open.controller in
+    let at = ap (λ (s : Stopping g.row.D.Denot). s.inner) c.new-2.ensures in
+    let is = decls_are c.in-Ok.decls b c.in-Ok.ensures.text c.in-Ok.ensures.names c.in-Ok.ensures.devices in
+    let so = c.in-Ok-open.ensures in
+    let start = starts d.content d.may_leave d.moment d.left_since d.faults c.in-Ok.decls c.new-2.result.inner opened so.sound so.up so.tells so.fresh so.any_moment so.told so.later in
+    let start_b = subst (λ (x : Decls). Starts d.content d.may_leave d.moment d.left_since d.faults x c.new-2.result.inner (world_of opened) (greeting opened)) is start in
+    let start_at = subst (λ (x : g.row.D.Denot). Starts d.content d.may_leave d.moment d.left_since d.faults (decls_of b) x (world_of opened) (greeting opened)) at start_b in
+    let ends_b = subst (λ (x : Decls). GreetsAndFinishes d.content d.may_leave d.moment d.left_since d.faults (held c.args.sink.now) (held c.run_script.new.sink) x opened c.as_slice.result.now c.run_script.result.disk c.run_script.result.status) is
+    c.run_script.ensures.ends in
+    let ends = subst (λ (l : List ScriptStep). GreetsAndFinishes d.content d.may_leave d.moment d.left_since d.faults (held c.args.sink.now) (held c.run_script.new.sink) (decls_of b) opened l c.run_script.result.disk c.run_script.result.status)
+    c.as_slice.ensures ends_b in
+    run_rose d.content d.may_leave d.moment d.left_since d.faults (held c.args.sink.now) (held c.run_script.new.sink) b c.args.disk c.run_script.result.disk c.run_script.result.status
+    (over_script d.content d.may_leave d.moment d.left_since d.faults g.met.D.Disk.only_now (held c.args.sink.now) (held c.run_script.new.sink) b c.args.disk c.run_script.result.disk opened c.run_script.result.status
+    start_at ends)
+
+pub returns-clause-ends : goal.returns-clause-ends
+returns-clause-ends g c =
+    let d = g.D.Disk in
+    let held = g.K.Sink.held in
+    let b = c.args.bundle in
+    let at = ap (λ (s : Stopping g.row.D.Denot). s.inner) c.new-2.ensures in
+    let is = decls_are c.in-Ok.decls b c.in-Ok.ensures.text c.in-Ok.ensures.names c.in-Ok.ensures.devices in
+    let cause_b = subst (λ (x : Decls). IsOpenCauseOf d.content d.may_leave d.faults x c.new-2.result.inner c.in-Err-open.disk c.in-Err-open.stop) is c.in-Err-open.ensures.refused in
+    let cause = subst (λ (x : g.row.D.Denot). IsOpenCauseOf d.content d.may_leave d.faults (decls_of b) x c.in-Err-open.disk c.in-Err-open.stop) at cause_b in
+    let opening_b = subst (λ (x : Decls). LeavesOnly d.moment d.left_since c.new-2.result.inner c.in-Err-open.disk (MayBeOpening d.content d.may_leave x c.new-2.result.inner)) is c.in-Err-open.ensures.any_moment in
+    let opening = subst (λ (x : g.row.D.Denot). LeavesOnly d.moment d.left_since x c.in-Err-open.disk (MayBeOpening d.content d.may_leave (decls_of b) x)) at opening_b in
+    subst (λ (e : Ended g.row.D.Denot). EndsOver d.content d.may_leave d.moment d.left_since d.faults (held c.args.sink.now) (held c.args.sink.now) b c.args.disk e.disk e.status) (sym c.at-in-Err-open.ensures)
+    (over_unopened d.content d.may_leave d.moment d.left_since d.faults (held c.args.sink.now) (held c.args.sink.now) b c.args.disk c.in-Err-open.disk c.in-Err-open.stop
+    (record { cause = cause; opening = opening; same = refl }))

@@ -1,6 +1,6 @@
 use Rattle.std.proofs.lemmas.Result.{err_from_is_err_and}
 use Rattle.orc_run.specs.Reading.{IsNameOf, IsPutOf, IsDevicePutOf}
-use Rattle.orc_run.specs.declared.bundle.Put.{Put}
+use Rattle.orc_call.specs.declared.call.Put.{Put}
 use Rattle.orc_run.proofs.Readers.{fails_along}
 use Rattle.orc_run.proofs.Lines.{device_put_parts, device_put_only}
 use Rattle.orc_run.proofs.read.line.read_device_put.Goals as goal

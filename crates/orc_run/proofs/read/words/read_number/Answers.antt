@@ -1,6 +1,6 @@
 use Rattle.std.proofs.Common.{sym, ◌∙◌, ap}
 use Rattle.orc_run.specs.Reading.{is_padded}
-use Rattle.orc_run.proofs.Numbers.{padded_refused, number_read, number_refused}
+use Rattle.orc_run.proofs.Decimals.{padded_refused, number_read, number_refused}
 use Rattle.orc_run.proofs.read.words.read_number.Goals as goal
 
 pub returns-then-is_padded : goal.returns-then-is_padded

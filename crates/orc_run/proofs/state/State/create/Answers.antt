@@ -1,6 +1,6 @@
-use Rattle.std.proofs.Common.{◌≡◌, ℕ, List, [], ◌∷◌, ◌++◌, Some, None, ap, sym, subst, ◌∙◌}
+use Rattle.std.proofs.Common.{ℕ, List, [], ◌∷◌, ◌++◌, ap, sym, ◌∙◌}
 use Rattle.orc_path.specs.Configurations.{Config}
-use Rattle.orc_run.specs.States.{clash_on, expansion}
+use Rattle.orc_run.specs.States.{clash_on}
 use Rattle.orc_run.specs.declared.state.Service.{Service}
 use Rattle.orc_run.specs.declared.state.State.{State}
 use Rattle.orc_run.proofs.Services.{literal-refusal, literal-after}

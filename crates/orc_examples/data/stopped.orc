@@ -1,0 +1,24 @@
+orc 1
+device r1 plain
+base r1 /if:mtu = 1500
+script
+stop 8 1
+call al 1
+literal uplink
+write r1 /if:mtu = 9000
+end
+settle
+call al 1
+literal uplink
+write r1 /if:mtu = 9000
+end
+settle
+history
+recover
+call al 1
+literal uplink
+write r1 /if:mtu = 9000
+end
+settle
+show r1
+history

@@ -1,0 +1,22 @@
+-- A crash before each call and after it leaves the file that was read, torn by the write.
+use Rattle.std.specs.Prelude.{false, length, is_err}
+use Rattle.orc_disk.specs.Torn.{Torn-refl}
+use Rattle.orc_journal.specs.Opened.{IsTornFrom}
+use Rattle.orc_disk.proofs.Moments.{started, goes_on, torn_of_read}
+use Rattle.orc_journal.proofs.put.put_synced.Goals as goal
+
+pub returns-clause-any_moment : goal.returns-clause-any_moment
+returns-clause-any_moment g c =
+    let disk = g.D.Disk in
+    let old = c.args.disk.now in
+    let mid = c.write_at.new.self in
+    let new = c.sync.new.self in
+    let P = IsTornFrom (disk.content old) c.args.at (length c.args.bytes.now) in
+    let torn = torn_of_read (disk.content old) c.args.at (length c.args.bytes.now) (disk.may_leave old) (disk.may_leave mid) c.requires.durable c.in_ok-write_at.ensures.crash in
+    let begun = started disk.moment disk.left_since old P (λ file left. (file, c.requires.durable file (g.met.D.Disk.only_now old file left), Torn-refl c.args.at (length c.args.bytes.now) file)) in
+    let wrote = goes_on disk.moment disk.left_since disk.may_leave old old mid P begun c.in_ok-write_at.ensures.time torn in
+    goes_on disk.moment disk.left_since disk.may_leave old mid new P wrote c.sync.ensures.time (λ file left. torn file (c.sync.ensures.crash file left))
+
+pub returns-clause-course : goal.returns-clause-course
+returns-clause-course g c =
+    g.met.D.Disk.goes_on false (is_err c.sync.result) c.args.disk.now c.write_at.new.self c.sync.new.self c.in_ok-write_at.ensures.course c.sync.ensures.course

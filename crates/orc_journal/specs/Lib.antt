@@ -1,0 +1,9 @@
+pub mod Counts
+pub mod Entries
+pub mod Orders
+pub mod Reading
+pub mod Journals
+pub mod Opened
+pub mod Faults
+pub mod Laws
+pub mod Committed

@@ -1,0 +1,67 @@
+//! The header of a journal.
+ghost use Rattle.std.specs.Prelude.{◌≡◌, ◌++◌, ◌<◌, ◌^◌, length, take, drop, MatchOption, MatchResult};
+ghost use Rattle.std.specs.Int.{w32, to_be_bytes, from_be_bytes};
+ghost use Rattle.orc_journal.specs.Reading.{BeginsOtherwise};
+ghost use Rattle.orc_journal.specs.Journals.{common, header};
+ghost use Rattle.orc_journal.specs.Faults.{IsReadCauseOf};
+
+use crate::reading::ReadFault;
+
+/// The first bytes of each journal.
+const MAGIC: &[u8; 8] = b"ORCJRNL1";
+
+/// What stands behind this front.
+fn behind<'a>(bytes: &'a [u8], front: &[u8]) -> Option<&'a [u8]>
+    ensures { MatchOption result (BeginsOtherwise bytes.now front.now) (λ rest. bytes.now ≡ front.now ++ rest.now) }
+{
+    bytes.strip_prefix(front)
+}
+
+/// What stands behind the length of these declarations, and behind them.
+fn behind_decls<'a>(bytes: &'a [u8], decls: &[u8]) -> Option<&'a [u8]>
+    requires { length decls.now < 2 ^ 32 }
+    ensures { MatchOption result (BeginsOtherwise bytes.now (to_be_bytes w32 (length decls.now) ++ decls.now)) (λ rest. bytes.now ≡ to_be_bytes w32 (length decls.now) ++ (decls.now ++ rest.now)) }
+{
+    let rest = behind(bytes, &(decls.len() as u32).to_be_bytes())?;
+    behind(rest, decls)
+}
+
+/// The declarations whose length the bytes begin with, as far as they are there.
+fn stored(bytes: &[u8]) -> &[u8]
+    ensures { result.now ≡ take (from_be_bytes w32 (take 4 bytes.now)) (drop 4 bytes.now) }
+{
+    if bytes.len() < 4 {
+        return &bytes[bytes.len()..];
+    }
+    let (front, rest) = bytes.split_at(4);
+    let len = u32::from_be_bytes([front[0], front[1], front[2], front[3]]) as usize;
+    if len < rest.len() { &rest[..len] } else { rest }
+}
+
+/// The length of the longest front that two texts have in common.
+fn common(xs: &[u8], ys: &[u8]) -> usize
+    ensures { result ≡ common xs.now ys.now }
+{
+    let mut at = 0;
+    while at < xs.len() && at < ys.len() && xs[at] == ys[at] {
+        at += 1;
+    }
+    at
+}
+
+/// What stands behind the header of a journal of these declarations.
+pub(crate) fn behind_header<'a>(bytes: &'a [u8], decls: &[u8]) -> Result<&'a [u8], ReadFault>
+    requires some { 0 < length bytes.now }
+    requires short { length decls.now < 2 ^ 32 }
+    ensures { MatchResult result (λ rest. bytes.now ≡ header decls.now ++ rest.now) (IsReadCauseOf bytes.now decls.now) }
+{
+    let Some(rest) = behind(bytes, MAGIC) else {
+        return Err(ReadFault::NotJournal);
+    };
+    match behind_decls(rest, decls) {
+        Some(rest) => Ok(rest),
+        None => Err(ReadFault::Foreign {
+            at: common(stored(rest), decls) as u64,
+        }),
+    }
+}

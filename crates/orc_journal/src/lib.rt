@@ -1,0 +1,31 @@
+//! The journal: entries on a disk that outlive crashes.
+//!
+//! A file holds a header with the declarations, and then entries, each behind a gate. An entry
+//! counts where its gate is open, and the first closed gate ends the journal. `Journal::attach`
+//! opens such a file, and `append` adds an entry so that a crash at any moment leaves the entries
+//! before it, or those and the new one.
+#![tactic(auto)]
+
+mod block;
+mod counting;
+mod decoding;
+mod entry;
+mod fault;
+mod header;
+mod journal;
+mod laws;
+mod opening;
+mod order;
+mod put;
+mod reading;
+mod stage;
+#[cfg(test)]
+mod tests;
+mod writing;
+
+pub use entry::Entry;
+pub use fault::{AppendFault, OpenFault};
+pub use journal::Journal;
+pub use laws::{
+    has_one_list_of_entries, has_one_text_of_declarations, has_one_verdict, keeps_order,
+};

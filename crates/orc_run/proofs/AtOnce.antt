@@ -1,0 +1,63 @@
+-- What a call gets behind a history without a change.
+use Rattle.std.proofs.Common.{◌≡◌, ℕ, ◌+◌, true, List, get_or, None, Some, Ok, Err, is_some, IfOk, IfSome, refl, sym, ap, subst, ◌∙◌}
+use Rattle.std.specs.declared.option.Option.{Option}
+use Rattle.std.specs.declared.result.Result.{Result}
+use Rattle.std.specs.List.{slice_get}
+use Rattle.std.proofs.lemmas.Option.{get_or_from_slice_get, slice_get_within}
+use Rattle.std.proofs.lemmas.List.Elements.{All-get_or}
+use Rattle.orc_text.specs.declared.memory.Memory.{Memory}
+use Rattle.orc_call.specs.declared.call.Call.{Call}
+use Rattle.orc_call.specs.declared.call.Action.{Action}
+use Rattle.orc_call.specs.declared.answer.Answer.{Answer}
+use Rattle.orc_call.specs.declared.answer.Answer.TheVariants.{Committed, Reused}
+use Rattle.orc_run.specs.States.{action_of, refusal}
+use Rattle.orc_run.specs.Legal as legal
+use Rattle.orc_run.specs.Legal.{AnswersAtOnce, IsDue, IsNew, IsSame, state_of}
+use Rattle.orc_run.specs.Pasts.{IsBehind}
+use Rattle.orc_run.specs.declared.decls.Decls.{Decls}
+use Rattle.orc_run.specs.declared.past.Past.{Past}
+use Rattle.orc_run.specs.declared.state.State.{State}
+
+read_there : (history : List Call) (n : ℕ) (entry read : Call) → slice_get history n ≡ Some entry → read ≡ get_or history n read → entry ≡ read
+read_there history n entry read at is = sym (get_or_from_slice_get history n entry read at) ∙ sym is
+
+-- the call itself stands there
+pub is_again : (decls : Decls) (history : List Call) (call : Call) (n : ℕ) (entry read : Call) → slice_get history n ≡ Some entry → read ≡ get_or history n read
+    → read ≡ call → AnswersAtOnce decls history call (Committed (n + 1))
+is_again decls history call n entry read at is same = legal.AnswersAtOnce.again n (at ∙ ap Some (read_there history n entry read at is ∙ same))
+
+-- another call of its caller and number stands there
+pub is_reused : (decls : Decls) (history : List Call) (call : Call) (n : ℕ) (entry read : Call) → slice_get history n ≡ Some entry → read ≡ get_or history n read
+    → IsSame entry call → (read ≡ call → ⊥) → AnswersAtOnce decls history call (Reused (n + 1))
+is_reused decls history call n entry read at is one other =
+    legal.AnswersAtOnce.reused n entry at one (λ (e : entry ≡ call). other (sym (read_there history n entry read at is) ∙ e))
+
+-- the refusal of a new call
+pub is_refused : (decls : Decls) (past : Past) (call : Call) (names : List (List ℕ)) (action : Action) (result : Result (Option Answer) Memory)
+    → IsBehind decls past past.history → IsNew past.history call → names ≡ decls.names → action ≡ action_of call
+    → IfOk result (λ found. found ≡ refusal names past.state action) → IfOk result (λ found. IfSome found (AnswersAtOnce decls past.history call))
+is_refused decls past call names action (Err memory) behind new same one h = tt
+is_refused decls past call names action (Ok None) behind new same one h = tt
+is_refused decls past call names action (Ok (Some answer)) behind new same one h =
+    legal.AnswersAtOnce.refused answer new
+    (ap (λ (s : State). refusal decls.names s (action_of call)) (sym behind.state) ∙ ap (λ (ns : List (List ℕ)). refusal ns past.state (action_of call)) (sym same)
+    ∙ ap (λ (a : Action). refusal names past.state a) (sym one) ∙ sym h)
+
+some_is : {X : Type 0} (x : X) → None ≡ Some x → ⊥
+some_is x e = cc
+
+not_new : (history : List Call) (call entry : Call) (n : ℕ) → slice_get history n ≡ Some entry → IsSame entry call → IsNew history call → ⊥
+not_new history call entry n at one new =
+    subst (λ (e : Call). IsSame e call → ⊥) (get_or_from_slice_get history n entry entry at)
+    (All-get_or (λ (e : Call). IsSame e call → ⊥) history n entry (slice_get_within history n entry at) new) one
+
+-- a call that is answered at once is not due
+not_due : (decls : Decls) (history : List Call) (call : Call) (answer : Answer) → AnswersAtOnce decls history call answer → IsDue decls history call → ⊥
+not_due decls history call _ (legal.AnswersAtOnce.again n at) due = not_new history call call n at (refl, refl) due.new
+not_due decls history call _ (legal.AnswersAtOnce.reused n entry at one other) due = not_new history call entry n at one due.new
+not_due decls history call answer (legal.AnswersAtOnce.refused _ new is) due = some_is answer (sym due.unrefused ∙ is)
+
+pub answered : (decls : Decls) (history : List Call) (call : Call) (found : Option Answer) → true ≡ is_some found
+    → IfSome found (AnswersAtOnce decls history call) → IsDue decls history call → ⊥
+answered decls history call None some h due = absurd (cc some)
+answered decls history call (Some answer) some h due = not_due decls history call answer h due

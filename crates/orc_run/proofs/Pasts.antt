@@ -1,0 +1,135 @@
+-- The past of entries, one entry more.
+use Rattle.std.proofs.Common.{◌≡◌, ℕ, ◌+◌, ◌<◌, true, List, [], ◌∷◌, ◌++◌, All, IsTrue, Some, length, take, get_or, refl, sym, ap, subst, ◌∙◌, append-nil}
+use Rattle.std.specs.FinMap.{empty}
+use Rattle.std.proofs.lemmas.List.{length-map, take_more}
+use Rattle.std.proofs.lemmas.Option.{slice_get_read}
+use Rattle.std.proofs.lemmas.List.Elements.{All-nil, All-cons, All-append, All-weaker}
+use Rattle.orc_call.specs.declared.call.Call.{Call}
+use Rattle.orc_journal.specs.Orders.{number_of}
+use Rattle.orc_journal.specs.Committed.{commits, history_of}
+use Rattle.orc_journal.specs.declared.entry.Entry.{Entry}
+use Rattle.orc_journal.specs.declared.entry.Entry.TheVariants.{Intent, Decide, Abort, Settled}
+use Rattle.orc_call.specs.declared.call.Action.{Action}
+use Rattle.orc_run.specs.States.{action_of, after, opening, put_all, IsComplete}
+use Rattle.orc_run.specs.Bundles.{is_call}
+use Rattle.orc_run.specs.Legal.{IsLegal, IsDue}
+use Rattle.orc_run.specs.Pasts.{AreDecls, IsBehind, IsPast, IsIllegalAt}
+use Rattle.orc_run.specs.Transactions.{is_taken, IsFilled}
+use Rattle.orc_run.specs.declared.bundle.Device.{Device}
+use Rattle.orc_run.specs.declared.decls.Decls.{Decls}
+use Rattle.orc_run.specs.declared.numbers.Numbers.{Numbers}
+use Rattle.orc_run.specs.declared.past.Past.{Past}
+use Rattle.orc_run.specs.declared.state.State.{State}
+use Rattle.orc_run.proofs.Legality.{fold_from-append, history_of-append, legal_none, legal_more, legal_last}
+
+-- the numbers of entries are taken, with one more
+pub all_taken : (old new : Numbers) (entries : List Entry) (entry : Entry) → All (λ e. is_taken old (number_of e) ≡ true) entries
+    → ((u : ℕ) → is_taken old u ≡ true → is_taken new u ≡ true) → is_taken new (number_of entry) ≡ true
+    → All (λ e. is_taken new (number_of e) ≡ true) (entries ++ entry ∷ [])
+all_taken old new entries entry all others taken =
+    All-append (λ e. is_taken new (number_of e) ≡ true) entries (entry ∷ [])
+    (All-weaker (λ e. is_taken old (number_of e) ≡ true) (λ e. is_taken new (number_of e) ≡ true) (λ e. others (number_of e)) entries all)
+    (All-cons (λ e. is_taken new (number_of e) ≡ true) entry [] taken (All-nil (λ e. is_taken new (number_of e) ≡ true)))
+
+-- an entry that commits nothing
+pub past_same : (decls : Decls) (old : Past) (numbers : Numbers) (before : List Entry) (entry : Entry) → IsPast decls old before → commits before entry ≡ []
+    → is_taken numbers (number_of entry) ≡ true → ((u : ℕ) → is_taken old.numbers u ≡ true → is_taken numbers u ≡ true) → IsFilled numbers
+    → IsPast decls (record { numbers = numbers; history = old.history; state = old.state }) (before ++ entry ∷ [])
+past_same decls old numbers before entry past none taken others filled =
+    let e : history_of before ≡ history_of (before ++ entry ∷ []) =
+    sym (history_of-append before entry ∙ ap (λ (l : List Call). history_of before ++ l) none ∙ append-nil (history_of before)) in
+    record {
+      numbers = all_taken old.numbers numbers before entry past.numbers others taken;
+      filled = filled;
+      history = past.history ∙ e;
+      legal = subst (λ (l : List Call). IsLegal decls l) e past.legal;
+      behind = subst (λ (l : List Call). IsBehind decls (record { numbers = numbers; history = old.history; state = old.state }) l) e
+          (record { state = past.behind.state; complete = past.behind.complete; bases = past.behind.bases });
+    }
+
+-- an entry that commits a call
+pub past_more : (decls : Decls) (old new : Past) (before : List Entry) (entry : Entry) (call : Call) → IsPast decls old before → commits before entry ≡ call ∷ []
+    → is_taken new.numbers (number_of entry) ≡ true → ((u : ℕ) → is_taken old.numbers u ≡ true → is_taken new.numbers u ≡ true) → IsFilled new.numbers
+    → IsTrue (is_call decls.names call) → IsDue decls old.history call → new.history ≡ old.history ++ call ∷ [] → IsBehind decls new new.history
+    → IsPast decls new (before ++ entry ∷ [])
+past_more decls old new before entry call past one taken others filled lawful due more behind =
+    let e : history_of before ++ call ∷ [] ≡ history_of (before ++ entry ∷ []) =
+    sym (history_of-append before entry ∙ ap (λ (l : List Call). history_of before ++ l) one) in
+    let h : new.history ≡ history_of (before ++ entry ∷ []) = more ∙ ap (λ (l : List Call). l ++ call ∷ []) past.history ∙ e in
+    record {
+      numbers = all_taken old.numbers new.numbers before entry past.numbers others taken;
+      filled = filled;
+      history = h;
+      legal = subst (λ (l : List Call). IsLegal decls l) e
+          (legal_more decls (history_of before) call past.legal lawful (subst (λ (l : List Call). IsDue decls l call) past.history due));
+      behind = subst (λ (l : List Call). IsBehind decls new l) h behind;
+    }
+
+-- an entry that commits a call after which the history is not legal
+pub past_ends : (decls : Decls) (old : Past) (before : List Entry) (entry : Entry) (call : Call) → IsPast decls old before → commits before entry ≡ call ∷ []
+    → (IsTrue (is_call decls.names call) → IsDue decls old.history call → ⊥) → IsLegal decls (history_of (before ++ entry ∷ [])) → ⊥
+past_ends decls old before entry call past one never legal =
+    let e : history_of (before ++ entry ∷ []) ≡ history_of before ++ call ∷ [] =
+    history_of-append before entry ∙ ap (λ (l : List Call). history_of before ++ l) one in
+    let last = legal_last decls (history_of before) call (subst (λ (l : List Call). IsLegal decls l) e legal) in
+    never last.0 (subst (λ (l : List Call). IsDue decls l call) (sym past.history) last.1)
+
+cons_is : (call : Call) (calls : List Call) → [] ≡ call ∷ calls → ⊥
+cons_is call calls e = cc
+
+-- only a Decide commits a call
+pub decides : (before : List Entry) (entry : Entry) (call : Call) → commits before entry ≡ call ∷ [] → (t : ℕ) × (entry ≡ Decide t)
+decides before (Intent t c devices) call e = absurd (cons_is call [] e)
+decides before (Decide t) call e = (t, refl)
+decides before (Abort t) call e = absurd (cons_is call [] e)
+decides before (Settled t) call e = absurd (cons_is call [] e)
+
+-- the state behind a history, one call later
+pub behind_more : (decls : Decls) (old new : Past) (call : Call) (names : List (List ℕ)) (action : Action) → IsBehind decls old old.history → names ≡ decls.names
+    → action ≡ action_of call → new.state ≡ after names old.state action → IsComplete new.state → new.state.bases ≡ old.state.bases
+    → IsBehind decls new (old.history ++ call ∷ [])
+behind_more decls old new call names action behind same is done complete bases = record {
+  state =
+      done ∙ ap (λ (ns : List (List ℕ)). after ns old.state action) same ∙ ap (λ (a : Action). after decls.names old.state a) is
+      ∙ ap (λ (s : State). after decls.names s (action_of call)) behind.state ∙ sym (fold_from-append decls.names (opening decls.devices) old.history call);
+  complete = complete;
+  bases = ap length bases ∙ behind.bases;
+}
+
+-- before any entry
+pub past_none : (decls : Decls) (past : Past) → AreDecls decls → IsFilled past.numbers → past.history ≡ [] → past.state ≡ opening decls.devices → IsComplete past.state
+    → IsPast decls past []
+past_none decls past are filled none state complete = record {
+  numbers = All-nil (λ e. is_taken past.numbers (number_of e) ≡ true);
+  filled = filled;
+  history = none;
+  legal = legal_none decls;
+  behind = record {
+    state = state;
+    complete = complete;
+    bases =
+        ap (λ (s : State). length s.bases) state ∙ length-map decls.devices (λ (d : Device). put_all d.base empty)
+        ∙ sym (length-map decls.devices (λ (d : Device). d.name)) ∙ ap length (sym are.named);
+  };
+}
+
+-- the entries up to a place, and the one there
+upto : (entries : List Entry) (place : ℕ) (entry : Entry) → place < length entries → entry ≡ get_or entries place entry → take place entries ++ entry ∷ [] ≡ take (place + 1) entries
+upto entries place entry within is = ap (λ e. take place entries ++ e ∷ []) is ∙ sym (take_more entries place entry within)
+
+pub past_upto : (decls : Decls) (past : Past) (before entries : List Entry) (place : ℕ) (entry : Entry) → place < length entries → entry ≡ get_or entries place entry
+    → before ≡ take place entries → IsPast decls past (before ++ entry ∷ []) → IsPast decls past (take (place + 1) entries)
+past_upto decls past before entries place entry within is front h =
+    subst (λ (l : List Entry). IsPast decls past l) (ap (λ (l : List Entry). l ++ entry ∷ []) front ∙ upto entries place entry within is) h
+
+pub illegal_at : (decls : Decls) (past : Past) (before entries : List Entry) (place : ℕ) (entry : Entry) → place < length entries → entry ≡ get_or entries place entry
+    → before ≡ take place entries → IsPast decls past (take place entries)
+    → ((t : ℕ) × (entry ≡ Decide t)) × (IsLegal decls (history_of (before ++ entry ∷ [])) → ⊥) → IsIllegalAt decls entries place
+illegal_at decls past before entries place entry within is front so h = record {
+  t = h.0.0;
+  decide = slice_get_read entries (length entries) place entry refl within is ∙ ap Some h.0.1;
+  before = so.legal;
+  illegal =
+      λ legal. h.1 (subst (λ (l : List Entry). IsLegal decls (history_of l))
+      (sym (ap (λ (l : List Entry). l ++ entry ∷ []) front ∙ upto entries place entry within is)) legal);
+}

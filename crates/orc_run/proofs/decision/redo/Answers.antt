@@ -1,0 +1,12 @@
+-- The action of a lawful call fits.
+use Rattle.std.proofs.Common.{IsTrue, sym, subst}
+use Rattle.orc_call.specs.declared.call.Action.{Action}
+use Rattle.orc_run.specs.States.{action_of, fits_action}
+use Rattle.orc_run.proofs.Fits.{action-fits, call-action}
+use Rattle.orc_run.proofs.decision.redo.Goals as goal
+
+pub apply-requires-clause-fit : goal.apply-requires-clause-fit
+apply-requires-clause-fit c =
+    let names = c.args.decls.now.names in
+    let call = c.args.call.now in
+    subst (λ (a : Action). IsTrue (fits_action a)) (sym c.action_of.ensures) (action-fits names (action_of call) (call-action names call c.requires.call))

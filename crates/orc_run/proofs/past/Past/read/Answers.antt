@@ -1,0 +1,33 @@
+use Rattle.std.proofs.Common.{◌≡◌, IsTrue, List, Ok, take, refl, sym, ap, subst, ◌∙◌}
+use Rattle.orc_run.specs.States.{fits_devices, opening}
+use Rattle.orc_run.specs.Pasts.{IsIllegalAt}
+use Rattle.orc_run.specs.declared.bundle.Device.{Device}
+use Rattle.orc_run.specs.declared.past.Past.{Past}
+use Rattle.orc_run.proofs.Fits.{devices-fit}
+use Rattle.orc_run.proofs.Pasts.{past_none, past_upto, illegal_at}
+use Rattle.orc_run.proofs.past.Past.read.Goals as goal
+
+pub open-requires : goal.open-requires
+open-requires c = subst (λ (ds : List Device). IsTrue (fits_devices ds)) (sym c.as_slice.ensures) (devices-fit c.args.decls.now.devices c.requires.decls.devices)
+
+pub returns-then-not-branch-clause-illegal : goal.returns-then-not-branch-clause-illegal
+returns-then-not-branch-clause-illegal c = λ place e.
+    let entries = c.args.entries.now in
+    let at = c.loop-place.place in
+    let same : at ≡ place = cc in
+    subst (λ n. IsIllegalAt c.args.decls.now entries n) same
+    (illegal_at c.args.decls.now c.loop-place.past (take at entries) entries at c.index-entries-place.result c.loop-place-test.true c.index-entries-place.is refl
+    c.loop-place.invariant (c.in_ok-take.ensures.illegal (ap Ok c.if-not-branch.true)))
+
+pub loop-place-init : goal.loop-place-init
+loop-place-init c =
+    let past : Past = record { numbers = c.new.result; history = c.new-2.result; state = c.in_ok-open.field-0 } in
+    past_none c.args.decls.now past c.requires.decls c.new.ensures.filled c.new-2.ensures
+    (c.in_ok-open.ensures.opening ∙ ap opening c.as_slice.ensures) c.in_ok-open.ensures.complete
+
+pub loop-place-preserved : goal.loop-place-preserved
+loop-place-preserved c =
+    let entries = c.args.entries.now in
+    let at = c.loop-place.place in
+    past_upto c.args.decls.now c.take.new.self (take at entries) entries at c.index-entries-place.result c.loop-place-test.true c.index-entries-place.is refl
+    (c.in_ok-take.ensures.taken (ap Ok c.if-not-branch.false))

@@ -1,0 +1,195 @@
+//! What the entries of a journal say of the past: the history, and the state behind it.
+ghost use Rattle.std.specs.Prelude.{◌≡◌, ◌++◌, ◌∷◌, [], ◌≢◌, ℕ, true, false, Ok, None, IfOk, IfSome, IsErrOf, IsTrue, MatchOption};
+ghost use Rattle.std.specs.Option.{option_copied};
+ghost use Rattle.orc_call.specs.declared.call.Call.{Call};
+ghost use Rattle.orc_run.specs.declared.decls.Decls.{Decls};
+ghost use Rattle.orc_journal.specs.Orders.{number_of};
+ghost use Rattle.orc_journal.specs.declared.entry.Entry.{Entry};
+ghost use Rattle.orc_journal.specs.Committed.{call_in, call_of, commits, history_of, listed};
+ghost use Rattle.orc_run.specs.Bundles.{is_call};
+ghost use Rattle.orc_run.specs.Legal.{AnswersAtOnce, IsDue, IsLegal, IsNew};
+ghost use Rattle.orc_run.specs.Pasts.{AreDecls, IsBehind, IsPast, IsIllegalAt};
+
+use crate::call::action_of;
+use crate::history::place_of;
+use crate::lawful::is_call;
+use crate::numbers::Numbers;
+use crate::{Decls, State};
+use orc_call::{Answer, Call};
+use orc_journal::Entry;
+use orc_text::{Memory, Row};
+use std::alloc::Global;
+
+/// The numbers that transactions have, the calls that were committed, in order, and the state
+/// behind them.
+#[derive(Drop)]
+pub struct Past {
+    pub numbers: Numbers,
+    pub history: Row<Call>,
+    pub state: State,
+}
+
+/// Why entries have no past.
+#[derive(Clone, Copy, Debug, PartialEq, Eq)]
+pub enum PastFault {
+    /// The Decide at this place makes the history illegal.
+    Illegal { place: usize },
+    /// Memory could not be had.
+    Memory,
+}
+
+impl From<Memory> for PastFault {
+    ghost use Rattle.orc_run.specs.declared.past.PastFault.TheVariants as fault;
+    ghost use Rattle.std.specs.Prelude.{◌≡◌};
+
+    ghost from_gives = { λ _ e. e ≡ fault.Memory };
+
+    fn from(_: Memory) -> PastFault {
+        PastFault::Memory
+    }
+}
+
+/// The call of the intent of a transaction among entries; of two the later one counts. It looks
+/// from the end, since a Decide stands close behind its intent.
+fn intent_of(entries: &[Entry], t: u64) -> Option<&Call>
+    ensures { option_copied result ≡ call_of t entries.now }
+{
+    let mut at = entries.len();
+    while at > 0 {
+        at -= 1;
+        if let Some(call) = call_in(&entries[at], t) {
+            return Some(call);
+        }
+    }
+    None
+}
+
+// The call of an entry, where it is an intent of the transaction.
+fn call_in(entry: &Entry, t: u64) -> Option<&Call>
+    ensures { option_copied result ≡ call_in t entry.now }
+{
+    match entry {
+        Entry::Intent { t: u, call, .. } if *u == t => Some(call),
+        _ => None,
+    }
+}
+
+// The call that an entry commits behind those before it.
+fn committed_by<'a>(before: &'a [Entry], entry: &Entry) -> Option<&'a Call>
+    ensures { listed (option_copied result) ≡ commits before.now entry.now }
+{
+    match entry {
+        Entry::Decide { t } => intent_of(before, *t),
+        _ => None,
+    }
+}
+
+// The transaction that an entry names.
+fn number_of(entry: &Entry) -> u64
+    ensures { result ≡ number_of entry.now }
+{
+    match entry {
+        Entry::Intent { t, .. } => *t,
+        Entry::Decide { t } => *t,
+        Entry::Abort { t } => *t,
+        Entry::Settled { t } => *t,
+    }
+}
+
+impl Past {
+    /// The past of entries, which stand in their order.
+    pub(crate) fn read(alloc: Global, decls: &Decls, entries: &[Entry]) -> Result<Past, PastFault>
+        requires decls { AreDecls decls.now }
+        ensures past { IfOk result (λ past. IsPast decls.now past entries.now) }
+        ensures illegal { (place : ℕ) → IsErrOf result (PastFault.Illegal place) → IsIllegalAt decls.now entries.now place }
+    {
+        let mut past = Past {
+            numbers: Numbers::new(alloc),
+            history: Row::new(alloc),
+            state: State::open(alloc, decls.devices.as_slice())?,
+        };
+        for (place, entry) in entries.iter().enumerate() {
+            if !past.take(alloc, decls, &entries[..place], entry)? {
+                return Err(PastFault::Illegal { place });
+            }
+        }
+        Ok(past)
+    }
+
+    // Takes an entry behind those before it, and says whether the history is still legal.
+    fn take(
+        &mut self,
+        alloc: Global,
+        decls: &Decls,
+        before: &[Entry],
+        entry: &Entry,
+    ) -> Result<bool, Memory>
+        requires decls { AreDecls decls.now }
+        requires past { IsPast decls.now self.old before.now }
+        ensures taken { result ≡ Ok true → IsPast decls.now self.new (before.now ++ entry.now ∷ []) }
+        ensures illegal { result ≡ Ok false → ((t : ℕ) × (entry.now ≡ Entry.Decide t)) × (IsLegal decls.now (history_of (before.now ++ entry.now ∷ [])) → ⊥) }
+    {
+        self.numbers.take(number_of(entry))?;
+        match committed_by(before, entry) {
+            Some(call) => self.commit(alloc, decls, call),
+            None => Ok(true),
+        }
+    }
+
+    // Commits a call, and says whether the history is still legal; if not, it is as it was.
+    fn commit(&mut self, alloc: Global, decls: &Decls, call: &Call) -> Result<bool, Memory>
+        requires decls { AreDecls decls.now }
+        requires behind { IsBehind decls.now self.old self.old.history }
+        ensures legal { result ≡ Ok true → IsTrue (is_call decls.now.names call.now) × IsDue decls.now self.old.history call.now }
+        ensures history { result ≡ Ok true → self.new.history ≡ self.old.history ++ call.now ∷ [] }
+        ensures behind { result ≡ Ok true → IsBehind decls.now self.new self.new.history }
+        ensures illegal { result ≡ Ok false → IsTrue (is_call decls.now.names call.now) → IsDue decls.now self.old.history call.now → ⊥ }
+        ensures numbers { self.new.numbers ≡ self.old.numbers }
+    {
+        if !is_call(decls.names.as_slice(), call) {
+            return Ok(false);
+        }
+        if self.answer(alloc, decls, call)?.is_some() {
+            return Ok(false);
+        }
+        self.history.push(call.copy(alloc)?)?;
+        Ok(true)
+    }
+
+    /// The answer that a call gets at once behind the history. Where there is none, the state does
+    /// its action.
+    pub(crate) fn answer(
+        &mut self,
+        alloc: Global,
+        decls: &Decls,
+        call: &Call,
+    ) -> Result<Option<Answer>, Memory>
+        requires decls { AreDecls decls.now }
+        requires behind { IsBehind decls.now self.old self.old.history }
+        requires call { IsTrue (is_call decls.now.names call.now) }
+        ensures answer { IfOk result (λ found. IfSome found (AnswersAtOnce decls.now self.old.history call.now)) }
+        ensures due { result ≡ Ok None → IsDue decls.now self.old.history call.now }
+        ensures done { result ≡ Ok None → IsBehind decls.now self.new (self.old.history ++ call.now ∷ []) }
+        ensures kept { result ≢ Ok None → self.new ≡ self.old }
+        ensures rest { self.new ≡ record self.old { state = self.new.state } }
+    {
+        if let Some(answer) = self.repeated(call) {
+            return Ok(Some(answer));
+        }
+        self.state
+            .apply(alloc, decls.names.as_slice(), action_of(call))
+    }
+
+    // The answer to a call whose caller and number the history has.
+    fn repeated(&self, call: &Call) -> Option<Answer>
+        ensures { MatchOption result (IsNew self.now.history call.now) (λ answer. (decls : Decls) → AnswersAtOnce decls self.now.history call.now answer) }
+    {
+        let history = self.history.as_slice();
+        let place = place_of(history, call)?;
+        let entry = place as u64 + 1;
+        if history[place] == *call {
+            return Some(Answer::Committed(entry));
+        }
+        Some(Answer::Reused(entry))
+    }
+}
