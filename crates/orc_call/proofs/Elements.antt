@@ -1,5 +1,5 @@
 -- The fields of one element of a list.
-use Rattle.std.proofs.Common.{◌≡◌, ℕ, zero, suc, ◌+◌, ◌<◌, ◌≤◌, List, [], ◌∷◌, length, take, get_or, Bool, false, IsTrue, ◌↔◌, Option, sym, subst, arith, ◌^◌, add-one}
+use Rattle.std.proofs.Common.{◌≡◌, ℕ, zero, suc, ◌+◌, ◌<◌, ◌≤◌, List, [], ◌∷◌, length, take, get_or, Bool, false, IsTrue, ◌↔◌, Option, Result, Ok, Err, OnErr, Any, sym, subst, arith, ◌^◌, add-one}
 use Rattle.std.specs.declared.option.Option.TheVariants.{None, Some}
 use Rattle.std.specs.List.{flat_map}
 use Rattle.orc_path.specs.Steps.{PathStep}
@@ -44,3 +44,11 @@ puts_to_put xs i put before is e lt h k =
 -- the actions alone decide where the rest of a call is lawful
 pub call_by_actions : (test : Bool) (call : Call) → IsText call.caller → call.number < 2 ^ 64 → 1 ≤ length call.actions → length call.actions ≤ 64 → (IsTrue test ↔ AreLawful (flat_map action_fields call.actions)) → (IsTrue test ↔ IsCall call)
 call_by_actions test call caller number least greatest same = (λ t. (caller, (number, ((least, greatest), same.0 t))), λ h. same.1 h.1.1.1)
+
+-- a fact that holds whatever was answered
+pub on_any_err : {X Y P : Type 0} (r : Result X Y) → P → OnErr r P
+on_any_err (Ok x) p = tt
+on_any_err (Err e) p = p
+
+pub found_at : {X : Type 0} (P : X → Type 0) (xs : List X) (i : ℕ) (x : X) → x ≡ get_or xs i x → i < length xs → P x → Any P xs
+found_at P xs i x is lt p = (i, x, lt, sym is, p)

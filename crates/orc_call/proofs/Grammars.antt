@@ -1,9 +1,9 @@
 -- Reading one value behind another.
-use Rattle.std.proofs.Common.{◌≡◌, ℕ, zero, suc, ◌<◌, ◌≤◌, List, ◌++◌, length, Result, refl, sym, ap, subst, ◌∙◌, arith}
+use Rattle.std.proofs.Common.{◌≡◌, ℕ, zero, suc, ◌<◌, ◌≤◌, List, ◌++◌, length, Result, Err, refl, sym, ap, subst, ◌∙◌, arith}
 use Rattle.std.proofs.lemmas.List.{append-nil}
 use Rattle.orc_call.specs.Fields.{Field, field_bytes, IsLawful}
 use Rattle.orc_call.specs.declared.fields.Stuck.{Stuck}
-use Rattle.orc_call.specs.declared.fields.Stuck.TheVariants.{Bad}
+use Rattle.orc_call.specs.declared.fields.Stuck.TheVariants.{Bad, Memory}
 use Rattle.std.specs.Result.{IsErrAnd}
 use Rattle.std.proofs.lemmas.Result.{err_from_is_err_and}
 use Rattle.orc_call.specs.Reading.{Grammar, Begins, IsStuck, Fails, Reads, one}
@@ -28,3 +28,10 @@ pub handed_on : {X Y : Type 0} (g : Grammar X) (view : Y → X × List ℕ) (byt
 handed_on g view bytes r stuck is h =
     let p = err_from_is_err_and r is in
     rw (p.1, p.2) h
+
+-- want of memory that is handed on
+pub memory_on : {Y P : Type 0} (r : Result Y Stuck) (stuck : Stuck) → IsErrAnd r (λ y. y ≡ stuck) → (stuck ≡ Memory → P) → r ≡ Err Memory → P
+memory_on r stuck is h memory =
+    let p = err_from_is_err_and r is in
+    let same : stuck ≡ Memory = cc in
+    h same

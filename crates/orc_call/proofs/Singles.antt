@@ -1,12 +1,12 @@
 -- Fields that stand at one place are one.
 use Rattle.std.proofs.Common.{◌≡◌, ℕ, ◌<◌, ◌^◌, List, ◌++◌, length, take, drop, refl, sym, ap, ◌∙◌, append_assoc}
 use Rattle.std.specs.Int.{w16, w32, w64, to_be_bytes, from_be_bytes}
-use Rattle.std.proofs.lemmas.List.{take_at}
+use Rattle.std.proofs.lemmas.List.{take_at, append-nil}
 use Rattle.std.proofs.lemmas.Nat.{from_be_bytes-to_be_bytes_2, from_be_bytes-to_be_bytes_4, from_be_bytes-to_be_bytes_8}
 use Rattle.orc_path.specs.declared.item.Item.{Item}
 use Rattle.orc_path.specs.declared.item.Item.TheVariants.{Entry, Leaf}
-use Rattle.orc_call.specs.Fields.{text_bytes, IsText, item_bytes, IsItem}
-use Rattle.orc_call.specs.Reading.{HasText, HasItem}
+use Rattle.orc_call.specs.Fields.{a_text, text_bytes, IsText, item_bytes, IsItem}
+use Rattle.orc_call.specs.Reading.{IsWhole, one, HasText, HasItem}
 
 pub same_2 : (n m : ℕ) (r s : List ℕ) → n < 2 ^ 16 → m < 2 ^ 16 → to_be_bytes w16 n ++ r ≡ to_be_bytes w16 m ++ s → n ≡ m
 same_2 n m r s fits-n fits-m e =
@@ -38,3 +38,7 @@ same_items (Leaf t) (Leaf u) r s is-i is-j e = ap Leaf (same_texts t u r s is-i 
 
 pub one_item : (bytes : List ℕ) (i j : Item) (r s : List ℕ) → HasItem bytes i r → HasItem bytes j s → i ≡ j
 one_item bytes i j r s a b = same_items i j r s a.is_item b.is_item (sym a.parts ∙ b.parts)
+
+-- a text that was read stands there
+pub text_there : (bytes text rest : List ℕ) → IsWhole (one a_text) bytes text rest → HasText bytes text rest
+text_there bytes text rest w = record { is_text = w.lawful.0; parts = w.parts ∙ ap (λ t. t ++ rest) (append-nil (text_bytes text)) }

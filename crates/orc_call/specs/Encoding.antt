@@ -55,6 +55,18 @@ content_fields (BasePut put) = device_put_fields put
 content_fields (BaseRemove device path) = a_text device ∷ a_path None path ∷ []
 content_fields (Literal name writes) = literal_fields name writes
 
+-- the action holds a path, a put's or its own
+abbrev pub HoldsPath : Action → Type 0
+HoldsPath (Create service puts) = 0 < length puts
+HoldsPath (Modify service puts) = 0 < length puts
+HoldsPath (Redeploy service) = ⊥
+HoldsPath (Delete service) = ⊥
+HoldsPath (Set put) = Unit {0}
+HoldsPath (Unset path) = Unit {0}
+HoldsPath (BasePut put) = Unit {0}
+HoldsPath (BaseRemove device path) = Unit {0}
+HoldsPath (Literal name writes) = 0 < length writes
+
 abbrev pub action_fields : Action → List Field
 action_fields action = a_kind (kind_byte action) ∷ content_fields action
 

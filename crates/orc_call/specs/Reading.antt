@@ -4,6 +4,7 @@ use Rattle.std.specs.declared.option.Option.TheVariants.{None, Some}
 use Rattle.std.specs.List.{flat_map}
 use Rattle.orc_path.specs.Steps.{PathStep}
 use Rattle.orc_path.specs.declared.item.Item.{Item}
+use Rattle.orc_path.specs.declared.item.Item.TheVariants.{Leaf}
 use Rattle.orc_call.specs.declared.call.Put.{Put}
 use Rattle.orc_call.specs.declared.call.DevicePut.{DevicePut}
 use Rattle.orc_call.specs.declared.call.Action.{Action}
@@ -89,6 +90,10 @@ pub record HasText (bytes text rest : List ℕ) : Type 0 where
   pub is_text : IsText text
   pub parts : bytes ≡ text_bytes text ++ rest
 
+-- the bytes begin with a text
+abbrev pub HasSomeText : List ℕ → Type 0
+HasSomeText bytes = (text rest : List ℕ) × HasText bytes text rest
+
 -- the bytes begin with no text
 abbrev pub HasNoText : List ℕ → Type 0
 HasNoText bytes = (text rest : List ℕ) → HasText bytes text rest → ⊥
@@ -97,6 +102,10 @@ HasNoText bytes = (text rest : List ℕ) → HasText bytes text rest → ⊥
 pub record HasItem (bytes : List ℕ) (item : Item) (rest : List ℕ) : Type 0 where
   pub is_item : IsItem item
   pub parts : bytes ≡ item_bytes item ++ rest
+
+-- the bytes begin with a leaf
+abbrev pub HasSomeLeaf : List ℕ → Type 0
+HasSomeLeaf bytes = (text rest : List ℕ) × HasItem bytes (Leaf text) rest
 
 -- the bytes begin with no item
 abbrev pub HasNoItem : List ℕ → Type 0

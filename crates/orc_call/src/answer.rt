@@ -1,5 +1,6 @@
 //! Answers to calls and to reconciliations, and what they carry.
-ghost use Rattle.std.specs.Prelude.{◌≡◌, IfOk};
+ghost use Rattle.std.specs.Prelude.{◌≡◌, Ok, IfOk, OnErr};
+ghost use Rattle.orc_call.specs.Answers.{HoldsText};
 
 use orc_path::{Path, Write};
 use orc_text::{Copied, Memory, Text};
@@ -42,9 +43,10 @@ pub enum Answer {
 }
 
 impl Answer {
-    /// An equal value.
+    /// An equal value. It takes memory only for a text, a path or a write that the answer holds.
     pub fn copy(&self, alloc: Global) -> Result<Answer, Memory>
-        ensures { IfOk result (λ answer. answer ≡ self.now) }
+        ensures equal { IfOk result (λ answer. answer ≡ self.now) }
+        ensures memory { OnErr result (HoldsText self.now) }
     {
         match self {
             Answer::Committed(entry) => Ok(Answer::Committed(*entry)),
@@ -71,7 +73,10 @@ impl Answer {
 }
 
 impl Copied for Answer {
-    fn copied(&self, alloc: Global) -> Result<Answer, Memory> {
+    fn copied(&self, alloc: Global) -> Result<Answer, Memory>
+        ensures equal { IfOk result (λ answer. answer ≡ self.now) }
+        ensures memory { OnErr result (HoldsText self.now) }
+    {
         self.copy(alloc)
     }
 }
@@ -90,14 +95,16 @@ pub enum Why {
 impl Why {
     /// An equal value. It takes no memory.
     pub fn copy(&self, _alloc: Global) -> Result<Why, Memory>
-        ensures { IfOk result (λ why. why ≡ self.now) }
+        ensures { result ≡ Ok self.now }
     {
         Ok(*self)
     }
 }
 
 impl Copied for Why {
-    fn copied(&self, alloc: Global) -> Result<Why, Memory> {
+    fn copied(&self, alloc: Global) -> Result<Why, Memory>
+        ensures { result ≡ Ok self.now }
+    {
         self.copy(alloc)
     }
 }
@@ -116,14 +123,16 @@ pub enum Tag {
 impl Tag {
     /// An equal value. It takes no memory.
     pub fn copy(&self, _alloc: Global) -> Result<Tag, Memory>
-        ensures { IfOk result (λ tag. tag ≡ self.now) }
+        ensures { result ≡ Ok self.now }
     {
         Ok(*self)
     }
 }
 
 impl Copied for Tag {
-    fn copied(&self, alloc: Global) -> Result<Tag, Memory> {
+    fn copied(&self, alloc: Global) -> Result<Tag, Memory>
+        ensures { result ≡ Ok self.now }
+    {
         self.copy(alloc)
     }
 }
@@ -147,14 +156,16 @@ pub enum RecFault {
 impl RecFault {
     /// An equal value. It takes no memory.
     pub fn copy(&self, _alloc: Global) -> Result<RecFault, Memory>
-        ensures { IfOk result (λ fault. fault ≡ self.now) }
+        ensures { result ≡ Ok self.now }
     {
         Ok(*self)
     }
 }
 
 impl Copied for RecFault {
-    fn copied(&self, alloc: Global) -> Result<RecFault, Memory> {
+    fn copied(&self, alloc: Global) -> Result<RecFault, Memory>
+        ensures { result ≡ Ok self.now }
+    {
         self.copy(alloc)
     }
 }

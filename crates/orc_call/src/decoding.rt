@@ -1,8 +1,8 @@
 //! Decoding a call.
-ghost use Rattle.std.specs.Prelude.{◌≡◌, ◌++◌, ℕ, List, length, IfOk, IfErr, MatchResult};
+ghost use Rattle.std.specs.Prelude.{◌≡◌, ◌++◌, ℕ, List, length, IfOk, IfErr, IsErrOf, MatchResult};
 ghost use Rattle.orc_call.specs.Encoding.{IsCall, HasEncoding, call_bytes, call_fields};
 ghost use Rattle.orc_call.specs.Faults.{IsCauseOf};
-ghost use Rattle.orc_call.specs.Reading.{Reads, any};
+ghost use Rattle.orc_call.specs.Reading.{Reads, any, HasSomeText};
 
 use crate::actions::actions_at;
 use crate::fields::{Stuck, action_count_at, number_at, text_at};
@@ -11,7 +11,8 @@ use std::alloc::Global;
 
 /// A call.
 fn call_at(alloc: Global, bytes: &[u8]) -> Result<(Call, &[u8]), Stuck>
-    ensures { Reads (any call_fields) (λ read. (read.0, read.1.now)) bytes.now result }
+    ensures reads { Reads (any call_fields) (λ read. (read.0, read.1.now)) bytes.now result }
+    ensures memory { IsErrOf result Stuck.Memory → HasSomeText bytes.now }
 {
     let (caller, rest) = text_at(alloc, bytes)?;
     let (number, rest) = number_at(rest)?;
@@ -31,7 +32,8 @@ fn call_at(alloc: Global, bytes: &[u8]) -> Result<(Call, &[u8]), Stuck>
 ///
 /// `Bad { at }` comes exactly where no encoding begins the bytes; `at` is then the offset of the
 /// first field that isn't there whole or has no lawful value. A field is a text, a number, a
-/// count, the byte of an action's kind, a path, or an item with its text.
+/// count, the byte of an action's kind, a path, or an item with its text. Want of memory comes only
+/// where the caller's text stands whole at the front.
 pub fn decode(alloc: Global, bytes: &[u8]) -> Result<(Call, usize), CodecFault>
     ensures found { IfOk result (λ read. HasEncoding bytes.now read.0 read.1) }
     // What is encoded is decoded again, whatever follows, unless memory runs out.

@@ -1,5 +1,5 @@
 //! Encoding a call.
-ghost use Rattle.std.specs.Prelude.{◌≡◌, ◌<◌, ◌^◌, ◌++◌, ℕ, List, [], length, IfOk, OnOk, All};
+ghost use Rattle.std.specs.Prelude.{◌≡◌, ◌++◌, ℕ, List, [], length, IfOk, OnOk, All};
 ghost use Rattle.std.specs.List.{flat_map};
 ghost use Rattle.orc_path.specs.Texts.{path_text};
 ghost use Rattle.orc_call.specs.Fields.{IsText, IsItem, AreLawful, spelled, text_bytes, item_bytes};

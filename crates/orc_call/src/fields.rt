@@ -1,11 +1,10 @@
 //! Reading one field from the front of the bytes.
-ghost use Rattle.std.specs.Prelude.{◌≡◌, ◌<◌, ◌^◌, ◌↔◌, IsTrue, IfSome, length, IfOk, MatchOption};
+ghost use Rattle.std.specs.Prelude.{◌≡◌, ◌↔◌, IsTrue, IfSome, length, IfOk, OnErr, IsErrOf, MatchOption};
 ghost use Rattle.std.specs.Option.{option_copied};
-ghost use Rattle.orc_path.specs.Items.{fits};
 ghost use Rattle.orc_path.specs.Order.{path_cmp};
 ghost use Rattle.std.specs.declared.cmp.Ordering.TheVariants.{Less};
 ghost use Rattle.orc_call.specs.Fields.{a_text, a_number, a_count_of_actions, a_count_of_items, a_path, an_item};
-ghost use Rattle.orc_call.specs.Reading.{Reads, one, kind, HasText, HasNoText, HasItem, HasNoItem};
+ghost use Rattle.orc_call.specs.Reading.{Reads, one, kind, HasText, HasSomeText, HasNoText, HasItem, HasSomeLeaf, HasNoItem};
 
 use orc_path::{Item, Path, PathFault};
 use orc_text::{Memory, Text};
@@ -39,9 +38,10 @@ fn bad(bytes: &[u8]) -> Stuck
     Stuck::Bad { left: bytes.len() }
 }
 
-/// The caller's number.
+/// The caller's number. It takes no memory.
 pub(crate) fn number_at(bytes: &[u8]) -> Result<(u64, &[u8]), Stuck>
-    ensures { Reads (one a_number) (λ read. (read.0, read.1.now)) bytes.now result }
+    ensures reads { Reads (one a_number) (λ read. (read.0, read.1.now)) bytes.now result }
+    ensures memory { IsErrOf result Stuck.Memory → ⊥ }
 {
     if bytes.len() < 8 {
         return Err(bad(bytes));
@@ -53,9 +53,10 @@ pub(crate) fn number_at(bytes: &[u8]) -> Result<(u64, &[u8]), Stuck>
     Ok((number, rest))
 }
 
-/// How many actions there are.
+/// How many actions there are. It takes no memory.
 pub(crate) fn action_count_at(bytes: &[u8]) -> Result<(u16, &[u8]), Stuck>
-    ensures { Reads (one a_count_of_actions) (λ read. (read.0, read.1.now)) bytes.now result }
+    ensures reads { Reads (one a_count_of_actions) (λ read. (read.0, read.1.now)) bytes.now result }
+    ensures memory { IsErrOf result Stuck.Memory → ⊥ }
 {
     if bytes.len() < 2 {
         return Err(bad(bytes));
@@ -68,9 +69,10 @@ pub(crate) fn action_count_at(bytes: &[u8]) -> Result<(u16, &[u8]), Stuck>
     Ok((count, rest))
 }
 
-/// How many items there are.
+/// How many items there are. It takes no memory.
 pub(crate) fn item_count_at(bytes: &[u8]) -> Result<(u32, &[u8]), Stuck>
-    ensures { Reads (one a_count_of_items) (λ read. (read.0, read.1.now)) bytes.now result }
+    ensures reads { Reads (one a_count_of_items) (λ read. (read.0, read.1.now)) bytes.now result }
+    ensures memory { IsErrOf result Stuck.Memory → ⊥ }
 {
     if bytes.len() < 4 {
         return Err(bad(bytes));
@@ -80,9 +82,10 @@ pub(crate) fn item_count_at(bytes: &[u8]) -> Result<(u32, &[u8]), Stuck>
     Ok((count, rest))
 }
 
-/// The byte of an action's kind.
+/// The byte of an action's kind. It takes no memory.
 pub(crate) fn kind_at(bytes: &[u8]) -> Result<(u8, &[u8]), Stuck>
-    ensures { Reads kind (λ read. (read.0, read.1.now)) bytes.now result }
+    ensures reads { Reads kind (λ read. (read.0, read.1.now)) bytes.now result }
+    ensures memory { IsErrOf result Stuck.Memory → ⊥ }
 {
     if bytes.is_empty() || bytes[0] < 1 || bytes[0] > 9 {
         return Err(bad(bytes));
@@ -111,22 +114,12 @@ fn str_at(bytes: &[u8]) -> Option<(&str, &[u8])>
 
 /// A text.
 pub(crate) fn text_at(alloc: Global, bytes: &[u8]) -> Result<(Text, &[u8]), Stuck>
-    ensures { Reads (one a_text) (λ read. (read.0, read.1.now)) bytes.now result }
+    ensures reads { Reads (one a_text) (λ read. (read.0, read.1.now)) bytes.now result }
+    ensures memory { IsErrOf result Stuck.Memory → HasSomeText bytes.now }
 {
     match str_at(bytes) {
         Some((text, rest)) => Ok((Text::from_str(alloc, text)?, rest)),
         None => Err(bad(bytes)),
-    }
-}
-
-/// Whether the item may stand at the path: an entry where the path ends in keys, a leaf where its
-/// last step has none. The root carries nothing.
-pub(crate) fn item_fits(path: &Path, item: &Item) -> bool
-    ensures { result ≡ fits path.now item.now }
-{
-    match item {
-        Item::Entry => path.ends_in_keys(),
-        Item::Leaf(_) => !path.steps.is_empty() && !path.ends_in_keys(),
     }
 }
 
@@ -146,7 +139,8 @@ pub(crate) fn path_at<'a>(
     before: Option<&Path>,
     bytes: &'a [u8],
 ) -> Result<(Path, &'a [u8]), Stuck>
-    ensures { Reads (one (a_path (option_copied before.entry))) (λ read. (read.0, read.1.now)) bytes.now result }
+    ensures reads { Reads (one (a_path (option_copied before.entry))) (λ read. (read.0, read.1.now)) bytes.now result }
+    ensures memory { IsErrOf result Stuck.Memory → HasSomeText bytes.now }
 {
     let Some((text, rest)) = str_at(bytes) else {
         return Err(bad(bytes));
@@ -167,7 +161,8 @@ pub(crate) fn path_at<'a>(
 
 /// The item at the front, whatever path it belongs to.
 fn any_item_at(alloc: Global, bytes: &[u8]) -> Result<Option<(Item, &[u8])>, Memory>
-    ensures { IfOk result (λ found. MatchOption found (HasNoItem bytes.now) (λ read. HasItem bytes.now read.0 read.1.now)) }
+    ensures found { IfOk result (λ found. MatchOption found (HasNoItem bytes.now) (λ read. HasItem bytes.now read.0 read.1.now)) }
+    ensures memory { OnErr result (HasSomeLeaf bytes.now) }
 {
     match bytes {
         [0, rest @ ..] => Ok(Some((Item::Entry, rest))),
@@ -185,11 +180,12 @@ pub(crate) fn item_at<'a>(
     path: &Path,
     bytes: &'a [u8],
 ) -> Result<(Item, &'a [u8]), Stuck>
-    ensures { Reads (one (an_item path.now)) (λ read. (read.0, read.1.now)) bytes.now result }
+    ensures reads { Reads (one (an_item path.now)) (λ read. (read.0, read.1.now)) bytes.now result }
+    ensures memory { IsErrOf result Stuck.Memory → HasSomeLeaf bytes.now }
 {
     match any_item_at(alloc, bytes)? {
         Some((item, rest)) => {
-            if item_fits(path, &item) {
+            if item.fits(path) {
                 Ok((item, rest))
             } else {
                 Err(bad(bytes))

@@ -16,12 +16,12 @@ returns-in_err-service-in-2 c =
 pub returns-in_err-service-in-3 : goal.returns-in_err-service-in-3
 returns-in_err-service-in-3 c =
     let e = c.in_err-service-in-3.field-0.0 in
-    handed_on _ _ c.args.bytes.now _ e c.from_residual-in_err-service-in-3.ensures.1 (rw c.in-3.is (renamed_fails _ _ _ redeploy_renamed c.args.bytes.now e c.in_err-service-in-3.ensures))
+    handed_on _ _ c.args.bytes.now _ e c.from_residual-in_err-service-in-3.ensures.1 (rw c.in-3.is (renamed_fails _ _ _ redeploy_renamed c.args.bytes.now e c.in_err-service-in-3.ensures.reads))
 
 pub returns-in_err-service-in-4 : goal.returns-in_err-service-in-4
 returns-in_err-service-in-4 c =
     let e = c.in_err-service-in-4.field-0.0 in
-    handed_on _ _ c.args.bytes.now _ e c.from_residual-in_err-service-in-4.ensures.1 (rw c.in-4.is (renamed_fails _ _ _ delete_renamed c.args.bytes.now e c.in_err-service-in-4.ensures))
+    handed_on _ _ c.args.bytes.now _ e c.from_residual-in_err-service-in-4.ensures.1 (rw c.in-4.is (renamed_fails _ _ _ delete_renamed c.args.bytes.now e c.in_err-service-in-4.ensures.reads))
 
 pub returns-in_err-put-in-5 : goal.returns-in_err-put-in-5
 returns-in_err-put-in-5 c =
@@ -31,7 +31,7 @@ returns-in_err-put-in-5 c =
 pub returns-in_err-path-in-6 : goal.returns-in_err-path-in-6
 returns-in_err-path-in-6 c =
     let e = c.in_err-path-in-6.field-0.0 in
-    handed_on _ _ c.args.bytes.now _ e c.from_residual-in_err-path-in-6.ensures.1 (rw c.in-6.is (renamed_fails _ _ _ unset_renamed c.args.bytes.now e c.in_err-path-in-6.ensures))
+    handed_on _ _ c.args.bytes.now _ e c.from_residual-in_err-path-in-6.ensures.1 (rw c.in-6.is (renamed_fails _ _ _ unset_renamed c.args.bytes.now e c.in_err-path-in-6.ensures.reads))
 
 pub returns-in_err-put-in-7 : goal.returns-in_err-put-in-7
 returns-in_err-put-in-7 c =

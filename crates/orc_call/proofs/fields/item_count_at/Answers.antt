@@ -3,5 +3,5 @@ use Rattle.orc_call.specs.Fields.{a_count_of_items}
 use Rattle.orc_call.proofs.Grammars.{one_fails}
 use Rattle.orc_call.proofs.fields.item_count_at.Goals as goal
 
-pub returns-then-bytes-lt4 : goal.returns-then-bytes-lt4
-returns-then-bytes-lt4 c = one_fails a_count_of_items c.args.bytes.now _ 0 c.bad.ensures (λ x rest lawful parts. omega (arith, ap length parts))
+pub returns-then-bytes-lt4-clause-reads : goal.returns-then-bytes-lt4-clause-reads
+returns-then-bytes-lt4-clause-reads c = one_fails a_count_of_items c.args.bytes.now _ 0 c.bad.ensures (λ x rest lawful parts. omega (arith, ap length parts))

@@ -2,8 +2,8 @@ use Rattle.std.specs.Option.{option_copied}
 use Rattle.orc_call.proofs.Elements.{refuses, put_of_puts, puts_to_put}
 use Rattle.orc_call.proofs.lawful.are_puts.Goals as goal
 
-pub returns-then-not-branch : goal.returns-then-not-branch
-returns-then-not-branch c =
+pub returns-then-not-branch-clause-exact : goal.returns-then-not-branch-clause-exact
+returns-then-not-branch-clause-exact c =
     refuses c.in_ok-is_put.field-0 c.if-not-branch.true c.in_ok-is_put.ensures
     (λ all. put_of_puts c.args.puts.now c.loop-i.i c.index-puts-i.result (option_copied c.last_path.result) c.index-puts-i.is c.last_path.ensures c.loop-i-test.true all)
 
