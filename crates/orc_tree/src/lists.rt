@@ -1,6 +1,6 @@
 //! The entries of one list among rows in path order. These rows and those below them stand
 //! together.
-ghost use Rattle.std.specs.Prelude.{◌≡◌, ◌≤◌, ◌∷◌, ◌++◌, [], length, map, IfOk, IsTrue};
+ghost use Rattle.std.specs.Prelude.{◌≡◌, ◌∷◌, ◌++◌, [], length, map, IfOk, IsTrue};
 ghost use Rattle.std.specs.List.{filter};
 ghost use Rattle.std.specs.FinMap.{is_sorted};
 ghost use Rattle.orc_path.specs.Order.{path_cmp};

@@ -1,5 +1,5 @@
 //! The characters of values.
-ghost use Rattle.std.specs.Prelude.{◌≡◌, ◌==◌, length};
+ghost use Rattle.std.specs.Prelude.{◌≡◌, length};
 ghost use Rattle.std.specs.Str.{chars};
 ghost use Rattle.orc_value.specs.Characters.{is_value_character, is_value_text};
 

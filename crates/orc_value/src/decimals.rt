@@ -1,5 +1,5 @@
 //! Decimal numbers.
-ghost use Rattle.std.specs.Prelude.{◌≡◌, drop, ◌<◌, ◌≤◌, ◌^◌, ◌-◌, ◌++◌, ◌↔◌, IsTrue, IfOk, OnOk, SomeIff, IfSome, is_some, ◌&&◌, ◌||◌, not, length, take, Some};
+ghost use Rattle.std.specs.Prelude.{◌≡◌, drop, ◌<◌, ◌≤◌, ◌^◌, ◌++◌, ◌↔◌, IsTrue, IfOk, OnOk, SomeIff, IfSome, is_some, ◌&&◌, ◌||◌, not, length, take, Some};
 ghost use Rattle.std.specs.List.{position, before_first, after_first};
 ghost use Rattle.std.specs.Str.Parse.{starts_with_minus};
 ghost use Rattle.orc_value.specs.Numerals.{admitted, all_digits, is_numeral, signed};

@@ -1,21 +1,21 @@
 -- Each fault of a whole run means what it is said to mean.
-use Rattle.std.proofs.Common.{◌≡◌, ℕ, ◌+◌, ◌-◌, Bool, true, false, List, [], ◌∷◌, ◌++◌, length, Option, Some, None, Result, Ok, Err, refl, sym, ap, ◌∙◌, subst, append_assoc, append-nil, inl, inr, ◌⊎◌}
+use Rattle.std.proofs.Common.{◌≡◌, ℕ, ◌+◌, Bool, true, false, List, [], ◌∷◌, ◌++◌, length, None, Result, Ok, Err, refl, sym, ap, ◌∙◌, subst, append_assoc, append-nil, inl, inr}
 use Rattle.std.specs.Char.{encode_utf8}
 use Rattle.std.specs.Str.{encode_utf8_all}
-use Rattle.orc_yang.specs.declared.character.Sort.TheVariants.{SingleQuote, DoubleQuote}
 use Rattle.orc_yang.specs.declared.fault.YangFault.{YangFault}
 use Rattle.orc_yang.specs.declared.fault.YangFault.TheVariants.{OpenString, OpenBlock}
 use Rattle.orc_yang.specs.declared.statement.Stmt.{Stmt}
 use Rattle.orc_yang.specs.declared.parser.Frame.{Frame}
 use Rattle.orc_yang.specs.Sorts.{sort_of}
 use Rattle.orc_yang.specs.Text.{placed, next_column}
-use Rattle.orc_yang.specs.Faults.{Reads, Begins, ends_single, ends_double, ends_comment, IsUnclosed, FaultOf}
+use Rattle.orc_yang.specs.Faults.{ends_single, ends_double, ends_comment, FaultOf}
 use Rattle.orc_yang.specs.Machine as machine
 use Rattle.orc_yang.specs.Machine.{Head, Spot, Between, Keyed, Worded, Strung, Joining, Work, Gap, Slashed, InLine, InBlock, BehindStar, InKeyword, BehindColon, InSecond, Lone, WordSlash, WordStar, InWord, InSingle, InDouble, BehindBackslash, State, Fed, run, feed, fed, start, finish}
 use Rattle.orc_yang.proofs.Complete.{complete}
 use Rattle.orc_yang.proofs.Viable.{pending}
 use Rattle.orc_yang.proofs.Faults.{character, Came, came_nil, came_more, begins, S}
-use Rattle.orc_yang.proofs.FaultSteps.{OpenSingle, OpenDouble, OpenComment, Opened, Pends, After, step}
+use Rattle.orc_yang.proofs.Openings.{OpenSingle, OpenDouble, OpenComment, Opened, Pends, After}
+use Rattle.orc_yang.proofs.FaultSteps.{step}
 
 abbrev fails : YangFault → Result (List Stmt) YangFault
 fails f = Err f

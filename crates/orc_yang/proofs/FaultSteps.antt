@@ -1,183 +1,23 @@
--- What a step keeps true of the strings and comments that are open, and what its fault means.
-use Rattle.std.proofs.Common.{◌≡◌, ℕ, ◌+◌, ◌-◌, ◌||◌, Bool, true, false, cond, nat_lt, List, [], ◌∷◌, ◌++◌, length, Option, Some, None, Result, Ok, Err, refl, sym, ap, ◌∙◌, subst, arith, append_assoc, append-nil, length-append, inl, inr, ◌⊎◌}
+-- What a fault of a step means.
+use Rattle.std.proofs.Common.{◌≡◌, ℕ, ◌+◌, ◌-◌, Bool, true, false, cond, nat_lt, List, [], ◌∷◌, ◌++◌, length, Option, Some, None, Ok, Err, refl, sym, ap, ◌∙◌, subst, arith, append_assoc, append-nil, inl, inr}
 use Rattle.std.specs.Char.{encode_utf8}
 use Rattle.std.specs.Str.{encode_utf8_all}
 use Rattle.std.proofs.lemmas.Str.{length-le-encodes}
-use Rattle.std.proofs.lemmas.Bool.{false≢true}
 use Rattle.orc_yang.specs.declared.character.Sort.{Sort}
-use Rattle.orc_yang.specs.declared.character.Sort.TheVariants.{LineFeed, Blank, Semicolon, OpenBrace, CloseBrace, DoubleQuote, SingleQuote, Slash, Star, Plus, Colon, Backslash, Start, Inner, Forbidden, Other}
+use Rattle.orc_yang.specs.declared.character.Sort.TheVariants.{LineFeed, Blank, Semicolon, OpenBrace, CloseBrace, DoubleQuote, SingleQuote, Slash, Star, Plus, Colon, Backslash, Start, Inner, Forbidden}
 use Rattle.orc_yang.specs.declared.fault.YangFault.{YangFault}
-use Rattle.orc_yang.specs.declared.fault.YangFault.TheVariants.{NotUtf8, BadToken, BadEscape, OpenString, OpenBlock, Depth, Memory}
+use Rattle.orc_yang.specs.declared.fault.YangFault.TheVariants.{BadToken, BadEscape, Depth}
 use Rattle.orc_yang.specs.declared.statement.Stmt.{Stmt}
 use Rattle.orc_yang.specs.declared.character.Character.{Character}
 use Rattle.orc_yang.specs.declared.parser.Frame.{Frame}
 use Rattle.orc_yang.specs.Sorts.{sort_of}
 use Rattle.orc_yang.specs.Quoted.{is_escape}
-use Rattle.orc_yang.specs.Faults.{Begins, CanFollow, IsEscaping, TakesString, TakesComment, ends_single, ends_double, ends_comment, is_quote, is_double_quote, is_backslash, is_star, is_slash, IsUnclosed, Stops, IsPlace, FaultOf}
+use Rattle.orc_yang.specs.Faults.{CanFollow, TakesComment, is_quote, is_double_quote, is_backslash, is_star, is_slash, Stops, IsPlace, FaultOf}
 use Rattle.orc_yang.specs.Machine as machine
 use Rattle.orc_yang.specs.Machine.{Head, Spot, Between, Keyed, Worded, Strung, Joining, Work, Gap, Slashed, InLine, InBlock, BehindStar, InKeyword, BehindColon, InSecond, Lone, WordSlash, WordStar, InWord, InSingle, InDouble, BehindBackslash, State, Fed, run, feed, feed_work, fed}
 use Rattle.orc_yang.proofs.Viable.{pending}
-use Rattle.orc_yang.proofs.Faults.{character, Came, came_more, begins, stops_err, stops_doomed, can_follow, S, takes_keyed, takes_joining, takes_gap, takes_first, takes_second, escaping, not_escaping}
-
--- an open single-quoted string, with its opening quote in this place
-pub record OpenSingle (front : List ℕ) (o : ℕ) : Type 0 where
-  pub before : List ℕ
-  pub inner : List ℕ
-  pub quote : ℕ
-  pub is : front ≡ before ++ quote ∷ inner
-  pub sort : sort_of quote ≡ SingleQuote
-  pub place : o ≡ length (encode_utf8_all before)
-  pub takes : TakesString before
-  pub goes : (rest : List ℕ) → ends_single (inner ++ rest) ≡ ends_single rest
-
--- the same of a double-quoted one, behind a backslash or not
-pub record OpenDouble (b : Bool) (front : List ℕ) (o : ℕ) : Type 0 where
-  pub before : List ℕ
-  pub inner : List ℕ
-  pub quote : ℕ
-  pub is : front ≡ before ++ quote ∷ inner
-  pub sort : sort_of quote ≡ DoubleQuote
-  pub place : o ≡ length (encode_utf8_all before)
-  pub takes : TakesString before
-  pub goes : (rest : List ℕ) → ends_double false (inner ++ rest) ≡ ends_double b rest
-
--- the same of a comment, behind a `*` or not
-pub record OpenComment (b : Bool) (front : List ℕ) (o : ℕ) : Type 0 where
-  pub before : List ℕ
-  pub inner : List ℕ
-  pub slash : ℕ
-  pub star : ℕ
-  pub is : front ≡ before ++ slash ∷ star ∷ inner
-  pub slash_sort : sort_of slash ≡ Slash
-  pub star_sort : sort_of star ≡ Star
-  pub place : o ≡ length (encode_utf8_all before)
-  pub takes : TakesComment before
-  pub goes : (rest : List ℕ) → ends_comment false (inner ++ rest) ≡ ends_comment b rest
-
--- the first slash of a comment, in this place
-pub record OpenSlash (front : List ℕ) (o : ℕ) : Type 0 where
-  pub before : List ℕ
-  pub slash : ℕ
-  pub is : front ≡ before ++ slash ∷ []
-  pub sort : sort_of slash ≡ Slash
-  pub place : o ≡ length (encode_utf8_all before)
-  pub takes : TakesComment before
-
-abbrev pub Opened : List ℕ → Work → Type 0
-Opened front (Slashed spot o) = OpenSlash front o
-Opened front (Lone h a o) = OpenSlash front o
-Opened front (InBlock spot o p) = OpenComment false front o
-Opened front (BehindStar spot o p) = OpenComment true front o
-Opened front (InSingle h a o p) = OpenSingle front o
-Opened front (InDouble h a o column raw p) = OpenDouble false front o
-Opened front (BehindBackslash h a o column raw p) = OpenDouble true front o
-Opened front _ = Unit {0}
-
--- what waits for the end of a string or comment is the fault of each text that begins so
-abbrev pub Pends : List ℕ → Option YangFault → Type 0
-Pends front p = (f : YangFault) → p ≡ Some f → (rest : List ℕ) → FaultOf (front ++ rest) f
-
-pends_none : (front : List ℕ) → Pends front None
-pends_none front = λ f e rest. cc
-
--- what a step makes
-abbrev pub After : List ℕ → ℕ → List ℕ → Fed → Type 0
-After front c after (Ok t) = Opened (front ++ c ∷ []) t.work × Pends (front ++ c ∷ []) (pending t.work)
-After front c after (Err f) = FaultOf (front ++ c ∷ after) f
-
-module _ (front : List ℕ) (c : ℕ) where
-  single_more : {o : ℕ} → is_quote (sort_of c) ≡ false → OpenSingle front o → OpenSingle (front ++ c ∷ []) o
-  single_more e w = record {
-    before = w.before;
-    inner = w.inner ++ c ∷ [];
-    place = w.place;
-    takes = w.takes;
-    quote = w.quote;
-    sort = w.sort;
-    is = ap (λ l. l ++ c ∷ []) w.is ∙ append_assoc w.before (w.quote ∷ w.inner) (c ∷ []);
-    goes = λ rest. ap ends_single (append_assoc w.inner (c ∷ []) rest) ∙ (w.goes (c ∷ rest) ∙ ap (λ b. b || ends_single rest) e);
-  }
-
-  double_more : {o : ℕ} (b : Bool) → is_double_quote (sort_of c) ≡ false → is_backslash (sort_of c) ≡ b → OpenDouble false front o → OpenDouble b (front ++ c ∷ []) o
-  double_more b e e' w = record {
-    before = w.before;
-    inner = w.inner ++ c ∷ [];
-    place = w.place;
-    takes = w.takes;
-    quote = w.quote;
-    sort = w.sort;
-    is = ap (λ l. l ++ c ∷ []) w.is ∙ append_assoc w.before (w.quote ∷ w.inner) (c ∷ []);
-    goes = λ rest. ap (ends_double false) (append_assoc w.inner (c ∷ []) rest) ∙ (w.goes (c ∷ rest) ∙ (ap (λ q. q || ends_double (is_backslash (sort_of c)) rest) e ∙ ap (λ q. ends_double q rest) e'));
-  }
-
-  double_escaped : {o : ℕ} → OpenDouble true front o → OpenDouble false (front ++ c ∷ []) o
-  double_escaped w = record {
-    before = w.before;
-    inner = w.inner ++ c ∷ [];
-    place = w.place;
-    takes = w.takes;
-    quote = w.quote;
-    sort = w.sort;
-    is = ap (λ l. l ++ c ∷ []) w.is ∙ append_assoc w.before (w.quote ∷ w.inner) (c ∷ []);
-    goes = λ rest. ap (ends_double false) (append_assoc w.inner (c ∷ []) rest) ∙ w.goes (c ∷ rest);
-  }
-
-  comment_more : {o : ℕ} (b : Bool) → is_star (sort_of c) ≡ b → OpenComment false front o → OpenComment b (front ++ c ∷ []) o
-  comment_more b e w = record {
-    before = w.before;
-    inner = w.inner ++ c ∷ [];
-    place = w.place;
-    takes = w.takes;
-    slash = w.slash;
-    star = w.star;
-    slash_sort = w.slash_sort;
-    star_sort = w.star_sort;
-    is = ap (λ l. l ++ c ∷ []) w.is ∙ append_assoc w.before (w.slash ∷ w.star ∷ w.inner) (c ∷ []);
-    goes = λ rest. ap (ends_comment false) (append_assoc w.inner (c ∷ []) rest) ∙ (w.goes (c ∷ rest) ∙ ap (λ q. ends_comment q rest) e);
-  }
-
-  comment_star : {o : ℕ} (b : Bool) → is_slash (sort_of c) ≡ false → is_star (sort_of c) ≡ b → OpenComment true front o → OpenComment b (front ++ c ∷ []) o
-  comment_star b e e' w = record {
-    before = w.before;
-    inner = w.inner ++ c ∷ [];
-    place = w.place;
-    takes = w.takes;
-    slash = w.slash;
-    star = w.star;
-    slash_sort = w.slash_sort;
-    star_sort = w.star_sort;
-    is = ap (λ l. l ++ c ∷ []) w.is ∙ append_assoc w.before (w.slash ∷ w.star ∷ w.inner) (c ∷ []);
-    goes = λ rest. ap (ends_comment false) (append_assoc w.inner (c ∷ []) rest) ∙ (w.goes (c ∷ rest) ∙ (ap (λ q. q || ends_comment (is_star (sort_of c)) rest) e ∙ ap (λ q. ends_comment q rest) e'));
-  }
-
-module _ (front : List ℕ) (c : ℕ) (done : List Stmt) (frames : List Frame) where
-  -- new strings and comments
-  single_opens : {o : ℕ} → o ≡ length (encode_utf8_all front) → sort_of c ≡ SingleQuote → TakesString front → OpenSingle (front ++ c ∷ []) o
-  single_opens q e t = record { before = front; inner = []; quote = c; is = refl; sort = e; place = q; takes = t; goes = λ rest. refl }
-
-  double_opens : {o : ℕ} → o ≡ length (encode_utf8_all front) → sort_of c ≡ DoubleQuote → TakesString front → OpenDouble false (front ++ c ∷ []) o
-  double_opens q e t = record { before = front; inner = []; quote = c; is = refl; sort = e; place = q; takes = t; goes = λ rest. refl }
-
-  slash_opens : {o : ℕ} → o ≡ length (encode_utf8_all front) → sort_of c ≡ Slash → TakesComment front → OpenSlash (front ++ c ∷ []) o
-  slash_opens q e t = record { before = front; slash = c; is = refl; sort = e; place = q; takes = t }
-
-  comment_opens : {o : ℕ} → sort_of c ≡ Star → OpenSlash front o → OpenComment false (front ++ c ∷ []) o
-  comment_opens e w = record {
-    before = w.before;
-    inner = [];
-    slash = w.slash;
-    star = c;
-    slash_sort = w.sort;
-    star_sort = e;
-    place = w.place;
-    takes = w.takes;
-    is = ap (λ l. l ++ c ∷ []) w.is ∙ append_assoc w.before (w.slash ∷ []) (c ∷ []);
-    goes = λ rest. refl;
-  }
-
-pends_more : (front : List ℕ) (c : ℕ) (p : Option YangFault) → Pends front p → Pends (front ++ c ∷ []) p
-pends_more front c p ps f q rest =
-    let P : List ℕ → Type 0 = λ l. FaultOf l f in subst P (sym (append_assoc front (c ∷ []) rest)) (ps f q (c ∷ rest))
+use Rattle.orc_yang.proofs.Faults.{character, Came, begins, stops_err, stops_doomed, can_follow, S, takes_keyed, takes_joining, takes_gap, takes_first, takes_second, escaping, not_escaping}
+use Rattle.orc_yang.proofs.Openings.{OpenSingle, OpenDouble, OpenComment, OpenSlash, Opened, Pends, pends_none, After, single_more, double_more, double_escaped, comment_more, comment_star, single_opens, double_opens, slash_opens, comment_opens, pends_more}
 
 module _ (front : List ℕ) (c : ℕ) (after : List ℕ) (done : List Stmt) where
   abbrev at : ℕ

@@ -1,26 +1,21 @@
 -- Each fault of the machine means what it is said to mean.
-use Rattle.std.proofs.Common.{◌≡◌, ℕ, ◌+◌, ◌-◌, ◌==◌, ◌||◌, Bool, true, false, cond, nat_lt, List, [], ◌∷◌, ◌++◌, length, Option, Some, None, Result, Ok, Err, refl, sym, ap, ◌∙◌, subst, arith, append_assoc, append-nil, length-append, inl, inr, ◌⊎◌}
+use Rattle.std.proofs.Common.{◌≡◌, ℕ, ◌+◌, ◌-◌, true, List, [], ◌∷◌, ◌++◌, length, Option, Some, None, Ok, Err, refl, sym, ap, ◌∙◌, subst, append_assoc, append-nil, length-append}
 use Rattle.std.specs.Char.{encode_utf8}
 use Rattle.std.specs.Str.{all_scalars, encode_utf8_all}
 use Rattle.std.proofs.lemmas.Str.{encodes-append}
-use Rattle.std.proofs.lemmas.Bool.{false≢true}
-use Rattle.orc_yang.specs.declared.character.Sort.{Sort}
-use Rattle.orc_yang.specs.declared.character.Sort.TheVariants.{LineFeed, Blank, Semicolon, OpenBrace, CloseBrace, DoubleQuote, SingleQuote, Slash, Star, Plus, Colon, Backslash, Start, Inner, Forbidden, Other}
+use Rattle.orc_yang.specs.declared.character.Sort.TheVariants.{CloseBrace, Star}
 use Rattle.orc_yang.specs.declared.fault.YangFault.{YangFault}
-use Rattle.orc_yang.specs.declared.fault.YangFault.TheVariants.{NotUtf8, BadToken, BadEscape, OpenString, OpenBlock, Depth, Memory}
+use Rattle.orc_yang.specs.declared.fault.YangFault.TheVariants.{BadToken}
 use Rattle.orc_yang.specs.declared.statement.Stmt.{Stmt}
 use Rattle.orc_yang.specs.declared.character.Character.{Character}
 use Rattle.orc_yang.specs.declared.parser.Frame.{Frame}
-use Rattle.orc_yang.specs.Sorts.{sort_of}
-use Rattle.orc_yang.specs.Quoted.{is_escape}
-use Rattle.orc_yang.specs.Grammar.{Is}
 use Rattle.orc_yang.specs.Text.{placed, next_column}
-use Rattle.orc_yang.specs.Faults.{Reads, Begins, CanFollow, IsEscaping, TakesString, TakesComment, ends_single, ends_double, ends_comment, is_quote, is_double_quote, is_backslash, is_star, is_slash, IsUnclosed, Stops, IsPlace, FaultOf}
-use Rattle.orc_yang.specs.Machine as machine
-use Rattle.orc_yang.specs.Machine.{Head, Spot, Between, Keyed, Worded, Strung, Joining, Work, Gap, Slashed, InLine, InBlock, BehindStar, InKeyword, BehindColon, InSecond, Lone, WordSlash, WordStar, InWord, InSingle, InDouble, BehindBackslash, State, Fed, run, feed, feed_work, fed, start, finish}
+use Rattle.orc_yang.specs.Faults.{Begins, CanFollow, IsEscaping, TakesString, TakesComment}
+use Rattle.orc_yang.specs.Machine.{Head, Spot, Between, Keyed, Worded, Strung, Joining, Work, Gap, Slashed, InLine, InBlock, BehindStar, InKeyword, BehindColon, InSecond, Lone, WordSlash, WordStar, InWord, InSingle, InDouble, BehindBackslash, State, run, feed, feed_work, fed, start}
 use Rattle.orc_yang.proofs.Complete.{complete}
-use Rattle.orc_yang.proofs.Sound.{sound, reads, Rest}
-use Rattle.orc_yang.proofs.Viable.{Accepts, pending, accepts, accept_gap}
+use Rattle.orc_yang.proofs.Rests.{Rest}
+use Rattle.orc_yang.proofs.Sound.{sound, reads}
+use Rattle.orc_yang.proofs.Viable.{pending, accepts}
 
 -- the character in this place and column
 abbrev pub character : ℕ → ℕ → ℕ → Character

@@ -1,10 +1,17 @@
 mod Values
+mod GapWays
 mod Complete
+mod Rests
+mod GapRests
+mod TokenRests
 mod Sound
 mod Reading
 mod Viable
 mod Faults
+mod Openings
 mod FaultSteps
 mod FaultRuns
 mod Unclosed
+mod OneFault
+mod Wanting
 mod Spelling

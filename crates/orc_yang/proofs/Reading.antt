@@ -1,5 +1,5 @@
 -- One turn of the loop over the characters of a text.
-use Rattle.std.proofs.Common.{◌≡◌, ℕ, ◌+◌, ◌-◌, ◌*◌, ◌<◌, ◌≤◌, ◌==◌, Bool, true, false, cond, List, [], ◌∷◌, ◌++◌, length, get_or, drop, Result, Ok, Err, refl, sym, ap, ◌∙◌, subst, arith, length-append}
+use Rattle.std.proofs.Common.{◌≡◌, ℕ, ◌+◌, ◌-◌, ◌*◌, ◌<◌, ◌≤◌, ◌==◌, Bool, true, false, cond, List, ◌∷◌, length, get_or, drop, Result, Ok, Err, refl, sym, ap, ◌∙◌, subst, arith, length-append, inl, inr}
 use Rattle.std.specs.Char.{encode_utf8}
 use Rattle.std.specs.Str.{chars, IsUtf8, encode_utf8_all}
 use Rattle.std.proofs.lemmas.Str.{chars-encodes}
@@ -10,7 +10,9 @@ use Rattle.orc_yang.specs.declared.statement.Stmt.{Stmt}
 use Rattle.orc_yang.specs.declared.character.Character.{Character}
 use Rattle.orc_yang.specs.Text.{placed, next_column}
 use Rattle.orc_yang.specs.Machine.{State, Fed, run, feed, fed, finish}
+use Rattle.orc_yang.specs.Sorts.{sort_of}
 use Rattle.orc_yang.specs.View.{Fails}
+use Rattle.orc_yang.specs.Wanting.{MayTake, Wants}
 use Rattle.orc_yang.proofs.Values.{next_is}
 
 -- the character at n, where a text has come to this place and column
@@ -53,6 +55,22 @@ module _ (cs : List ℕ) (n c at len column end : ℕ) (found : (n < length cs) 
   fault_turn s fault whole h f =
       let P : Result (List Stmt) YangFault → Type 0 = λ a. Fails a fault in
       subst P (sym (one s) ∙ h) (fails_on fault _ (λ t. run (placed (at + len) (next_column c column) (drop (n + 1) cs)) t end) f)
+
+  -- a step that wants memory, and one behind which it is wanted
+  pub wants_here : (s : State) → MayTake s.work s.frames (sort_of c) → Wants (placed at column (drop n cs)) s
+  wants_here s h = let P : List ℕ → Type 0 = λ r. Wants (placed at column r) s in subst P (sym here) (inl h)
+
+  pub wants_turn : (s t : State) (m : ℕ) → m ≡ n + 1 → feed s (character at len column c) ≡ Ok t → Wants (placed (at + len) (next_column c column) (drop m cs)) t → Wants (placed at column (drop n cs)) s
+  wants_turn s t m q e h =
+      let P : List ℕ → Type 0 = λ r. Wants (placed at column r) s in
+      let Q : ℕ → Type 0 = λ l. feed s (character at l column c) ≡ Ok t → Wants (placed (at + l) (next_column c column) (drop (n + 1) cs)) t → P (c ∷ drop (n + 1) cs) in
+      let R : ℕ → Type 0 = λ l. Wants (placed (at + len) (next_column c column) (drop l cs)) t in
+      let here_on : Q (length (encode_utf8 c)) = λ e' h'. inr (t, e', h') in
+      subst P (sym here) (subst Q (sym is) here_on e (subst R q h))
+
+-- the fault that was handed on is the step's
+pub wanted : {V : Type 0} (r : Result V YangFault) (e f : YangFault) → r ≡ Err e → e ≡ f → r ≡ Err Memory → f ≡ Memory
+wanted r e f h h' q = cc
 
 column_of : (b d : Bool) (column at len : ℕ) → column ≤ 8 * at + 1 → 1 ≤ len → cond b 1 (cond d (column + 8) (column + 1)) ≤ 8 * (at + len) + 1
 column_of true d column at len h l = omega arith

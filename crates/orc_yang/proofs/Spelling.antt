@@ -1,11 +1,10 @@
 -- The bytes of a text, and what the machine answers to them.
-use Rattle.std.proofs.Common.{◌≡◌, ℕ, List, [], ◌∷◌, ◌++◌, true, Result, Ok, Err, MatchResult, IfOk, IfErr, length, refl, sym, ap, ◌∙◌, subst, inl, inr, ◌⊎◌}
+use Rattle.std.proofs.Common.{◌≡◌, ℕ, List, ◌++◌, true, Result, Ok, Err, MatchResult, IfOk, IfErr, length, refl, sym, ap, ◌∙◌, inl, inr, ◌⊎◌}
 use Rattle.std.specs.Str.{chars, IsUtf8, encode_utf8_all, all_scalars}
 use Rattle.std.proofs.lemmas.Str.{chars-encodes}
 use Rattle.orc_yang.specs.declared.fault.YangFault.{YangFault}
 use Rattle.orc_yang.specs.declared.fault.YangFault.TheVariants.{NotUtf8, BadToken, BadEscape, OpenString, OpenBlock, Depth, Memory}
 use Rattle.orc_yang.specs.declared.statement.Stmt.{Stmt}
-use Rattle.orc_yang.specs.Grammar.{Statements}
 use Rattle.orc_yang.specs.Text.{placed, Spells}
 use Rattle.orc_yang.specs.Machine.{run, start}
 use Rattle.orc_yang.specs.View.{Fails}
@@ -15,6 +14,8 @@ use Rattle.orc_yang.specs.Faults.{IsFault, FaultOf, IsUnclosed}
 use Rattle.orc_yang.proofs.Reading.{spelled}
 use Rattle.orc_yang.proofs.FaultRuns.{fault_of}
 use Rattle.orc_yang.proofs.Unclosed.{unclosed}
+use Rattle.orc_yang.specs.Wanting.{Wants}
+use Rattle.orc_yang.proofs.Wanting.{keyword_ahead}
 
 -- the answer to bytes that are UTF-8
 abbrev pub answer : List ℕ → ℕ → Result (List Stmt) YangFault
@@ -55,19 +56,23 @@ found_all items (Err fault) bytes end u h = tt
 fault_in : (bytes : List ℕ) → IsUtf8 bytes → (f : YangFault) → answer bytes (length bytes) ≡ Err f → (text : List ℕ) × (all_scalars text ≡ true) × (encode_utf8_all text ≡ bytes) × FaultOf text f
 fault_in bytes u f e = (chars bytes, scalars_of bytes u, spelled bytes u, fault_of (chars bytes) (length bytes) (ap length (sym (spelled bytes u))) f e)
 
-fault_is : (bytes : List ℕ) → IsUtf8 bytes → (f : YangFault) → Fails (answer bytes (length bytes)) f → IsFault bytes f
-fault_is bytes u Memory h = tt
-fault_is bytes u (NotUtf8 at) h = absurd (fault_in bytes u (NotUtf8 at) h).3
-fault_is bytes u (BadToken at) h = fault_in bytes u (BadToken at) h
-fault_is bytes u (BadEscape at) h = fault_in bytes u (BadEscape at) h
-fault_is bytes u (OpenString at) h = fault_in bytes u (OpenString at) h
-fault_is bytes u (OpenBlock at) h = fault_in bytes u (OpenBlock at) h
-fault_is bytes u (Depth at) h = fault_in bytes u (Depth at) h
+-- the answer wants memory
+abbrev pub Wanting : List ℕ → Type 0
+Wanting bytes = Wants (placed 0 1 (chars bytes)) start
 
-pub faults : {V : Type 0} (items : V → List Stmt) (r : Result V YangFault) (bytes : List ℕ) → IsUtf8 bytes → MatchResult r (λ v. answer bytes (length bytes) ≡ Ok (items v)) (Fails (answer bytes (length bytes)))
+fault_is : (bytes : List ℕ) → IsUtf8 bytes → (f : YangFault) → (f ≡ Memory → Wanting bytes) → Fails (answer bytes (length bytes)) f → IsFault bytes f
+fault_is bytes u Memory w h = (chars bytes, scalars_of bytes u, spelled bytes u, keyword_ahead (placed 0 1 (chars bytes)) (w refl))
+fault_is bytes u (NotUtf8 at) w h = absurd (fault_in bytes u (NotUtf8 at) h).3
+fault_is bytes u (BadToken at) w h = fault_in bytes u (BadToken at) h
+fault_is bytes u (BadEscape at) w h = fault_in bytes u (BadEscape at) h
+fault_is bytes u (OpenString at) w h = fault_in bytes u (OpenString at) h
+fault_is bytes u (OpenBlock at) w h = fault_in bytes u (OpenBlock at) h
+fault_is bytes u (Depth at) w h = fault_in bytes u (Depth at) h
+
+pub faults : {V : Type 0} (items : V → List Stmt) (r : Result V YangFault) (bytes : List ℕ) → IsUtf8 bytes → (r ≡ Err Memory → Wanting bytes) → MatchResult r (λ v. answer bytes (length bytes) ≡ Ok (items v)) (Fails (answer bytes (length bytes)))
     → IfErr r (IsFault bytes)
-faults items (Ok v) bytes u h = tt
-faults items (Err f) bytes u h = fault_is bytes u f h
+faults items (Ok v) bytes u w h = tt
+faults items (Err f) bytes u w h = fault_is bytes u f (λ q. w (ap Err q)) h
 
 open_or_memory : (o : ℕ) (a : Result (List Stmt) YangFault) → a ≡ Err (OpenString o) → (f : YangFault) → Fails a f → (f ≡ OpenString o) ⊎ (f ≡ Memory)
 open_or_memory o a e Memory h = inr refl

@@ -1,24 +1,22 @@
 -- A string or a comment that has no end is the fault, whatever else stands in it.
-use Rattle.std.proofs.Common.{◌≡◌, ℕ, ◌+◌, ◌-◌, ◌||◌, Bool, true, false, cond, List, [], ◌∷◌, ◌++◌, length, Option, Some, None, Result, Ok, Err, refl, sym, ap, ◌∙◌, subst, append_assoc, append-nil, inl, inr, ◌⊎◌}
+use Rattle.std.proofs.Common.{◌≡◌, ℕ, ◌+◌, ◌||◌, Bool, true, false, List, [], ◌∷◌, ◌++◌, length, Option, Some, None, Result, Ok, Err, refl, sym, ap, ◌∙◌, subst, append_assoc, append-nil, inl, inr}
 use Rattle.std.specs.Char.{encode_utf8}
 use Rattle.std.specs.Str.{encode_utf8_all, all_scalars}
 use Rattle.std.proofs.lemmas.Bool.{false≢true}
 use Rattle.orc_yang.specs.declared.character.Sort.{Sort}
-use Rattle.orc_yang.specs.declared.character.Sort.TheVariants.{LineFeed, Blank, Semicolon, OpenBrace, CloseBrace, DoubleQuote, SingleQuote, Slash, Star, Plus, Colon, Backslash, Start, Inner, Forbidden, Other}
+use Rattle.orc_yang.specs.declared.character.Sort.TheVariants.{DoubleQuote, SingleQuote, Slash, Star, Backslash, Forbidden}
 use Rattle.orc_yang.specs.declared.fault.YangFault.{YangFault}
-use Rattle.orc_yang.specs.declared.fault.YangFault.TheVariants.{BadToken, BadEscape, OpenString}
+use Rattle.orc_yang.specs.declared.fault.YangFault.TheVariants.{OpenString}
 use Rattle.orc_yang.specs.declared.statement.Stmt.{Stmt}
 use Rattle.orc_yang.specs.declared.character.Character.{Character}
 use Rattle.orc_yang.specs.declared.parser.Frame.{Frame}
 use Rattle.orc_yang.specs.Sorts.{sort_of}
-use Rattle.orc_yang.specs.Quoted.{is_escape}
 use Rattle.orc_yang.specs.Text.{placed, next_column}
 use Rattle.orc_yang.specs.Faults.{Reads, Begins, CanFollow, TakesString, TakesComment, ends_single, ends_double, ends_comment, is_quote, is_double_quote, is_backslash, is_star, is_slash, IsUnclosed}
-use Rattle.orc_yang.specs.Machine as machine
 use Rattle.orc_yang.specs.Machine.{Head, Spot, Between, Keyed, Worded, Strung, Joining, Work, Gap, Slashed, InLine, InBlock, BehindStar, InKeyword, BehindColon, InSecond, Lone, WordSlash, WordStar, InWord, InSingle, InDouble, BehindBackslash, State, Fed, run, feed, feed_work, fed, start}
 use Rattle.orc_yang.proofs.Complete.{complete}
 use Rattle.orc_yang.proofs.Viable.{pending}
-use Rattle.orc_yang.proofs.Faults.{character, Came, came_nil, came_more, begins, stops_err, stops_doomed, can_follow, doomed, S}
+use Rattle.orc_yang.proofs.Faults.{character, Came, came_nil, came_more, stops_err, stops_doomed, can_follow, doomed, S}
 
 -- A front that can begin a text brings the machine to a state without a fault.
 pub record Comes (front : List ℕ) : Type 0 where

@@ -1,5 +1,5 @@
 -- One turn of the pass that drops the spaces and tabs before a line break.
-use Rattle.std.proofs.Common.{◌≡◌, ℕ, ◌+◌, ◌<◌, Bool, true, false, cond, if◌then◌else◌, List, [], ◌∷◌, ◌++◌, length, get_or, take, drop, ◌-◌, arith, length-drop, sym, ap, ◌∙◌, refl, subst, append_assoc}
+use Rattle.std.proofs.Common.{◌≡◌, ℕ, ◌+◌, ◌<◌, Bool, true, false, cond, if◌then◌else◌, List, [], ◌∷◌, ◌++◌, length, get_or, take, drop, ◌-◌, arith, length-drop, sym, ap, ◌∙◌, subst, append_assoc}
 use Rattle.std.proofs.lemmas.List.{at_drop_more, take_all}
 use Rattle.orc_yang.specs.Quoted.{without_trailing, ends_line, is_space, begins_break}
 

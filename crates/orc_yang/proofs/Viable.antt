@@ -1,12 +1,11 @@
 -- Each state of the machine without a fault in it has a text that goes on from it to an end.
-use Rattle.std.proofs.Common.{◌≡◌, ℕ, ◌+◌, ◌-◌, Bool, true, List, [], ◌∷◌, ◌++◌, length, Option, Some, None, Result, Ok, Err, refl, sym, ap, ◌∙◌}
-use Rattle.std.specs.Char.{encode_utf8}
+use Rattle.std.proofs.Common.{◌≡◌, ℕ, true, List, [], ◌∷◌, Option, Some, None, Ok, refl}
 use Rattle.std.specs.Str.{all_scalars}
 use Rattle.orc_yang.specs.declared.fault.YangFault.{YangFault}
 use Rattle.orc_yang.specs.declared.statement.Stmt.{Stmt}
 use Rattle.orc_yang.specs.declared.parser.Frame.{Frame}
 use Rattle.orc_yang.specs.Text.{placed}
-use Rattle.orc_yang.specs.Machine.{Head, Spot, Between, Keyed, Worded, Strung, Joining, Work, Gap, Slashed, InLine, InBlock, BehindStar, InKeyword, BehindColon, InSecond, Lone, WordSlash, WordStar, InWord, InSingle, InDouble, BehindBackslash, State, run, ended}
+use Rattle.orc_yang.specs.Machine.{Spot, Between, Keyed, Worded, Strung, Joining, Work, Gap, Slashed, InLine, InBlock, BehindStar, InKeyword, BehindColon, InSecond, Lone, WordSlash, WordStar, InWord, InSingle, InDouble, BehindBackslash, State, run, ended}
 
 -- a text that goes on from this state to an end, wherever it stands
 abbrev pub Accepts : State → Type 0

@@ -3,12 +3,13 @@
 use Rattle.std.specs.Prelude.{ℕ, ◌≡◌, ◌+◌, ◌-◌, ◌||◌, ◌⊎◌, Bool, true, false, length, List, [], ◌∷◌, ◌++◌, encode_utf8}
 use Rattle.std.specs.Str.{encode_utf8_all, all_scalars, IsValidUpTo}
 use Rattle.orc_yang.specs.declared.character.Sort.{Sort}
-use Rattle.orc_yang.specs.declared.character.Sort.TheVariants.{OpenBrace, SingleQuote, DoubleQuote, Backslash, Star, Slash, Forbidden}
+use Rattle.orc_yang.specs.declared.character.Sort.TheVariants.{OpenBrace, SingleQuote, DoubleQuote, Backslash, Star, Slash, Start, Forbidden}
 use Rattle.orc_yang.specs.declared.fault.YangFault.{YangFault}
 use Rattle.orc_yang.specs.declared.fault.YangFault.TheVariants.{NotUtf8, BadToken, BadEscape, OpenString, OpenBlock, Depth, Memory}
 use Rattle.orc_yang.specs.declared.statement.Stmt.{Stmt}
 use Rattle.orc_yang.specs.Sorts.{sort_of}
-use Rattle.orc_yang.specs.Grammar.{Statements}
+use Rattle.orc_yang.specs.declared.character.Character.{Character}
+use Rattle.orc_yang.specs.Grammar.{Is, Gap, Statements}
 use Rattle.orc_yang.specs.Text.{placed}
 
 -- The characters spell these statements.
@@ -94,7 +95,8 @@ abbrev pub IsPlace : List ℕ → ℕ → ℕ → Type 0
 IsPlace front c at = ((at ≡ length (encode_utf8_all front)) × (sort_of c ≡ Forbidden → ¬ CanFollow front 128))
     ⊎ ((at + 1 ≡ length (encode_utf8_all front) + length (encode_utf8 c)) × (sort_of c ≡ Forbidden) × CanFollow front 128)
 
--- what a fault means for a text
+-- What a fault means for a text. Memory is wanted only where a statement is read: white space and
+-- comments stand before the first character of its keyword.
 abbrev pub FaultOf : List ℕ → YangFault → Type 0
 FaultOf text (NotUtf8 at) = ⊥
 FaultOf text (BadToken at) = (front : List ℕ) × (c : ℕ) × Stops text front c × IsPlace front c at × ¬ IsEscaping front × (sort_of c ≡ OpenBrace → ¬ CanFollow front 59)
@@ -102,10 +104,9 @@ FaultOf text (BadEscape at) = (front : List ℕ) × (c : ℕ) × Stops text fron
 FaultOf text (OpenString at) = (front rest : List ℕ) × (text ≡ front ++ rest) × (at ≡ length (encode_utf8_all front)) × IsUnclosed front rest
 FaultOf text (OpenBlock at) = (at ≡ length (encode_utf8_all text)) × Begins text × ((list : List Stmt) → Reads text list → ⊥)
 FaultOf text (Depth at) = (front : List ℕ) × (c : ℕ) × Stops text front c × (sort_of c ≡ OpenBrace) × CanFollow front 59 × (at ≡ length (encode_utf8_all front))
-FaultOf text Memory = Unit {0}
+FaultOf text Memory = (x : Character) × (rest : List Character) × Gap (placed 0 1 text) (x ∷ rest) × Is Start x
 
 -- what a fault means for bytes
 abbrev pub IsFault : List ℕ → YangFault → Type 0
 IsFault bytes (NotUtf8 at) = IsValidUpTo bytes at
-IsFault bytes Memory = Unit {0}
 IsFault bytes fault = (text : List ℕ) × (all_scalars text ≡ true) × (encode_utf8_all text ≡ bytes) × FaultOf text fault

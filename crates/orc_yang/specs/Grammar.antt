@@ -3,7 +3,7 @@
 -- list is what follows.
 use Rattle.std.specs.Prelude.{ℕ, suc, Bool, true, false, ◌≡◌, nat_lt, List, [], ◌∷◌, ◌++◌, Option, Some, None, encode_utf8}
 use Rattle.orc_yang.specs.declared.character.Sort.{Sort}
-use Rattle.orc_yang.specs.declared.character.Sort.TheVariants.{LineFeed, Blank, Semicolon, OpenBrace, CloseBrace, DoubleQuote, SingleQuote, Slash, Star, Plus, Colon, Backslash, Start, Inner, Forbidden, Other}
+use Rattle.orc_yang.specs.declared.character.Sort.TheVariants.{LineFeed, Blank, Semicolon, OpenBrace, CloseBrace, DoubleQuote, SingleQuote, Slash, Star, Plus, Colon, Backslash, Start, Inner, Forbidden}
 use Rattle.orc_yang.specs.declared.statement.Stmt.{Stmt}
 use Rattle.orc_yang.specs.declared.character.Character.{Character}
 use Rattle.orc_yang.specs.Sorts.{sort_of}

@@ -5,4 +5,6 @@ pub mod Grammar
 pub mod Text
 pub mod Machine
 pub mod View
+pub mod Wanting
 pub mod Faults
+pub mod Laws

@@ -1,5 +1,5 @@
 -- The characters of a text with their places, and the statements that bytes spell.
-use Rattle.std.specs.Prelude.{ℕ, Bool, true, ◌≡◌, ◌==◌, ◌+◌, ◌-◌, length, List, [], ◌∷◌, encode_utf8, if◌then◌else◌}
+use Rattle.std.specs.Prelude.{ℕ, true, ◌≡◌, ◌==◌, ◌+◌, ◌-◌, length, List, [], ◌∷◌, encode_utf8, if◌then◌else◌}
 use Rattle.std.specs.Str.{encode_utf8_all, all_scalars}
 use Rattle.orc_yang.specs.declared.statement.Stmt.{Stmt}
 use Rattle.orc_yang.specs.declared.character.Character.{Character}

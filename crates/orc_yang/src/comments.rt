@@ -1,8 +1,7 @@
 //! What each character does in a comment (RFC 7950 section 6.1.1).
-ghost use Rattle.std.specs.Prelude.{◌≡◌, [], ◌++◌, ◌∷◌, Some, None, encode_utf8};
-ghost use Rattle.orc_yang.specs.Quoted.{string_value};
-ghost use Rattle.orc_yang.specs.Machine.{feed, bad, cut, go, leaf, enter, between, keyed, worded, strung, joining, in_gap, slashed, in_line, in_block, behind_star, unspoilt, in_keyword, behind_colon, in_second, end_keyword, lone, word_slash, word_star, in_word, in_single, in_double, behind_backslash, Work, Gap, Slashed, InKeyword, InDouble, InSingle, InWord, Strung, Between};
-ghost use Rattle.orc_yang.specs.View.{view, head_of, spot, spot_of, work_of, Steps};
+ghost use Rattle.std.specs.Prelude.{◌≡◌, Some, IsErrOf};
+ghost use Rattle.orc_yang.specs.Machine.{go, slashed, in_line, in_block, behind_star, unspoilt, Gap, Slashed};
+ghost use Rattle.orc_yang.specs.View.{view, spot, Steps};
 
 use crate::YangFault;
 use crate::character::{Character, Sort};
@@ -12,7 +11,8 @@ use crate::steps::{bad, forbidden};
 impl Parser {
     /// The first slash of a comment.
     pub fn slash(&mut self, x: Character) -> Result<(), YangFault>
-        ensures { Steps (go (view self.old) (Slashed (spot self.old) x.at)) (view self.new) result }
+        ensures step { Steps (go (view self.old) (Slashed (spot self.old) x.at)) (view self.new) result }
+        ensures memory { ¬ IsErrOf result YangFault.Memory }
     {
         self.mode = Mode::Slashed;
         self.opened = x.at;
@@ -21,7 +21,8 @@ impl Parser {
 
     /// Behind a slash that must begin a comment.
     pub fn slashed(&mut self, sort: Sort, x: Character) -> Result<(), YangFault>
-        ensures { Steps (slashed sort (spot self.old) self.old.opened (view self.old) x) (view self.new) result }
+        ensures step { Steps (slashed sort (spot self.old) self.old.opened (view self.old) x) (view self.new) result }
+        ensures memory { ¬ IsErrOf result YangFault.Memory }
     {
         match sort {
             Sort::Slash => {
@@ -39,7 +40,8 @@ impl Parser {
 
     /// In a comment to the end of the line.
     pub fn line(&mut self, sort: Sort, x: Character) -> Result<(), YangFault>
-        ensures { Steps (in_line sort (spot self.old) (view self.old) x) (view self.new) result }
+        ensures step { Steps (in_line sort (spot self.old) (view self.old) x) (view self.new) result }
+        ensures memory { ¬ IsErrOf result YangFault.Memory }
     {
         match sort {
             Sort::LineFeed => {
@@ -53,7 +55,8 @@ impl Parser {
 
     /// In a comment in `/*` and `*/`.
     pub fn block(&mut self, sort: Sort, x: Character) -> Result<(), YangFault>
-        ensures { Steps (in_block sort (spot self.old) self.old.opened self.old.pending (view self.old) x) (view self.new) result }
+        ensures step { Steps (in_block sort (spot self.old) self.old.opened self.old.pending (view self.old) x) (view self.new) result }
+        ensures memory { ¬ IsErrOf result YangFault.Memory }
     {
         match sort {
             Sort::Star => {
@@ -71,7 +74,8 @@ impl Parser {
 
     /// The same, behind a `*`.
     pub fn block_star(&mut self, sort: Sort, x: Character) -> Result<(), YangFault>
-        ensures { Steps (behind_star sort (spot self.old) self.old.opened self.old.pending (view self.old) x) (view self.new) result }
+        ensures step { Steps (behind_star sort (spot self.old) self.old.opened self.old.pending (view self.old) x) (view self.new) result }
+        ensures memory { IsErrOf result YangFault.Memory → self.old.pending ≡ Some YangFault.Memory }
     {
         match sort {
             Sort::Slash => self.end_comment(),
@@ -90,7 +94,8 @@ impl Parser {
 
     /// The end of a comment: a fault in it counts now.
     pub fn end_comment(&mut self) -> Result<(), YangFault>
-        ensures { Steps (unspoilt self.old.pending (go (view self.old) (Gap (spot self.old)))) (view self.new) result }
+        ensures step { Steps (unspoilt self.old.pending (go (view self.old) (Gap (spot self.old)))) (view self.new) result }
+        ensures memory { IsErrOf result YangFault.Memory → self.old.pending ≡ Some YangFault.Memory }
     {
         match self.pending {
             Some(fault) => Err(fault),

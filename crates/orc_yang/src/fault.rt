@@ -1,7 +1,5 @@
 //! Why bytes are no YANG statements.
 
-use std::alloc::{AllocError, AllocFailed};
-
 /// Why bytes are no list of YANG statements, or that memory could not be had. Each `at` is a number
 /// of bytes from the beginning. `NotUtf8` goes first; else the fault is the one whose place is least.
 #[derive(Clone, Copy, Debug, PartialEq, Eq)]

@@ -9,6 +9,7 @@ mod character;
 mod comments;
 mod fault;
 mod keywords;
+mod laws;
 #[cfg(test)]
 mod module;
 mod parser;
@@ -21,5 +22,6 @@ mod strings;
 mod tests;
 
 pub use fault::YangFault;
+pub use laws::has_one_fault;
 pub use statement::Stmt;
 pub use statements::parse;

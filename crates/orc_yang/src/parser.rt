@@ -1,6 +1,6 @@
 //! The reader of statements: what it keeps between two characters, and the moves that it makes.
-ghost use Rattle.std.specs.Prelude.{◌≡◌, Some, None, MatchResult, [], reverse};
-ghost use Rattle.orc_yang.specs.Machine.{leaf, enter, close, finish, Gap, Between, State, ended, spoilt};
+ghost use Rattle.std.specs.Prelude.{◌≡◌, MatchResult, IsErrOf, [], length, reverse, ◌<◌};
+ghost use Rattle.orc_yang.specs.Machine.{leaf, enter, close, finish, Gap, Between, ended, spoilt};
 ghost use Rattle.orc_yang.specs.View.{view, head_of, Steps, Fails};
 
 use crate::character::Character;
@@ -158,7 +158,8 @@ impl Parser {
 
     /// Closes the innermost open block.
     pub fn close(&mut self, alloc: Global, x: Character) -> Result<(), YangFault>
-        ensures { Steps (close (reverse self.old.frames) (view self.old) x) (view self.new) result }
+        ensures step { Steps (close (reverse self.old.frames) (view self.old) x) (view self.new) result }
+        ensures memory { IsErrOf result YangFault.Memory → 0 < length self.old.frames }
     {
         let mut frames = mem::replace(&mut self.frames, Row::new(alloc)).into_vec();
         let innermost = frames.pop();
@@ -195,7 +196,8 @@ impl Parser {
 
     /// The statements, where the text ends here.
     pub fn finish(self, end: u64) -> Result<Vec<Stmt>, YangFault>
-        ensures { MatchResult result (λ list. finish (view self) end ≡ Ok list.items) (Fails (finish (view self) end)) }
+        ensures answer { MatchResult result (λ list. finish (view self) end ≡ Ok list.items) (Fails (finish (view self) end)) }
+        ensures memory { ¬ IsErrOf result YangFault.Memory }
     {
         let Parser {
             mode,

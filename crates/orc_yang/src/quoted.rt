@@ -1,6 +1,6 @@
 //! The value of a double-quoted string (RFC 7950 section 6.1.3).
 
-ghost use Rattle.std.specs.Prelude.{◌≡◌, ◌++◌, IfOk, OnOk, IsTrue, ◌==◌, replicate, false};
+ghost use Rattle.std.specs.Prelude.{◌≡◌, ◌++◌, IfOk, OnOk, replicate, false};
 ghost use Rattle.std.specs.Str.{encode_utf8_all};
 ghost use Rattle.orc_yang.specs.Quoted.{string_value, is_space, without_trailing, begins_break, unindented, unescaped, escaped};
 

@@ -1,10 +1,11 @@
 //! From bytes to statements.
-ghost use Rattle.std.specs.Prelude.{◌≡◌, ◌<◌, ◌^◌, ◌++◌, ◌⊎◌, ℕ, true, length, MatchResult, IfOk, IfErr, List};
+ghost use Rattle.std.specs.Prelude.{◌≡◌, ◌<◌, ◌^◌, ◌++◌, ◌⊎◌, ℕ, true, length, MatchResult, IfOk, IfErr, IsErrOf, List};
 ghost use Rattle.std.specs.Str.{chars, all_scalars, encode_utf8_all};
 ghost use Rattle.orc_yang.specs.Text.{placed, next_column, Spells};
 ghost use Rattle.orc_yang.specs.Machine.{run, start};
 ghost use Rattle.orc_yang.specs.Faults.{IsFault, IsUnclosed};
 ghost use Rattle.orc_yang.specs.View.{Fails};
+ghost use Rattle.orc_yang.specs.Wanting.{Wants};
 ghost use Rattle.orc_yang.specs.declared.statement.Stmt.{Stmt};
 
 use crate::character::Character;
@@ -20,6 +21,7 @@ pub fn parse(alloc: Global, bytes: &[u8]) -> Result<Vec<Stmt>, YangFault>
     // What is spelled so is read, unless memory runs out, and as no other list.
     ensures only { (list : List Stmt) → Spells bytes.now list → MatchResult result (λ read. read.items ≡ list) (λ fault. fault ≡ YangFault.Memory) }
     // Where bytes that are not UTF-8 cease to be; else what the fault means for the characters.
+    // Memory is wanted only of a text that comes to a keyword.
     ensures faults { IfErr result (IsFault bytes.now) }
     // A string or a comment without end is the fault, whatever stands in it, unless memory runs out.
     ensures unclosed { (front rest : List ℕ) → all_scalars (front ++ rest) ≡ true → encode_utf8_all (front ++ rest) ≡ bytes.now → IsUnclosed front rest
@@ -35,9 +37,10 @@ pub fn parse(alloc: Global, bytes: &[u8]) -> Result<Vec<Stmt>, YangFault>
 
 /// The statements of a text.
 fn read(alloc: Global, text: &str) -> Result<Vec<Stmt>, YangFault>
-    ensures { MatchResult result
+    ensures answer { MatchResult result
         (λ list. run (placed 0 1 (chars text.now)) start (length text.now) ≡ Ok list.items)
         (Fails (run (placed 0 1 (chars text.now)) start (length text.now))) }
+    ensures memory { IsErrOf result YangFault.Memory → Wants (placed 0 1 (chars text.now)) start }
 {
     let end = text.len() as u64;
     let mut parser = Parser::new(alloc);

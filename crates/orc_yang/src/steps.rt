@@ -1,8 +1,9 @@
 //! One character at a time: what each does between the parts of a statement.
-ghost use Rattle.std.specs.Prelude.{◌≡◌, [], ◌++◌, ◌∷◌, Some, None, encode_utf8};
-ghost use Rattle.orc_yang.specs.Quoted.{string_value};
-ghost use Rattle.orc_yang.specs.Machine.{feed, bad, cut, go, leaf, enter, between, keyed, worded, strung, joining, in_gap, slashed, in_line, in_block, behind_star, unspoilt, in_keyword, behind_colon, in_second, end_keyword, lone, word_slash, word_star, in_word, in_single, in_double, behind_backslash, Work, Gap, Slashed, InKeyword, InDouble, InSingle, InWord, Strung, Between};
-ghost use Rattle.orc_yang.specs.View.{view, head_of, spot, spot_of, work_of, Steps};
+ghost use Rattle.std.specs.Prelude.{◌≡◌, ◌<◌, ◌⊎◌, Some, Err, length, reverse, IsErrOf};
+ghost use Rattle.orc_yang.specs.Sorts.{sort_of};
+ghost use Rattle.orc_yang.specs.Wanting.{MayTake};
+ghost use Rattle.orc_yang.specs.Machine.{feed, leaf, enter, between, keyed, worded, strung, joining, in_gap, Gap};
+ghost use Rattle.orc_yang.specs.View.{view, head_of, spot, Steps};
 
 use crate::YangFault;
 use crate::character::{Character, Sort, sort_of};
@@ -27,7 +28,8 @@ pub fn forbidden(x: Character) -> YangFault
 impl Parser {
     /// Takes the next character.
     pub fn step(&mut self, alloc: Global, x: Character) -> Result<(), YangFault>
-        ensures { Steps (feed (view self.old) x) (view self.new) result }
+        ensures step { Steps (feed (view self.old) x) (view self.new) result }
+        ensures memory { IsErrOf result YangFault.Memory → MayTake (view self.old).work (view self.old).frames (sort_of x.code) }
     {
         let sort = sort_of(x.code);
         match self.mode {
@@ -51,7 +53,8 @@ impl Parser {
 
     /// White space, or what comes next.
     pub fn gap(&mut self, alloc: Global, sort: Sort, x: Character) -> Result<(), YangFault>
-        ensures { Steps (in_gap (spot self.old) sort (view self.old) x) (view self.new) result }
+        ensures step { Steps (in_gap (spot self.old) sort (view self.old) x) (view self.new) result }
+        ensures memory { IsErrOf result YangFault.Memory → MayTake (Gap (spot self.old)) (reverse self.old.frames) sort }
     {
         match self.spot {
             Spot::Between => self.between(alloc, sort, x),
@@ -65,7 +68,8 @@ impl Parser {
     /// Between two statements.
     pub fn between(&mut self, alloc: Global, sort: Sort, x: Character) -> Result<(), YangFault>
         requires { self.old.spot ≡ Spot.Between }
-        ensures { Steps (between sort (view self.old) x) (view self.new) result }
+        ensures step { Steps (between sort (view self.old) x) (view self.new) result }
+        ensures memory { IsErrOf result YangFault.Memory → (sort ≡ Sort.Start) ⊎ (0 < length self.old.frames) }
     {
         match sort {
             Sort::LineFeed | Sort::Blank => Ok(()),

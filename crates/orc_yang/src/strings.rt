@@ -1,8 +1,8 @@
 //! What each character does in an unquoted or quoted string (RFC 7950 section 6.1.3).
-ghost use Rattle.std.specs.Prelude.{◌≡◌, [], ◌++◌, ◌∷◌, Some, None, encode_utf8};
+ghost use Rattle.std.specs.Prelude.{[], ◌++◌, ◌∷◌, None, encode_utf8};
 ghost use Rattle.orc_yang.specs.Quoted.{string_value};
-ghost use Rattle.orc_yang.specs.Machine.{feed, bad, cut, go, leaf, enter, between, keyed, worded, strung, joining, in_gap, slashed, in_line, in_block, behind_star, unspoilt, in_keyword, behind_colon, in_second, end_keyword, lone, word_slash, word_star, in_word, in_single, in_double, behind_backslash, Work, Gap, Slashed, InKeyword, InDouble, InSingle, InWord, Strung, Between};
-ghost use Rattle.orc_yang.specs.View.{view, head_of, spot, spot_of, work_of, Steps};
+ghost use Rattle.orc_yang.specs.Machine.{go, unspoilt, lone, word_slash, word_star, in_word, in_single, in_double, behind_backslash, Gap, InDouble, InSingle, Strung};
+ghost use Rattle.orc_yang.specs.View.{view, head_of, work_of, Steps};
 
 use crate::character::{Character, Sort};
 use crate::parser::{Mode, Parser, Spot};

@@ -1,5 +1,5 @@
-use Rattle.std.proofs.Common.{◌≡◌, ◌+◌, ◌∙◌, sym, ap, true, false, drop, rules}
-use Rattle.orc_yang.specs.Quoted.{is_space, begins_break}
+use Rattle.std.proofs.Common.{◌+◌, ◌∙◌, sym, ap}
+use Rattle.orc_yang.specs.Quoted.{begins_break}
 use Rattle.orc_yang.proofs.Values.{turn_blank, turn_break, turn_other, rest_is}
 use Rattle.orc_yang.proofs.quoted.without_trailing.Goals.{then-is_space+in_ok-push, else-is_space+in_ok-push-2, then-not-begins_break+in_ok-extend_from_slice, else-not-begins_break}
 use Rattle.orc_yang.proofs.quoted.without_trailing.Goals as goal

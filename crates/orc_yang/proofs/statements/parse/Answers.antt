@@ -1,4 +1,4 @@
-use Rattle.std.proofs.Common.{◌≡◌, length, List}
+use Rattle.std.proofs.Common.{length}
 use Rattle.orc_yang.proofs.Spelling.{found_all, only, answered, faults, open_in}
 use Rattle.orc_yang.proofs.statements.parse.Goals as goal
 
@@ -6,22 +6,22 @@ pub returns-in-Ok-clause-found : goal.returns-in-Ok-clause-found
 returns-in-Ok-clause-found c =
     let bytes = c.args.bytes.now in
     let q = c.in-Ok.ensures.cases in
-    found_all _ c.read.result bytes (length bytes) q.1 (rw q.0 at c.read.ensures)
+    found_all _ c.read.result bytes (length bytes) q.1 (rw q.0 at c.read.ensures.answer)
 
 pub returns-in-Ok-clause-only : goal.returns-in-Ok-clause-only
 returns-in-Ok-clause-only c = λ list s.
     let bytes = c.args.bytes.now in
     let q = c.in-Ok.ensures.cases in
-    only _ c.read.result _ list (rw q.0 at c.read.ensures) (answered bytes (length bytes) list s)
+    only _ c.read.result _ list (rw q.0 at c.read.ensures.answer) (answered bytes (length bytes) list s)
 
 pub returns-in-Ok-clause-faults : goal.returns-in-Ok-clause-faults
 returns-in-Ok-clause-faults c =
     let bytes = c.args.bytes.now in
     let q = c.in-Ok.ensures.cases in
-    faults _ c.read.result bytes q.1 (rw q.0 at c.read.ensures)
+    faults _ c.read.result bytes q.1 (rw q.0 at c.read.ensures.memory) (rw q.0 at c.read.ensures.answer)
 
 pub returns-in-Ok-clause-unclosed : goal.returns-in-Ok-clause-unclosed
 returns-in-Ok-clause-unclosed c =
     let bytes = c.args.bytes.now in
     let q = c.in-Ok.ensures.cases in
-    open_in _ c.read.result bytes (length bytes) (rw q.0 at c.read.ensures)
+    open_in _ c.read.result bytes (length bytes) (rw q.0 at c.read.ensures.answer)

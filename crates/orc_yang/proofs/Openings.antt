@@ -1,0 +1,171 @@
+-- The strings and comments that are open behind a front of a text.
+use Rattle.std.proofs.Common.{◌≡◌, ℕ, ◌||◌, Bool, true, false, List, [], ◌∷◌, ◌++◌, length, Option, Some, None, Ok, Err, refl, sym, ap, ◌∙◌, subst, append_assoc}
+use Rattle.std.specs.Str.{encode_utf8_all}
+use Rattle.orc_yang.specs.declared.character.Sort.TheVariants.{DoubleQuote, SingleQuote, Slash, Star}
+use Rattle.orc_yang.specs.declared.fault.YangFault.{YangFault}
+use Rattle.orc_yang.specs.declared.statement.Stmt.{Stmt}
+use Rattle.orc_yang.specs.declared.parser.Frame.{Frame}
+use Rattle.orc_yang.specs.Sorts.{sort_of}
+use Rattle.orc_yang.specs.Faults.{TakesString, TakesComment, ends_single, ends_double, ends_comment, is_quote, is_double_quote, is_backslash, is_star, is_slash, FaultOf}
+use Rattle.orc_yang.specs.Machine.{Work, Slashed, InBlock, BehindStar, Lone, InSingle, InDouble, BehindBackslash, Fed}
+use Rattle.orc_yang.proofs.Viable.{pending}
+
+-- an open single-quoted string, with its opening quote in this place
+pub record OpenSingle (front : List ℕ) (o : ℕ) : Type 0 where
+  pub before : List ℕ
+  pub inner : List ℕ
+  pub quote : ℕ
+  pub is : front ≡ before ++ quote ∷ inner
+  pub sort : sort_of quote ≡ SingleQuote
+  pub place : o ≡ length (encode_utf8_all before)
+  pub takes : TakesString before
+  pub goes : (rest : List ℕ) → ends_single (inner ++ rest) ≡ ends_single rest
+
+-- the same of a double-quoted one, behind a backslash or not
+pub record OpenDouble (b : Bool) (front : List ℕ) (o : ℕ) : Type 0 where
+  pub before : List ℕ
+  pub inner : List ℕ
+  pub quote : ℕ
+  pub is : front ≡ before ++ quote ∷ inner
+  pub sort : sort_of quote ≡ DoubleQuote
+  pub place : o ≡ length (encode_utf8_all before)
+  pub takes : TakesString before
+  pub goes : (rest : List ℕ) → ends_double false (inner ++ rest) ≡ ends_double b rest
+
+-- the same of a comment, behind a `*` or not
+pub record OpenComment (b : Bool) (front : List ℕ) (o : ℕ) : Type 0 where
+  pub before : List ℕ
+  pub inner : List ℕ
+  pub slash : ℕ
+  pub star : ℕ
+  pub is : front ≡ before ++ slash ∷ star ∷ inner
+  pub slash_sort : sort_of slash ≡ Slash
+  pub star_sort : sort_of star ≡ Star
+  pub place : o ≡ length (encode_utf8_all before)
+  pub takes : TakesComment before
+  pub goes : (rest : List ℕ) → ends_comment false (inner ++ rest) ≡ ends_comment b rest
+
+-- the first slash of a comment, in this place
+pub record OpenSlash (front : List ℕ) (o : ℕ) : Type 0 where
+  pub before : List ℕ
+  pub slash : ℕ
+  pub is : front ≡ before ++ slash ∷ []
+  pub sort : sort_of slash ≡ Slash
+  pub place : o ≡ length (encode_utf8_all before)
+  pub takes : TakesComment before
+
+abbrev pub Opened : List ℕ → Work → Type 0
+Opened front (Slashed spot o) = OpenSlash front o
+Opened front (Lone h a o) = OpenSlash front o
+Opened front (InBlock spot o p) = OpenComment false front o
+Opened front (BehindStar spot o p) = OpenComment true front o
+Opened front (InSingle h a o p) = OpenSingle front o
+Opened front (InDouble h a o column raw p) = OpenDouble false front o
+Opened front (BehindBackslash h a o column raw p) = OpenDouble true front o
+Opened front _ = Unit {0}
+
+-- what waits for the end of a string or comment is the fault of each text that begins so
+abbrev pub Pends : List ℕ → Option YangFault → Type 0
+Pends front p = (f : YangFault) → p ≡ Some f → (rest : List ℕ) → FaultOf (front ++ rest) f
+
+pub pends_none : (front : List ℕ) → Pends front None
+pends_none front = λ f e rest. cc
+
+-- what a step makes
+abbrev pub After : List ℕ → ℕ → List ℕ → Fed → Type 0
+After front c after (Ok t) = Opened (front ++ c ∷ []) t.work × Pends (front ++ c ∷ []) (pending t.work)
+After front c after (Err f) = FaultOf (front ++ c ∷ after) f
+
+module _ (front : List ℕ) (c : ℕ) where
+  pub single_more : {o : ℕ} → is_quote (sort_of c) ≡ false → OpenSingle front o → OpenSingle (front ++ c ∷ []) o
+  single_more e w = record {
+    before = w.before;
+    inner = w.inner ++ c ∷ [];
+    place = w.place;
+    takes = w.takes;
+    quote = w.quote;
+    sort = w.sort;
+    is = ap (λ l. l ++ c ∷ []) w.is ∙ append_assoc w.before (w.quote ∷ w.inner) (c ∷ []);
+    goes = λ rest. ap ends_single (append_assoc w.inner (c ∷ []) rest) ∙ (w.goes (c ∷ rest) ∙ ap (λ b. b || ends_single rest) e);
+  }
+
+  pub double_more : {o : ℕ} (b : Bool) → is_double_quote (sort_of c) ≡ false → is_backslash (sort_of c) ≡ b → OpenDouble false front o → OpenDouble b (front ++ c ∷ []) o
+  double_more b e e' w = record {
+    before = w.before;
+    inner = w.inner ++ c ∷ [];
+    place = w.place;
+    takes = w.takes;
+    quote = w.quote;
+    sort = w.sort;
+    is = ap (λ l. l ++ c ∷ []) w.is ∙ append_assoc w.before (w.quote ∷ w.inner) (c ∷ []);
+    goes = λ rest. ap (ends_double false) (append_assoc w.inner (c ∷ []) rest) ∙ (w.goes (c ∷ rest) ∙ (ap (λ q. q || ends_double (is_backslash (sort_of c)) rest) e ∙ ap (λ q. ends_double q rest) e'));
+  }
+
+  pub double_escaped : {o : ℕ} → OpenDouble true front o → OpenDouble false (front ++ c ∷ []) o
+  double_escaped w = record {
+    before = w.before;
+    inner = w.inner ++ c ∷ [];
+    place = w.place;
+    takes = w.takes;
+    quote = w.quote;
+    sort = w.sort;
+    is = ap (λ l. l ++ c ∷ []) w.is ∙ append_assoc w.before (w.quote ∷ w.inner) (c ∷ []);
+    goes = λ rest. ap (ends_double false) (append_assoc w.inner (c ∷ []) rest) ∙ w.goes (c ∷ rest);
+  }
+
+  pub comment_more : {o : ℕ} (b : Bool) → is_star (sort_of c) ≡ b → OpenComment false front o → OpenComment b (front ++ c ∷ []) o
+  comment_more b e w = record {
+    before = w.before;
+    inner = w.inner ++ c ∷ [];
+    place = w.place;
+    takes = w.takes;
+    slash = w.slash;
+    star = w.star;
+    slash_sort = w.slash_sort;
+    star_sort = w.star_sort;
+    is = ap (λ l. l ++ c ∷ []) w.is ∙ append_assoc w.before (w.slash ∷ w.star ∷ w.inner) (c ∷ []);
+    goes = λ rest. ap (ends_comment false) (append_assoc w.inner (c ∷ []) rest) ∙ (w.goes (c ∷ rest) ∙ ap (λ q. ends_comment q rest) e);
+  }
+
+  pub comment_star : {o : ℕ} (b : Bool) → is_slash (sort_of c) ≡ false → is_star (sort_of c) ≡ b → OpenComment true front o → OpenComment b (front ++ c ∷ []) o
+  comment_star b e e' w = record {
+    before = w.before;
+    inner = w.inner ++ c ∷ [];
+    place = w.place;
+    takes = w.takes;
+    slash = w.slash;
+    star = w.star;
+    slash_sort = w.slash_sort;
+    star_sort = w.star_sort;
+    is = ap (λ l. l ++ c ∷ []) w.is ∙ append_assoc w.before (w.slash ∷ w.star ∷ w.inner) (c ∷ []);
+    goes = λ rest. ap (ends_comment false) (append_assoc w.inner (c ∷ []) rest) ∙ (w.goes (c ∷ rest) ∙ (ap (λ q. q || ends_comment (is_star (sort_of c)) rest) e ∙ ap (λ q. ends_comment q rest) e'));
+  }
+
+module _ (front : List ℕ) (c : ℕ) (done : List Stmt) (frames : List Frame) where
+  -- new strings and comments
+  pub single_opens : {o : ℕ} → o ≡ length (encode_utf8_all front) → sort_of c ≡ SingleQuote → TakesString front → OpenSingle (front ++ c ∷ []) o
+  single_opens q e t = record { before = front; inner = []; quote = c; is = refl; sort = e; place = q; takes = t; goes = λ rest. refl }
+
+  pub double_opens : {o : ℕ} → o ≡ length (encode_utf8_all front) → sort_of c ≡ DoubleQuote → TakesString front → OpenDouble false (front ++ c ∷ []) o
+  double_opens q e t = record { before = front; inner = []; quote = c; is = refl; sort = e; place = q; takes = t; goes = λ rest. refl }
+
+  pub slash_opens : {o : ℕ} → o ≡ length (encode_utf8_all front) → sort_of c ≡ Slash → TakesComment front → OpenSlash (front ++ c ∷ []) o
+  slash_opens q e t = record { before = front; slash = c; is = refl; sort = e; place = q; takes = t }
+
+  pub comment_opens : {o : ℕ} → sort_of c ≡ Star → OpenSlash front o → OpenComment false (front ++ c ∷ []) o
+  comment_opens e w = record {
+    before = w.before;
+    inner = [];
+    slash = w.slash;
+    star = c;
+    slash_sort = w.sort;
+    star_sort = e;
+    place = w.place;
+    takes = w.takes;
+    is = ap (λ l. l ++ c ∷ []) w.is ∙ append_assoc w.before (w.slash ∷ []) (c ∷ []);
+    goes = λ rest. refl;
+  }
+
+pub pends_more : (front : List ℕ) (c : ℕ) (p : Option YangFault) → Pends front p → Pends (front ++ c ∷ []) p
+pends_more front c p ps f q rest =
+    let P : List ℕ → Type 0 = λ l. FaultOf l f in subst P (sym (append_assoc front (c ∷ []) rest)) (ps f q (c ∷ rest))
