@@ -4,7 +4,7 @@ use Rattle.std.proofs.Common.{refl, sym, ap, subst, ◌∙◌, arith, zero, suc,
 use Rattle.std.proofs.lemmas.List.{drop-drop, take_all, drop_at, take-append-le, drop-append-le, length-drop, length-append, take_rest}
 use Rattle.std.proofs.lemmas.Grind.{take_at_read}
 use Rattle.orc_disk.specs.Files.{written}
-use Rattle.orc_disk.specs.History.{History, Change, changed, after, content_of, Leaves, IsImage}
+use Rattle.orc_disk.specs.History.{History, Change, changed, after, content_of, settled, synced_of, Leaves, IsImage}
 use Rattle.orc_disk.specs.Kept.{told, change_of, written_count, IsKept, HasRoom}
 use Rattle.orc_disk.specs.declared.history.Call.{Call}
 use Rattle.orc_disk.specs.declared.history.Call.TheVariants.{Write, Sync}
@@ -123,3 +123,8 @@ pub Leaves-image : (start whole torn now : List ℕ) (older changes : List Chang
     → IsImage start older torn → changes ≡ change ∷ older → Leaves change whole torn now → IsImage start changes now
 Leaves-image start whole torn now older changes change is image more step =
     subst (λ (l : List Change). IsImage start l now) (sym more) (torn, image, subst (λ (l : List ℕ). Leaves change l torn now) is step)
+
+pub settled-synced : (start whole torn now : List ℕ) (older changes : List Change) (change : Change) → whole ≡ content_of start older
+    → torn ≡ synced_of start older → changes ≡ change ∷ older → now ≡ settled change whole torn → now ≡ synced_of start changes
+settled-synced start whole torn now older changes change is synced more step =
+    step ∙ ap (λ (file : List ℕ). settled change file torn) is ∙ ap (settled change (content_of start older)) synced ∙ ap (synced_of start) (sym more)

@@ -1,3 +1,4 @@
+pub mod Courses
 mod Inside
 mod KeptLemmas
 pub mod Moments

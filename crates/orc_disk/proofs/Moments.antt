@@ -1,6 +1,6 @@
 -- How a run of disk calls goes on, and what a crash at each of its moments leaves.
-use Rattle.std.specs.Prelude.{◌≡◌, ◌⊎◌, ℕ, ◌≤◌, List, Option, Some, unwrap_or}
-use Rattle.std.proofs.Common.{inl, inr, ⊎_elim, sym, ap, subst, ◌∙◌, arith}
+use Rattle.std.specs.Prelude.{◌≡◌, ℕ, List, Option, Some, unwrap_or}
+use Rattle.std.proofs.Common.{inl, inr, ⊎_elim, sym, ap, ◌∙◌, arith}
 use Rattle.orc_disk.specs.Torn.{Torn}
 use Rattle.orc_disk.specs.Crashes.{TearsAt, LeavesAsRead}
 use Rattle.orc_disk.specs.Moments.{Elapses, LeavesOnly}

@@ -1,8 +1,8 @@
 -- What a sync leaves of the images of a disk in memory.
-use Rattle.std.specs.Prelude.{◌≡◌, ℕ, List, None}
-use Rattle.std.proofs.Common.{sym, subst, ◌∙◌}
+use Rattle.std.specs.Prelude.{◌≡◌, ℕ, None}
+use Rattle.std.proofs.Common.{sym, subst}
 use Rattle.orc_disk.specs.Crashes.{LeavesNoMore}
-use Rattle.orc_disk.specs.History.{History, changed, content_of, IsImage}
+use Rattle.orc_disk.specs.History.{History, changed, IsImage}
 use Rattle.orc_disk.specs.HistoryLaws.{IsImage-content}
 
 pub LeavesNoMore-synced : (old now : History) (used : ℕ) → now ≡ changed old None used → LeavesNoMore (IsImage old.start old.changes) (IsImage now.start now.changes)

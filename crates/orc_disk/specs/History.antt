@@ -27,6 +27,16 @@ abbrev pub content_of : List ℕ → List Change → List ℕ
 content_of start [] = start
 content_of start (change ∷ older) = after change (content_of start older)
 
+-- the file that outlives a crash after one change, where no write outlives it before a sync
+abbrev pub settled : Change → List ℕ → List ℕ → List ℕ
+settled None file before = file
+settled (Some put) file before = before
+
+-- what a read gave at the last sync, or at first where none came
+abbrev pub synced_of : List ℕ → List Change → List ℕ
+synced_of start [] = start
+synced_of start (change ∷ older) = settled change (content_of start older) (synced_of start older)
+
 -- a crash after one change of a file may leave this, where it might have left that before the change
 abbrev pub Leaves : Change → List ℕ → List ℕ → List ℕ → Type 0
 Leaves None file before now = now ≡ file

@@ -1,8 +1,7 @@
 -- Laws of a file's history.
-use Rattle.std.specs.Prelude.{◌≡◌, ◌⊎◌, ℕ, ◌≤◌, List, [], ◌∷◌, length, Some, None}
-use Rattle.std.proofs.Common.{refl, sym, subst, ap, arith, inl, inr, ⊎_elim}
-use Rattle.orc_disk.specs.Files.{written}
-use Rattle.orc_disk.specs.Torn.{Torn, Torn-written}
+use Rattle.std.specs.Prelude.{ℕ, ◌≤◌, List, [], ◌∷◌, length, Some, None}
+use Rattle.std.proofs.Common.{refl, arith, inl, inr, ⊎_elim}
+use Rattle.orc_disk.specs.Torn.{Torn-written}
 use Rattle.orc_disk.specs.History.{Change, content_of, IsImage, WasImage}
 
 -- the file as it reads is one of its images

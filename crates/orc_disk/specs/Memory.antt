@@ -1,5 +1,5 @@
 -- What contracts see of a disk in memory.
-use Rattle.std.specs.Prelude.{ℕ, ◌+◌, List, ◌∷◌, length, Some, None}
+use Rattle.std.specs.Prelude.{ℕ, ◌+◌, List, length, Some, None}
 use Rattle.orc_io.specs.Counts.{next_count}
 use Rattle.orc_disk.specs.History.{History, changed, content_of, IsImage, WasImage}
 use Rattle.orc_disk.specs.declared.disk.DiskOp.{DiskOp}

@@ -1,5 +1,5 @@
 //! What a disk promises: its content, its failures and its crash images.
-ghost use Rattle.std.specs.Prelude.{◌≡◌, ◌≤◌, ℕ, List, length, IfOk, OnOk, IfSome, Option, Bool, true, false, ◌||◌, is_some, is_err};
+ghost use Rattle.std.specs.Prelude.{◌≡◌, ◌≤◌, ◌+◌, ℕ, List, length, IfOk, OnOk, IfSome, Option, Bool, true, false, ◌||◌, is_some, is_err};
 ghost use Rattle.std.specs.Option.{ForSome, option_map};
 ghost use Rattle.std.specs.Io.{ReadsAtMost};
 ghost use Rattle.orc_io.specs.Counts.{HasCause};
@@ -40,9 +40,10 @@ pub trait Disk: Drop {
     /// How often the disk failed.
     ghost faults: { Self → ℕ };
 
-    /// Calls led from one state to another, and where the truth value is true one of them failed. So
-    /// a disk round another one tells of itself what code that knows only this trait keeps.
-    ghost leads: { Bool → Self → Self → Type 0 };
+    /// Calls led from one state to another, so many of them writes and syncs, and where the truth
+    /// value is true one of them failed. So a disk round another one tells of itself what code that
+    /// knows only this trait keeps.
+    ghost leads: { ℕ → Bool → Self → Self → Type 0 };
 
     /// The length in bytes.
     fn len(&mut self) -> Result<u64, Failed>
@@ -50,7 +51,7 @@ pub trait Disk: Drop {
         ensures same { content self.new ≡ content self.old }
         ensures crash { LeavesNoMore (may_leave self.old) (may_leave self.new) }
         ensures time { Elapses moment left_since may_leave self.old self.new }
-        ensures course { leads (is_err result) self.old self.new }
+        ensures course { leads 0 (is_err result) self.old self.new }
         ensures cause { HasCause (faults self.old) (faults self.new) result };
 
     /// Reads at an offset as many bytes as there are and fit, and answers how many.
@@ -60,7 +61,7 @@ pub trait Disk: Drop {
         ensures same { content self.new ≡ content self.old }
         ensures crash { LeavesNoMore (may_leave self.old) (may_leave self.new) }
         ensures time { Elapses moment left_since may_leave self.old self.new }
-        ensures course { leads (is_err result) self.old self.new }
+        ensures course { leads 0 (is_err result) self.old self.new }
         ensures cause { HasCause (faults self.old) (faults self.new) result };
 
     /// Writes at an offset, over what is there and past the end. A call that fails may have put some
@@ -71,7 +72,7 @@ pub trait Disk: Drop {
         ensures tells { is_some (content self.new) ≡ is_some (content self.old) }
         ensures crash { TearsAt at (length bytes.now) (may_leave self.old) (may_leave self.new) }
         ensures time { Elapses moment left_since may_leave self.old self.new }
-        ensures course { leads (is_err result) self.old self.new }
+        ensures course { leads 1 (is_err result) self.old self.new }
         ensures cause { HasCause (faults self.old) (faults self.new) result };
 
     /// Makes what was written outlive crashes: from then on a crash leaves what a read gives.
@@ -80,7 +81,7 @@ pub trait Disk: Drop {
         ensures same { content self.new ≡ content self.old }
         ensures crash { LeavesNoMore (may_leave self.old) (may_leave self.new) }
         ensures time { Elapses moment left_since may_leave self.old self.new }
-        ensures course { leads (is_err result) self.old self.new }
+        ensures course { leads 1 (is_err result) self.old self.new }
         ensures cause { HasCause (faults self.old) (faults self.new) result };
 
     /// How often the disk failed. At its last value the count stays.
@@ -103,11 +104,11 @@ pub trait Disk: Drop {
     ghost earlier: { (disk : Self) (t u : ℕ) (c : List ℕ) → t ≤ u → left_since disk u c → left_since disk t c };
 
     /// No call leads to the same state.
-    ghost stays: { (disk : Self) → leads false disk disk };
+    ghost stays: { (disk : Self) → leads 0 false disk disk };
 
     /// A row of calls and then another is a row of calls.
-    ghost goes_on: { (x y : Bool) (a b c : Self) → leads x a b → leads y b c → leads (x || y) a c };
+    ghost goes_on: { (m n : ℕ) (x y : Bool) (a b c : Self) → leads m x a b → leads n y b c → leads (m + n) (x || y) a c };
 
     /// The count tells of failed calls.
-    ghost counts: { (x : Bool) (a b : Self) → leads x a b → Counted x (faults a) (faults b) };
+    ghost counts: { (n : ℕ) (x : Bool) (a b : Self) → leads n x a b → Counted x (faults a) (faults b) };
 }

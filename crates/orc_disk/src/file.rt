@@ -1,6 +1,7 @@
 //! A real file as a disk, which tells nothing of its content.
-ghost use Rattle.std.specs.Prelude.{◌≡◌, None, Ok, MatchResult, IsErr};
-ghost use Rattle.orc_io.specs.Counts.{HasCause};
+ghost use Rattle.std.specs.Prelude.{◌≡◌, None, Ok, MatchResult, IsErr, OnOk, OnErr, is_err};
+ghost use Rattle.std.specs.Io.{ReadsAtMost};
+ghost use Rattle.orc_io.specs.Counts.{HasCause, next_count};
 ghost use Rattle.orc_disk.specs.Course.{Counted, Counted-refl, Counted-trans};
 
 use crate::Disk;
@@ -10,7 +11,8 @@ use std::io;
 use std::marker::Model;
 use std::os::unix::fs::FileExt;
 
-/// A real file, which contracts see as its count of faults. Each error of the file is a fault.
+/// A real file, which contracts see as its count of faults. Each error of the file is a fault, and
+/// nothing else is.
 #[derive(Drop)]
 pub struct FileDisk {
     file: File,
@@ -36,7 +38,10 @@ impl FileDisk {
     // Counts a fault where the file answered an error.
     fn counted<T: Drop>(&mut self, outcome: io::Result<T>) -> Result<T, Failed>
         ensures value { MatchResult outcome (λ value. result ≡ Ok value) (λ _. IsErr result) }
+        ensures course { Counted (is_err result) self.old self.new }
         ensures cause { HasCause self.old self.new result }
+        ensures still { OnOk result (self.new ≡ self.old) }
+        ensures rose { OnErr result (self.new ≡ next_count self.old) }
     {
         match outcome {
             Ok(value) => Ok(value),
@@ -59,14 +64,27 @@ impl Disk for FileDisk {
 
     ghost faults = { λ faults. faults };
 
-    ghost leads = { λ failed old new. Counted failed old new };
+    ghost leads = { λ _ failed old new. Counted failed old new };
 
-    fn len(&mut self) -> Result<u64, Failed> {
+    fn len(&mut self) -> Result<u64, Failed>
+        ensures course { Counted (is_err result) self.old self.new }
+        ensures cause { HasCause self.old self.new result }
+
+        ensures still { OnOk result (self.new ≡ self.old) }
+        ensures rose { OnErr result (self.new ≡ next_count self.old) }
+    {
         let metadata = self.file.metadata();
         Ok(self.counted(metadata)?.len())
     }
 
-    fn read_at(&mut self, at: u64, buf: &mut [u8]) -> Result<usize, Failed> {
+    fn read_at(&mut self, at: u64, buf: &mut [u8]) -> Result<usize, Failed>
+        ensures bound { ReadsAtMost result buf.new }
+        ensures course { Counted (is_err result) self.old self.new }
+        ensures cause { HasCause self.old self.new result }
+
+        ensures still { OnOk result (self.new ≡ self.old) }
+        ensures rose { OnErr result (self.new ≡ next_count self.old) }
+    {
         let mut count = 0;
         while count < buf.len() {
             let outcome = self
@@ -80,12 +98,24 @@ impl Disk for FileDisk {
         Ok(count)
     }
 
-    fn write_at(&mut self, at: u64, bytes: &[u8]) -> Result<(), Failed> {
+    fn write_at(&mut self, at: u64, bytes: &[u8]) -> Result<(), Failed>
+        ensures course { Counted (is_err result) self.old self.new }
+        ensures cause { HasCause self.old self.new result }
+
+        ensures still { OnOk result (self.new ≡ self.old) }
+        ensures rose { OnErr result (self.new ≡ next_count self.old) }
+    {
         let outcome = self.file.write_all_at(bytes, at);
         self.counted(outcome)
     }
 
-    fn sync(&mut self) -> Result<(), Failed> {
+    fn sync(&mut self) -> Result<(), Failed>
+        ensures course { Counted (is_err result) self.old self.new }
+        ensures cause { HasCause self.old self.new result }
+
+        ensures still { OnOk result (self.new ≡ self.old) }
+        ensures rose { OnErr result (self.new ≡ next_count self.old) }
+    {
         let outcome = self.file.sync_all();
         self.counted(outcome)
     }
@@ -106,7 +136,7 @@ impl Disk for FileDisk {
 
     ghost stays = { λ faults. Counted-refl faults };
 
-    ghost goes_on = { λ x y a b c first second. Counted-trans x y a b c first second };
+    ghost goes_on = { λ _ _ x y a b c first second. Counted-trans x y a b c first second };
 
-    ghost counts = { λ _ _ _ led. led };
+    ghost counts = { λ _ _ _ _ led. led };
 }

@@ -1,7 +1,7 @@
 //! A file in memory with its whole history, and the crash images that it gives.
 ghost use Rattle.std.specs.Prelude.{◌≡◌, ◌+◌, ◌-◌, ◌*◌, ◌≤◌, ◌++◌, [], ◌∷◌, length, OnOk, IfOk, IsOk, Some, None, vec_len, vec_capacity};
 ghost use Rattle.orc_disk.specs.Files.{written};
-ghost use Rattle.orc_disk.specs.History.{content_of, changed, IsImage};
+ghost use Rattle.orc_disk.specs.History.{content_of, synced_of, changed, IsImage};
 
 use crate::tear::replayed;
 use orc_text::Memory;
@@ -150,9 +150,13 @@ impl Kept {
         self.room -= CALL_ROOM;
     }
 
-    /// One file that a crash now may leave, by choice.
+    /// One file that a crash now may leave, by choice. With 0 no write since the last sync outlives
+    /// it, and with 3 each does. With others parts of these writes do, or other bytes in their
+    /// ranges, or more bytes behind the end.
     pub fn image(&self, alloc: Global, choice: u64) -> Result<Vec<u8>, Memory>
-        ensures { IfOk result (λ image. IsImage self.now.start self.now.changes image.items) }
+        ensures image { IfOk result (λ image. IsImage self.now.start self.now.changes image.items) }
+        ensures none { choice ≡ 0 → IfOk result (λ image. image.items ≡ synced_of self.now.start self.now.changes) }
+        ensures all { choice ≡ 3 → IfOk result (λ image. image.items ≡ content_of self.now.start self.now.changes) }
     {
         let image = replayed(alloc, &self.start, &self.calls, &self.store, choice)?;
         Ok(image)

@@ -6,7 +6,7 @@ ghost use Rattle.orc_disk.specs.Files.{written, ReadsFrom};
 ghost use Rattle.orc_disk.specs.Crashes.{TearsAt, LeavesNoMore, LeavesAsRead};
 ghost use Rattle.orc_disk.specs.Moments.{Elapses};
 ghost use Rattle.orc_disk.specs.Course.{Counted};
-ghost use Rattle.orc_disk.specs.History.{IsImage};
+ghost use Rattle.orc_disk.specs.History.{content_of, synced_of, IsImage};
 ghost use Rattle.orc_disk.specs.Memory.{disk_content, disk_leaves, disk_moment, disk_left, len_called, read_called, write_called, sync_called, call_failed, write_done, sync_done};
 
 use crate::history::Kept;
@@ -82,9 +82,13 @@ impl MemDisk {
         })
     }
 
-    /// One file that a crash now may leave, by choice.
+    /// One file that a crash now may leave, by choice. With 0 no write since the last sync outlives
+    /// it, and with 3 each does. With others parts of these writes do, or other bytes in their
+    /// ranges, or more bytes behind the end.
     pub fn image(&self, alloc: Global, choice: u64) -> Result<Vec<u8>, Memory>
-        ensures { IfOk result (λ image. IsImage self.now.history.start self.now.history.changes image.items) }
+        ensures image { IfOk result (λ image. IsImage self.now.history.start self.now.history.changes image.items) }
+        ensures none { choice ≡ 0 → IfOk result (λ image. image.items ≡ synced_of self.now.history.start self.now.history.changes) }
+        ensures all { choice ≡ 3 → IfOk result (λ image. image.items ≡ content_of self.now.history.start self.now.history.changes) }
     {
         self.history.image(alloc, choice)
     }
@@ -116,7 +120,7 @@ impl Disk for MemDisk {
 
     ghost faults = { λ d. d.faults };
 
-    ghost leads = { λ failed old new. Counted failed old.faults new.faults };
+    ghost leads = { λ _ failed old new. Counted failed old.faults new.faults };
 
     fn len(&mut self) -> Result<u64, Failed>
         ensures length { IfOk result (λ n. n ≡ length (disk_content self.old)) }
@@ -216,7 +220,7 @@ impl Disk for MemDisk {
 
     ghost stays = { λ d. Counted-refl d.faults };
 
-    ghost goes_on = { λ x y a b c first second. Counted-trans x y a.faults b.faults c.faults first second };
+    ghost goes_on = { λ _ _ x y a b c first second. Counted-trans x y a.faults b.faults c.faults first second };
 
-    ghost counts = { λ _ _ _ led. led };
+    ghost counts = { λ _ _ _ _ led. led };
 }

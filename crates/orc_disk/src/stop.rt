@@ -6,7 +6,7 @@ ghost use Rattle.orc_io.specs.Counts.{HasCause, Rose};
 ghost use Rattle.orc_disk.specs.Files.{written, ReadsFrom};
 ghost use Rattle.orc_disk.specs.Crashes.{TearsAt, LeavesNoMore, LeavesAsRead};
 ghost use Rattle.orc_disk.specs.Moments.{Elapses};
-ghost use Rattle.orc_disk.specs.Course.{Counted};
+ghost use Rattle.orc_disk.specs.Course.{Counted, Reaches};
 ghost use Rattle.orc_disk.specs.Stops.{Led, all_faults, refused, passed, stopped_at, moment_in, left_in, leaves_in};
 
 use crate::Disk;
@@ -86,7 +86,7 @@ impl<D: Disk> StopDisk<D> {
         ensures state { self.new ≡ refused self.old }
         ensures count { Counted true self.old.stops self.new.stops }
         ensures still { self.new.stopped ≡ self.old.stopped }
-        ensures inner { D.leads false self.old.inner self.new.inner }
+        ensures inner { D.leads 0 false self.old.inner self.new.inner }
     {
         self.stops = self.stops.saturating_add(1);
         Failed
@@ -110,7 +110,7 @@ impl<D: Disk> StopDisk<D> {
         ensures tells { is_some (D.content self.new.inner) ≡ is_some (D.content self.old.inner) }
         ensures crash { TearsAt at (length bytes.now) (D.may_leave self.old.inner) (D.may_leave self.new.inner) }
         ensures time { Elapses D.moment D.left_since D.may_leave self.old.inner self.new.inner }
-        ensures course { (failed : Bool) × D.leads failed self.old.inner self.new.inner }
+        ensures course { (failed : Bool) × Reaches D.leads failed self.old.inner self.new.inner }
         ensures put { (D.content self.new.inner ≡ option_map (written at (take self.old.bytes bytes.now)) (D.content self.old.inner)) ⊎ Rose (D.faults self.old.inner) (D.faults self.new.inner) }
     {
         if self.bytes == 0 {
@@ -126,7 +126,7 @@ impl<D: Disk> StopDisk<D> {
         ensures same { D.content self.new.inner ≡ D.content self.old.inner }
         ensures crash { LeavesNoMore (D.may_leave self.old.inner) (D.may_leave self.new.inner) }
         ensures time { Elapses D.moment D.left_since D.may_leave self.old.inner self.new.inner }
-        ensures course { (failed : Bool) × D.leads failed self.old.inner self.new.inner }
+        ensures course { (failed : Bool) × Reaches D.leads failed self.old.inner self.new.inner }
         ensures none { self.old.bytes ≡ 0 → self.new ≡ self.old }
         ensures done { 0 < self.old.bytes → LeavesAsRead (D.content self.new.inner) (D.may_leave self.new.inner) ⊎ Rose (D.faults self.old.inner) (D.faults self.new.inner) }
     {
@@ -156,7 +156,7 @@ impl<D: Disk> Disk for StopDisk<D> {
         ensures same { D.content self.new.inner ≡ D.content self.old.inner }
         ensures crash { LeavesNoMore (D.may_leave self.old.inner) (D.may_leave self.new.inner) }
         ensures time { Elapses (moment_in D.moment) (left_in D.left_since) (leaves_in D.may_leave) self.old self.new }
-        ensures course { Led D.leads (is_err result) self.old self.new }
+        ensures course { Led D.leads 0 (is_err result) self.old self.new }
         ensures cause { HasCause (all_faults D.faults self.old) (all_faults D.faults self.new) result }
 
         // A stopped disk fails by itself.
@@ -175,7 +175,7 @@ impl<D: Disk> Disk for StopDisk<D> {
         ensures same { D.content self.new.inner ≡ D.content self.old.inner }
         ensures crash { LeavesNoMore (D.may_leave self.old.inner) (D.may_leave self.new.inner) }
         ensures time { Elapses (moment_in D.moment) (left_in D.left_since) (leaves_in D.may_leave) self.old self.new }
-        ensures course { Led D.leads (is_err result) self.old self.new }
+        ensures course { Led D.leads 0 (is_err result) self.old self.new }
         ensures cause { HasCause (all_faults D.faults self.old) (all_faults D.faults self.new) result }
 
         // A stopped disk fails by itself.
@@ -194,7 +194,7 @@ impl<D: Disk> Disk for StopDisk<D> {
         ensures tells { is_some (D.content self.new.inner) ≡ is_some (D.content self.old.inner) }
         ensures crash { TearsAt at (length bytes.now) (D.may_leave self.old.inner) (D.may_leave self.new.inner) }
         ensures time { Elapses (moment_in D.moment) (left_in D.left_since) (leaves_in D.may_leave) self.old self.new }
-        ensures course { Led D.leads (is_err result) self.old self.new }
+        ensures course { Led D.leads 1 (is_err result) self.old self.new }
         ensures cause { HasCause (all_faults D.faults self.old) (all_faults D.faults self.new) result }
 
         // A stopped disk fails by itself.
@@ -219,7 +219,7 @@ impl<D: Disk> Disk for StopDisk<D> {
         ensures same { D.content self.new.inner ≡ D.content self.old.inner }
         ensures crash { LeavesNoMore (D.may_leave self.old.inner) (D.may_leave self.new.inner) }
         ensures time { Elapses (moment_in D.moment) (left_in D.left_since) (leaves_in D.may_leave) self.old self.new }
-        ensures course { Led D.leads (is_err result) self.old self.new }
+        ensures course { Led D.leads 1 (is_err result) self.old self.new }
         ensures cause { HasCause (all_faults D.faults self.old) (all_faults D.faults self.new) result }
 
         // A stopped disk fails by itself.

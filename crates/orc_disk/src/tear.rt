@@ -1,7 +1,8 @@
 //! Crash images of a file, made from its history by choice.
 ghost use Rattle.std.specs.Prelude.{◌≡◌, ◌≤◌, ◌++◌, ◌∷◌, [], length, OnOk, IfOk};
+ghost use Rattle.orc_disk.specs.Files.{written};
 ghost use Rattle.orc_disk.specs.Torn.{Torn};
-ghost use Rattle.orc_disk.specs.History.{after, Leaves, IsImage};
+ghost use Rattle.orc_disk.specs.History.{after, settled, content_of, synced_of, Leaves, IsImage};
 ghost use Rattle.orc_disk.specs.Kept.{told, change_of, written_count};
 
 use crate::history::{Call, put};
@@ -12,7 +13,8 @@ const FILL_LEN: usize = 16;
 
 // Puts bytes, which tears no more than their range.
 fn put_range(file: &mut Vec<u8>, at: usize, bytes: &[u8]) -> Result<(), AllocError>
-    ensures { OnOk result (Torn at (length bytes.now) file.old.items file.new.items) }
+    ensures torn { OnOk result (Torn at (length bytes.now) file.old.items file.new.items) }
+    ensures put { OnOk result (file.new.items ≡ written at bytes.now file.old.items) }
 {
     put(file, at, bytes)
 }
@@ -24,10 +26,11 @@ fn lengthen(file: &mut Vec<u8>, bytes: &[u8]) -> Result<(), AllocError>
     file.extend_from_slice(bytes)
 }
 
-// Puts a write as a crash may leave it. The last two bits of `choice` say how: a front of it; a front
-// of it and other bytes behind; the whole with other bytes in its front; the whole with other bytes
-// behind the end of the file. The next four bits say how much, and the rest which other byte.
-fn tear(file: &mut Vec<u8>, at: usize, bytes: &[u8], choice: u64) -> Result<(), AllocError>
+// Puts a part of a write, or the whole with more. The last two bits of `choice` say how: a front of
+// it; a front of it and other bytes behind; the whole with other bytes in its front; the whole with
+// other bytes behind the end of the file. The next four bits say how much, and the rest which other
+// byte.
+fn tear_apart(file: &mut Vec<u8>, at: usize, bytes: &[u8], choice: u64) -> Result<(), AllocError>
     ensures { OnOk result (Torn at (length bytes.now) file.old.items file.new.items) }
 {
     let part = (choice / 4 % 16) as usize;
@@ -51,6 +54,19 @@ fn tear(file: &mut Vec<u8>, at: usize, bytes: &[u8], choice: u64) -> Result<(), 
     }
 }
 
+// Puts a write as a crash may leave it: not at all with the choice 0, whole with the choice 3.
+fn tear(file: &mut Vec<u8>, at: usize, bytes: &[u8], choice: u64) -> Result<(), AllocError>
+    ensures torn { OnOk result (Torn at (length bytes.now) file.old.items file.new.items) }
+    ensures none { choice ≡ 0 → OnOk result (file.new.items ≡ file.old.items) }
+    ensures all { choice ≡ 3 → OnOk result (file.new.items ≡ written at bytes.now file.old.items) }
+{
+    match choice {
+        0 => Ok(()),
+        3 => put_range(file, at, bytes),
+        _ => tear_apart(file, at, bytes, choice),
+    }
+}
+
 // Makes the change of one call in a whole file and in a torn one. Behind a sync the torn file is the
 // whole one.
 fn step(
@@ -63,6 +79,8 @@ fn step(
     requires { written_count (call ∷ []) ≤ length store.now }
     ensures whole { OnOk result (whole.new.items ≡ after (change_of call store.now) whole.old.items) }
     ensures torn { OnOk result (Leaves (change_of call store.now) whole.old.items torn.old.items torn.new.items) }
+    ensures none { choice ≡ 0 → OnOk result (torn.new.items ≡ settled (change_of call store.now) whole.old.items torn.old.items) }
+    ensures all { choice ≡ 3 → torn.old.items ≡ whole.old.items → OnOk result (torn.new.items ≡ whole.new.items) }
 {
     match call {
         Call::Write { at, len } => {
@@ -86,7 +104,8 @@ fn count(call: Call) -> usize
     }
 }
 
-/// What a crash after these calls leaves of a file by choice.
+/// What a crash after these calls leaves of a file by choice: none of the writes since the last sync
+/// with the choice 0, all of them with the choice 3.
 pub(crate) fn replayed(
     alloc: Global,
     start: &[u8],
@@ -95,7 +114,9 @@ pub(crate) fn replayed(
     choice: u64,
 ) -> Result<Vec<u8>, AllocError>
     requires { written_count calls.now ≡ length store.now }
-    ensures { IfOk result (λ image. IsImage start.now (told [] calls.now store.now) image.items) }
+    ensures image { IfOk result (λ image. IsImage start.now (told [] calls.now store.now) image.items) }
+    ensures none { choice ≡ 0 → IfOk result (λ image. image.items ≡ synced_of start.now (told [] calls.now store.now)) }
+    ensures all { choice ≡ 3 → IfOk result (λ image. image.items ≡ content_of start.now (told [] calls.now store.now)) }
 {
     let mut whole = start.to_vec(alloc)?;
     let mut torn = start.to_vec(alloc)?;

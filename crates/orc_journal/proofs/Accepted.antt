@@ -5,7 +5,7 @@ use Rattle.std.proofs.lemmas.List.{append_cancel_left, append-nil}
 use Rattle.std.proofs.lemmas.List.Elements.{All-head, All-tail}
 use Rattle.orc_journal.specs.Entries.{entry_bytes, IsWritable}
 use Rattle.orc_journal.specs.Orders.{follows, are_ordered, is_ordered}
-use Rattle.orc_journal.specs.Journals.{magic, header, gated, journal_bytes, is_ending, IsJournal, IsNotJournal, IsForeign, IsDamaged}
+use Rattle.orc_journal.specs.Journals.{magic, header, gated, is_ending, IsJournal, IsNotJournal, IsForeign, IsDamaged}
 use Rattle.orc_journal.specs.Reading.{HasEntry}
 use Rattle.orc_journal.specs.declared.entry.Entry.{Entry}
 use Rattle.orc_journal.proofs.Readings.{one_entry}

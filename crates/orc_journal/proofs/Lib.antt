@@ -13,5 +13,6 @@ pub mod Accepted
 mod Verdicts
 mod Rules
 mod Opened
+mod LeftBehind
 mod Puts
 mod TornFiles

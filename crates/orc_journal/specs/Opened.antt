@@ -37,6 +37,13 @@ module _ {D : Type 0} (content : D → Option (List ℕ)) (may_leave : D → Lis
 abbrev pub IsBeforeOrAfter : List ℕ → List Entry → Entry → List ℕ → Type 0
 IsBeforeOrAfter decls entries entry file = IsGated file decls entries ⊎ IsGated file decls (entries ++ entry ∷ [])
 
+-- A file is what an append leaves of which so many of its four writes and syncs were done and the next one failed: a
+-- journal, with its ending gate, of the entries before, while that gate wasn't touched, and of those and the new one, once it
+-- was written. Where the write of the gate failed it may be either.
+pub record IsLeftBehind (done : ℕ) (decls : List ℕ) (entries : List Entry) (entry : Entry) (file : List ℕ) : Type 0 where
+  pub before : done < 2 → IsGated file decls entries
+  pub after : done ≡ 3 → IsGated file decls (entries ++ entry ∷ [])
+
 -- the entry with its gate passes the limit
 abbrev pub IsTooLong : {D : Type 0} → Opened D → Entry → Type 0
 IsTooLong journal entry = journal.limit < journal.len + length (entry_bytes entry) + 1

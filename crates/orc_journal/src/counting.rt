@@ -1,8 +1,7 @@
 //! How many bytes an entry has in the journal, counted without writing them. A count stays at the
 //! largest 64-bit number.
-ghost use Rattle.std.specs.Prelude.{◌≡◌, ◌<◌, ◌^◌, ◌+◌, ℕ, List, length};
+ghost use Rattle.std.specs.Prelude.{◌≡◌, ◌<◌, ℕ, List, length};
 ghost use Rattle.std.specs.List.{flat_map};
-ghost use Rattle.std.specs.Int.{w16, to_be_bytes};
 ghost use Rattle.orc_path.specs.Texts.{escape, key_text, step_text, path_text};
 ghost use Rattle.orc_call.specs.Fields.{text_bytes, item_bytes, spelled};
 ghost use Rattle.orc_call.specs.Writing.{put_bytes, device_put_bytes};

@@ -8,7 +8,7 @@ ghost use Rattle.orc_journal.specs.Faults.{IsReadCauseOf};
 use crate::reading::ReadFault;
 
 /// The first bytes of each journal.
-const MAGIC: &[u8; 8] = b"ORCJRNL1";
+pub(crate) const MAGIC: &[u8; 8] = b"ORCJRNL1";
 
 /// What stands behind this front.
 fn behind<'a>(bytes: &'a [u8], front: &[u8]) -> Option<&'a [u8]>

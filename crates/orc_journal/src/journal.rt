@@ -3,10 +3,11 @@ ghost use Rattle.std.specs.Prelude.{◌≡◌, ◌⊎◌, ◌<◌, ◌≤◌, �
 ghost use Rattle.std.specs.List.{flat_map};
 ghost use Rattle.orc_io.specs.Counts.{Rose};
 ghost use Rattle.orc_disk.specs.Moments.{LeavesOnly};
+ghost use Rattle.orc_disk.specs.Course.{Reaches, FailsAmong};
 ghost use Rattle.orc_journal.specs.Entries.{IsEntry, IsWritable, entry_bytes};
 ghost use Rattle.orc_journal.specs.Orders.{is_ordered};
-ghost use Rattle.orc_journal.specs.Journals.{header, gated, IsGated};
-ghost use Rattle.orc_journal.specs.Opened.{Holds, IsReady, IsBlock, IsBeforeOrAfter, IsTooLong, AreEntriesOf, IsOpening};
+ghost use Rattle.orc_journal.specs.Journals.{header, gated};
+ghost use Rattle.orc_journal.specs.Opened.{Holds, IsReady, IsBlock, IsBeforeOrAfter, IsLeftBehind, IsTooLong, AreEntriesOf, IsOpening};
 ghost use Rattle.orc_journal.specs.Faults.{IsCauseOf};
 ghost use Rattle.orc_journal.specs.declared.entry.Entry.{Entry};
 
@@ -69,8 +70,8 @@ impl<D: Disk> Journal<D> {
             (λ opened. LeavesOnly D.moment D.left_since disk opened.0.disk (λ c. D.may_leave disk c ⊎ IfSome (D.content disk) (λ file. IsOpening file decls.now c)))
             (λ refused. LeavesOnly D.moment D.left_since disk refused.1 (λ c. D.may_leave disk c ⊎ IfSome (D.content disk) (λ file. IsOpening file decls.now c))) }
         // The calls led there; one of them failed exactly at `DiskFault`.
-        ensures course { MatchResult result (λ opened. D.leads false disk opened.0.disk)
-            (λ refused. (failed : Bool) × D.leads failed disk refused.1 × (refused.0 ≡ OpenFault.DiskFault → failed ≡ true)) }
+        ensures course { MatchResult result (λ opened. Reaches D.leads false disk opened.0.disk)
+            (λ refused. (failed : Bool) × Reaches D.leads failed disk refused.1 × (refused.0 ≡ OpenFault.DiskFault → failed ≡ true)) }
     {
         match open(alloc, &mut disk, decls, limit) {
             Ok((contents, fresh)) => {
@@ -126,8 +127,10 @@ impl<D: Disk> Journal<D> {
         // A crash at any moment of the call leaves the entries before it, or those and the new one, and so does a fault.
         ensures any_moment { (decls : List ℕ) (entries : List Entry) → Holds D.content D.may_leave self.old decls entries → LeavesOnly D.moment D.left_since self.old.disk self.new.disk (IsBeforeOrAfter decls entries entry.now) }
         ensures left { (decls : List ℕ) (entries : List Entry) → Holds D.content D.may_leave self.old decls entries → IfSome (D.content self.new.disk) (IsBeforeOrAfter decls entries entry.now) }
-        // The calls led there; one of them failed at `DiskFault`.
-        ensures course { (failed : Bool) × D.leads failed self.old.disk self.new.disk × (IsErrOf result AppendFault.DiskFault → failed ≡ true) × (OnOk result (failed ≡ false)) }
+        // After Ok four writes and syncs led there and none failed. At `DiskFault` one of the four failed and was the
+        // last, and how many were done before it tells which entries are there.
+        ensures course { OnOk result (D.leads 4 false self.old.disk self.new.disk) }
+        ensures failed { IsErrOf result AppendFault.DiskFault → FailsAmong D.leads 4 self.old.disk self.new.disk (λ done. (decls : List ℕ) (entries : List Entry) → Holds D.content D.may_leave self.old decls entries → IfSome (D.content self.new.disk) (IsLeftBehind done decls entries entry.now)) }
     {
         match short_block(entry) {
             Some(block) => self.put_block(&block),
@@ -152,7 +155,8 @@ impl<D: Disk> Journal<D> {
         ensures tells { is_some (D.content self.new.disk) ≡ is_some (D.content self.old.disk) }
         ensures any_moment { (entry : Entry) → IsBlock block.now entry → (decls : List ℕ) (entries : List Entry) → Holds D.content D.may_leave self.old decls entries → LeavesOnly D.moment D.left_since self.old.disk self.new.disk (IsBeforeOrAfter decls entries entry) }
         ensures left { (entry : Entry) → IsBlock block.now entry → (decls : List ℕ) (entries : List Entry) → Holds D.content D.may_leave self.old decls entries → IfSome (D.content self.new.disk) (IsBeforeOrAfter decls entries entry) }
-        ensures course { (failed : Bool) × D.leads failed self.old.disk self.new.disk × (IsErrOf result AppendFault.DiskFault → failed ≡ true) × (OnOk result (failed ≡ false)) }
+        ensures course { OnOk result (D.leads 4 false self.old.disk self.new.disk) }
+        ensures failed { IsErrOf result AppendFault.DiskFault → FailsAmong D.leads 4 self.old.disk self.new.disk (λ done. (entry : Entry) → IsBlock block.now entry → (decls : List ℕ) (entries : List Entry) → Holds D.content D.may_leave self.old decls entries → IfSome (D.content self.new.disk) (IsLeftBehind done decls entries entry)) }
     {
         if self.len.saturating_add(block.len() as u64) > self.limit {
             return Err(AppendFault::Full { len: self.len });

@@ -1,10 +1,10 @@
 //! Opening a journal: what a disk holds is read, and the header or the ending gate is written where
 //! it lacks.
-ghost use Rattle.std.specs.Prelude.{◌≡◌, ◌⊎◌, ◌<◌, ◌≤◌, ◌^◌, ◌+◌, ◌++◌, ◌∷◌, ◌↔◌, ℕ, Bool, true, false, [], List, length, take, vec_len, IfOk, IfErr, OnOk, IsErrOf, IfSome, MatchResult, is_some, is_err, All, IsTrue};
-ghost use Rattle.std.specs.Option.{ForSome};
-ghost use Rattle.orc_io.specs.Counts.{Rose, HasCause};
-ghost use Rattle.orc_disk.specs.Crashes.{LeavesNoMore, LeavesAsRead};
+ghost use Rattle.std.specs.Prelude.{◌≡◌, ◌⊎◌, ◌<◌, ◌≤◌, ◌^◌, ◌+◌, ◌++◌, ◌∷◌, ◌↔◌, ℕ, Bool, true, false, [], List, length, vec_len, IfOk, IfErr, OnOk, IfSome, MatchResult, is_some, is_err, All, IsTrue};
+ghost use Rattle.orc_io.specs.Counts.{HasCause};
+ghost use Rattle.orc_disk.specs.Crashes.{LeavesAsRead};
 ghost use Rattle.orc_disk.specs.Moments.{LeavesOnly};
+ghost use Rattle.orc_disk.specs.Course.{Reaches};
 ghost use Rattle.orc_journal.specs.Entries.{IsWritable};
 ghost use Rattle.orc_journal.specs.Orders.{is_ordered};
 ghost use Rattle.orc_journal.specs.Journals.{header, journal_length, IsJournal, IsGated};
@@ -13,6 +13,7 @@ ghost use Rattle.orc_journal.specs.Faults.{IsCauseOf, IsDiskFault};
 ghost use Rattle.orc_journal.specs.declared.entry.Entry.{Entry};
 
 use crate::OpenFault;
+use crate::header::MAGIC;
 use crate::put::put_synced;
 use crate::reading::{Contents, read_journal};
 use orc_disk::Disk;
@@ -20,7 +21,7 @@ use orc_io::Failed;
 use orc_text::Memory;
 use std::alloc::Global;
 
-/// The length of a header without its declarations.
+/// The length of a header without its declarations: the first bytes, and the length of those.
 pub(crate) const HEADER_LEN: u64 = 12;
 
 // How many bytes one read takes at most.
@@ -32,7 +33,7 @@ fn read_piece<D: Disk>(disk: &mut D, bytes: &mut Vec<u8>) -> Result<bool, OpenFa
     ensures front { IfOk result (λ more. IfSome (D.content disk.old) (λ file. IsFront bytes.old.items file → IsFront bytes.new.items file)) }
     ensures end { IfOk result (λ more. IfSome (D.content disk.old) (λ file. IsFront bytes.old.items file → more ≡ false → bytes.new.items ≡ file)) }
     ensures reads { ChangesNothing D.content D.may_leave D.moment D.left_since disk.old disk.new }
-    ensures course { MatchResult result (λ _. D.leads false disk.old disk.new) (λ fault. (failed : Bool) × D.leads failed disk.old disk.new × (fault ≡ OpenFault.DiskFault → failed ≡ true)) }
+    ensures course { MatchResult result (λ _. Reaches D.leads false disk.old disk.new) (λ fault. (failed : Bool) × Reaches D.leads failed disk.old disk.new × (fault ≡ OpenFault.DiskFault → failed ≡ true)) }
     ensures refused { IfErr result (IsDiskFault D.faults disk.old disk.new) }
 {
     let mut buf = [0u8; PIECE_LEN];
@@ -47,7 +48,7 @@ fn read_piece<D: Disk>(disk: &mut D, bytes: &mut Vec<u8>) -> Result<bool, OpenFa
 fn read_all<D: Disk>(alloc: Global, disk: &mut D) -> Result<Vec<u8>, OpenFault>
     ensures whole { IfOk result (λ bytes. IfSome (D.content disk.old) (λ file. bytes.items ≡ file)) }
     ensures reads { ChangesNothing D.content D.may_leave D.moment D.left_since disk.old disk.new }
-    ensures course { MatchResult result (λ _. D.leads false disk.old disk.new) (λ fault. (failed : Bool) × D.leads failed disk.old disk.new × (fault ≡ OpenFault.DiskFault → failed ≡ true)) }
+    ensures course { MatchResult result (λ _. Reaches D.leads false disk.old disk.new) (λ fault. (failed : Bool) × Reaches D.leads failed disk.old disk.new × (fault ≡ OpenFault.DiskFault → failed ≡ true)) }
     ensures refused { IfErr result (IsDiskFault D.faults disk.old disk.new) }
 {
     let mut bytes = Vec::new(alloc);
@@ -60,7 +61,7 @@ fn load<D: Disk>(alloc: Global, disk: &mut D) -> Result<Vec<u8>, OpenFault>
     ensures whole { IfOk result (λ bytes. IfSome (D.content disk.old) (λ file. bytes.items ≡ file)) }
     ensures durable { IfOk result (λ bytes. 0 < vec_len bytes → LeavesAsRead (D.content disk.new) (D.may_leave disk.new)) }
     ensures reads { ChangesNothing D.content D.may_leave D.moment D.left_since disk.old disk.new }
-    ensures course { MatchResult result (λ _. D.leads false disk.old disk.new) (λ fault. (failed : Bool) × D.leads failed disk.old disk.new × (fault ≡ OpenFault.DiskFault → failed ≡ true)) }
+    ensures course { MatchResult result (λ _. Reaches D.leads false disk.old disk.new) (λ fault. (failed : Bool) × Reaches D.leads failed disk.old disk.new × (fault ≡ OpenFault.DiskFault → failed ≡ true)) }
     ensures refused { IfErr result (IsDiskFault D.faults disk.old disk.new) }
 {
     if disk.len()? == 0 {
@@ -76,7 +77,7 @@ fn header_block(alloc: Global, decls: &[u8]) -> Result<Vec<u8>, Memory>
     ensures { IfOk result (λ block. block.items ≡ header decls.now ++ 0 ∷ []) }
 {
     let mut block = Vec::new(alloc);
-    block.extend_from_slice(b"ORCJRNL1")?;
+    block.extend_from_slice(MAGIC)?;
     block.extend_from_slice(&(decls.len() as u32).to_be_bytes())?;
     block.extend_from_slice(decls)?;
     block.push(0)?;
@@ -90,7 +91,7 @@ fn fill<D: Disk>(disk: &mut D, bytes: &[u8]) -> Result<(), Failed>
     ensures durable { OnOk result (LeavesAsRead (D.content disk.new) (D.may_leave disk.new)) }
     ensures tells { is_some (D.content disk.new) ≡ is_some (D.content disk.old) }
     ensures any_moment { (decls : List ℕ) → LeavesOnly D.moment D.left_since disk.old disk.new (λ c. IfSome (D.content disk.old) (λ file. IsOpening file decls c)) }
-    ensures course { D.leads (is_err result) disk.old disk.new }
+    ensures course { Reaches D.leads (is_err result) disk.old disk.new }
     ensures cause { HasCause (D.faults disk.old) (D.faults disk.new) result }
 {
     disk.write_at(0, bytes)?;
@@ -113,7 +114,7 @@ fn begin<D: Disk>(
     ensures room { OnOk result (length (header decls.now) + 1 ≤ limit) }
     ensures tells { is_some (D.content disk.new) ≡ is_some (D.content disk.old) }
     ensures any_moment { LeavesOnly D.moment D.left_since disk.old disk.new (λ c. IfSome (D.content disk.old) (λ file. IsOpening file decls.now c)) }
-    ensures course { MatchResult result (λ _. D.leads false disk.old disk.new) (λ fault. (failed : Bool) × D.leads failed disk.old disk.new × (fault ≡ OpenFault.DiskFault → failed ≡ true)) }
+    ensures course { MatchResult result (λ _. Reaches D.leads false disk.old disk.new) (λ fault. (failed : Bool) × Reaches D.leads failed disk.old disk.new × (fault ≡ OpenFault.DiskFault → failed ≡ true)) }
     ensures refused { IfErr result (IsCauseOf D.content D.faults disk.old disk.new decls.now limit) }
 {
     let len = HEADER_LEN + decls.len() as u64 + 1;
@@ -136,7 +137,7 @@ fn close<D: Disk>(disk: &mut D, bytes: &[u8], len: u64) -> Result<(), Failed>
     ensures durable { OnOk result (LeavesAsRead (D.content disk.new) (D.may_leave disk.new)) }
     ensures tells { is_some (D.content disk.new) ≡ is_some (D.content disk.old) }
     ensures any_moment { (decls : List ℕ) (entries : List Entry) → IsJournal bytes.now decls entries → len ≡ journal_length decls entries → LeavesOnly D.moment D.left_since disk.old disk.new (λ c. IsOpening bytes.now decls c) }
-    ensures course { D.leads (is_err result) disk.old disk.new }
+    ensures course { Reaches D.leads (is_err result) disk.old disk.new }
     ensures cause { HasCause (D.faults disk.old) (D.faults disk.new) result }
 {
     if len <= bytes.len() as u64 {
@@ -163,7 +164,7 @@ fn found<D: Disk>(
     ensures len { IfOk result (λ found. found.len ≡ journal_length decls.now found.entries.items) }
     ensures tells { is_some (D.content disk.new) ≡ is_some (D.content disk.old) }
     ensures any_moment { LeavesOnly D.moment D.left_since disk.old disk.new (λ c. IfSome (D.content disk.old) (λ file. IsOpening file decls.now c)) }
-    ensures course { MatchResult result (λ _. D.leads false disk.old disk.new) (λ fault. (failed : Bool) × D.leads failed disk.old disk.new × (fault ≡ OpenFault.DiskFault → failed ≡ true)) }
+    ensures course { MatchResult result (λ _. Reaches D.leads false disk.old disk.new) (λ fault. (failed : Bool) × Reaches D.leads failed disk.old disk.new × (fault ≡ OpenFault.DiskFault → failed ≡ true)) }
     ensures refused { (limit : ℕ) → IfErr result (IsCauseOf D.content D.faults disk.old disk.new decls.now limit) }
 {
     let contents = read_journal(alloc, bytes, decls)?;
@@ -190,7 +191,7 @@ pub(crate) fn open<D: Disk>(
     ensures refused { IfErr result (IsCauseOf D.content D.faults disk.old disk.new decls.now limit) }
     ensures tells { is_some (D.content disk.new) ≡ is_some (D.content disk.old) }
     ensures any_moment { LeavesOnly D.moment D.left_since disk.old disk.new (λ c. D.may_leave disk.old c ⊎ IfSome (D.content disk.old) (λ file. IsOpening file decls.now c)) }
-    ensures course { MatchResult result (λ _. D.leads false disk.old disk.new) (λ fault. (failed : Bool) × D.leads failed disk.old disk.new × (fault ≡ OpenFault.DiskFault → failed ≡ true)) }
+    ensures course { MatchResult result (λ _. Reaches D.leads false disk.old disk.new) (λ fault. (failed : Bool) × Reaches D.leads failed disk.old disk.new × (fault ≡ OpenFault.DiskFault → failed ≡ true)) }
 {
     let bytes = load(alloc, disk)?;
     if bytes.is_empty() {

@@ -1,5 +1,5 @@
 //! Journals byte by byte, cut, disordered and torn.
-ghost use Rattle.std.specs.Prelude.{◌≡◌, ◌<◌, ◌^◌, ◌+◌, length, All, IfOk, OnOk};
+ghost use Rattle.std.specs.Prelude.{◌≡◌, ◌<◌, ◌^◌, ◌+◌, length, All, IfOk};
 ghost use Rattle.std.specs.List.{flat_map};
 ghost use Rattle.orc_journal.specs.Entries.{IsWritable};
 ghost use Rattle.orc_journal.specs.Journals.{gated};

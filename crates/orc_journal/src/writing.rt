@@ -1,5 +1,5 @@
 //! The bytes of an entry.
-ghost use Rattle.std.specs.Prelude.{◌≡◌, ◌++◌, ◌<◌, ◌^◌, All, length, IfOk, OnOk};
+ghost use Rattle.std.specs.Prelude.{◌≡◌, ◌++◌, ◌<◌, IfOk, OnOk};
 ghost use Rattle.std.specs.Int.{w64, to_be_bytes};
 ghost use Rattle.orc_call.specs.Encoding.{IsCall, call_bytes};
 ghost use Rattle.orc_journal.specs.Entries.{IsEntry, AreDevices, devices_bytes, payload};

@@ -3,16 +3,16 @@ use Rattle.std.proofs.Common.{◌≡◌, ℕ, true, List, [], ◌∷◌, ◌++�
 use Rattle.std.proofs.Math.Seq.{take-length}
 use Rattle.orc_call.specs.declared.call.Call.{Call}
 use Rattle.orc_call.specs.declared.answer.Answer.{Answer}
-use Rattle.orc_run.specs.Legal.{AnswersAtOnce, IsDue, IsLegal}
+use Rattle.orc_state.specs.Legal.{AnswersAtOnce, IsDue, IsLegal}
 use Rattle.orc_run.specs.Pasts.{IsBehind}
 use Rattle.orc_run.specs.Serving.{ServesTo}
 use Rattle.orc_run.specs.Controllers.{world_of, IsCommitting, IsSound}
 use Rattle.orc_run.specs.Deciding.{Appends}
 use Rattle.orc_run.specs.declared.controller.Controller.{Controller}
-use Rattle.orc_run.specs.declared.decls.Decls.{Decls}
+use Rattle.orc_state.specs.declared.declarations.Decls.{Decls}
 use Rattle.orc_run.specs.declared.past.Past.{Past}
 use Rattle.orc_run.specs.declared.serving.Served.TheVariants.{Answered}
-use Rattle.orc_run.specs.declared.state.State.{State}
+use Rattle.orc_state.specs.declared.state.State.{State}
 
 module _ {D : Type 0} (content : D → Option (List ℕ)) (may_leave : D → List ℕ → Type 0) (moment : D → ℕ) (left_since : D → ℕ → List ℕ → Type 0)
     (decls : Decls) (old : Controller D) (sound : IsSound content may_leave moment left_since decls old) where
@@ -25,9 +25,9 @@ module _ {D : Type 0} (content : D → Option (List ℕ)) (may_leave : D → Lis
     behind = subst (λ (l : List Call). IsBehind decls old.past l) knows_all sound.behind
 
     pub at_once : (call : Call) (given : Answer) (past : Past) → past ≡ old.past → AnswersAtOnce decls old.past.history call given
-        → ServesTo decls (world_of old) call (Answered given) (world_of (record old { past = past }))
+        → ServesTo content decls (world_of old) call (Answered given) (world_of (record old { past = past }))
     at_once call given past kept answers =
-        subst (λ (p : Past). ServesTo decls (world_of old) call (Answered given) (world_of (record old { past = p }))) (sym kept)
+        subst (λ (p : Past). ServesTo content decls (world_of old) call (Answered given) (world_of (record old { past = p }))) (sym kept)
         (ServesTo.at_once given up (subst (λ (l : List Call). AnswersAtOnce decls l call given) (sym knows_all) answers))
 
     module _ (call : Call) (past : Past) (rest : past ≡ record old.past { state = past.state }) (due : IsDue decls old.past.history call) where

@@ -10,13 +10,13 @@ use Rattle.orc_call.specs.declared.call.Call.{Call}
 use Rattle.orc_call.specs.declared.call.Action.{Action}
 use Rattle.orc_call.specs.declared.answer.Answer.{Answer}
 use Rattle.orc_call.specs.declared.answer.Answer.TheVariants.{Committed, Reused}
-use Rattle.orc_run.specs.States.{action_of, refusal}
-use Rattle.orc_run.specs.Legal as legal
-use Rattle.orc_run.specs.Legal.{AnswersAtOnce, IsDue, IsNew, IsSame, state_of}
+use Rattle.orc_state.specs.States.{action_of, refusal}
+use Rattle.orc_state.specs.Legal as legal
+use Rattle.orc_state.specs.Legal.{AnswersAtOnce, IsDue, IsNew, IsSame}
 use Rattle.orc_run.specs.Pasts.{IsBehind}
-use Rattle.orc_run.specs.declared.decls.Decls.{Decls}
+use Rattle.orc_state.specs.declared.declarations.Decls.{Decls}
 use Rattle.orc_run.specs.declared.past.Past.{Past}
-use Rattle.orc_run.specs.declared.state.State.{State}
+use Rattle.orc_state.specs.declared.state.State.{State}
 
 read_there : (history : List Call) (n : ℕ) (entry read : Call) → slice_get history n ≡ Some entry → read ≡ get_or history n read → entry ≡ read
 read_there history n entry read at is = sym (get_or_from_slice_get history n entry read at) ∙ sym is

@@ -1,10 +1,9 @@
 -- What the parts of a commit leave of the world.
-use Rattle.std.proofs.Common.{◌≡◌, ℕ, ◌≤◌, Bool, true, false, not, cond, eqb, List, [], ◌∷◌, ◌++◌, length, take, Option, IfSome, is_some, Result, Ok, Err, OnOk, inl, inr, ⊎_elim, refl, sym, ap, subst, ◌∙◌, arith}
+use Rattle.std.proofs.Common.{◌≡◌, ℕ, ◌≤◌, Bool, true, false, not, cond, List, [], ◌∷◌, ◌++◌, length, take, Option, IfSome, is_some, Result, Ok, Err, OnOk, inl, inr, ⊎_elim, refl, sym, subst, ◌∙◌, arith}
 use Rattle.std.specs.Prelude.{IsErrOf}
 use Rattle.std.proofs.Math.Seq.{take-length}
 use Rattle.std.proofs.lemmas.Option.{IfSome_then}
 use Rattle.std.proofs.lemmas.Result.{on_ok_weaker}
-use Rattle.std.proofs.lemmas.Bool.{eq-eqb, eqb-true}
 use Rattle.orc_io.specs.Counts.{Rose}
 use Rattle.orc_disk.specs.Course.{Counted}
 use Rattle.orc_disk.specs.Moments.{LeavesOnly}
@@ -18,16 +17,18 @@ use Rattle.orc_journal.specs.declared.entry.Entry.{Entry}
 use Rattle.orc_journal.specs.declared.entry.Entry.TheVariants.{Decide, Settled}
 use Rattle.orc_journal.specs.declared.fault.AppendFault.{AppendFault}
 use Rattle.orc_journal.specs.declared.fault.AppendFault.TheVariants as fault
-use Rattle.orc_run.specs.Legal.{IsLegal}
+use Rattle.orc_state.specs.States.{action_of}
+use Rattle.orc_state.specs.Legal.{IsLegal, state_of}
+use Rattle.orc_run.specs.Touched.{devices_of}
 use Rattle.orc_run.specs.Pasts.{IsBehind}
 use Rattle.orc_run.specs.Worlds.{World, IsWithin, IsKept, Rests}
-use Rattle.orc_run.specs.Steps.{IsFull, IsCauseOf, largest_journal}
+use Rattle.orc_run.specs.Steps.{IsEntryOf, IsFull, IsCauseOf, largest_journal}
 use Rattle.orc_run.specs.Serving.{goes_on}
 use Rattle.orc_run.specs.Controllers.{world_of, IsUp, IsSound}
 use Rattle.orc_run.specs.Deciding.{HaveHistory, IsUpToDecision, IsDecided, Settles, SaysCommitted, said_of_committed}
-use Rattle.orc_run.specs.declared.bundle.ScriptStep.{ScriptStep}
+use Rattle.orc_bundle.specs.declared.bundle.ScriptStep.TheVariants.{Serve}
 use Rattle.orc_run.specs.declared.controller.Controller.{Controller}
-use Rattle.orc_run.specs.declared.decls.Decls.{Decls}
+use Rattle.orc_state.specs.declared.declarations.Decls.{Decls}
 use Rattle.orc_run.specs.declared.serving.Served.{Served}
 use Rattle.orc_run.specs.declared.serving.Served.TheVariants.{Answered, Broken}
 use Rattle.orc_run.specs.declared.stop.Stop.{Stop}
@@ -81,10 +82,11 @@ answered_ok P count false (Err fault.Memory) given is h = absurd cc
 
 module _ {D : Type 0} (content : D → Option (List ℕ)) (may_leave : D → List ℕ → Type 0) where
   -- the cause of an entry that is too long
-  pub full_of : (j : Opened D) (decls : Decls) (entries : List Entry) (entry : Entry) (len : ℕ) → Holds content may_leave j decls.text entries → j.limit ≡ largest_journal
-      → len ≡ j.len → IsTooLong j entry → IsFull (content j.disk) decls.text len
-  full_of j decls entries entry len holds limit is too_long = record {
+  pub full_of : (j : Opened D) (decls : Decls) (entries : List Entry) (call : Call) (devices : List ℕ) (entry : Entry) (len : ℕ) → IsEntryOf call devices entry → Holds content may_leave j decls.text entries → j.limit ≡ largest_journal
+      → len ≡ j.len → IsTooLong j entry → IsFull (content j.disk) decls.text call devices len
+  full_of j decls entries call devices entry len of_commit holds limit is too_long = record {
     entry = entry;
+    of_commit = of_commit;
     passes = let e : len ≡ j.len = is in omega arith;
     length = IfSome_then (content j.disk) holds.file (λ file gated. (entries, gated, is ∙ holds.len));
   }
@@ -100,31 +102,12 @@ module _ {D : Type 0} (content : D → Option (List ℕ)) (may_leave : D → Lis
 
 -- ---- the course of the disk that can be stopped
 
-module _ {D : Type 0} (faults : D → ℕ) (leads : Bool → D → D → Type 0) where
+module _ {D : Type 0} (faults : D → ℕ) (leads : ℕ → Bool → D → D → Type 0) where
   -- a failed call of a disk that is not stopped is one of the disk inside
-  pub rose : ((x : Bool) (a b : D) → leads x a b → Counted x (faults a) (faults b)) → (x : Bool) (a b : Stopping D) → Led leads x a b → x ≡ true → b.stopped ≡ false
+  pub rose : ((n : ℕ) (x : Bool) (a b : D) → leads n x a b → Counted x (faults a) (faults b)) → (n : ℕ) (x : Bool) (a b : Stopping D) → Led leads n x a b → x ≡ true → b.stopped ≡ false
       → Rose (faults a.inner) (faults b.inner)
-  rose counts x a b led failed running =
-      ⊎_elim (λ inner. (counts led.inner_failed a.inner b.inner led.inner).rose inner) (λ stopped. absurd (let s = stopped.0 in cc)) (led.cause failed)
-
-  -- a stop is armed only where one was
-  pub was_armed : (x : Bool) (a b : Stopping D) → Led leads x a b → a.stopped ≡ false → not (eqb b.call 0) ≡ true → not (eqb a.call 0) ≡ true
-  was_armed x a b led running armed = on (eqb a.call 0) refl
-    where
-      never : b.call ≡ 0 → ⊥
-      never e = let f = ap not (eq-eqb b.call 0 e) in absurd cc
-
-      on : (o : Bool) → eqb a.call 0 ≡ o → not (eqb a.call 0) ≡ true
-      on true is = absurd (never (led.unarmed (eqb-true a.call 0 is) running).0)
-      on false is = ap not is
-
-  -- it stops only where a stop was armed
-  pub stop_was_armed : (x : Bool) (a b : Stopping D) → Led leads x a b → a.stopped ≡ false → b.stopped ≡ true → not (eqb a.call 0) ≡ true
-  stop_was_armed x a b led running stopped = on (eqb a.call 0) refl
-    where
-      on : (o : Bool) → eqb a.call 0 ≡ o → not (eqb a.call 0) ≡ true
-      on true is = let e = (led.unarmed (eqb-true a.call 0 is) running).1 in absurd cc
-      on false is = ap not is
+  rose counts n x a b led failed running =
+      ⊎_elim (λ inner. (counts led.inner_calls led.inner_failed a.inner b.inner led.inner).rose inner) (λ stopped. absurd (let s = stopped.0 in cc)) (led.cause failed)
 
 -- what a crash leaves of the disk inside
 pub inner_run : {D : Type 0} (moment : D → ℕ) (left_since : D → ℕ → List ℕ → Type 0) (old new : Stopping D) (P : List ℕ → Type 0)
@@ -151,9 +134,9 @@ broken_by Q count false (Err (fault.Full len)) disk full memory given end is = l
 broken_by Q count false (Err fault.Memory) disk full memory given end is = let e : stop.Memory ≡ end = cc in subst Q e memory
 
 module _ {D : Type 0} (content : D → Option (List ℕ)) (may_leave : D → List ℕ → Type 0) (moment : D → ℕ) (left_since : D → ℕ → List ℕ → Type 0)
-    (faults : D → ℕ) (leads : Bool → D → D → Type 0)
+    (faults : D → ℕ) (leads : ℕ → Bool → D → D → Type 0)
     (counts_now : (disk : D) (t : ℕ) (c : List ℕ) → t ≤ moment disk → may_leave disk c → left_since disk t c)
-    (counts : (x : Bool) (a b : D) → leads x a b → Counted x (faults a) (faults b)) where
+    (counts : (n : ℕ) (x : Bool) (a b : D) → leads n x a b → Counted x (faults a) (faults b)) where
   -- the controller that knows so many calls, with its journal
   abbrev knowing : Controller D → Opened (Stopping D) → ℕ → Controller D
   knowing old j n = record { journal = j; up = cond j.disk.stopped false old.up; past = old.past; known = n }
@@ -176,7 +159,8 @@ module _ {D : Type 0} (content : D → Option (List ℕ)) (may_leave : D → Lis
         (tells : is_some (content j.disk.inner) ≡ is_some (content old.journal.disk.inner))
         (any_moment : LeavesOnly {D = Stopping D} (λ s. moment s.inner) (λ s. left_since s.inner) old.journal.disk j.disk (IsBeforeOrAfter decls.text is.entries (Settled t)))
         (left : IfSome (content j.disk.inner) (IsBeforeOrAfter decls.text is.entries (Settled t)))
-        (failed : Bool) (led : Led leads failed old.journal.disk j.disk) (cause : IsErrOf settled fault.DiskFault → failed ≡ true) where
+        (calls : ℕ) (failed : Bool) (led : Led leads calls failed old.journal.disk j.disk) (few : calls ≤ 4) (whole : OnOk settled (calls ≡ 4))
+        (cause : IsErrOf settled fault.DiskFault → failed ≡ true) where
       images : LeavesOnly moment left_since old.journal.disk.inner j.disk.inner (IsKept decls (world_of (knowing old j n)))
       images =
           weaker moment left_since old.journal.disk.inner j.disk.inner (IsBeforeOrAfter decls.text is.entries (Settled t)) (IsKept decls (world_of (knowing old j n))) keeps
@@ -212,14 +196,19 @@ module _ {D : Type 0} (content : D → Option (List ℕ)) (may_leave : D → Lis
         up = is_up on;
       }
 
-      broken : (given : Option Answer) (end : Stop) (s : ScriptStep) → said_of_committed n j.disk.stopped settled ≡ Broken given end
-          → IsCauseOf content faults decls (world_of old) s end (world_of (knowing old j n))
-      broken given end s is_broken =
-          broken_by (λ e. IsCauseOf content faults decls (world_of old) s e (world_of (knowing old j n))) n j.disk.stopped settled
-          (λ running e. rose faults leads counts failed old.journal.disk j.disk led (cause e) running)
+      broken : (given : Option Answer) (end : Stop) (call : Call) → said_of_committed n j.disk.stopped settled ≡ Broken given end
+          → IsCauseOf content faults decls (world_of old) (Serve call) end (world_of (knowing old j n))
+      broken given end call is_broken =
+          broken_by (λ e. IsCauseOf content faults decls (world_of old) (Serve call) e (world_of (knowing old j n))) n j.disk.stopped settled
+          (λ running e. rose faults leads counts calls failed old.journal.disk j.disk led (cause e) running)
           (λ len e. let f = full len e in
-          inl (subst (λ (k : Opened (Stopping D)). IsFull (content k.disk.inner) decls.text len) (sym f.2)
-          (full_of {D = Stopping D} (λ s. content s.inner) (λ s. may_leave s.inner) old.journal decls is.entries (Settled t) len is.holds is.limit f.0 f.1)))
+          let devices = devices_of decls.names (state_of decls (world_of old).known) (action_of call) in
+          inl (
+            call,
+            refl,
+            subst (λ (k : Opened (Stopping D)). IsFull (content k.disk.inner) decls.text call devices len) (sym f.2)
+                (full_of {D = Stopping D} (λ s. content s.inner) (λ s. may_leave s.inner) old.journal decls is.entries call devices (Settled t) len tt is.holds is.limit f.0 f.1),
+          ))
           tt given end is_broken
 
       settles_to : Settles content may_leave moment left_since faults leads decls t old (said_of_committed n j.disk.stopped settled) (knowing old j n)
@@ -234,8 +223,11 @@ module _ {D : Type 0} (content : D → Option (List ℕ)) (may_leave : D → Lis
         rests = rests;
         images = images;
         tells = tells;
+        calls = calls;
         failed = failed;
         course = led;
+        few = few;
+        whole = λ given e. answered_ok (calls ≡ 4) n j.disk.stopped settled given e whole;
       }
 
       pub settles : (served : Served) (new : Controller D) → served ≡ said_of_committed n j.disk.stopped settled → new ≡ knowing old j n

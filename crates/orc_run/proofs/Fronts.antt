@@ -1,16 +1,23 @@
--- The front of a legal history is legal.
-use Rattle.std.proofs.Common.{◌≡◌, ℕ, List, [], ◌∷◌, ◌++◌, take, drop, All, IsTrue, sym, ap, subst, ◌∙◌, append_assoc, append-nil}
+-- The history of entries, one entry more, and that of their front.
+use Rattle.std.proofs.Common.{◌≡◌, ℕ, List, [], ◌∷◌, ◌++◌, take, drop, sym, ap, subst, ◌∙◌, append_assoc, append-nil}
 use Rattle.std.proofs.lemmas.List.{take-append-drop}
-use Rattle.std.proofs.lemmas.List.Elements.{All-nil, All-cons, All-head, All-tail}
 use Rattle.orc_call.specs.declared.call.Call.{Call}
 use Rattle.orc_journal.specs.Committed.{commits, history_from, history_of}
 use Rattle.orc_journal.specs.declared.entry.Entry.{Entry}
-use Rattle.orc_run.specs.States.{action_of, after, opening}
-use Rattle.orc_run.specs.Histories.{IsUnrefused}
-use Rattle.orc_run.specs.Bundles.{is_call}
-use Rattle.orc_run.specs.Legal.{AreDistinct, IsLegal}
-use Rattle.orc_run.specs.declared.decls.Decls.{Decls}
-use Rattle.orc_run.specs.declared.state.State.{State}
+use Rattle.orc_state.specs.Legal.{IsLegal}
+use Rattle.orc_state.specs.declared.declarations.Decls.{Decls}
+use Rattle.orc_state.proofs.Legality.{legal_front}
+
+-- a history, one entry more
+history_from-append : (before entries : List Entry) (entry : Entry) → history_from before (entries ++ entry ∷ []) ≡ history_from before entries ++ commits (before ++ entries) entry
+history_from-append before [] entry = append-nil (commits before entry) ∙ ap (λ (l : List Entry). commits l entry) (sym (append-nil before))
+history_from-append before (first ∷ entries) entry =
+    ap (λ (l : List Call). commits before first ++ l) (history_from-append (before ++ first ∷ []) entries entry)
+    ∙ sym (append_assoc (commits before first) (history_from (before ++ first ∷ []) entries) (commits ((before ++ first ∷ []) ++ entries) entry))
+    ∙ ap (λ (l : List Entry). (commits before first ++ history_from (before ++ first ∷ []) entries) ++ commits l entry) (append_assoc before (first ∷ []) entries)
+
+pub history_of-append : (entries : List Entry) (entry : Entry) → history_of (entries ++ entry ∷ []) ≡ history_of entries ++ commits entries entry
+history_of-append entries entry = history_from-append [] entries entry
 
 history_from-join : (before xs ys : List Entry) → history_from before (xs ++ ys) ≡ history_from before xs ++ history_from (before ++ xs) ys
 history_from-join before [] ys = ap (λ (l : List Entry). history_from l ys) (sym (append-nil before))
@@ -19,26 +26,7 @@ history_from-join before (x ∷ xs) ys =
     ∙ sym (append_assoc (commits before x) (history_from (before ++ x ∷ []) xs) (history_from ((before ++ x ∷ []) ++ xs) ys))
     ∙ ap (λ (l : List Entry). (commits before x ++ history_from (before ++ x ∷ []) xs) ++ history_from l ys) (append_assoc before (x ∷ []) xs)
 
-unrefused_front : (names : List (List ℕ)) (s : State) (a b : List Call) → IsUnrefused names s (a ++ b) → IsUnrefused names s a
-unrefused_front names s [] b h = tt
-unrefused_front names s (call ∷ a) b h = (h.0, unrefused_front names (after names s (action_of call)) a b h.1)
-
-distinct_front : (before a b : List Call) → AreDistinct before (a ++ b) → AreDistinct before a
-distinct_front before [] b h = tt
-distinct_front before (call ∷ a) b h = (h.0, distinct_front (before ++ call ∷ []) a b h.1)
-
-all_front : {X : Type 0} (P : X → Type 0) (a b : List X) → All P (a ++ b) → All P a
-all_front P [] b h = All-nil P
-all_front P (x ∷ a) b h = All-cons P x a (All-head P x (a ++ b) h) (all_front P a b (All-tail P x (a ++ b) h))
-
-legal_front : (decls : Decls) (a b : List Call) → IsLegal decls (a ++ b) → IsLegal decls a
-legal_front decls a b h = record {
-  lawful = all_front (λ (call : Call). IsTrue (is_call decls.names call)) a b h.lawful;
-  unrefused = unrefused_front decls.names (opening decls.devices) a b h.unrefused;
-  distinct = distinct_front [] a b h.distinct;
-}
-
--- so is the history of the first of some entries whose history is legal
+-- where the history of entries is legal, that of the first of them is
 pub legal_take : (decls : Decls) (entries : List Entry) (n : ℕ) → IsLegal decls (history_of entries) → IsLegal decls (history_of (take n entries))
 legal_take decls entries n h =
     let parts : history_of entries ≡ history_of (take n entries) ++ history_from (take n entries) (drop n entries) =

@@ -1,18 +1,17 @@
 -- What a run keeps: the history at entry, and then some of the script's calls in their order.
-use Rattle.std.proofs.Common.{◌≡◌, ◌⊎◌, ℕ, ◌≤◌, Bool, true, false, not, ◌==◌, List, [], ◌∷◌, ◌++◌, None, Some, Option, IfSome, is_some, if◌then◌else◌, inl, inr, ⊎_elim, refl, sym, ap, subst, ◌∙◌, append_assoc, append-nil}
+use Rattle.std.proofs.Common.{◌≡◌, ◌⊎◌, ℕ, Bool, true, false, List, [], ◌∷◌, ◌++◌, None, Some, Option, IfSome, is_some, if◌then◌else◌, inl, inr, ⊎_elim, refl, sym, ap, subst, ◌∙◌, append_assoc, append-nil}
 use Rattle.orc_call.specs.declared.call.Call.{Call}
-use Rattle.orc_call.specs.declared.answer.Answer.{Answer}
 use Rattle.orc_disk.specs.Moments.{LeavesOnly}
 use Rattle.orc_disk.proofs.Moments.{started, joined, weaker}
 use Rattle.orc_run.specs.Worlds.{World, Decodes, IsKept, Rests, Outlives}
-use Rattle.orc_run.specs.Steps.{Commits, LeavesOpen, Stays, Serves, Recovers, Does, Breaks}
-use Rattle.orc_run.specs.Runs.{Runs, EndsAt}
+use Rattle.orc_run.specs.Steps.{Commits, LeavesOpen, Serves, Does, Breaks}
+use Rattle.orc_run.specs.Runs.{Runs}
 use Rattle.orc_run.specs.Runs.Runs.{begun, one_more}
 use Rattle.orc_run.specs.Ends.{Begins, AreSome, calls_in, RunsTo, KeepsAll}
 use Rattle.orc_run.specs.Ends.AreSome.{none, skip, take}
-use Rattle.orc_run.specs.declared.decls.Decls.{Decls}
-use Rattle.orc_run.specs.declared.bundle.ScriptStep.{ScriptStep}
-use Rattle.orc_run.specs.declared.bundle.ScriptStep.TheVariants as step
+use Rattle.orc_state.specs.declared.declarations.Decls.{Decls}
+use Rattle.orc_bundle.specs.declared.bundle.ScriptStep.{ScriptStep}
+use Rattle.orc_bundle.specs.declared.bundle.ScriptStep.TheVariants as step
 use Rattle.orc_run.specs.declared.stop.Stop.{Stop}
 
 calls_in-append : (steps more : List ScriptStep) → calls_in (steps ++ more) ≡ calls_in steps ++ calls_in more
@@ -61,12 +60,12 @@ module _ {D : Type 0} where
     pending = inr (call, opens.pending, take so.added calls call so.are);
   }
 
-  adds_serve : (decls : Decls) (first w new : World D) (calls : List Call) (call : Call) (text : List ℕ) → Adds first w calls → Serves decls w call text new → Adds first new (calls ++ call ∷ [])
-  adds_serve decls first w new calls call text so (Serves.down is) = adds_same first w w calls (call ∷ []) so refl refl
-  adds_serve decls first w new calls call text so (Serves.at_once answer is answers) = adds_same first w w calls (call ∷ []) so refl refl
-  adds_serve decls first w new calls call text so (Serves.committed n is due commits up) = adds_commit first w n calls call so commits
-  adds_serve decls first w new calls call text so (Serves.committed_and_stopped n is due armed commits up) = adds_commit first w n calls call so commits
-  adds_serve decls first w new calls call text so (Serves.stopped n is due armed opens up) = adds_open first w n calls call so opens
+  adds_serve : (content : D → Option (List ℕ)) (decls : Decls) (first w new : World D) (calls : List Call) (call : Call) (text : List ℕ) → Adds first w calls → Serves content decls w call text new → Adds first new (calls ++ call ∷ [])
+  adds_serve content decls first w new calls call text so (Serves.down is) = adds_same first w w calls (call ∷ []) so refl refl
+  adds_serve content decls first w new calls call text so (Serves.at_once answer is answers) = adds_same first w w calls (call ∷ []) so refl refl
+  adds_serve content decls first w new calls call text so (Serves.committed n is due commits passes up) = adds_commit first w n calls call so commits
+  adds_serve content decls first w new calls call text so (Serves.committed_and_stopped n is due commits stops) = adds_commit first w n calls call so commits
+  adds_serve content decls first w new calls call text so (Serves.stopped n is due opens stops read) = adds_open first w n calls call so opens
 
   adds_recover : (first w new : World D) (calls : List Call) → Adds first w calls → new.pending ≡ [] → (new.known ≡ w.known) ⊎ (new.known ≡ w.known ++ w.pending) → Adds first new calls
   adds_recover first w new calls so idle known = ⊎_elim same more known
@@ -88,23 +87,23 @@ module _ {D : Type 0} where
   adds_equal : (first w new : World D) (calls : List Call) → Adds first w calls → new ≡ w → Adds first new (calls ++ [])
   adds_equal first w new calls so e = adds_same first w new calls [] so (ap (λ (x : World D). x.known) e) (ap (λ (x : World D). x.pending) e)
 
-  adds_armed : (first w new : World D) (calls : List Call) (up armed : Bool) → Adds first w calls → new ≡ (if up then record w { armed = armed } else w) → Adds first new (calls ++ [])
-  adds_armed first w new calls true armed so e = adds_same first w new calls [] so (ap (λ (x : World D). x.known) e) (ap (λ (x : World D). x.pending) e)
-  adds_armed first w new calls false armed so e = adds_equal first w new calls so e
+  adds_armed : (first w new : World D) (calls : List Call) (up : Bool) (armed bytes : ℕ) → Adds first w calls → new ≡ (if up then record w { armed = armed; bytes = bytes } else w) → Adds first new (calls ++ [])
+  adds_armed first w new calls true armed bytes so e = adds_same first w new calls [] so (ap (λ (x : World D). x.known) e) (ap (λ (x : World D). x.pending) e)
+  adds_armed first w new calls false armed bytes so e = adds_equal first w new calls so e
 
   adds_step : (content : D → Option (List ℕ)) (decls : Decls) (first w new : World D) (calls : List Call) (s : ScriptStep) (text : List ℕ) → is_some (content w.disk) ≡ true
       → Adds first w calls → Does content decls w s text new → Adds first new (calls ++ calls_in (s ∷ []))
   adds_step content decls first w new calls (step.Show d) text told so does = adds_equal first w new calls so does.1
-  adds_step content decls first w new calls (step.Serve call) text told so does = adds_serve decls first w new calls call text so does
+  adds_step content decls first w new calls (step.Serve call) text told so does = adds_serve content decls first w new calls call text so does
   adds_step content decls first w new calls step.Stop text told so does = adds_same first w new calls [] so (ap (λ (x : World D). x.known) does.1) (ap (λ (x : World D). x.pending) does.1)
-  adds_step content decls first w new calls (step.StopAt call bytes) text told so does = adds_armed first w new calls w.up (not (call == 0)) so does.1
+  adds_step content decls first w new calls (step.StopAt call bytes) text told so does = adds_armed first w new calls w.up call bytes so does.1
   adds_step content decls first w new calls step.Recover text told so does = subst (Adds first new) (sym (append-nil calls)) (adds_recover first w new calls so does.pending (does.known told))
   adds_step content decls first w new calls step.History text told so does = adds_equal first w new calls so does.1
 
   adds_break : (decls : Decls) (first w new : World D) (calls : List Call) (s : ScriptStep) (text : List ℕ) (end : Stop) → Adds first w calls → Breaks decls w s text end new
       → Adds first new (calls ++ calls_in (s ∷ []))
-  adds_break decls first w new calls s text end so (Breaks.silent _ _ n stays) = adds_same first w n calls (calls_in (s ∷ [])) so stays.known stays.pending
-  adds_break decls first w new calls s text end so (Breaks.unanswered call _ n up due opens) = adds_open first w n calls call so opens
+  adds_break decls first w new calls s text end so (Breaks.silent _ _ n why stays) = adds_same first w n calls (calls_in (s ∷ [])) so stays.known stays.pending
+  adds_break decls first w new calls s text end so (Breaks.unanswered call _ n other up due opens) = adds_open first w n calls call so opens
   adds_break decls first w new calls s text end so (Breaks.faulted call n up due opens) = adds_open first w n calls call so opens
   adds_break decls first w new calls s text end so (Breaks.committed call _ n up due commits) = adds_commit first w n calls call so commits
   adds_break decls first w new calls s text end so (Breaks.unprinted call n up due commits) = adds_commit first w n calls call so commits

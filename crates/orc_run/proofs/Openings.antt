@@ -11,12 +11,12 @@ use Rattle.orc_journal.specs.Committed.{history_of}
 use Rattle.orc_journal.specs.Journals.{header, gated, journal_bytes, IsGated}
 use Rattle.orc_journal.specs.Opened.{Holds}
 use Rattle.orc_journal.specs.declared.entry.Entry.{Entry}
-use Rattle.orc_run.specs.Legal.{IsLegal}
+use Rattle.orc_state.specs.Legal.{IsLegal}
 use Rattle.orc_run.specs.Pasts.{IsBehind, IsPast}
 use Rattle.orc_run.specs.Worlds.{World, IsKept, Rests}
 use Rattle.orc_run.specs.Steps.{largest_journal}
 use Rattle.orc_run.specs.Controllers.{world_of, IsSound}
-use Rattle.orc_run.specs.declared.decls.Decls.{Decls}
+use Rattle.orc_state.specs.declared.declarations.Decls.{Decls}
 use Rattle.orc_run.specs.declared.controller.Controller.{Controller}
 
 kept : {D : Type 0} (decls : Decls) (w : World D) (entries : List Entry) (file : List ℕ) → IsGated file decls.text entries → IsTrue (is_ordered entries)

@@ -1,5 +1,5 @@
 -- Where a step led that printed something or wanted memory.
-use Rattle.std.proofs.Common.{◌≡◌, ◌⊎◌, ℕ, ◌≤◌, Bool, true, not, ◌==◌, List, [], Option, Result, Ok, Err, is_some, inl, refl, sym, ap, subst, arith}
+use Rattle.std.proofs.Common.{◌≡◌, ◌⊎◌, ℕ, ◌≤◌, Bool, true, List, [], Option, Result, Ok, Err, is_some, inl, refl, sym, ap, subst, arith}
 use Rattle.std.specs.Bool.{if◌then◌else◌}
 use Rattle.std.specs.Option.{IfSome}
 use Rattle.std.specs.Result.{IfOk, MatchResult}
@@ -12,9 +12,9 @@ use Rattle.orc_journal.specs.Opened.{Opened}
 use Rattle.orc_run.specs.Worlds.{World, IsKept, Rests, Outlives}
 use Rattle.orc_run.specs.Steps.{Breaks, Does, IsCauseOf}
 use Rattle.orc_run.specs.Controllers.{world_of, IsSound, StepsTo, Wants}
-use Rattle.orc_run.specs.declared.decls.Decls.{Decls}
-use Rattle.orc_run.specs.declared.bundle.ScriptStep.{ScriptStep}
-use Rattle.orc_run.specs.declared.bundle.ScriptStep.TheVariants.{StopAt}
+use Rattle.orc_state.specs.declared.declarations.Decls.{Decls}
+use Rattle.orc_bundle.specs.declared.bundle.ScriptStep.{ScriptStep}
+use Rattle.orc_bundle.specs.declared.bundle.ScriptStep.TheVariants.{Recover, StopAt}
 use Rattle.orc_run.specs.declared.controller.Controller.{Controller}
 use Rattle.orc_run.specs.declared.controller.Outcome.{Outcome}
 use Rattle.orc_run.specs.declared.controller.Outcome.TheVariants.{On, Ended}
@@ -48,20 +48,20 @@ module _ {D : Type 0} (content : D → Option (List ℕ)) (may_leave : D → Lis
 
   module _ (faults : D → ℕ) where
     -- the run ends with nothing printed, behind disk calls at each of which a crash left what was kept
-    pub ends_silently : AreLaws → (decls : Decls) (w : World D) (s : ScriptStep) (new : D) (end : Stop) → faults w.disk ≤ faults new → LeavesOnly moment left_since w.disk new (IsKept decls w)
+    pub ends_silently : AreLaws → (decls : Decls) (w : World D) (s : ScriptStep) (new : D) (end : Stop) → (end ≡ stop.Memory) ⊎ (s ≡ Recover) → faults w.disk ≤ faults new → LeavesOnly moment left_since w.disk new (IsKept decls w)
         → is_some (content new) ≡ is_some (content w.disk) → IsCauseOf content faults decls w s end (record w { disk = new })
         → StepsTo content may_leave moment left_since faults decls w s (Ended new [] end)
-    ends_silently laws decls w s new end later run same cause =
+    ends_silently laws decls w s new end why later run same cause =
         let last : World D = record w { disk = new } in
         let images : (file : List ℕ) → may_leave new file → IsKept decls last file =
         λ file left. moved decls w new file (run.each file (laws.counts new (moment w.disk) file run.later left)) in
-        let silent : Breaks decls w s [] end last = Breaks.silent s end last (record { known = refl; pending = refl }) in
+        let silent : Breaks decls w s [] end last = Breaks.silent s end last why (record { known = refl; pending = refl }) in
         (last, refl, silent, cause, outlives_kept faults decls w last later run same, record { reads = IfSome_then (content new) (laws.reads new) images; images = images })
 
     -- it ends for want of memory before a disk call
     pub ends_wanting : AreLaws → (decls : Decls) (w : World D) (s : ScriptStep) → Rests content may_leave moment left_since decls w
         → StepsTo content may_leave moment left_since faults decls w s (Ended w.disk [] stop.Memory)
-    ends_wanting laws decls w s rests = ends_silently laws decls w s w.disk stop.Memory (omega arith) (no_calls laws decls w rests) refl tt
+    ends_wanting laws decls w s rests = ends_silently laws decls w s w.disk stop.Memory (inl refl) (omega arith) (no_calls laws decls w rests) refl tt
 
     -- a step that is done without a disk call
     pub goes_on : AreLaws → (decls : Decls) (w : World D) (s : ScriptStep) (c : Controller D) (text : List ℕ)
@@ -97,8 +97,8 @@ module _ {D : Type 0} (content : D → Option (List ℕ)) (may_leave : D → Lis
         → StepsTo content may_leave moment left_since faults decls (world_of c) (StopAt call bytes) (On (record { journal = journal; up = c.up; past = c.past; known = c.known }) text)
     arms laws decls c call bytes journal text sound up is none =
         let w = world_of c in
-        let does : world_of (armed c call bytes) ≡ (if w.up then record w { armed = not (call == 0) } else w) =
-        ap (λ (b : Bool). if b then record w { armed = not (call == 0) } else w) (sym up) in
+        let does : world_of (armed c call bytes) ≡ (if w.up then record w { armed = call; bytes = bytes } else w) =
+        ap (λ (b : Bool). if b then record w { armed = call; bytes = bytes } else w) (sym up) in
         subst
         (λ (j : Opened (Stopping D)). StepsTo content may_leave moment left_since faults decls w (StopAt call bytes) (On (record { journal = j; up = c.up; past = c.past; known = c.known }) text))
         (sym is)

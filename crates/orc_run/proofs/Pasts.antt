@@ -10,17 +10,19 @@ use Rattle.orc_journal.specs.Committed.{commits, history_of}
 use Rattle.orc_journal.specs.declared.entry.Entry.{Entry}
 use Rattle.orc_journal.specs.declared.entry.Entry.TheVariants.{Intent, Decide, Abort, Settled}
 use Rattle.orc_call.specs.declared.call.Action.{Action}
-use Rattle.orc_run.specs.States.{action_of, after, opening, put_all, IsComplete}
-use Rattle.orc_run.specs.Bundles.{is_call}
-use Rattle.orc_run.specs.Legal.{IsLegal, IsDue}
-use Rattle.orc_run.specs.Pasts.{AreDecls, IsBehind, IsPast, IsIllegalAt}
+use Rattle.orc_state.specs.States.{action_of, after, opening, put_all, IsComplete}
+use Rattle.orc_state.specs.Calls.{is_call}
+use Rattle.orc_state.specs.Legal.{IsLegal, IsDue}
+use Rattle.orc_state.specs.Declarations.{AreDecls}
+use Rattle.orc_run.specs.Pasts.{IsBehind, IsPast, IsIllegalAt}
 use Rattle.orc_run.specs.Transactions.{is_taken, IsFilled}
-use Rattle.orc_run.specs.declared.bundle.Device.{Device}
-use Rattle.orc_run.specs.declared.decls.Decls.{Decls}
+use Rattle.orc_state.specs.declared.declarations.Device.{Device}
+use Rattle.orc_state.specs.declared.declarations.Decls.{Decls}
 use Rattle.orc_run.specs.declared.numbers.Numbers.{Numbers}
 use Rattle.orc_run.specs.declared.past.Past.{Past}
-use Rattle.orc_run.specs.declared.state.State.{State}
-use Rattle.orc_run.proofs.Legality.{fold_from-append, history_of-append, legal_none, legal_more, legal_last}
+use Rattle.orc_state.specs.declared.state.State.{State}
+use Rattle.orc_state.proofs.Legality.{fold_from-append, legal_none, legal_more, legal_last}
+use Rattle.orc_run.proofs.Fronts.{history_of-append}
 
 -- the numbers of entries are taken, with one more
 pub all_taken : (old new : Numbers) (entries : List Entry) (entry : Entry) → All (λ e. is_taken old (number_of e) ≡ true) entries

@@ -11,13 +11,14 @@ use Rattle.orc_journal.specs.Journals.{IsJournal, IsNotJournal, IsForeign, IsDam
 use Rattle.orc_journal.specs.Opened.{IsOpening}
 use Rattle.orc_journal.proofs.Unique.{one_journal, gated_is_journal}
 use Rattle.orc_journal.proofs.Accepted.{not_damaged, not_foreign, not_strange, not_empty}
-use Rattle.orc_run.specs.Legal.{IsLegal}
+use Rattle.orc_state.specs.Legal.{IsLegal}
 use Rattle.orc_run.specs.Worlds.{World, IsKept, IsWithin, Rests}
-use Rattle.orc_run.specs.Printed.{recovered_line}
+use Rattle.orc_print.specs.Printed.{recovered_line}
 use Rattle.orc_run.specs.Steps.{IsCauseOf, Recovers}
-use Rattle.orc_run.specs.Controllers.{world_of, Tells, IsIllegal, IsOpenCauseOf, IsSound, MayBeOpening, StepsTo, Wants}
-use Rattle.orc_run.specs.declared.decls.Decls.{Decls}
-use Rattle.orc_run.specs.declared.bundle.ScriptStep.TheVariants as step
+use Rattle.orc_run.specs.Worlds.{Tells}
+use Rattle.orc_run.specs.Controllers.{world_of, IsIllegal, IsOpenCauseOf, IsSound, MayBeOpening, StepsTo, Wants}
+use Rattle.orc_state.specs.declared.declarations.Decls.{Decls}
+use Rattle.orc_bundle.specs.declared.bundle.ScriptStep.TheVariants as step
 use Rattle.orc_run.specs.declared.controller.Controller.{Controller}
 use Rattle.orc_run.specs.declared.controller.Outcome.{Outcome}
 use Rattle.orc_run.specs.declared.controller.Outcome.TheVariants.{On, Ended}
@@ -110,7 +111,7 @@ module _ {D : Type 0} (content : D → Option (List ℕ)) (may_leave : D → Lis
 
   -- what was learned, with the line of it printed, is a recovery
   recovers : (decls : Decls) (w : World D) (c : Controller D) (text : List ℕ) → Rests content may_leave moment left_since decls w
-      → IsSound content may_leave moment left_since decls c → (c.up ≡ true) × ((world_of c).armed ≡ false) × ((world_of c).pending ≡ [])
+      → IsSound content may_leave moment left_since decls c → (c.up ≡ true) × ((world_of c).armed ≡ 0) × ((world_of c).pending ≡ [])
       → IfSome (content w.disk) (λ file. Tells decls file (world_of c).known) → text ≡ recovered_line c.known → Recovers content decls w text (world_of c)
   recovers decls w c text rests sound up tells prints = record {
     prints = prints ∙ ap recovered_line (sym (length-take-le c.known c.past.history sound.within));
@@ -118,13 +119,14 @@ module _ {D : Type 0} (content : D → Option (List ℕ)) (may_leave : D → Lis
     armed = up.1;
     pending = up.2;
     legal = sound.legal;
+    read = tells;
     known = λ some. learned decls w (world_of c).known (content w.disk) rests.reads tells some;
   }
 
   -- the journal was opened again
   pub reopens : {M : Type 0} → AreLaws content may_leave moment left_since → (decls : Decls) (w : World D) (disk : D) (c : Controller D) (text : Result (List ℕ) M) (outcome : Outcome D)
       → w.disk ≡ disk → Rests content may_leave moment left_since decls w → IsSound content may_leave moment left_since decls c
-      → (c.up ≡ true) × ((world_of c).armed ≡ false) × ((world_of c).pending ≡ []) → IfSome (content disk) (λ file. Tells decls file (world_of c).known)
+      → (c.up ≡ true) × ((world_of c).armed ≡ 0) × ((world_of c).pending ≡ []) → IfSome (content disk) (λ file. Tells decls file (world_of c).known)
       → faults disk ≤ faults c.journal.disk.inner → LeavesOnly moment left_since disk c.journal.disk.inner (MayBeOpening content may_leave decls disk) → is_some (content c.journal.disk.inner) ≡ is_some (content disk)
       → IfOk text (λ t. t ≡ recovered_line c.known) → MatchResult text (λ t. outcome ≡ On c t) (λ e. Wants c outcome)
       → StepsTo content may_leave moment left_since faults decls w step.Recover outcome
@@ -137,7 +139,7 @@ module _ {D : Type 0} (content : D → Option (List ℕ)) (may_leave : D → Lis
       printing content may_leave moment left_since faults decls w step.Recover c text outcome is
       (IfOk-weaker text (λ t. t ≡ recovered_line c.known) (λ t. StepsTo content may_leave moment left_since faults decls w step.Recover (On c t))
       (λ t line. (sound, recovers decls w c t rests sound up told line, outlives_kept content may_leave moment left_since faults decls w (world_of c) later_w kept before)) made)
-      (ends_silently content may_leave moment left_since faults laws decls w step.Recover c.journal.disk.inner stop.Memory later_w kept before tt)
+      (ends_silently content may_leave moment left_since faults laws decls w step.Recover c.journal.disk.inner stop.Memory (inl refl) later_w kept before tt)
 
   -- it was not
   pub refuses : AreLaws content may_leave moment left_since → (decls : Decls) (w : World D) (disk new : D) (text : List ℕ) (end : Stop)
@@ -149,4 +151,4 @@ module _ {D : Type 0} (content : D → Option (List ℕ)) (may_leave : D → Lis
       let kept = kept_while_opened laws decls w new rests before (subst (λ (d : D). LeavesOnly moment left_since d new (MayBeOpening content may_leave decls d)) (sym at) run) in
       let why = subst (λ (d : D). IsOpenCauseOf content may_leave faults decls d new end) (sym at) cause in
       subst (λ (t : List ℕ). StepsTo content may_leave moment left_since faults decls w step.Recover (Ended new t end)) (sym none)
-      (ends_silently content may_leave moment left_since faults laws decls w step.Recover new end (subst (λ (d : D). faults d ≤ faults new) (sym at) later) kept before (recovery_cause decls w new end rests why))
+      (ends_silently content may_leave moment left_since faults laws decls w step.Recover new end (inr refl) (subst (λ (d : D). faults d ≤ faults new) (sym at) later) kept before (recovery_cause decls w new end rests why))

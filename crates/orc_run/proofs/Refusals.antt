@@ -8,14 +8,14 @@ use Rattle.std.specs.FinMap.{entries}
 use Rattle.orc_path.specs.Configurations.{Config}
 use Rattle.orc_path.specs.Steps.{PathStep}
 use Rattle.orc_path.specs.declared.item.Item.{Item}
-use Rattle.orc_run.specs.States.{clash, clash_among, clash_on, expansion, least, lives, misplaced, others, refusal, rivals}
-use Rattle.orc_run.specs.Printed.{is_answer_among}
+use Rattle.orc_state.specs.States.{clash, clash_among, clash_on, expansion, least, lives, misplaced, others, refusal, rivals}
+use Rattle.orc_print.specs.Printed.{is_answer_among}
 use Rattle.orc_call.specs.declared.call.Action.{Action}
 use Rattle.orc_call.specs.declared.call.Action.TheVariants.{Literal, Delete}
 use Rattle.orc_call.specs.declared.answer.Answer.{Answer}
 use Rattle.orc_call.specs.declared.answer.Answer.TheVariants.{Clash, Exists, Missing}
-use Rattle.orc_run.specs.declared.state.Service.{Service}
-use Rattle.orc_run.specs.declared.state.State.{State}
+use Rattle.orc_state.specs.declared.state.Service.{Service}
+use Rattle.orc_state.specs.declared.state.State.{State}
 
 -- where there is an answer, it names a device among so many
 abbrev pub IsAmong : ℕ → Option Answer → Type 0

@@ -1,19 +1,19 @@
 -- Runs of a script, one step more, and what a sink took of them.
 use Rattle.std.proofs.Common.{◌≡◌, ℕ, suc, ◌+◌, ◌<◌, ◌≤◌, true, List, [], ◌∷◌, ◌++◌, length, take, drop, get_or, None, Some, Ok, Err, Result, Option, is_ok, is_err, refl, sym, ap, subst, ◌∙◌, arith, append-nil}
 use Rattle.std.specs.Io.KnownBytes.{Appends}
-use Rattle.std.proofs.lemmas.List.{take_more, drop_more, take-append-drop, take_at}
+use Rattle.std.proofs.lemmas.List.{take_more, drop_more, take-append-drop}
 use Rattle.std.proofs.lemmas.Bool.{false≢true}
 use Rattle.orc_io.specs.Counts.{Rose}
 use Rattle.orc_io.specs.Pieces.{TakesFront}
 use Rattle.orc_io.proofs.Fronts.{Appends-trans}
 use Rattle.orc_run.specs.Worlds.{World, Rests, Outlives}
-use Rattle.orc_run.specs.Steps.{Does, Breaks, IsCauseOf}
-use Rattle.orc_run.specs.Runs.{Runs, EndsAt}
+use Rattle.orc_run.specs.Steps.{Does, IsCauseOf}
+use Rattle.orc_run.specs.Runs.{Runs}
 use Rattle.orc_run.specs.Runs.Runs.{begun, one_more}
 use Rattle.orc_run.specs.Ends.{RunsTo, RunsFrom, Wrote}
 use Rattle.orc_run.specs.Halts.{Leads, Halts, Finishes}
-use Rattle.orc_run.specs.declared.decls.Decls.{Decls}
-use Rattle.orc_run.specs.declared.bundle.ScriptStep.{ScriptStep}
+use Rattle.orc_state.specs.declared.declarations.Decls.{Decls}
+use Rattle.orc_bundle.specs.declared.bundle.ScriptStep.{ScriptStep}
 use Rattle.orc_run.specs.declared.stop.Done.{Done}
 use Rattle.orc_run.specs.declared.stop.Stop.{Stop}
 use Rattle.orc_run.specs.declared.stop.Stop.TheVariants as stop

@@ -1,9 +1,9 @@
 -- A controller stays sound as it stops, and as a stop is armed.
-use Rattle.std.proofs.Common.{ℕ, Bool, false, not, ◌==◌, List, Option}
+use Rattle.std.proofs.Common.{ℕ, Bool, false, List, Option}
 use Rattle.std.proofs.lemmas.Option.{IfSome_then}
 use Rattle.orc_run.specs.Worlds.{World, IsKept, Rests}
 use Rattle.orc_run.specs.Controllers.{world_of, IsSound, IsUp}
-use Rattle.orc_run.specs.declared.decls.Decls.{Decls}
+use Rattle.orc_state.specs.declared.declarations.Decls.{Decls}
 use Rattle.orc_run.specs.declared.controller.Controller.{Controller}
 
 -- the controller, stopped
@@ -20,14 +20,14 @@ armed c call bytes = record {
 }
 
 -- a kept file is one whatever the controller is up to
-still_kept : {D : Type 0} (decls : Decls) (w : World D) (up armed : Bool) (file : List ℕ) → IsKept decls w file → IsKept decls (record w { up = up; armed = armed }) file
-still_kept decls w up armed file kept = record { history = kept.history; decodes = kept.decodes; within = kept.within }
+still_kept : {D : Type 0} (decls : Decls) (w : World D) (up : Bool) (armed bytes : ℕ) (file : List ℕ) → IsKept decls w file → IsKept decls (record w { up = up; armed = armed; bytes = bytes }) file
+still_kept decls w up armed bytes file kept = record { history = kept.history; decodes = kept.decodes; within = kept.within }
 
 module _ {D : Type 0} (content : D → Option (List ℕ)) (may_leave : D → List ℕ → Type 0) (moment : D → ℕ) (left_since : D → ℕ → List ℕ → Type 0) where
-  still_rests : (decls : Decls) (w : World D) (up armed : Bool) → Rests content may_leave moment left_since decls w → Rests content may_leave moment left_since decls (record w { up = up; armed = armed })
-  still_rests decls w up armed rests = record {
-    reads = IfSome_then (content w.disk) rests.reads (λ file kept. still_kept decls w up armed file kept);
-    images = λ file left. still_kept decls w up armed file (rests.images file left);
+  still_rests : (decls : Decls) (w : World D) (up : Bool) (armed bytes : ℕ) → Rests content may_leave moment left_since decls w → Rests content may_leave moment left_since decls (record w { up = up; armed = armed; bytes = bytes })
+  still_rests decls w up armed bytes rests = record {
+    reads = IfSome_then (content w.disk) rests.reads (λ file kept. still_kept decls w up armed bytes file kept);
+    images = λ file left. still_kept decls w up armed bytes file (rests.images file left);
   }
 
   pub stopped-sound : (decls : Decls) (c : Controller D) → IsSound content may_leave moment left_since decls c → IsSound content may_leave moment left_since decls (stopped c)
@@ -35,7 +35,7 @@ module _ {D : Type 0} (content : D → Option (List ℕ)) (may_leave : D → Lis
     within = sound.within;
     behind = sound.behind;
     legal = sound.legal;
-    rests = still_rests decls (world_of c) false (not (c.journal.disk.call == 0)) sound.rests;
+    rests = still_rests decls (world_of c) false c.journal.disk.call c.journal.disk.bytes sound.rests;
     up = λ up. absurd cc;
   }
 
@@ -64,6 +64,6 @@ module _ {D : Type 0} (content : D → Option (List ℕ)) (may_leave : D → Lis
     within = sound.within;
     behind = sound.behind;
     legal = sound.legal;
-    rests = still_rests decls (world_of c) c.up (not (call == 0)) sound.rests;
+    rests = still_rests decls (world_of c) c.up call bytes sound.rests;
     up = λ up. armed-up decls c call bytes (sound.up up);
   }

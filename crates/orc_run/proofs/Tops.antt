@@ -1,33 +1,33 @@
 -- The run of a bundle: what its declarations and its script are, and how it ends.
-use Rattle.std.proofs.Common.{◌≡◌, ◌⊎◌, ℕ, ◌+◌, ◌<◌, ◌≤◌, ◌^◌, Bool, true, false, ◌&&◌, List, [], ◌∷◌, ◌++◌, codes, length, take, map, All, IsTrue, None, Some, Ok, Err, Option, Result, IfSome, IfErr, OnOk, OnErr, is_some, is_ok, is_err, eqb, if◌then◌else◌, inl, inr, ⊎_elim, refl, sym, ap, subst, ◌∙◌, arith, append-nil, length-append}
+use Rattle.std.proofs.Common.{◌≡◌, ◌⊎◌, ℕ, ◌<◌, ◌≤◌, ◌^◌, Bool, true, false, ◌&&◌, List, [], ◌++◌, codes, length, All, IsTrue, None, Some, Ok, Err, Option, Result, IfSome, IfErr, OnOk, OnErr, is_some, is_err, eqb, if◌then◌else◌, inl, inr, ⊎_elim, refl, sym, ap, subst, ◌∙◌, arith, length-append}
 use Rattle.std.specs.List.{list_all, flat_map, Contains}
-use Rattle.std.specs.Io.KnownBytes.{Appends, IsAtEnd}
 use Rattle.std.proofs.lemmas.List.{length-take-le}
 use Rattle.std.proofs.lemmas.List.Elements.{All-weaker, All-contains_itself}
 use Rattle.orc_io.specs.Counts.{Rose}
-use Rattle.orc_io.specs.Pieces.{TakesFront}
-use Rattle.orc_call.specs.Encoding.{IsCall}
 use Rattle.orc_disk.specs.Moments.{LeavesOnly}
-use Rattle.orc_run.specs.Bundles.{is_bundle, is_device, is_step, Spells, bundle_text, decls_text, decls_of, device_lines, step_lines}
-use Rattle.orc_run.specs.Printed.{names_of, recovered_line}
-use Rattle.orc_run.specs.Pasts.{AreDecls}
-use Rattle.orc_run.specs.Encodable.{IsEncodable}
-use Rattle.orc_run.specs.Worlds.{World, Rests}
+use Rattle.orc_bundle.specs.Bundles.{is_bundle, is_step, bundle_text, decls_text, decls_of, step_lines}
+use Rattle.orc_state.specs.Calls.{is_device}
+use Rattle.orc_state.specs.States.{names_of}
+use Rattle.orc_print.specs.Printed.{recovered_line}
+use Rattle.orc_state.specs.Declarations.{AreDecls}
+use Rattle.orc_bundle.specs.Encodable.{IsEncodable}
+use Rattle.orc_run.specs.Worlds.{World}
 use Rattle.orc_run.specs.Steps.{IsCauseOf}
-use Rattle.orc_run.specs.Controllers.{world_of, Tells, IsSound, IsOpenCauseOf, MayBeOpening}
-use Rattle.orc_run.specs.Ends.{IsSmall, IsRunStop, Gives, Starts, RunsTo, RunsFrom, Ran, Wrote, IsRun, IsUnopened, EndsOver, EndsRead, EndsBy}
+use Rattle.orc_run.specs.Worlds.{Tells}
+use Rattle.orc_run.specs.Controllers.{world_of, IsSound, MayBeOpening}
+use Rattle.orc_run.specs.Ends.{IsSmall, IsRunStop, Starts, Wrote, IsRun, IsUnopened, EndsOver, EndsRead, EndsBy}
 use Rattle.orc_run.specs.Halts.{greeting, Finishes, GreetsAndFinishes}
-use Rattle.orc_run.specs.declared.bundle.Bundle.{Bundle}
-use Rattle.orc_run.specs.declared.bundle.Device.{Device}
-use Rattle.orc_run.specs.declared.bundle.ScriptStep.{ScriptStep}
-use Rattle.orc_run.specs.declared.bundle.ScriptStep.TheVariants as step
+use Rattle.orc_bundle.specs.declared.bundle.Bundle.{Bundle}
+use Rattle.orc_state.specs.declared.declarations.Device.{Device}
+use Rattle.orc_bundle.specs.declared.bundle.ScriptStep.{ScriptStep}
+use Rattle.orc_bundle.specs.declared.bundle.ScriptStep.TheVariants as step
 use Rattle.orc_run.specs.declared.controller.Controller.{Controller}
-use Rattle.orc_run.specs.declared.decls.Decls.{Decls}
+use Rattle.orc_state.specs.declared.declarations.Decls.{Decls}
 use Rattle.orc_run.specs.declared.stop.Done.{Done}
 use Rattle.orc_run.specs.declared.stop.Stop.{Stop}
 use Rattle.orc_run.specs.declared.stop.Stop.TheVariants as stop
-use Rattle.orc_run.proofs.Fits.{and_first, and_second}
-use Rattle.orc_run.proofs.Encodable.{encodable}
+use Rattle.orc_state.proofs.Fits.{and_first, and_second}
+use Rattle.orc_bundle.proofs.Encodable.{encodable}
 use Rattle.orc_run.proofs.Runs.{fault_rose, ends_with_cause}
 use Rattle.orc_run.proofs.Keeps.{keeps_all}
 
@@ -78,9 +78,13 @@ module _ {D : Type 0} (content : D → Option (List ℕ)) (may_leave : D → Lis
   greets None fresh n m e iff = tt
   greets (Some file) fresh n m e iff = greets_so file fresh n m e iff
 
+  says : (fresh : Bool) (n m : ℕ) → n ≡ m → ((if fresh then [] else recovered_line n) ≡ []) ⊎ ((if fresh then [] else recovered_line n) ≡ recovered_line m)
+  says true n m e = inl refl
+  says false n m e = inr (ap recovered_line e)
+
   -- what was opened is the start of a run
   pub starts : (decls : Decls) (disk : D) (c : Controller D) → IsSound content may_leave moment left_since decls c
-      → (c.up ≡ true) × ((world_of c).armed ≡ false) × ((world_of c).pending ≡ []) → IfSome (content disk) (λ file. Tells decls file (world_of c).known)
+      → (c.up ≡ true) × ((world_of c).armed ≡ 0) × ((world_of c).pending ≡ []) → IfSome (content disk) (λ file. Tells decls file (world_of c).known)
       → IfSome (content disk) (λ file. (c.journal.fresh ≡ true → file ≡ []) × (file ≡ [] → c.journal.fresh ≡ true))
       → LeavesOnly moment left_since disk c.journal.disk.inner (MayBeOpening content may_leave decls disk)
       → is_some (content c.journal.disk.inner) ≡ is_some (content disk) → faults disk ≤ faults c.journal.disk.inner
@@ -92,6 +96,7 @@ module _ {D : Type 0} (content : D → Option (List ℕ)) (may_leave : D → Lis
     legal = sound.legal;
     history = tells;
     greets = greets (content disk) c.journal.fresh c.known (length (world_of c).known) (sym (length-take-le c.known c.past.history sound.within)) fresh;
+    says = says c.journal.fresh c.known (length (world_of c).known) (sym (length-take-le c.known c.past.history sound.within));
     opening = opening;
     told = told;
     later = later;

@@ -1,22 +1,22 @@
 -- The controller, and what its calls keep.
-use Rattle.std.specs.Prelude.{◌≡◌, ◌⊎◌, ℕ, ◌+◌, ◌<◌, ◌≤◌, true, false, not, ◌==◌, List, [], ◌∷◌, ◌++◌, length, take, drop, All, IsTrue, Option, IfSome}
+use Rattle.std.specs.Prelude.{◌≡◌, ◌⊎◌, ℕ, ◌+◌, ◌<◌, ◌≤◌, true, false, List, [], ◌∷◌, ◌++◌, length, take, drop, All, IsTrue, Option, IfSome}
 use Rattle.orc_io.specs.Counts.{Rose}
 use Rattle.orc_disk.specs.Stops.{Stopping}
 use Rattle.orc_call.specs.declared.call.Call.{Call}
 use Rattle.orc_journal.specs.Orders.{number_of, is_ordered}
 use Rattle.orc_journal.specs.Committed.{history_of}
 use Rattle.orc_journal.specs.Journals.{header, journal_bytes, IsJournal, IsNotJournal, IsForeign, IsDamaged}
-use Rattle.orc_journal.specs.Opened.{Holds, AreEntriesOf, IsOpening}
+use Rattle.orc_journal.specs.Opened.{Holds, IsOpening}
 use Rattle.orc_journal.specs.declared.entry.Entry.{Entry}
 use Rattle.orc_journal.specs.declared.fault.OpenFault.{OpenFault}
 use Rattle.orc_journal.specs.declared.fault.OpenFault.TheVariants as fault
-use Rattle.orc_run.specs.Legal.{IsLegal, IsDue}
+use Rattle.orc_state.specs.Legal.{IsLegal, IsDue}
 use Rattle.orc_run.specs.Pasts.{IsBehind, IsIllegalAt}
 use Rattle.orc_run.specs.Transactions.{is_taken, IsFilled}
 use Rattle.orc_run.specs.Worlds.{World, Rests, Outlives}
 use Rattle.orc_run.specs.Steps.{Does, Breaks, IsCauseOf, largest_journal}
-use Rattle.orc_run.specs.declared.decls.Decls.{Decls}
-use Rattle.orc_run.specs.declared.bundle.ScriptStep.{ScriptStep}
+use Rattle.orc_state.specs.declared.declarations.Decls.{Decls}
+use Rattle.orc_bundle.specs.declared.bundle.ScriptStep.{ScriptStep}
 use Rattle.orc_run.specs.declared.serving.Served.{Served}
 use Rattle.orc_run.specs.declared.serving.Served.TheVariants.{Answered, Stopped, Broken}
 use Rattle.orc_run.specs.declared.stop.Stop.{Stop}
@@ -32,15 +32,9 @@ world_of c = record {
   known = take c.known c.past.history;
   pending = drop c.known c.past.history;
   up = c.up;
-  armed = not (c.journal.disk.call == 0);
+  armed = c.journal.disk.call;
+  bytes = c.journal.disk.bytes;
 }
-
--- the history of a file that was opened
-pub record Tells (decls : Decls) (file : List ℕ) (history : List Call) : Type 0 where
-  pub entries : List Entry
-  pub are : AreEntriesOf file decls.text entries
-  pub ordered : IsTrue (is_ordered entries)
-  pub decided : history_of entries ≡ history
 
 -- a Decide at this offset makes the history of the file illegal
 pub record IsIllegal (decls : Decls) (file : List ℕ) (at : ℕ) : Type 0 where

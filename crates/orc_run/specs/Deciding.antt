@@ -1,5 +1,5 @@
 -- What the parts of a commit do.
-use Rattle.std.specs.Prelude.{◌≡◌, ◌⊎◌, ℕ, ◌≤◌, ◌<◌, Bool, true, false, not, List, [], ◌∷◌, ◌++◌, length, All, IsTrue, Option, Some, None, Result, Ok, Err, is_some}
+use Rattle.std.specs.Prelude.{◌≡◌, ◌⊎◌, ℕ, ◌≤◌, ◌<◌, Bool, true, false, not, List, [], ◌∷◌, ◌++◌, length, All, IsTrue, Option, Some, None, Result, Ok, Err, OnOk, IsErrOf, is_some}
 use Rattle.orc_call.specs.declared.call.Call.{Call}
 use Rattle.orc_call.specs.declared.answer.Answer.{Answer}
 use Rattle.orc_call.specs.declared.answer.Answer.TheVariants.{Committed}
@@ -14,16 +14,16 @@ use Rattle.orc_journal.specs.declared.entry.Entry.{Entry}
 use Rattle.orc_journal.specs.declared.entry.Entry.TheVariants.{Intent, Decide, Settled}
 use Rattle.orc_journal.specs.declared.fault.AppendFault.{AppendFault}
 use Rattle.orc_journal.specs.declared.fault.AppendFault.TheVariants as fault
-use Rattle.orc_run.specs.Legal.{IsLegal}
+use Rattle.orc_state.specs.Legal.{IsLegal}
 use Rattle.orc_run.specs.Pasts.{IsBehind}
 use Rattle.orc_run.specs.Transactions.{is_taken, IsFilled}
 use Rattle.orc_run.specs.Worlds.{IsKept, Rests}
 use Rattle.orc_run.specs.Steps.{IsCauseOf, largest_journal}
 use Rattle.orc_run.specs.Serving.{goes_on}
 use Rattle.orc_run.specs.Controllers.{world_of, IsSound}
-use Rattle.orc_run.specs.declared.bundle.ScriptStep.{ScriptStep}
+use Rattle.orc_bundle.specs.declared.bundle.ScriptStep.TheVariants.{Serve}
 use Rattle.orc_run.specs.declared.controller.Controller.{Controller}
-use Rattle.orc_run.specs.declared.decls.Decls.{Decls}
+use Rattle.orc_state.specs.declared.declarations.Decls.{Decls}
 use Rattle.orc_run.specs.declared.serving.Served.{Served}
 use Rattle.orc_run.specs.declared.serving.Served.TheVariants.{Answered, Stopped, Broken}
 use Rattle.orc_run.specs.declared.stop.Stop.{Stop}
@@ -44,6 +44,22 @@ pub record HaveHistory (decls : Decls) (entries : List Entry) (history : List Ca
 -- or of those and the decision too
 abbrev pub IsUpToDecision : List ℕ → List Entry → Entry → ℕ → List ℕ → Type 0
 IsUpToDecision decls entries intent t file = IsGated file decls entries ⊎ IsBeforeOrAfter decls (entries ++ intent ∷ []) (Decide t) file
+
+-- How the disk went on while entries were appended: by at most so many writes and syncs, by all of them where the entries
+-- were appended, and a call of the disk failed at a fault.
+pub record Course {D T : Type 0} (leads : ℕ → Bool → D → D → Type 0) (most : ℕ) (result : Result T AppendFault) (old new : D) : Type 0 where
+  pub calls : ℕ
+  pub failed : Bool
+  pub led : leads calls failed old new
+  pub few : calls ≤ most
+  pub whole : OnOk result ((calls ≡ most) × (failed ≡ false))
+  pub fault : IsErrOf result fault.DiskFault → failed ≡ true
+
+-- What is read where so many of the calls of a decision were done and the next one failed: until the gate of the decision is
+-- written, the entries before or those and the intent, and once it is, the decision too.
+pub record IsReadBehind (done : ℕ) (decls : List ℕ) (entries : List Entry) (intent : Entry) (t : ℕ) (file : List ℕ) : Type 0 where
+  pub undecided : done < 6 → IsGated file decls entries ⊎ IsGated file decls (entries ++ intent ∷ [])
+  pub decided : done ≡ 7 → IsGated file decls ((entries ++ intent ∷ []) ++ Decide t ∷ [])
 
 -- what is said of a committed call, which is the last of so many, by whether the disk is stopped and by how its end was appended
 abbrev pub said_of_committed : {T : Type 0} → ℕ → Bool → Result T AppendFault → Served
@@ -83,7 +99,7 @@ module _ {D : Type 0} (content : D → Option (List ℕ)) (may_leave : D → Lis
     pub appended : (text : List ℕ) (entries : List Entry) → Holds {D = Stopping D} (λ s. content s.inner) (λ s. may_leave s.inner) old.journal text entries
         → Holds {D = Stopping D} (λ s. content s.inner) (λ s. may_leave s.inner) new.journal text (((entries ++ Intent t call devices ∷ []) ++ Decide t ∷ []) ++ Settled t ∷ [])
 
-  module _ (moment : D → ℕ) (left_since : D → ℕ → List ℕ → Type 0) (faults : D → ℕ) (leads : Bool → D → D → Type 0) where
+  module _ (moment : D → ℕ) (left_since : D → ℕ → List ℕ → Type 0) (faults : D → ℕ) (leads : ℕ → Bool → D → D → Type 0) where
     -- the call is known, and this was said of it
     pub record Settles (decls : Decls) (t : ℕ) (old : Controller D) (served : Served) (new : Controller D) : Type 0 where
       pub known : new.known ≡ length old.past.history
@@ -93,9 +109,12 @@ module _ {D : Type 0} (content : D → Option (List ℕ)) (may_leave : D → Lis
       pub says : SaysCommitted new.known new.journal.disk.stopped served
       pub up : new.up ≡ not new.journal.disk.stopped
       pub sound : goes_on served ≡ true → IsSound content may_leave moment left_since decls new
-      pub broken : (given : Option Answer) (end : Stop) (s : ScriptStep) → served ≡ Broken given end → IsCauseOf content faults decls (world_of old) s end (world_of new)
+      pub broken : (given : Option Answer) (end : Stop) (call : Call) → served ≡ Broken given end → IsCauseOf content faults decls (world_of old) (Serve call) end (world_of new)
       pub rests : Rests content may_leave moment left_since decls (world_of new)
       pub images : LeavesOnly moment left_since old.journal.disk.inner new.journal.disk.inner (IsKept decls (world_of new))
       pub tells : is_some (content new.journal.disk.inner) ≡ is_some (content old.journal.disk.inner)
+      pub calls : ℕ
       pub failed : Bool
-      pub course : Led leads failed old.journal.disk new.journal.disk
+      pub course : Led leads calls failed old.journal.disk new.journal.disk
+      pub few : calls ≤ 4
+      pub whole : (given : Answer) → served ≡ Answered given → calls ≡ 4

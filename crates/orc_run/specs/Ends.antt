@@ -1,22 +1,21 @@
 -- What a run did with its source, its sink and its disk: what they were before and after it.
-use Rattle.std.specs.Prelude.{◌≡◌, ◌⊎◌, ℕ, ◌<◌, ◌≤◌, true, false, List, [], ◌∷◌, ◌++◌, length, Option, IfSome, is_some, is_ok, Result}
+use Rattle.std.specs.Prelude.{◌≡◌, ◌⊎◌, ℕ, ◌<◌, ◌≤◌, true, List, [], ◌∷◌, ◌++◌, length, Option, IfSome, is_some, is_ok, Result}
 use Rattle.std.specs.declared.option.Option.TheVariants.{None, Some}
 use Rattle.std.specs.declared.result.Result.TheVariants.{Ok, Err}
 use Rattle.std.specs.Io.KnownBytes.{Appends, Consumes, IsAtEnd}
-use Rattle.orc_io.specs.Counts.{Rose}
 use Rattle.orc_io.specs.Pieces.{TakesFront}
 use Rattle.orc_disk.specs.Moments.{LeavesOnly}
 use Rattle.orc_call.specs.declared.call.Call.{Call}
-use Rattle.orc_run.specs.Bundles.{Spells, decls_of}
-use Rattle.orc_run.specs.Legal.{IsLegal}
-use Rattle.orc_run.specs.Printed.{recovered_line}
-use Rattle.orc_run.specs.Worlds.{World, Decodes, Rests}
+use Rattle.orc_bundle.specs.Bundles.{Spells, decls_of}
+use Rattle.orc_state.specs.Legal.{IsLegal}
+use Rattle.orc_print.specs.Printed.{recovered_line}
+use Rattle.orc_run.specs.Worlds.{World, Decodes, Tells, Rests}
 use Rattle.orc_run.specs.Runs.{Runs, EndsAt}
-use Rattle.orc_run.specs.Controllers.{Tells, IsOpenCauseOf, MayBeOpening}
-use Rattle.orc_run.specs.declared.bundle.Bundle.{Bundle}
-use Rattle.orc_run.specs.declared.bundle.ScriptStep.{ScriptStep}
-use Rattle.orc_run.specs.declared.bundle.ScriptStep.TheVariants.{Serve}
-use Rattle.orc_run.specs.declared.decls.Decls.{Decls}
+use Rattle.orc_run.specs.Controllers.{IsOpenCauseOf, MayBeOpening}
+use Rattle.orc_bundle.specs.declared.bundle.Bundle.{Bundle}
+use Rattle.orc_bundle.specs.declared.bundle.ScriptStep.{ScriptStep}
+use Rattle.orc_bundle.specs.declared.bundle.ScriptStep.TheVariants.{Serve}
+use Rattle.orc_state.specs.declared.declarations.Decls.{Decls}
 use Rattle.orc_run.specs.declared.stop.Done.{Done}
 use Rattle.orc_run.specs.declared.stop.Stop.{Stop}
 use Rattle.orc_run.specs.declared.stop.Stop.TheVariants as stop
@@ -33,11 +32,11 @@ pub record Gives (left left' : Option (List ℕ)) (bundle : Bundle) : Type 0 whe
   pub small : length bytes ≤ largest_bundle
   pub spelled : Spells bytes bundle
 
--- the source gave bytes that are the text of no bundle, or more than a bundle may have
+-- the source was read to its end and gave bytes that are the text of no bundle, or it gave more than a bundle may have
 pub record GivesNone (left left' : Option (List ℕ)) : Type 0 where
   pub bytes : List ℕ
   pub given : Consumes left left' bytes
-  pub none : (largest_bundle < length bytes) ⊎ ((bundle : Bundle) → Spells bytes bundle → ⊥)
+  pub none : (largest_bundle < length bytes) ⊎ (IsAtEnd left' × ((bundle : Bundle) → Spells bytes bundle → ⊥))
 
 -- a bundle whose text has no more bytes than a bundle may have
 abbrev pub IsSmall : Bundle → Type 0
@@ -84,11 +83,12 @@ module _ {D : Type 0} (content : D → Option (List ℕ)) (may_leave : D → Lis
   -- The journal of the disk was opened: its history is known. On a disk that isn't empty this is said.
   pub record Starts (decls : Decls) (disk : D) (start : World D) (greeting : List ℕ) : Type 0 where
     pub up : start.up ≡ true
-    pub armed : start.armed ≡ false
+    pub armed : start.armed ≡ 0
     pub pending : start.pending ≡ []
     pub legal : IsLegal decls start.known
     pub history : IfSome (content disk) (λ file. Tells decls file start.known)
     pub greets : IfSome (content disk) (λ file. ((file ≡ []) × (greeting ≡ [])) ⊎ ((file ≡ [] → ⊥) × (greeting ≡ recovered_line (length start.known))))
+    pub says : (greeting ≡ []) ⊎ (greeting ≡ recovered_line (length start.known))
     pub opening : LeavesOnly moment left_since disk start.disk (MayBeOpening content may_leave decls disk)
     pub told : is_some (content start.disk) ≡ is_some (content disk)
     pub later : faults disk ≤ faults start.disk

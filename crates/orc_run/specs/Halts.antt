@@ -1,17 +1,15 @@
 -- How a run ends at a step, and how it ends at all.
 use Rattle.std.specs.Prelude.{◌≡◌, ◌⊎◌, ℕ, true, if◌then◌else◌, List, [], ◌++◌, Option, Result, is_err, is_ok}
 use Rattle.std.specs.declared.option.Option.TheVariants.{None, Some}
-use Rattle.std.specs.declared.result.Result.TheVariants.{Ok, Err}
-use Rattle.std.specs.Io.KnownBytes.{Appends}
-use Rattle.orc_io.specs.Pieces.{TakesFront}
-use Rattle.orc_run.specs.Printed.{recovered_line}
+use Rattle.std.specs.declared.result.Result.TheVariants.{Err}
+use Rattle.orc_print.specs.Printed.{recovered_line}
 use Rattle.orc_run.specs.Controllers.{world_of}
 use Rattle.orc_run.specs.declared.controller.Controller.{Controller}
 use Rattle.orc_run.specs.Worlds.{World, Rests, Outlives}
 use Rattle.orc_run.specs.Steps.{Does, Breaks, IsCauseOf}
 use Rattle.orc_run.specs.Ends.{RunsFrom, Wrote}
-use Rattle.orc_run.specs.declared.bundle.ScriptStep.{ScriptStep}
-use Rattle.orc_run.specs.declared.decls.Decls.{Decls}
+use Rattle.orc_bundle.specs.declared.bundle.ScriptStep.{ScriptStep}
+use Rattle.orc_state.specs.declared.declarations.Decls.{Decls}
 use Rattle.orc_run.specs.declared.stop.Done.{Done}
 use Rattle.orc_run.specs.declared.stop.Stop.{Stop}
 use Rattle.orc_run.specs.declared.stop.Stop.TheVariants as stop

@@ -1,12 +1,6 @@
-pub mod States
-pub mod Histories
-pub mod Printed
-pub mod Bundles
-pub mod Legal
 pub mod Transactions
 pub mod Touched
 pub mod Pasts
-pub mod Encodable
 pub mod Worlds
 pub mod Steps
 pub mod Runs
@@ -15,8 +9,5 @@ pub mod Controllers
 pub mod Deciding
 pub mod Ends
 pub mod Halts
-pub mod Laws
 pub mod Statuses
-pub mod Lines
-pub mod Reading
-pub mod Places
+pub mod Laws

@@ -1,25 +1,16 @@
 -- The past that the entries of a journal tell.
-use Rattle.std.specs.Prelude.{◌≡◌, ℕ, ◌+◌, ◌<◌, ◌^◌, true, List, length, take, All, IsTrue, slice_get}
+use Rattle.std.specs.Prelude.{◌≡◌, ℕ, ◌+◌, true, List, length, take, All, slice_get}
 use Rattle.std.specs.declared.option.Option.TheVariants.{Some}
-use Rattle.std.specs.List.{list_all}
 use Rattle.orc_call.specs.declared.call.Call.{Call}
 use Rattle.orc_journal.specs.Orders.{number_of}
 use Rattle.orc_journal.specs.Committed.{history_of}
 use Rattle.orc_journal.specs.declared.entry.Entry.{Entry}
 use Rattle.orc_journal.specs.declared.entry.Entry.TheVariants.{Decide}
-use Rattle.orc_run.specs.States.{IsComplete}
-use Rattle.orc_run.specs.Bundles.{is_device}
-use Rattle.orc_run.specs.Printed.{names_of}
-use Rattle.orc_run.specs.Legal.{IsLegal, state_of}
+use Rattle.orc_state.specs.States.{IsComplete}
+use Rattle.orc_state.specs.Legal.{IsLegal, state_of}
 use Rattle.orc_run.specs.Transactions.{is_taken, IsFilled}
-use Rattle.orc_run.specs.declared.decls.Decls.{Decls}
+use Rattle.orc_state.specs.declared.declarations.Decls.{Decls}
 use Rattle.orc_run.specs.declared.past.Past.{Past}
-
--- declarations that a bundle can have: the names are those of the devices
-pub record AreDecls (decls : Decls) : Type 0 where
-  pub named : decls.names ≡ names_of decls.devices
-  pub devices : IsTrue (list_all is_device decls.devices)
-  pub few : length decls.devices < 2 ^ 16
 
 -- a state behind some history
 pub record IsBehind (decls : Decls) (past : Past) (history : List Call) : Type 0 where

@@ -2,8 +2,8 @@
 use Rattle.std.specs.Prelude.{◌≡◌, ℕ, List, [], ◌∷◌, ◌++◌, Option}
 use Rattle.orc_run.specs.Worlds.{World, Outlives}
 use Rattle.orc_run.specs.Steps.{Does, Breaks, IsCauseOf}
-use Rattle.orc_run.specs.declared.decls.Decls.{Decls}
-use Rattle.orc_run.specs.declared.bundle.ScriptStep.{ScriptStep}
+use Rattle.orc_state.specs.declared.declarations.Decls.{Decls}
+use Rattle.orc_bundle.specs.declared.bundle.ScriptStep.{ScriptStep}
 use Rattle.orc_run.specs.declared.stop.Stop.{Stop}
 
 module _ {D : Type 0} (content : D → Option (List ℕ)) (may_leave : D → List ℕ → Type 0) (moment : D → ℕ) (left_since : D → ℕ → List ℕ → Type 0) (faults : D → ℕ) where

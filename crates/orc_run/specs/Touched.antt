@@ -5,10 +5,10 @@ use Rattle.std.specs.List.{filter, list_any, range_with_len}
 use Rattle.orc_call.specs.declared.call.DevicePut.{DevicePut}
 use Rattle.orc_call.specs.declared.call.Action.{Action}
 use Rattle.orc_call.specs.declared.call.Action.TheVariants.{Literal, Delete}
-use Rattle.orc_run.specs.States.{has_id, is_text, part}
-use Rattle.orc_run.specs.Printed.{name_of}
-use Rattle.orc_run.specs.declared.state.Service.{Service}
-use Rattle.orc_run.specs.declared.state.State.{State}
+use Rattle.orc_state.specs.States.{has_id, is_text, part}
+use Rattle.orc_print.specs.Printed.{name_of}
+use Rattle.orc_state.specs.declared.state.Service.{Service}
+use Rattle.orc_state.specs.declared.state.State.{State}
 
 -- one of the writes is on the device of this name
 abbrev pub are_on : List ℕ → List DevicePut → Bool

@@ -4,19 +4,22 @@ use Rattle.orc_call.specs.declared.call.Call.{Call}
 use Rattle.orc_disk.specs.Moments.{LeavesOnly}
 use Rattle.orc_journal.specs.Orders.{is_ordered}
 use Rattle.orc_journal.specs.Journals.{IsGated}
+use Rattle.orc_journal.specs.Opened.{AreEntriesOf}
 use Rattle.orc_journal.specs.Committed.{history_of}
 use Rattle.orc_journal.specs.declared.entry.Entry.{Entry}
-use Rattle.orc_run.specs.Legal.{IsLegal}
-use Rattle.orc_run.specs.declared.decls.Decls.{Decls}
+use Rattle.orc_state.specs.Legal.{IsLegal}
+use Rattle.orc_state.specs.declared.declarations.Decls.{Decls}
 
 -- the disk, the calls that the controller knows as committed, the call that it was committing as it stopped, if one,
--- whether it is up, and whether a stop is armed
+-- whether it is up, which of the writes and syncs of the disk from now on stops it, 0 where none does, and how many bytes
+-- that one still puts
 pub record World (D : Type 0) : Type 0 where
   pub disk : D
   pub known : List Call
   pub pending : List Call
   pub up : Bool
-  pub armed : Bool
+  pub armed : ℕ
+  pub bytes : ℕ
 
 -- the file is a journal of the declarations, with its ending gate, and this is its history, which is legal
 pub record Decodes (decls : Decls) (file : List ℕ) (history : List Call) : Type 0 where
@@ -25,6 +28,13 @@ pub record Decodes (decls : Decls) (file : List ℕ) (history : List Call) : Typ
   pub ordered : IsTrue (is_ordered entries)
   pub decided : history_of entries ≡ history
   pub legal : IsLegal decls history
+
+-- the history of a file that was opened
+pub record Tells (decls : Decls) (file : List ℕ) (history : List Call) : Type 0 where
+  pub entries : List Entry
+  pub are : AreEntriesOf file decls.text entries
+  pub ordered : IsTrue (is_ordered entries)
+  pub decided : history_of entries ≡ history
 
 -- what is known, or that and what was being committed
 abbrev pub IsWithin : {D : Type 0} → World D → List Call → Type 0

@@ -5,7 +5,7 @@ use crate::Stop;
 use crate::past::Past;
 use orc_disk::{Disk, StopDisk};
 use orc_journal::Journal;
-use orc_text::Text;
+use orc_text::Row;
 
 /// The controller of a run. Its history has the calls that it knows as committed, and behind them,
 /// where it stopped while it was committing one, that one.
@@ -20,8 +20,8 @@ pub struct Controller<D: Disk> {
 /// Where a step of a script led: the controller and what the step printed, or the end of the run.
 #[derive(Drop)]
 pub enum Outcome<D: Disk> {
-    On(Controller<D>, Text),
-    Ended { disk: D, text: Text, stop: Stop },
+    On(Controller<D>, Row<u8>),
+    Ended { disk: D, text: Row<u8>, stop: Stop },
 }
 
 impl<D: Disk> Controller<D> {

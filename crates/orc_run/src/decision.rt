@@ -1,25 +1,26 @@
 //! The decision of a call: its intent and what commits it, and the state behind what was decided.
-ghost use Rattle.std.specs.Prelude.{◌≡◌, ◌≤◌, ◌<◌, ◌++◌, ◌∷◌, [], ℕ, Bool, List, true, false, None, length, IfOk, OnOk, OnErr, IsErrOf, IfSome, IsTrue, is_some};
+ghost use Rattle.std.specs.Prelude.{◌≡◌, ◌≤◌, ◌<◌, ◌++◌, ◌∷◌, [], ℕ, List, true, false, None, length, IfOk, OnOk, OnErr, IsErrOf, IfSome, IsTrue, is_some};
 ghost use Rattle.orc_call.specs.Encoding.{IsCall};
+ghost use Rattle.orc_call.specs.declared.call.Call.{Call};
+ghost use Rattle.orc_disk.specs.Course.{FailsAmong};
 ghost use Rattle.orc_disk.specs.Moments.{LeavesOnly};
 ghost use Rattle.orc_journal.specs.Entries.{AreDevices, IsEntry};
 ghost use Rattle.orc_journal.specs.Opened.{Holds, IsReady};
 ghost use Rattle.orc_journal.specs.declared.entry.Entry.{Entry};
-ghost use Rattle.orc_run.specs.States.{IsComplete, action_of, after, refusal};
-ghost use Rattle.orc_run.specs.Bundles.{is_call};
-ghost use Rattle.orc_run.specs.Legal.{IsLegal, state_of};
-ghost use Rattle.orc_run.specs.Pasts.{AreDecls};
+ghost use Rattle.orc_state.specs.States.{IsComplete, action_of, after, refusal};
+ghost use Rattle.orc_state.specs.Calls.{is_call};
+ghost use Rattle.orc_state.specs.Legal.{IsLegal, state_of};
+ghost use Rattle.orc_state.specs.Declarations.{AreDecls};
 ghost use Rattle.orc_run.specs.Transactions.{is_taken, IsFilled};
-ghost use Rattle.orc_run.specs.Steps.{IsFull, largest_journal};
-ghost use Rattle.orc_run.specs.Deciding.{IsIntentOf, IsUpToDecision};
-ghost use Rattle.orc_run.specs.declared.decls.Decls.{Decls};
+ghost use Rattle.orc_run.specs.Steps.{calls_to_decide, IsEntryOf, IsFull, largest_journal};
+ghost use Rattle.orc_run.specs.Deciding.{Course, IsIntentOf, IsReadBehind, IsUpToDecision};
+ghost use Rattle.orc_state.specs.declared.declarations.Decls.{Decls};
 
-use crate::call::action_of;
 use crate::past::Past;
-use crate::{Decls, State};
 use orc_call::Call;
 use orc_disk::Disk;
 use orc_journal::{AppendFault, Entry, Journal};
+use orc_state::{Decls, State, action_of};
 use orc_text::{Memory, Row};
 use std::alloc::Global;
 
@@ -65,14 +66,17 @@ pub(crate) fn decide<D: Disk>(
     requires intent { IsEntry intent.now }
     ensures done { OnOk result ((decls : List ℕ) (entries : List Entry) → Holds D.content D.may_leave journal.old decls entries → Holds D.content D.may_leave journal.new decls ((entries ++ intent.now ∷ []) ++ Entry.Decide t ∷ [])) }
     ensures limit { journal.new.limit ≡ journal.old.limit }
-    ensures full { (len : ℕ) → IsErrOf result (AppendFault.Full len) → (decls : Decls) (entries : List Entry) → Holds D.content D.may_leave journal.old decls.text entries → journal.old.limit ≡ largest_journal → IsFull (D.content journal.new.disk) decls.text len }
+    ensures full { (len : ℕ) → IsErrOf result (AppendFault.Full len) → (call : Call) (devices : List ℕ) → IsEntryOf call devices intent.now → (decls : Decls) (entries : List Entry) → Holds D.content D.may_leave journal.old decls.text entries → journal.old.limit ≡ largest_journal → IsFull (D.content journal.new.disk) decls.text call devices len }
     ensures tells { is_some (D.content journal.new.disk) ≡ is_some (D.content journal.old.disk) }
     ensures any_moment { (decls : List ℕ) (entries : List Entry) → Holds D.content D.may_leave journal.old decls entries → LeavesOnly D.moment D.left_since journal.old.disk journal.new.disk (IsUpToDecision decls entries intent.now t) }
     ensures left { (decls : List ℕ) (entries : List Entry) → Holds D.content D.may_leave journal.old decls entries → IfSome (D.content journal.new.disk) (IsUpToDecision decls entries intent.now t) }
-    ensures course { (failed : Bool) × D.leads failed journal.old.disk journal.new.disk × (IsErrOf result AppendFault.DiskFault → failed ≡ true) }
+    ensures course { Course D.leads calls_to_decide result journal.old.disk journal.new.disk }
+    ensures failed { IsErrOf result AppendFault.DiskFault → FailsAmong D.leads calls_to_decide journal.old.disk journal.new.disk (λ done. (decls : List ℕ) (entries : List Entry) → Holds D.content D.may_leave journal.old decls entries → IfSome (D.content journal.new.disk) (IsReadBehind done decls entries intent.now t)) }
 {
-    journal.append(alloc, intent)?;
-    journal.append(alloc, &Entry::Decide { t })
+    match journal.append(alloc, intent) {
+        Ok(()) => journal.append(alloc, &Entry::Decide { t }),
+        Err(fault) => Err(fault),
+    }
 }
 
 /// The state behind a history.

@@ -2,11 +2,11 @@
 ghost use Rattle.std.specs.Prelude.{◌≡◌, ◌<◌, ◌^◌, All, IfOk, length};
 ghost use Rattle.std.specs.List.{list_any};
 ghost use Rattle.orc_journal.specs.Entries.{AreDevices};
-ghost use Rattle.orc_run.specs.States.{IsComplete};
+ghost use Rattle.orc_state.specs.States.{IsComplete};
 ghost use Rattle.orc_run.specs.Touched.{are_on, devices_of, stands_on, touches};
 
-use crate::{Service, State};
 use orc_call::{Action, DevicePut};
+use orc_state::{Service, State};
 use orc_text::{Memory, Row, Text};
 use orc_tree::Tree;
 use std::alloc::Global;

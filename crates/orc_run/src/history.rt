@@ -1,6 +1,6 @@
 //! The history: the committed calls, in order.
 ghost use Rattle.std.specs.Prelude.{◌≡◌, ◌↔◌, IsTrue, MatchOption, Some, slice_get};
-ghost use Rattle.orc_run.specs.Legal.{IsSame, IsNew};
+ghost use Rattle.orc_state.specs.Legal.{IsSame, IsNew};
 ghost use Rattle.orc_call.specs.declared.call.Call.{Call};
 
 use orc_call::Call;

@@ -1,5 +1,5 @@
 //! The numbers of transactions.
-ghost use Rattle.std.specs.Prelude.{◌≡◌, ◌≤◌, ◌<◌, ℕ, true, false, IfOk, OnOk};
+ghost use Rattle.std.specs.Prelude.{◌≡◌, ◌≤◌, ◌<◌, ◌-◌, ◌^◌, ℕ, true, false, IfOk, OnOk, OnErr};
 ghost use Rattle.orc_run.specs.Transactions.{is_taken, IsFilled};
 
 use orc_text::Memory;
@@ -43,6 +43,7 @@ impl Numbers {
         requires { IsFilled self.old }
         ensures new { IfOk result (λ t. is_taken self.old t ≡ false) }
         ensures least { IfOk result (λ t. (u : ℕ) → 1 ≤ u → u < t → is_taken self.old u ≡ true) }
+        ensures positive { IfOk result (λ t. 1 ≤ t) }
         ensures taken { IfOk result (λ t. is_taken self.new t ≡ true) }
         ensures others { OnOk result ((u : ℕ) → is_taken self.old u ≡ true → is_taken self.new u ≡ true) }
         ensures filled { OnOk result (IsFilled self.new) }
@@ -58,8 +59,10 @@ impl Numbers {
         requires { IsFilled self.now }
         ensures new { IfOk result (λ t. is_taken self.now t ≡ false) }
         ensures least { IfOk result (λ t. (u : ℕ) → 1 ≤ u → u < t → is_taken self.now u ≡ true) }
+        ensures positive { IfOk result (λ t. 1 ≤ t) }
+        ensures all { OnErr result ((u : ℕ) → 1 ≤ u → u < 2 ^ 64 - 1 → is_taken self.now u ≡ true) }
     {
-        for t in self.next..u64::MAX {
+        for t in self.next.max(1)..u64::MAX {
             if !self.used.contains(&t) {
                 return Ok(t);
             }

@@ -4,15 +4,17 @@ ghost use Rattle.orc_disk.specs.Moments.{LeavesOnly};
 ghost use Rattle.orc_journal.specs.Orders.{is_ordered};
 ghost use Rattle.orc_journal.specs.Committed.{history_of};
 ghost use Rattle.orc_journal.specs.Opened.{Holds};
-ghost use Rattle.orc_run.specs.Pasts.{AreDecls};
+ghost use Rattle.orc_state.specs.Declarations.{AreDecls};
 ghost use Rattle.orc_run.specs.Steps.{largest_journal};
-ghost use Rattle.orc_run.specs.Controllers.{world_of, Tells, IsSound, IsOpenCauseOf, IsPastCauseOf, MayBeOpening, stop_of};
+ghost use Rattle.orc_run.specs.Worlds.{Tells};
+ghost use Rattle.orc_run.specs.Controllers.{world_of, IsSound, IsOpenCauseOf, IsPastCauseOf, MayBeOpening, stop_of};
 
+use crate::Stop;
 use crate::controller::Controller;
 use crate::past::{Past, PastFault};
-use crate::{Decls, Stop};
 use orc_disk::{Disk, StopDisk};
 use orc_journal::{Entry, Journal, OpenFault};
+use orc_state::Decls;
 use std::alloc::Global;
 
 /// The most bytes that a journal may have.
@@ -31,7 +33,7 @@ impl<D: Disk> Controller<D> {
         requires running { disk.stopped ≡ false }
         requires unarmed { disk.call ≡ 0 }
         ensures sound { IfOk result (λ c. IsSound D.content D.may_leave D.moment D.left_since decls.now c) }
-        ensures up { IfOk result (λ c. (c.up ≡ true) × ((world_of c).armed ≡ false) × ((world_of c).pending ≡ [])) }
+        ensures up { IfOk result (λ c. (c.up ≡ true) × ((world_of c).armed ≡ 0) × ((world_of c).pending ≡ [])) }
         ensures tells { IfOk result (λ c. IfSome (D.content disk.inner) (λ file. Tells decls.now file (world_of c).known)) }
         ensures fresh { IfOk result (λ c. IfSome (D.content disk.inner) (λ file. (c.journal.fresh ≡ true) ↔ (file ≡ []))) }
         ensures refused { IfErr result (λ refused. IsOpenCauseOf D.content D.may_leave D.faults decls.now disk.inner refused.1 refused.0) }

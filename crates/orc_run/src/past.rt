@@ -2,21 +2,20 @@
 ghost use Rattle.std.specs.Prelude.{◌≡◌, ◌++◌, ◌∷◌, [], ◌≢◌, ℕ, true, false, Ok, None, IfOk, IfSome, IsErrOf, IsTrue, MatchOption};
 ghost use Rattle.std.specs.Option.{option_copied};
 ghost use Rattle.orc_call.specs.declared.call.Call.{Call};
-ghost use Rattle.orc_run.specs.declared.decls.Decls.{Decls};
+ghost use Rattle.orc_state.specs.declared.declarations.Decls.{Decls};
 ghost use Rattle.orc_journal.specs.Orders.{number_of};
 ghost use Rattle.orc_journal.specs.declared.entry.Entry.{Entry};
 ghost use Rattle.orc_journal.specs.Committed.{call_in, call_of, commits, history_of, listed};
-ghost use Rattle.orc_run.specs.Bundles.{is_call};
-ghost use Rattle.orc_run.specs.Legal.{AnswersAtOnce, IsDue, IsLegal, IsNew};
-ghost use Rattle.orc_run.specs.Pasts.{AreDecls, IsBehind, IsPast, IsIllegalAt};
+ghost use Rattle.orc_state.specs.Calls.{is_call};
+ghost use Rattle.orc_state.specs.Legal.{AnswersAtOnce, IsDue, IsLegal, IsNew};
+ghost use Rattle.orc_state.specs.Declarations.{AreDecls};
+ghost use Rattle.orc_run.specs.Pasts.{IsBehind, IsPast, IsIllegalAt};
 
-use crate::call::action_of;
 use crate::history::place_of;
-use crate::lawful::is_call;
 use crate::numbers::Numbers;
-use crate::{Decls, State};
 use orc_call::{Answer, Call};
 use orc_journal::Entry;
+use orc_state::{Decls, State, action_of, is_call};
 use orc_text::{Memory, Row};
 use std::alloc::Global;
 

@@ -1,23 +1,23 @@
 //! The steps of a script, each of which is written as it is done.
-ghost use Rattle.std.specs.Prelude.{◌≡◌, [], ◌≤◌, ◌<◌, ◌^◌, List, ℕ, Option, length, IfOk, IfErr, OnOk, IsErrOf, IsTrue, All};
+ghost use Rattle.std.specs.Prelude.{[], ◌≤◌, ◌<◌, ◌^◌, List, ℕ, length, IfOk, IfErr, IsErrOf, IsTrue, All};
 ghost use Rattle.std.specs.List.{list_all};
 ghost use Rattle.std.specs.Io.KnownBytes.{Appends};
 ghost use Rattle.orc_io.specs.Counts.{Rose};
-ghost use Rattle.orc_run.specs.Bundles.{is_step};
-ghost use Rattle.orc_run.specs.Pasts.{AreDecls};
-ghost use Rattle.orc_run.specs.Encodable.{IsEncodable};
+ghost use Rattle.orc_bundle.specs.Bundles.{is_step};
+ghost use Rattle.orc_state.specs.Declarations.{AreDecls};
+ghost use Rattle.orc_bundle.specs.Encodable.{IsEncodable};
 ghost use Rattle.orc_run.specs.Worlds.{Outlives};
 ghost use Rattle.orc_run.specs.Steps.{Does};
 ghost use Rattle.orc_run.specs.Controllers.{world_of, IsSound};
-ghost use Rattle.orc_run.specs.Ends.{RunsFrom, Wrote};
 ghost use Rattle.orc_run.specs.Halts.{Halts, Finishes};
 ghost use Rattle.orc_run.specs.declared.stop.Stop.{Stop};
 
 use crate::controller::{Controller, Outcome};
-use crate::{Decls, Done, Ended, ScriptStep, Stop};
+use crate::{Done, Ended, Stop};
+use orc_bundle::ScriptStep;
 use orc_disk::Disk;
 use orc_io::{Sink, write_whole};
-use orc_text::Text;
+use orc_state::Decls;
 use std::alloc::Global;
 
 /// Does the steps in order, and writes what each prints as it is done.
@@ -70,14 +70,14 @@ fn run_step<K: Sink, D: Disk>(
     ensures write { IfErr result (λ ended. IsErrOf ended.status Stop.WriteFault → Rose (K.faults sink.old) (K.faults sink.new)) }
 {
     match controller.step(alloc, decls, step) {
-        Outcome::On(controller, text) => match write_whole(sink, text.as_str().as_bytes()) {
+        Outcome::On(controller, text) => match write_whole(sink, text.as_slice()) {
             Ok(()) => Ok(controller),
             Err(_) => Err(Ended {
                 disk: controller.into_disk(),
                 status: Err(Stop::WriteFault),
             }),
         },
-        Outcome::Ended { disk, text, stop } => match write_whole(sink, text.as_str().as_bytes()) {
+        Outcome::Ended { disk, text, stop } => match write_whole(sink, text.as_slice()) {
             Ok(()) => Err(Ended {
                 disk,
                 status: Err(stop),

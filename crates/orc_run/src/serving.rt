@@ -5,29 +5,30 @@ ghost use Rattle.orc_call.specs.declared.answer.Answer.{Answer};
 ghost use Rattle.orc_disk.specs.Stops.{Stopping};
 ghost use Rattle.orc_journal.specs.Entries.{AreDevices};
 ghost use Rattle.orc_journal.specs.Opened.{IsReady};
-ghost use Rattle.orc_run.specs.States.{action_of};
+ghost use Rattle.orc_state.specs.States.{action_of};
 ghost use Rattle.orc_run.specs.Touched.{devices_of};
-ghost use Rattle.orc_run.specs.Bundles.{is_call};
-ghost use Rattle.orc_run.specs.Legal.{IsDue, IsLegal};
-ghost use Rattle.orc_run.specs.Pasts.{AreDecls, IsBehind};
+ghost use Rattle.orc_state.specs.Calls.{is_call};
+ghost use Rattle.orc_state.specs.Legal.{IsDue, IsLegal, state_of};
+ghost use Rattle.orc_state.specs.Declarations.{AreDecls};
+ghost use Rattle.orc_run.specs.Pasts.{IsBehind};
 ghost use Rattle.orc_run.specs.Worlds.{Outlives, Rests};
 ghost use Rattle.orc_run.specs.Steps.{IsCauseOf};
 ghost use Rattle.orc_run.specs.Serving.{ComesTo, ComesShort, ServesTo, goes_on};
 ghost use Rattle.orc_run.specs.Controllers.{world_of, IsSound, IsCommitting};
 ghost use Rattle.orc_run.specs.Deciding.{Appends, IsDecided, Settles, said_of_committed};
-ghost use Rattle.orc_run.specs.declared.decls.Decls.{Decls};
-ghost use Rattle.orc_run.specs.declared.bundle.ScriptStep.{ScriptStep};
+ghost use Rattle.orc_state.specs.declared.declarations.Decls.{Decls};
+ghost use Rattle.orc_bundle.specs.declared.bundle.ScriptStep.{ScriptStep};
 ghost use Rattle.orc_run.specs.declared.serving.Served.{Served};
 ghost use Rattle.orc_run.specs.declared.stop.Stop.{Stop};
 
-use crate::call::action_of;
+use crate::Stop;
 use crate::controller::Controller;
 use crate::decision::{begin, decide, state_behind};
 use crate::devices::devices_of;
-use crate::{Decls, Stop};
 use orc_call::{Answer, Call};
 use orc_disk::Disk;
 use orc_journal::{AppendFault, Entry};
+use orc_state::{Decls, action_of};
 use orc_text::{Memory, Row};
 use std::alloc::Global;
 
@@ -54,7 +55,7 @@ impl<D: Disk> Controller<D> {
         requires sound { IsSound D.content D.may_leave D.moment D.left_since decls.now self.old }
         requires call { IsTrue (is_call decls.now.names call.now) }
         requires encodable { IsCall call.now }
-        ensures served { IfOk result (λ served. ServesTo decls.now (world_of self.old) call.now served (world_of self.new)) }
+        ensures served { IfOk result (λ served. ServesTo D.content decls.now (world_of self.old) call.now served (world_of self.new)) }
         ensures sound { IfOk result (λ served. goes_on served ≡ true → IsSound D.content D.may_leave D.moment D.left_since decls.now self.new) }
         ensures broken { (given : Option Answer) (end : Stop) → result ≡ Ok (Served.Broken given end) → IsCauseOf D.content D.faults decls.now (world_of self.old) (ScriptStep.Serve call.now) end (world_of self.new) }
         ensures memory { OnErr result (ComesShort decls.now (world_of self.old) call.now (world_of self.new)) }
@@ -92,9 +93,9 @@ impl<D: Disk> Controller<D> {
         requires call { IsTrue (is_call decls.now.names call.now) }
         requires encodable { IsCall call.now }
         requires devices { AreDevices devices }
-        ensures comes { IfOk result (λ served. ComesTo (world_of self.old) call.now served (world_of self.new)) }
+        ensures comes { IfOk result (λ served. ComesTo D.content decls.now (world_of self.old) call.now served (world_of self.new)) }
         ensures sound { IfOk result (λ served. goes_on served ≡ true → IsSound D.content D.may_leave D.moment D.left_since decls.now self.new) }
-        ensures broken { (given : Option Answer) (end : Stop) → result ≡ Ok (Served.Broken given end) → IsCauseOf D.content D.faults decls.now (world_of self.old) (ScriptStep.Serve call.now) end (world_of self.new) }
+        ensures broken { (given : Option Answer) (end : Stop) → result ≡ Ok (Served.Broken given end) → devices ≡ devices_of decls.now.names (state_of decls.now (world_of self.old).known) (action_of call.now) → IsCauseOf D.content D.faults decls.now (world_of self.old) (ScriptStep.Serve call.now) end (world_of self.new) }
         ensures memory { OnErr result (ComesShort decls.now (world_of self.old) call.now (world_of self.new)) }
         ensures rests { Rests D.content D.may_leave D.moment D.left_since decls.now (world_of self.new) }
         ensures appends { (given : Answer) → result ≡ Ok (Served.Answered given) → Appends D.content D.may_leave call.now devices self.old self.new }

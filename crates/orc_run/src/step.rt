@@ -1,24 +1,28 @@
 //! The steps of a script, as the controller does them.
 ghost use Rattle.std.specs.Prelude.{◌≡◌, ◌⊎◌, ◌<◌, ◌^◌, length, codes, IfOk, IsTrue, MatchResult, if◌then◌else◌};
 ghost use Rattle.orc_call.specs.Encoding.{IsCall};
-ghost use Rattle.orc_run.specs.States.{over};
-ghost use Rattle.orc_run.specs.Bundles.{is_call, is_step};
-ghost use Rattle.orc_run.specs.Encodable.{IsEncodable};
-ghost use Rattle.orc_run.specs.Legal.{state_of};
-ghost use Rattle.orc_run.specs.Pasts.{AreDecls};
-ghost use Rattle.orc_run.specs.Printed.{history_text, name_of, tree_text};
+ghost use Rattle.orc_state.specs.States.{over};
+ghost use Rattle.orc_state.specs.Calls.{is_call};
+ghost use Rattle.orc_bundle.specs.Bundles.{is_step};
+ghost use Rattle.orc_bundle.specs.Encodable.{IsEncodable};
+ghost use Rattle.orc_state.specs.Legal.{state_of};
+ghost use Rattle.orc_state.specs.Declarations.{AreDecls};
+ghost use Rattle.orc_print.specs.Printed.{history_text, name_of, tree_text};
 ghost use Rattle.orc_run.specs.Serving.{answer_in, IsAnswerAmong, served_text};
 ghost use Rattle.orc_run.specs.Controllers.{world_of, GoesOn, IsSound, StepsTo, Wants};
-ghost use Rattle.orc_run.specs.declared.bundle.ScriptStep.{ScriptStep};
+ghost use Rattle.orc_bundle.specs.declared.bundle.ScriptStep.{ScriptStep};
 ghost use Rattle.orc_run.specs.declared.controller.Outcome.{Outcome};
 
+use crate::Stop;
 use crate::controller::{Controller, Outcome};
-use crate::print::{device_name, history_lines, recovered_text, served_text, tree_lines};
+use crate::printing::{recovered_text, served_text};
 use crate::serving::Served;
-use crate::{Decls, ScriptStep, Stop};
+use orc_bundle::ScriptStep;
 use orc_call::Call;
 use orc_disk::Disk;
-use orc_text::{Memory, Text};
+use orc_print::{device_name, down, history, show, stopped};
+use orc_state::Decls;
+use orc_text::{Memory, Row, Text};
 use std::alloc::Global;
 
 impl<D: Disk> Controller<D> {
@@ -51,14 +55,14 @@ impl<D: Disk> Controller<D> {
         self.printing(alloc, text)
     }
 
-    fn tree_text(&self, alloc: Global, decls: &Decls, device: u32) -> Result<Text, Memory>
+    fn tree_text(&self, alloc: Global, decls: &Decls, device: u32) -> Result<Row<u8>, Memory>
         requires sound { IsSound D.content D.may_leave D.moment D.left_since decls.now self.now }
         requires device { device < length decls.now.names }
         ensures { IfOk result (λ text. text ≡ tree_text (name_of decls.now.names device) (over (state_of decls.now (world_of self.now).known) device)) }
     {
         let tree = self.past.state.overlaid(alloc, device)?;
         let name = device_name(decls.names.as_slice(), device);
-        Ok(Text::from_string(tree_lines(alloc, name, &tree)?))
+        Ok(Row::from_vec(show(alloc, name, &tree)?))
     }
 
     // Prints the history.
@@ -70,15 +74,15 @@ impl<D: Disk> Controller<D> {
         self.printing(alloc, text)
     }
 
-    fn history_text(&self, alloc: Global, decls: &Decls) -> Result<Text, Memory>
+    fn history_text(&self, alloc: Global, decls: &Decls) -> Result<Row<u8>, Memory>
         requires sound { IsSound D.content D.may_leave D.moment D.left_since decls.now self.now }
         ensures { IfOk result (λ text. text ≡ (if self.now.up then history_text (world_of self.now).known else codes "down\n")) }
     {
         if !self.up {
-            return Text::from_str(alloc, "down\n");
+            return Ok(Row::from_vec(down(alloc)?));
         }
-        let history = &self.past.history.as_slice()[..self.known];
-        history_lines(alloc, history)
+        let known = &self.past.history.as_slice()[..self.known];
+        Ok(Row::from_vec(history(alloc, known)?))
     }
 
     // The controller stops.
@@ -86,10 +90,10 @@ impl<D: Disk> Controller<D> {
         requires sound { IsSound D.content D.may_leave D.moment D.left_since decls.now self }
         ensures { StepsTo D.content D.may_leave D.moment D.left_since D.faults decls.now (world_of self) ScriptStep.Stop result }
     {
-        match Text::from_str(alloc, "stopped\n") {
+        match stopped(alloc) {
             Ok(text) => {
                 self.up = false;
-                Outcome::On(self, text)
+                Outcome::On(self, Row::from_vec(text))
             }
             Err(Memory) => self.wanting(alloc),
         }
@@ -101,10 +105,10 @@ impl<D: Disk> Controller<D> {
         ensures { StepsTo D.content D.may_leave D.moment D.left_since D.faults decls.now (world_of self) (ScriptStep.StopAt call bytes) result }
     {
         if !self.up {
-            return Outcome::On(self, Text::new(alloc));
+            return Outcome::On(self, Row::new(alloc));
         }
         self.journal.arm(call, bytes);
-        Outcome::On(self, Text::new(alloc))
+        Outcome::On(self, Row::new(alloc))
     }
 
     // The controller stops where it is up, and opens its journal again.
@@ -123,7 +127,7 @@ impl<D: Disk> Controller<D> {
             }
             Err((stop, disk)) => Outcome::Ended {
                 disk,
-                text: Text::new(alloc),
+                text: Row::new(alloc),
                 stop,
             },
         }
@@ -155,7 +159,7 @@ impl<D: Disk> Controller<D> {
     }
 
     // The run goes on behind a call, or ends.
-    fn went(self, served: Served, text: Text) -> Outcome<D>
+    fn went(self, served: Served, text: Row<u8>) -> Outcome<D>
         ensures { GoesOn served self text result }
     {
         match served {
@@ -170,7 +174,7 @@ impl<D: Disk> Controller<D> {
     }
 
     // The run goes on with what was printed, or ends where there was no memory for it.
-    fn printing(self, alloc: Global, text: Result<Text, Memory>) -> Outcome<D>
+    fn printing(self, alloc: Global, text: Result<Row<u8>, Memory>) -> Outcome<D>
         ensures { MatchResult text (λ text. result ≡ Outcome.On self text) (λ _. Wants self result) }
     {
         match text {
@@ -185,7 +189,7 @@ impl<D: Disk> Controller<D> {
     {
         Outcome::Ended {
             disk: self.into_disk(),
-            text: Text::new(alloc),
+            text: Row::new(alloc),
             stop: Stop::Memory,
         }
     }

@@ -350,10 +350,6 @@ fn a_fault_is_printed_with_its_numbers(rt: HostRuntime) -> Result<(), Fail> {
 }
 
 #[test]
-fn the_laws_can_be_called(_rt: HostRuntime) {
-    services_agree();
-    overlay_is_one();
-    deleted_without_trace();
-    order_of_creation_is_free();
-    tree_is_configuration();
+fn the_law_can_be_called(_rt: HostRuntime) {
+    file_tells_one_history();
 }

@@ -4,22 +4,24 @@ ghost use Rattle.std.specs.List.{list_all};
 ghost use Rattle.std.specs.String.{string_bytes};
 ghost use Rattle.std.specs.Io.KnownBytes.{IsAtEnd};
 ghost use Rattle.orc_io.specs.Counts.{Rose};
-ghost use Rattle.orc_run.specs.Bundles.{is_step};
-ghost use Rattle.orc_run.specs.Pasts.{AreDecls};
-ghost use Rattle.orc_run.specs.Encodable.{IsEncodable};
+ghost use Rattle.orc_bundle.specs.Bundles.{is_step};
+ghost use Rattle.orc_state.specs.Declarations.{AreDecls};
+ghost use Rattle.orc_bundle.specs.Encodable.{IsEncodable};
 ghost use Rattle.orc_run.specs.Controllers.{IsSound};
 ghost use Rattle.orc_run.specs.Ends.{EndsBy, EndsOver, Gives, GivesNone, IsInputStop, IsRunStop, IsSmall};
 ghost use Rattle.orc_run.specs.Halts.{greeting, GreetsAndFinishes};
 ghost use Rattle.orc_run.specs.declared.stop.Rule.{Rule};
 
 use crate::controller::Controller;
-use crate::print::recovered_text;
+use crate::printing::recovered_text;
 use crate::run::run_steps;
 use crate::words::is_run;
-use crate::{Bundle, BundleFault, Decls, Ended, Rule, ScriptStep, Stop, read_bundle};
+use crate::{Ended, Rule, Stop};
+use orc_bundle::{Bundle, BundleFault, ScriptStep, declare, read_bundle};
 use orc_disk::{Disk, StopDisk};
 use orc_io::{Sink, Source, WholeFault, read_whole, write_whole};
-use orc_text::{Memory, Text};
+use orc_state::Decls;
+use orc_text::{Memory, Row};
 use std::alloc::Global;
 
 /// The largest bundle, in bytes.
@@ -98,7 +100,7 @@ fn run_bundle<K: Sink, D: Disk>(alloc: Global, bundle: Bundle, sink: &mut K, dis
     ensures causes { IfErr result.status IsRunStop }
 {
     let Bundle { devices, steps } = bundle;
-    let decls = match Decls::new(alloc, devices) {
+    let decls = match declare(alloc, devices) {
         Ok(decls) => decls,
         Err(Memory) => return Ended::at(disk, Stop::Memory),
     };
@@ -128,18 +130,18 @@ fn run_script<K: Sink, D: Disk>(
         Ok(greeting) => greeting,
         Err(Memory) => return Ended::at(controller.into_disk(), Stop::Memory),
     };
-    if write_whole(sink, greeting.as_str().as_bytes()).is_err() {
+    if write_whole(sink, greeting.as_slice()).is_err() {
         return Ended::at(controller.into_disk(), Stop::WriteFault);
     }
     run_steps(alloc, decls, controller, steps, sink)
 }
 
 /// What is printed at the start: on a disk that was not empty, that the history was recovered.
-fn greeting<D: Disk>(alloc: Global, controller: &Controller<D>) -> Result<Text, Memory>
+fn greeting<D: Disk>(alloc: Global, controller: &Controller<D>) -> Result<Row<u8>, Memory>
     ensures { IfOk result (λ text. text ≡ greeting controller.now) }
 {
     if controller.journal.fresh() {
-        return Ok(Text::new(alloc));
+        return Ok(Row::new(alloc));
     }
     recovered_text(alloc, controller.known)
 }

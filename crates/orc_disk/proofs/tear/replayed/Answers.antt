@@ -1,7 +1,7 @@
-use Rattle.std.proofs.Common.{◌∙◌, sym, ap, arith, ◌-◌, ◌+◌, length, take, drop, rules}
+use Rattle.std.proofs.Common.{ap, sym, ◌∙◌, arith, length, rules}
 use Rattle.std.proofs.lemmas.List.{take_rest, length-drop}
 use Rattle.orc_disk.specs.declared.history.Call.TheVariants.{Write}
-use Rattle.orc_disk.proofs.KeptLemmas.{told-take, written_count-fits, written_count-more, after-content, Leaves-image}
+use Rattle.orc_disk.proofs.KeptLemmas.{told-take, written_count-fits, written_count-more, after-content, Leaves-image, settled-synced}
 use Rattle.orc_disk.proofs.tear.replayed.Goals as goal
 
 pub step-requires : goal.step-requires
@@ -18,9 +18,12 @@ pub loop-call-preserved : goal.loop-call-preserved
 loop-call-preserved c =
     let inv = c.loop-call.invariant in
     let more = told-take _ _ (Write 0 0) c.args.store.now c.loop-call.from c.loop-call-test.true inv.from in
+    let whole = after-content _ _ _ _ _ _ inv.whole more c.in_ok-step.ensures.whole in
     record {
-      whole = after-content _ _ _ _ _ _ inv.whole more c.in_ok-step.ensures.whole;
+      whole = whole;
       torn = Leaves-image _ _ _ _ _ _ _ inv.whole inv.torn more c.in_ok-step.ensures.torn;
+      none = λ is. settled-synced _ _ _ _ _ _ _ inv.whole (inv.none is) more (c.in_ok-step.ensures.none is);
+      all = λ is. c.in_ok-step.ensures.all is (inv.all is ∙ sym inv.whole) ∙ whole;
       within = omega (arith, written_count-fits _ _ (Write 0 0) c.args.store.now c.loop-call.from c.loop-call-test.true inv.from c.requires, c.count-from.ensures);
       from = omega (arith, inv.from, c.count-from.ensures, written_count-more c.args.calls.now c.loop-call.call-index (Write 0 0) c.loop-call-test.true);
     }

@@ -1,5 +1,5 @@
 use Rattle.std.proofs.Common.{◌≡◌, ◌≤◌, length, take, []}
-use Rattle.orc_disk.specs.History.{content_of, IsImage}
+use Rattle.orc_disk.specs.History.{content_of, synced_of, IsImage}
 use Rattle.orc_disk.specs.Kept.{told, written_count}
 use Rattle.orc_disk.proofs.tear.replayed.Given as goal
 
@@ -10,6 +10,8 @@ invariant-loop-call l =
     record {
       whole : l.whole.items ≡ content_of l.start (told [] calls l.store);
       torn : IsImage l.start (told [] calls l.store) l.torn.items;
+      none : l.choice ≡ 0 → l.torn.items ≡ synced_of l.start (told [] calls l.store);
+      all : l.choice ≡ 3 → l.torn.items ≡ content_of l.start (told [] calls l.store);
       within : l.from ≤ length l.store;
       from : l.from ≡ written_count calls;
     }

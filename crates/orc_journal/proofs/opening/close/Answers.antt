@@ -2,6 +2,7 @@
 use Rattle.std.specs.Prelude.{length}
 use Rattle.std.proofs.Common.{arith}
 use Rattle.std.proofs.lemmas.Result.{on_ok_weaker}
+use Rattle.orc_disk.proofs.Courses.{Reaches_of}
 use Rattle.orc_disk.proofs.Moments.{weaker}
 use Rattle.orc_journal.specs.Opened.{IsOpening, IsTornFrom}
 use Rattle.orc_journal.proofs.Endings.{disk_gated, disk_put, disk_torn}
@@ -25,3 +26,7 @@ returns-clause-any_moment g c decls entries journal len =
     let bytes = c.args.bytes.now in
     weaker disk.moment disk.left_since old c.put_synced.new.disk (IsTornFrom (disk.content old) (length bytes) 1) (IsOpening bytes decls)
     (disk_torn (disk.content old) bytes decls entries c.requires.whole journal (omega (arith, len, c.if-len-bytes.false))) c.put_synced.ensures.any_moment
+
+pub returns-clause-course : goal.returns-clause-course
+returns-clause-course g c =
+    Reaches_of g.D.Disk.leads c.put_synced.result 2 c.args.disk.now c.put_synced.new.disk c.put_synced.ensures.course c.put_synced.ensures.failed

@@ -1,5 +1,6 @@
 -- On an empty disk any bytes may come.
 use Rattle.std.specs.Prelude.{ℕ, List, false, is_err, IfSome}
+use Rattle.orc_disk.proofs.Courses.{Reaches-trans}
 use Rattle.orc_disk.proofs.Moments.{started, goes_on}
 use Rattle.orc_journal.specs.Opened.{IsOpening}
 use Rattle.orc_journal.proofs.Endings.{opening_empty}
@@ -25,4 +26,4 @@ returns-clause-any_moment g c decls =
 
 pub returns-clause-course : goal.returns-clause-course
 returns-clause-course g c =
-    g.met.D.Disk.goes_on false (is_err c.sync.result) c.args.disk.now c.write_at.new.self c.sync.new.self c.in_ok-write_at.ensures.course c.sync.ensures.course
+    Reaches-trans g.D.Disk.leads g.met.D.Disk.goes_on false (is_err c.sync.result) c.args.disk.now c.write_at.new.self c.sync.new.self (1, c.in_ok-write_at.ensures.course) (1, c.sync.ensures.course)

@@ -1,9 +1,15 @@
 -- The first write leaves the entries as they are, and the second may open the gate.
-use Rattle.std.specs.Prelude.{◌-◌, false, length, is_err}
+use Rattle.std.specs.Prelude.{◌≡◌, ℕ, ◌-◌, false, List, [], ◌∷◌, length, IfSome}
+use Rattle.std.specs.Option.{option_map}
+use Rattle.std.proofs.Common.{arith}
 use Rattle.std.proofs.lemmas.Option.{IfSome_then}
-use Rattle.std.proofs.lemmas.Result.{on_ok_weaker}
-use Rattle.orc_journal.specs.Opened.{IsTornFrom, IsBeforeOrAfter}
+use Rattle.std.proofs.lemmas.Result.{on_ok_weaker, on_err_weaker}
+use Rattle.orc_journal.specs.Opened.{IsTornFrom, IsBeforeOrAfter, IsLeftBehind, PutsEntry}
+use Rattle.orc_journal.specs.declared.entry.Entry.{Entry}
+use Rattle.orc_disk.specs.Files.{written}
+use Rattle.orc_disk.proofs.Courses.{FailsAmong-later, FailsAmong-weaker}
 use Rattle.orc_disk.proofs.Moments.{joined, weaker}
+use Rattle.orc_journal.proofs.LeftBehind.{left_by_first, left_by_second, on_err_anyway}
 use Rattle.orc_journal.proofs.Puts.{first_torn, first_written, second_torn, second_written}
 use Rattle.orc_journal.proofs.put.put_gated.Goals as goal
 
@@ -52,4 +58,39 @@ returns-clause-left g c decls entries entry puts =
 
 pub returns-clause-course : goal.returns-clause-course
 returns-clause-course g c =
-    g.met.D.Disk.goes_on false (is_err c.put_synced-2.result) c.args.disk.now c.put_synced.new.disk c.put_synced-2.new.disk c.in_ok-put_synced.ensures.course c.put_synced-2.ensures.course
+    on_ok_weaker c.put_synced-2.result
+    (λ led. g.met.D.Disk.goes_on 2 2 false false c.args.disk.now c.put_synced.new.disk c.put_synced-2.new.disk c.in_ok-put_synced.ensures.course led)
+    c.put_synced-2.ensures.course
+
+pub returns-in_err-put_synced-clause-failed : goal.returns-in_err-put_synced-clause-failed
+returns-in_err-put_synced-clause-failed g c =
+    let content = g.D.Disk.content in
+    let at = c.args.at in
+    let block = c.args.block.now in
+    let old = content c.args.disk.now in
+    let new = content c.put_synced.new.disk in
+    on_err_anyway c.from_residual.result
+    (FailsAmong-weaker g.D.Disk.leads 2 4 c.args.disk.now c.put_synced.new.disk
+    (λ done. done ≡ 1 → new ≡ option_map (written at block) old)
+    (λ done. (decls : List ℕ) (entries : List Entry) (entry : Entry) → PutsEntry old at block decls entries entry → IfSome new (IsLeftBehind done decls entries entry))
+    (omega arith)
+    (λ done fewer wrote decls entries entry puts. IfSome_then new c.put_synced.ensures.left (left_by_first decls entries entry done at block old puts fewer))
+    c.in_err-put_synced.ensures.behind)
+
+pub returns-clause-failed : goal.returns-clause-failed
+returns-clause-failed g c =
+    let content = g.D.Disk.content in
+    let at = c.args.at in
+    let block = c.args.block.now in
+    let old = content c.args.disk.now in
+    let mid = content c.put_synced.new.disk in
+    let new = content c.put_synced-2.new.disk in
+    on_err_weaker c.put_synced-2.result
+    (FailsAmong-later g.D.Disk.leads g.met.D.Disk.goes_on 2 2 c.args.disk.now c.put_synced.new.disk c.put_synced-2.new.disk
+    (λ done. done ≡ 1 → new ≡ option_map (written (at - 1) (1 ∷ [])) mid)
+    (λ done. (decls : List ℕ) (entries : List Entry) (entry : Entry) → PutsEntry old at block decls entries entry → IfSome new (IsLeftBehind done decls entries entry))
+    c.in_ok-put_synced.ensures.course
+    (λ done fewer wrote decls entries entry puts.
+    let staged = first_written decls entries entry at block old puts mid c.in_ok-put_synced.ensures.done in
+    left_by_second decls entries entry done new (λ one. second_written decls entries entry at block old puts mid new staged (wrote one))))
+    c.put_synced-2.ensures.behind

@@ -1,8 +1,8 @@
 -- The action of a lawful call fits.
 use Rattle.std.proofs.Common.{IsTrue, sym, subst}
 use Rattle.orc_call.specs.declared.call.Action.{Action}
-use Rattle.orc_run.specs.States.{action_of, fits_action}
-use Rattle.orc_run.proofs.Fits.{action-fits, call-action}
+use Rattle.orc_state.specs.States.{action_of, fits_action}
+use Rattle.orc_state.proofs.Fits.{action-fits, call-action}
 use Rattle.orc_run.proofs.decision.redo.Goals as goal
 
 pub apply-requires-clause-fit : goal.apply-requires-clause-fit

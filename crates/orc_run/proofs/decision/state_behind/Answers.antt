@@ -1,8 +1,8 @@
 -- The declared bases fit, and each call is lawful and not refused where it stands.
 use Rattle.std.proofs.Common.{IsTrue, List, sym, subst}
-use Rattle.orc_run.specs.States.{fits_devices}
-use Rattle.orc_run.specs.declared.bundle.Device.{Device}
-use Rattle.orc_run.proofs.Fits.{devices-fit}
+use Rattle.orc_state.specs.States.{fits_devices}
+use Rattle.orc_state.specs.declared.declarations.Device.{Device}
+use Rattle.orc_state.proofs.Fits.{devices-fit}
 use Rattle.orc_run.proofs.decision.state_behind.Goals as goal
 
 pub open-requires : goal.open-requires

@@ -1,7 +1,7 @@
 use Rattle.std.proofs.Common.{◌≡◌, drop, length}
-use Rattle.orc_run.specs.States.{IsComplete}
-use Rattle.orc_run.specs.Histories.{fold_from, IsUnrefused}
-use Rattle.orc_run.specs.Legal.{state_of}
+use Rattle.orc_state.specs.States.{IsComplete}
+use Rattle.orc_state.specs.Histories.{fold_from, IsUnrefused}
+use Rattle.orc_state.specs.Legal.{state_of}
 use Rattle.orc_run.proofs.decision.state_behind.Given as goal
 
 -- the calls that are left lead to the state, and none of them is refused

@@ -6,7 +6,7 @@ use Rattle.std.proofs.lemmas.Bool.Decides.{Decides-like}
 use Rattle.orc_path.specs.Configurations.{Config}
 use Rattle.orc_path.specs.Order.{path_cmp}
 use Rattle.orc_path.specs.declared.item.Item.{Item}
-use Rattle.orc_run.specs.States.{has_id, part}
+use Rattle.orc_state.specs.States.{has_id, part}
 use Rattle.orc_run.proofs.devices.stands_on.Goals as goal
 
 bare : (m : Config) → Decides (len m == 0) (m ≡ empty)

@@ -1,4 +1,4 @@
-use Rattle.std.proofs.Common.{◌≡◌, List, ℕ, None, Some, refl, sym, ap, subst, ◌∙◌}
+use Rattle.std.proofs.Common.{None, Some, refl, sym, subst}
 use Rattle.std.specs.Io.KnownBytes.{Appends}
 use Rattle.orc_io.specs.Pieces.{TakesFront}
 use Rattle.orc_run.specs.Controllers.{world_of}
@@ -17,7 +17,7 @@ returns-in-On-clause-halts g c =
       leads = so.1;
       outlives = so.2;
       rests = so.0.rests;
-      wrote = subst (TakesFront (held c.args.sink.now) (held c.write_whole.new.sink)) (c.as_bytes.ensures.value ∙ c.as_str.ensures) c.in-Err.ensures.err;
+      wrote = subst (TakesFront (held c.args.sink.now) (held c.write_whole.new.sink)) c.as_slice.ensures c.in-Err.ensures.err;
       failed = refl;
     }
 
@@ -25,7 +25,7 @@ pub returns-in-Ok-write_whole-clause-halts : goal.returns-in-Ok-write_whole-clau
 returns-in-Ok-write_whole-clause-halts g c =
     let so = c.in-Ended.ensures in
     let held = g.K.Sink.held in
-    let took = subst (Appends (held c.args.sink.now) (held c.write_whole-in-Ended.new.sink)) (c.as_bytes-in-Ended.ensures.value ∙ c.as_str-in-Ended.ensures) c.in-Ok-write_whole.ensures.ok in
+    let took = subst (Appends (held c.args.sink.now) (held c.write_whole-in-Ended.new.sink)) c.as_slice-in-Ended.ensures c.in-Ok-write_whole.ensures.ok in
     record {
       last = so.0;
       text = c.in-Ended.text;
@@ -50,6 +50,6 @@ returns-clause-halts g c =
       leads = (so.2, so.3);
       outlives = so.4;
       rests = so.5;
-      wrote = subst (TakesFront (held c.args.sink.now) (held c.write_whole-in-Ended.new.sink)) (c.as_bytes-in-Ended.ensures.value ∙ c.as_str-in-Ended.ensures) c.in-Err-write_whole.ensures.err;
+      wrote = subst (TakesFront (held c.args.sink.now) (held c.write_whole-in-Ended.new.sink)) c.as_slice-in-Ended.ensures c.in-Err-write_whole.ensures.err;
       failed = refl;
     }

@@ -1,5 +1,4 @@
-use Rattle.std.proofs.Common.{◌≡◌, ◌≤◌, ℕ, List, [], ◌++◌, IsTrue, refl, sym, ap, subst, ◌∙◌, arith}
-use Rattle.std.specs.Io.KnownBytes.{Appends}
+use Rattle.std.proofs.Common.{[], ◌++◌, sym, arith}
 use Rattle.std.proofs.lemmas.List.{take_all}
 use Rattle.orc_io.proofs.Fronts.{Appends-trans}
 use Rattle.orc_run.specs.Controllers.{world_of}

@@ -1,4 +1,4 @@
-use Rattle.std.proofs.Common.{◌≡◌, ◌≤◌, ℕ, List, take}
+use Rattle.std.proofs.Common.{◌≤◌, ℕ, List, take}
 use Rattle.std.specs.Io.KnownBytes.{Appends}
 use Rattle.orc_run.specs.Controllers.{world_of, IsSound}
 use Rattle.orc_run.specs.Runs.{Runs}

@@ -1,4 +1,4 @@
-use Rattle.std.proofs.Common.{◌≡◌, List, ℕ, inl, inr, refl, sym, subst, ◌∙◌}
+use Rattle.std.proofs.Common.{inr, sym, subst, ◌∙◌}
 use Rattle.std.specs.Io.KnownBytes.{Appends}
 use Rattle.orc_io.specs.Pieces.{TakesFront}
 use Rattle.orc_run.specs.Controllers.{world_of}
@@ -12,7 +12,7 @@ pub returns-then-is_err-clause-ends : goal.returns-then-is_err-clause-ends
 returns-then-is_err-clause-ends g c =
     let d = g.D.Disk in
     let held = g.K.Sink.held in
-    let bytes = c.as_bytes.ensures.value ∙ c.as_str.ensures ∙ c.in-Ok.ensures in
+    let bytes = c.as_slice.ensures ∙ c.in-Ok.ensures in
     let took : TakesFront (held c.args.sink.now) (held c.write_whole.new.sink) (greeting c.args.controller) =
     subst (TakesFront (held c.args.sink.now) (held c.write_whole.new.sink)) bytes (err_of c.write_whole.result (sym c.is_err.ensures.value ∙ c.if-is_err.true) c.write_whole.ensures.err) in
     subst (λ (e : Ended g.row.D.Denot). GreetsAndFinishes d.content d.may_leave d.moment d.left_since d.faults (held c.args.sink.now) (held c.write_whole.new.sink) c.args.decls.now c.args.controller c.args.steps.now e.disk e.status)
@@ -24,7 +24,7 @@ pub returns-clause-ends : goal.returns-clause-ends
 returns-clause-ends g c =
     let d = g.D.Disk in
     let held = g.K.Sink.held in
-    let bytes = c.as_bytes.ensures.value ∙ c.as_str.ensures ∙ c.in-Ok.ensures in
+    let bytes = c.as_slice.ensures ∙ c.in-Ok.ensures in
     let took : Appends (held c.args.sink.now) (held c.write_whole.new.sink) (greeting c.args.controller) =
     subst (Appends (held c.args.sink.now) (held c.write_whole.new.sink)) bytes (ok_of c.write_whole.result (sym c.is_err.ensures.value ∙ c.if-is_err.false) c.write_whole.ensures.ok) in
     inr (finishes_behind d.content d.may_leave d.moment d.left_since d.faults c.args.decls.now (held c.args.sink.now) (held c.write_whole.new.sink) (held c.run_steps.new.sink) (world_of c.args.controller) c.args.steps.now

@@ -7,7 +7,7 @@ use Rattle.orc_run.proofs.controller.Controller.answer.Goals as goal
 pub answered-requires : goal.answered-requires
 answered-requires g c =
     subst (λ (names : List (List ℕ)). IsAnswerAmong (length names) (answer_in c.in-Ok.served)) (sym c.as_slice.ensures)
-    (served_among c.args.decls.now (world_of c.args.self) c.args.call.now c.in-Ok.served (world_of c.serve.new.self) c.in-Ok.ensures.served)
+    (served_among g.D.Disk.content c.args.decls.now (world_of c.args.self) c.args.call.now c.in-Ok.served (world_of c.serve.new.self) c.in-Ok.ensures.served)
 
 pub returns-in-Ok : goal.returns-in-Ok
 returns-in-Ok g c =

@@ -1,12 +1,15 @@
 -- The call is answered without a change, or it is due and committed.
-use Rattle.std.proofs.Common.{ℕ, List, Ok, Some, IfSome, refl, ap, subst, ◌∙◌}
+use Rattle.std.proofs.Common.{ℕ, List, Ok, Some, IfSome, refl, sym, ap, subst, ◌∙◌}
 use Rattle.std.specs.declared.option.Option.{Option}
 use Rattle.std.proofs.lemmas.Result.{IfOk-weaker}
 use Rattle.orc_call.specs.declared.call.Action.{Action}
 use Rattle.orc_call.specs.declared.answer.Answer.{Answer}
-use Rattle.orc_run.specs.States.{action_of}
+use Rattle.orc_state.specs.States.{action_of}
 use Rattle.orc_run.specs.Touched.{devices_of}
-use Rattle.orc_run.specs.Legal.{AnswersAtOnce}
+use Rattle.orc_state.specs.Legal.{AnswersAtOnce, state_of}
+use Rattle.orc_state.specs.declared.state.State.{State}
+use Rattle.orc_bundle.specs.declared.bundle.ScriptStep.TheVariants.{Serve}
+use Rattle.orc_run.specs.Steps.{IsCauseOf}
 use Rattle.orc_run.specs.Worlds.{World}
 use Rattle.orc_run.specs.Serving.{ComesTo, ServesTo}
 use Rattle.orc_run.specs.Controllers.{world_of}
@@ -40,12 +43,28 @@ returns-in-None-clause-served g c =
     let past = c.answer.new.self in
     let new = world_of c.commit.new.self in
     let due = c.in_ok-answer.ensures.due (ap (λ (o : Option Answer). Ok o) c.in-None.is) in
-    IfOk-weaker c.commit.result (λ served. ComesTo (world_of (record old { past = past })) call served new) (λ served. ServesTo decls (world_of old) call served new)
+    IfOk-weaker c.commit.result (λ served. ComesTo disk.content decls (world_of (record old { past = past })) call served new) (λ served. ServesTo disk.content decls (world_of old) call served new)
     (λ served h. ServesTo.came served new c.if-not-self.false
     (is_due disk.content disk.may_leave disk.moment disk.left_since decls old c.requires.sound c.if-not-self.false call past c.answer.ensures.rest due)
-    (subst (λ (w : World g.row.D.Denot). ComesTo w call served new)
+    (subst (λ (w : World g.row.D.Denot). ComesTo disk.content decls w call served new)
     (same_world disk.content disk.may_leave disk.moment disk.left_since decls old c.requires.sound c.if-not-self.false call past c.answer.ensures.rest due) h))
     c.commit.ensures.comes
+
+pub returns-in-None-clause-broken : goal.returns-in-None-clause-broken
+returns-in-None-clause-broken g c given end e =
+    let disk = g.D.Disk in
+    let decls = c.args.decls.now in
+    let old = c.args.self.now in
+    let call = c.args.call.now in
+    let same = same_world disk.content disk.may_leave disk.moment disk.left_since decls old c.requires.sound c.if-not-self.false call c.answer.new.self c.answer.ensures.rest
+    (c.in_ok-answer.ensures.due (ap (λ (o : Option Answer). Ok o) c.in-None.is)) in
+    let touched = c.in_ok-devices.ensures.devices
+    ∙ ap (λ (l : List (List ℕ)). devices_of l old.past.state c.action_of.result.now) c.as_slice.ensures
+    ∙ ap (λ (a : Action). devices_of decls.names old.past.state a) c.action_of.ensures
+    ∙ ap (λ (s : State). devices_of decls.names s (action_of call)) c.requires.sound.behind.state
+    ∙ ap (λ (w : World g.row.D.Denot). devices_of decls.names (state_of decls w.known) (action_of call)) (sym same) in
+    subst (λ (w : World g.row.D.Denot). IsCauseOf disk.content disk.faults decls w (Serve call) end (world_of c.commit.new.self)) same
+    (c.commit.ensures.broken given end e touched)
 
 pub returns-in-Some-clause-appends : goal.returns-in-Some-clause-appends
 returns-in-Some-clause-appends g c given e up due =

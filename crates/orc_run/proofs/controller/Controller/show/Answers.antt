@@ -1,9 +1,9 @@
 use Rattle.std.proofs.Common.{◌≡◌, refl}
-use Rattle.orc_run.specs.States.{over}
-use Rattle.orc_run.specs.Legal.{state_of}
-use Rattle.orc_run.specs.Printed.{name_of, tree_text}
+use Rattle.orc_state.specs.States.{over}
+use Rattle.orc_state.specs.Legal.{state_of}
+use Rattle.orc_print.specs.Printed.{name_of, tree_text}
 use Rattle.orc_run.specs.Controllers.{world_of}
-use Rattle.orc_run.specs.declared.bundle.ScriptStep.TheVariants.{Show}
+use Rattle.orc_bundle.specs.declared.bundle.ScriptStep.TheVariants.{Show}
 use Rattle.orc_run.proofs.Outcomes.{AreLaws, only_prints}
 use Rattle.orc_run.proofs.controller.Controller.show.Goals as goal
 

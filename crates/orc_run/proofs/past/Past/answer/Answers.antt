@@ -1,7 +1,7 @@
 use Rattle.std.proofs.Common.{IsTrue, sym, subst}
 use Rattle.orc_call.specs.declared.call.Action.{Action}
-use Rattle.orc_run.specs.States.{action_of, fits_action}
-use Rattle.orc_run.proofs.Fits.{action-fits, call-action}
+use Rattle.orc_state.specs.States.{action_of, fits_action}
+use Rattle.orc_state.proofs.Fits.{action-fits, call-action}
 use Rattle.orc_run.proofs.AtOnce.{is_refused}
 use Rattle.orc_run.proofs.Pasts.{behind_more}
 use Rattle.orc_run.proofs.past.Past.answer.Goals as goal

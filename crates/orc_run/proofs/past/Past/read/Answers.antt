@@ -1,9 +1,9 @@
 use Rattle.std.proofs.Common.{◌≡◌, IsTrue, List, Ok, take, refl, sym, ap, subst, ◌∙◌}
-use Rattle.orc_run.specs.States.{fits_devices, opening}
+use Rattle.orc_state.specs.States.{fits_devices, opening}
 use Rattle.orc_run.specs.Pasts.{IsIllegalAt}
-use Rattle.orc_run.specs.declared.bundle.Device.{Device}
+use Rattle.orc_state.specs.declared.declarations.Device.{Device}
 use Rattle.orc_run.specs.declared.past.Past.{Past}
-use Rattle.orc_run.proofs.Fits.{devices-fit}
+use Rattle.orc_state.proofs.Fits.{devices-fit}
 use Rattle.orc_run.proofs.Pasts.{past_none, past_upto, illegal_at}
 use Rattle.orc_run.proofs.past.Past.read.Goals as goal
 

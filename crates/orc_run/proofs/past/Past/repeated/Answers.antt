@@ -1,7 +1,7 @@
 use Rattle.std.proofs.Common.{◌≡◌, ◌+◌, List, sym, subst, ◌∙◌}
 use Rattle.orc_call.specs.declared.call.Call.{Call}
 use Rattle.orc_call.specs.declared.answer.Answer.TheVariants.{Committed, Reused}
-use Rattle.orc_run.specs.Legal.{AnswersAtOnce}
+use Rattle.orc_state.specs.Legal.{AnswersAtOnce}
 use Rattle.orc_run.proofs.AtOnce.{is_again, is_reused}
 use Rattle.orc_run.proofs.Equality.{call_eq_decides}
 use Rattle.orc_run.proofs.past.Past.repeated.Goals as goal

@@ -1,0 +1,5 @@
+pub mod Bundles
+pub mod Encodable
+pub mod Lines
+pub mod Reading
+pub mod Places

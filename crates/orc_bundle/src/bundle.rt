@@ -1,0 +1,31 @@
+//! A bundle as read: the declared devices with their bases, and the steps of the script.
+use orc_call::Call;
+use orc_state::Device;
+use orc_text::Row;
+
+/// A step of a script. A device is given by its number, its place in the declarations from 0 on.
+#[derive(Debug, Drop)]
+pub enum ScriptStep {
+    /// Print the tree of a device.
+    Show(u32),
+    /// Submit a call and settle it.
+    Serve(Call),
+    /// Stop the controller.
+    Stop,
+    /// Arm a stop, in place of one that is armed: so many calls of the disk from now on, the last of
+    /// them stops the controller, and none does where the count is 0. Where that one is a write, so
+    /// many of its bytes are put as the second number says; where it is a sync, it is done exactly
+    /// where that number is at least 1.
+    StopAt(u64, u64),
+    /// Stop the controller where it is up, disarm, and open the journal again.
+    Recover,
+    /// Print the history.
+    History,
+}
+
+/// The declarations and the script.
+#[derive(Debug, Drop)]
+pub struct Bundle {
+    pub devices: Row<Device>,
+    pub steps: Row<ScriptStep>,
+}

@@ -1,0 +1,79 @@
+//! The answers of calls.
+ghost use Rattle.std.specs.Prelude.{◌≡◌, ◌++◌, ◌<◌, length, IfOk, OnOk, IsTrue};
+ghost use Rattle.std.specs.String.{string_bytes};
+ghost use Rattle.orc_print.specs.Printed.{answer_line, answer_words, is_answer_among, name_of};
+
+use orc_call::Answer;
+use orc_text::{Memory, Text};
+use std::alloc::Global;
+
+/// The line of an answer: the caller, the call's number and the answer. The names are those of all
+/// devices, in the order of declaration.
+pub fn answer(
+    alloc: Global,
+    caller: &Text,
+    number: u64,
+    answer: &Answer,
+    names: &[Text],
+) -> Result<Vec<u8>, Memory>
+    requires { IsTrue (is_answer_among (length names.now) answer.now) }
+    ensures { IfOk result (λ bytes. bytes.items ≡ answer_line names.now caller.now number answer.now) }
+{
+    let mut out = String::from_str(alloc, caller.as_str())?;
+    out.push_str(" ")?;
+    out.push_str(number.to_string(alloc)?.as_str())?;
+    out.push_str(" ")?;
+    push_answer(&mut out, alloc, names, answer)?;
+    out.push_str("\n")?;
+    Ok(out.into_bytes())
+}
+
+fn push_answer(
+    out: &mut String,
+    alloc: Global,
+    names: &[Text],
+    answer: &Answer,
+) -> Result<(), Memory>
+    requires { IsTrue (is_answer_among (length names.now) answer.now) }
+    ensures { OnOk result (string_bytes out.new ≡ string_bytes out.old ++ answer_words names.now answer.now) }
+{
+    match answer {
+        Answer::Committed(n) => {
+            out.push_str("Committed ")?;
+            out.push_str(n.to_string(alloc)?.as_str())?;
+        }
+        Answer::Exists(id) => {
+            out.push_str("Exists ")?;
+            out.push_str(id.as_str())?;
+        }
+        Answer::Missing(id) => {
+            out.push_str("Missing ")?;
+            out.push_str(id.as_str())?;
+        }
+        Answer::Clash(device, path, id) => {
+            out.push_str("Clash ")?;
+            out.push_str(device_name(names, *device).as_str())?;
+            out.push_str(" ")?;
+            out.push_str(path.text(alloc)?.as_str())?;
+            out.push_str(" ")?;
+            out.push_str(id.as_str())?;
+        }
+        Answer::Reused(n) => {
+            out.push_str("Reused ")?;
+            out.push_str(n.to_string(alloc)?.as_str())?;
+        }
+        Answer::Down => out.push_str("Down")?,
+        Answer::JournalFault => out.push_str("JournalFault")?,
+        // No call gets one of these yet.
+        _ => {}
+    }
+    Ok(())
+}
+
+/// The name of the device of a number.
+pub fn device_name(names: &[Text], device: u32) -> &Text
+    requires { device < length names.now }
+    ensures { result.now ≡ name_of names.now device }
+{
+    &names[device as usize]
+}

@@ -1,0 +1,88 @@
+//! Histories.
+ghost use Rattle.std.specs.Prelude.{◌≡◌, ◌++◌, IfOk, OnOk};
+ghost use Rattle.std.specs.List.{flat_map};
+ghost use Rattle.std.specs.String.{string_bytes};
+ghost use Rattle.orc_print.specs.Printed.{history_action, history_call, history_lines, history_text, history_write};
+
+use crate::push_item;
+use orc_call::{Action, Call, DevicePut};
+use orc_text::Memory;
+use std::alloc::Global;
+
+/// The group `history`: how many calls it has, each call with its number in it and its actions, and
+/// an end line.
+pub fn history(alloc: Global, calls: &[Call]) -> Result<Vec<u8>, Memory>
+    ensures { IfOk result (λ bytes. bytes.items ≡ history_text calls.now) }
+{
+    let mut out = String::from_str(alloc, "history ")?;
+    out.push_str(calls.len().to_string(alloc)?.as_str())?;
+    out.push_str("\n")?;
+    push_calls(&mut out, alloc, calls)?;
+    out.push_str("end\n")?;
+    Ok(out.into_bytes())
+}
+
+fn push_calls(out: &mut String, alloc: Global, history: &[Call]) -> Result<(), Memory>
+    ensures { OnOk result (string_bytes out.new ≡ string_bytes out.old ++ history_lines 1 history.now) }
+{
+    for (place, call) in history.iter().enumerate() {
+        push_call(out, alloc, place as u64 + 1, call)?;
+    }
+    Ok(())
+}
+
+// A call of a history, with its number in it.
+fn push_call(out: &mut String, alloc: Global, entry: u64, call: &Call) -> Result<(), Memory>
+    ensures { OnOk result (string_bytes out.new ≡ string_bytes out.old ++ history_call entry call.now) }
+{
+    out.push_str(entry.to_string(alloc)?.as_str())?;
+    out.push_str(" ")?;
+    out.push_str(call.caller.as_str())?;
+    out.push_str(" ")?;
+    out.push_str(call.number.to_string(alloc)?.as_str())?;
+    out.push_str("\n")?;
+    push_actions(out, alloc, call.actions.as_slice())
+}
+
+fn push_actions(out: &mut String, alloc: Global, actions: &[Action]) -> Result<(), Memory>
+    ensures { OnOk result (string_bytes out.new ≡ string_bytes out.old ++ flat_map history_action actions.now) }
+{
+    for action in actions {
+        push_action(out, alloc, action)?;
+    }
+    Ok(())
+}
+
+fn push_action(out: &mut String, alloc: Global, action: &Action) -> Result<(), Memory>
+    ensures { OnOk result (string_bytes out.new ≡ string_bytes out.old ++ history_action action.now) }
+{
+    match action {
+        Action::Literal(id, writes) => {
+            out.push_str("literal ")?;
+            out.push_str(id.as_str())?;
+            out.push_str("\n")?;
+            push_writes(out, alloc, writes.as_slice())?;
+        }
+        Action::Delete(id) => {
+            out.push_str("delete ")?;
+            out.push_str(id.as_str())?;
+            out.push_str("\n")?;
+        }
+        // The other kinds are not built yet.
+        _ => {}
+    }
+    Ok(())
+}
+
+fn push_writes(out: &mut String, alloc: Global, writes: &[DevicePut]) -> Result<(), Memory>
+    ensures { OnOk result (string_bytes out.new ≡ string_bytes out.old ++ flat_map history_write writes.now) }
+{
+    for write in writes {
+        out.push_str("  ")?;
+        out.push_str(write.device.as_str())?;
+        out.push_str(" ")?;
+        push_item(out, alloc, &write.path, &write.item)?;
+        out.push_str("\n")?;
+    }
+    Ok(())
+}

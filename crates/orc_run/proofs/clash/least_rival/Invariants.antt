@@ -1,8 +1,0 @@
-use Rattle.std.proofs.Common.{◌≡◌, map, take}
-use Rattle.std.specs.Option.{option_copied}
-use Rattle.orc_run.specs.States.{least, rivals}
-use Rattle.orc_run.proofs.clash.least_rival.Given as goal
-
--- the least one so far
-abbrev pub invariant-loop-service : goal.invariant-loop-service
-invariant-loop-service l = option_copied l.found ≡ least (map (λ service. service.id) (rivals (take l.service-index l.live) l.device (l.path, l.item)))

@@ -1,0 +1,7 @@
+pub mod Agreement
+pub mod Traces
+pub mod Overlays
+pub mod Trees
+pub mod Fits
+pub mod Services
+pub mod Legality

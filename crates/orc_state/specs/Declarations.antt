@@ -1,0 +1,12 @@
+-- Which declarations a bundle can have.
+use Rattle.std.specs.Prelude.{◌≡◌, ◌<◌, ◌^◌, length, IsTrue}
+use Rattle.std.specs.List.{list_all}
+use Rattle.orc_state.specs.States.{names_of}
+use Rattle.orc_state.specs.Calls.{is_device}
+use Rattle.orc_state.specs.declared.declarations.Decls.{Decls}
+
+-- declarations that a bundle can have: the names are those of the devices
+pub record AreDecls (decls : Decls) : Type 0 where
+  pub named : decls.names ≡ names_of decls.devices
+  pub devices : IsTrue (list_all is_device decls.devices)
+  pub few : length decls.devices < 2 ^ 16

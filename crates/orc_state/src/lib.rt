@@ -1,0 +1,23 @@
+//! The state of the orchestrator: the bases of the devices and the services that live on them. A
+//! history of calls makes it; what each call does, why it is refused, and which histories are legal
+//! is defined here, and the laws that users rely on are proved over whole histories.
+#![tactic(auto)]
+
+mod call;
+mod clash;
+mod declarations;
+mod expansion;
+mod lawful;
+mod laws;
+mod state;
+#[cfg(test)]
+mod tests;
+
+pub use call::action_of;
+pub use declarations::{Decls, Device};
+pub use lawful::{is_call, is_plain, is_plain_path};
+pub use laws::{
+    deleted_without_trace, order_of_creation_is_free, overlay_is_one, services_agree,
+    tree_is_configuration,
+};
+pub use state::{Service, State};
