@@ -5,3 +5,4 @@ pub mod Trees
 pub mod Fits
 pub mod Services
 pub mod Legality
+mod Clashes

@@ -122,6 +122,10 @@ differs Entry (Some (Leaf text)) = true
 differs (Leaf text) (Some Entry) = true
 differs (Leaf text) (Some (Leaf other)) = not (is_text text other)
 
+-- whether a service writes another item at one of these paths of a device
+abbrev pub differs_among : List (List PathStep × Item) → ℕ → Service → Bool
+differs_among es d service = list_any (λ e. differs e.1 (get (part service d) e.0)) es
+
 -- the services that write another item at this path of a device
 abbrev pub rivals : List Service → ℕ → List PathStep × Item → List Service
 rivals live d e = filter (λ service. differs e.1 (get (part service d) e.0)) live

@@ -1,8 +1,9 @@
 //! Where a new service and a living one would write unequal items.
 ghost use Rattle.std.specs.Prelude.{◌≡◌, ◌<◌, ◌^◌, IfOk, All, length, map};
-ghost use Rattle.std.specs.FinMap.{entries};
+ghost use Rattle.std.specs.FinMap.{entries, get};
+ghost use Rattle.std.specs.List.{list_any};
 ghost use Rattle.std.specs.Option.{option_copied, option_map_or};
-ghost use Rattle.orc_state.specs.States.{clash_among, clash_on, differs, least, lesser, rivals};
+ghost use Rattle.orc_state.specs.States.{clash_among, clash_on, differs, differs_among, least, lesser, rivals};
 
 use crate::Service;
 use orc_call::Answer;
@@ -41,12 +42,37 @@ fn clash_on_device(
     ensures { IfOk result (λ found. found ≡ clash_among live.now device (entries part.now)) }
 {
     let rows = part.walk(alloc)?;
+    // Services that agree are looked at once each: the search by paths goes through all of them for
+    // each path.
+    if !any_differs(live, device, &rows) {
+        return Ok(None);
+    }
     for row in &rows {
         if let Some(id) = least_rival(live, device, &row.0, &row.1) {
             return Ok(Some(Answer::Clash(device, row.0.copy(alloc)?, id.copy(alloc)?)));
         }
     }
     Ok(None)
+}
+
+// Whether a living service writes another item at one of these paths.
+fn any_differs(live: &[Service], device: u32, rows: &[(Path, Item)]) -> bool
+    requires { All (λ service. device < length service.parts) live.now }
+    ensures { result ≡ list_any (differs_among rows.now device) live.now }
+{
+    for service in live {
+        if differs_among(rows, service.part(device)) {
+            return true;
+        }
+    }
+    false
+}
+
+// Whether another item stands at one of these paths.
+fn differs_among(rows: &[(Path, Item)], part: &Tree) -> bool
+    ensures { result ≡ list_any (λ e. differs e.1 (get part.now e.0)) rows.now }
+{
+    rows.iter().any(|row| differs(&row.1, part.get(&row.0)))
 }
 
 // The least living service that writes another item at this path.
