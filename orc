@@ -11,6 +11,7 @@ is_old() {
 }
 
 if is_old; then
+    echo "orc: proving and building the program first, which takes some minutes; $crate/out/build.log tells how far it is" >&2
     mkdir -p "$crate/out"
     rm -f "$program"
     # Without a word the program ends at once, so that this is a build alone.

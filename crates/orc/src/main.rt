@@ -11,10 +11,10 @@ use std::process::ExitCode;
 use std::rt::Env;
 use std::{env, io};
 
-/// The room of the journal, in bytes.
+// The room of the journal, in bytes.
 const JOURNAL_ROOM: u64 = 67_108_864;
 
-/// Ends with the status of the run. A fault is named on standard error.
+// Ends with the status of the run. A fault is named on standard error.
 fn main(rt: HostRuntime) -> ExitCode {
     let ended = run(&rt);
     if let Err(stop) = &ended {
@@ -23,7 +23,7 @@ fn main(rt: HostRuntime) -> ExitCode {
     ExitCode::from(status(&ended))
 }
 
-/// Runs the bundle on standard input, over a journal in memory.
+// Runs the bundle on standard input, over a journal in memory.
 fn run<R: Env + Input + Print + AllocGlobal>(rt: &R) -> Result<Done, Stop> {
     let words = words(rt)?;
     let disk = journal_disk(rt.alloc())?;
@@ -33,7 +33,7 @@ fn run<R: Env + Input + Print + AllocGlobal>(rt: &R) -> Result<Done, Stop> {
     ended.status
 }
 
-/// An empty disk in memory.
+// An empty disk in memory.
 fn journal_disk(alloc: Global) -> Result<MemDisk, Stop> {
     match MemDisk::new(alloc, Vec::new(alloc), JOURNAL_ROOM, Vec::new(alloc)) {
         Ok(disk) => Ok(disk),
@@ -41,8 +41,8 @@ fn journal_disk(alloc: Global) -> Result<MemDisk, Stop> {
     }
 }
 
-/// The command words, which are the arguments behind the program's name. Words that are not UTF-8
-/// are none.
+// The command words, which are the arguments behind the program's name. Words that are not UTF-8
+// are none.
 fn words<R: Env + AllocGlobal>(rt: &R) -> Result<Vec<String>, Stop> {
     let mut arguments = match env::args(rt) {
         Ok(arguments) => arguments,

@@ -3,10 +3,12 @@ use Rattle.std.proofs.Common.{◌≡◌, ℕ, List, [], ◌∷◌, ◌++◌, map
 use Rattle.std.specs.List.{flat_map}
 use Rattle.std.proofs.lemmas.List.Concat.{flat_map-append}
 use Rattle.orc_state.specs.States.{action_of}
-use Rattle.orc_print.specs.Printed.{item_text, name_of}
+use Rattle.orc_path.specs.Items.{item_text}
+use Rattle.orc_state.specs.States.{name_of}
 use Rattle.orc_state.specs.States.{names_of}
 use Rattle.orc_bundle.specs.Bundles as bundles
-use Rattle.orc_bundle.specs.Lines.{line_text, lines_text}
+use Rattle.orc_state.specs.Texts as texts
+use Rattle.orc_bundle.specs.inside.Lines.{line_text, lines_text}
 use Rattle.orc_bundle.specs.declared.bundle.Bundle.{Bundle}
 use Rattle.orc_state.specs.declared.declarations.Device.{Device}
 use Rattle.orc_call.specs.declared.call.Put.{Put}
@@ -29,10 +31,10 @@ bases_text : (name : List ℕ) (puts : List Put) → flat_map (bundles.base_line
 bases_text name [] = refl
 bases_text name (p ∷ ps) = ap₂ (λ (x y : List ℕ). x ++ y) (base_text name p) (bases_text name ps)
 
-write_text : (w : DevicePut) → bundles.write_line w ≡ line_text (line.Write w) ++ 10 ∷ []
+write_text : (w : DevicePut) → texts.write_line (codes "write ") w ≡ line_text (line.Write w) ++ 10 ∷ []
 write_text w = ap (λ (z : List ℕ). codes "write " ++ (z ++ 10 ∷ [])) (append_assoc w.device (32 ∷ []) (item_text w.path w.item))
 
-writes_text : (ws : List DevicePut) → flat_map bundles.write_line ws ≡ lines_text (map line.Write ws)
+writes_text : (ws : List DevicePut) → flat_map (texts.write_line (codes "write ")) ws ≡ lines_text (map line.Write ws)
 writes_text [] = refl
 writes_text (w ∷ ws) = ap₂ (λ (x y : List ℕ). x ++ y) (write_text w) (writes_text ws)
 
@@ -45,7 +47,7 @@ devices_text : (ds : List Device) → flat_map bundles.device_lines ds ≡ lines
 devices_text [] = refl
 devices_text (d ∷ ds) = ap₂ (λ (x y : List ℕ). x ++ y) (device_text d) (devices_text ds) ∙ sym (lines-append (device_lines d) (flat_map device_lines ds))
 
-action_text : (a : Action) → bundles.action_lines a ≡ lines_text (action_lines a)
+action_text : (a : Action) → texts.action_lines (codes "write ") a ≡ lines_text (action_lines a)
 action_text (action.Literal id writes) = ap (λ (y : List ℕ). (codes "literal " ++ (id ++ 10 ∷ [])) ++ y) (writes_text writes)
 action_text (action.Delete id) = sym (append-nil (codes "delete " ++ (id ++ 10 ∷ [])))
 action_text other = refl

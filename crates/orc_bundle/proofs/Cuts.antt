@@ -2,13 +2,14 @@
 use Rattle.std.proofs.Common.{◌≡◌, ℕ, suc, ◌<◌, ◌≢◌, true, not, ◌==◌, List, [], ◌∷◌, ◌++◌, length, get_or, refl, ap₂, arith, eqb, Option, None, Some, MatchOption, IsTrue, eq-eqb, Bor}
 use Rattle.std.specs.Cmp.{first_so, second_so}
 use Rattle.std.proofs.lemmas.Str.Pattern.{IsSplitOnceResult, split_parts}
-use Rattle.orc_bundle.specs.Lines.{lacks}
-use Rattle.orc_bundle.proofs.Bytes.{both, not_true}
+use Rattle.orc_bundle.specs.inside.Lines.{lacks}
+use Rattle.std.proofs.lemmas.Bool.{and_from}
+use Rattle.orc_bundle.proofs.Bytes.{not_true}
 
 lacks-from_reads : (c : ℕ) (bs : List ℕ) → ((i : ℕ) → i < length bs → get_or bs i 0 ≢ c) → lacks c bs ≡ true
 lacks-from_reads c [] h = refl
 lacks-from_reads c (b ∷ bs) h =
-    both _ _ (not_true _ (λ e. h 0 (omega arith) (grind arith))) (lacks-from_reads c bs (λ i lt. h (suc i) (omega arith)))
+    and_from _ _ (not_true _ (λ e. h 0 (omega arith) (grind arith))) (lacks-from_reads c bs (λ i lt. h (suc i) (omega arith)))
 
 not_itself : (c : ℕ) → not (c == c) ≡ true → ⊥
 not_itself c h = let same : eqb c c ≡ true = eq-eqb c c refl in cc

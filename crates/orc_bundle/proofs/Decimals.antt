@@ -5,7 +5,7 @@ use Rattle.std.specs.Cmp.{first_so, second_so}
 use Rattle.std.proofs.lemmas.Str.Parse.{IsNumeralModel, numerals_by_value, tells_digits, parse_plain, not_in_digits}
 use Rattle.std.proofs.lemmas.Result.{OkIff-at_ok}
 use Rattle.std.proofs.lemmas.Fmt.{parse-decimal, decimal_digit, decimal_nonempty, first_decimal, digits_decimal, decimal_injective, decimal-digits_value}
-use Rattle.orc_bundle.specs.Reading.{IsOnly, IsNumberOf, is_padded}
+use Rattle.orc_bundle.specs.inside.Reading.{IsOnly, IsNumberOf, is_padded}
 use Rattle.orc_bundle.proofs.Bytes.{either}
 
 pub own : IsNumeralModel (AllDigits 10) (digits_value 10)

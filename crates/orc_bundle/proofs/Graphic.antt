@@ -8,16 +8,17 @@ use Rattle.std.proofs.lemmas.Fmt.{digits_decimal}
 use Rattle.orc_path.specs.Alphabet.{is_letter, is_name_start, is_name_byte, is_identifier, is_qualified_rest, is_qualified, is_key}
 use Rattle.orc_path.specs.Steps.{PathStep, is_first_step, is_later_step, is_path}
 use Rattle.orc_path.specs.Texts.{escape, key_text, step_text, path_text}
-use Rattle.orc_state.specs.Calls.{is_plain, has_plain_keys}
-use Rattle.orc_bundle.specs.Lines.{lacks}
-use Rattle.orc_bundle.proofs.Bytes.{both, either, not_true, list_all-weaker, list_all-joined}
+use Rattle.orc_state.specs.Calls.{is_plain_word, has_plain_keys}
+use Rattle.orc_bundle.specs.inside.Lines.{lacks}
+use Rattle.std.proofs.lemmas.Bool.{and_from}
+use Rattle.orc_bundle.proofs.Bytes.{either, not_true, list_all-weaker, list_all-joined}
 use Rattle.orc_bundle.proofs.Decimals.{own}
 
 abbrev pub is_graphic : ℕ → Bool
 is_graphic b = nat_lt 32 b && nat_lt b 127
 
 between : (b : ℕ) → 32 < b → b < 127 → is_graphic b ≡ true
-between b low high = both _ _ (lt-ltb 32 b low) (lt-ltb b 127 high)
+between b low high = and_from _ _ (lt-ltb 32 b low) (lt-ltb b 127 high)
 
 in_range : (low high b : ℕ) → (nat_le low b && nat_le b high) ≡ true → 32 < low → high < 127 → is_graphic b ≡ true
 in_range low high b h above below =
@@ -54,13 +55,13 @@ name_byte b h =
 name_bytes_graphic : (bs : List ℕ) → list_all is_name_byte bs ≡ true → list_all is_graphic bs ≡ true
 name_bytes_graphic bs h = list_all-weaker is_name_byte is_graphic name_byte bs h
 
-pub plain_graphic : (bs : List ℕ) → is_plain bs ≡ true → list_all is_graphic bs ≡ true
+pub plain_graphic : (bs : List ℕ) → is_plain_word bs ≡ true → list_all is_graphic bs ≡ true
 plain_graphic bs h = name_bytes_graphic bs (second_so (nat_lt 0 (length bs)) (list_all is_name_byte bs) h)
 
 pub identifier_graphic : (bs : List ℕ) → is_identifier bs ≡ true → list_all is_graphic bs ≡ true
 identifier_graphic [] h = refl
 identifier_graphic (b ∷ bs) h =
-    both _ _ (name_start b (first_so (is_name_start b) (list_all is_name_byte bs) h)) (name_bytes_graphic bs (second_so (is_name_start b) (list_all is_name_byte bs) h))
+    and_from _ _ (name_start b (first_so (is_name_start b) (list_all is_name_byte bs) h)) (name_bytes_graphic bs (second_so (is_name_start b) (list_all is_name_byte bs) h))
 
 chosen : (t x y : Bool) → cond t x y ≡ true → ((t ≡ true) × (x ≡ true)) ⊎ (y ≡ true)
 chosen true x y h = inl (refl, h)
@@ -70,14 +71,14 @@ rest_graphic : (bs : List ℕ) → is_qualified_rest bs ≡ true → list_all is
 rest_graphic [] h = refl
 rest_graphic (b ∷ bs) h =
     elim (chosen (b == 58) (is_identifier bs) (is_name_byte b && is_qualified_rest bs) h) [
-      | inl p ↦ both _ _ (one_of 58 b p.0 (omega arith) (omega arith)) (identifier_graphic bs p.1)
-      | inr q ↦ both _ _ (name_byte b (first_so (is_name_byte b) (is_qualified_rest bs) q)) (rest_graphic bs (second_so (is_name_byte b) (is_qualified_rest bs) q))
+      | inl p ↦ and_from _ _ (one_of 58 b p.0 (omega arith) (omega arith)) (identifier_graphic bs p.1)
+      | inr q ↦ and_from _ _ (name_byte b (first_so (is_name_byte b) (is_qualified_rest bs) q)) (rest_graphic bs (second_so (is_name_byte b) (is_qualified_rest bs) q))
     ]
 
 qualified_graphic : (bs : List ℕ) → is_qualified bs ≡ true → list_all is_graphic bs ≡ true
 qualified_graphic [] h = refl
 qualified_graphic (b ∷ bs) h =
-    both _ _ (name_start b (first_so (is_name_start b) (is_qualified_rest bs) h)) (rest_graphic bs (second_so (is_name_start b) (is_qualified_rest bs) h))
+    and_from _ _ (name_start b (first_so (is_name_start b) (is_qualified_rest bs) h)) (rest_graphic bs (second_so (is_name_start b) (is_qualified_rest bs) h))
 
 choice_graphic : (t : Bool) (x y : List ℕ) → list_all is_graphic x ≡ true → list_all is_graphic y ≡ true → list_all is_graphic (cond t x y) ≡ true
 choice_graphic true x y hx hy = hx
@@ -85,17 +86,17 @@ choice_graphic false x y hx hy = hy
 
 escape_graphic : (b : ℕ) → is_graphic b ≡ true → list_all is_graphic (escape b) ≡ true
 escape_graphic b h =
-    choice_graphic (b == 92) _ _ refl (choice_graphic (b == 93) _ _ refl (choice_graphic (b == 32) _ _ refl (choice_graphic (b == 9) _ _ refl (choice_graphic (b == 10) _ _ refl (choice_graphic (b == 13) _ _ refl (both _ _ h refl))))))
+    choice_graphic (b == 92) _ _ refl (choice_graphic (b == 93) _ _ refl (choice_graphic (b == 32) _ _ refl (choice_graphic (b == 9) _ _ refl (choice_graphic (b == 10) _ _ refl (choice_graphic (b == 13) _ _ refl (and_from _ _ h refl))))))
 
 escapes_graphic : (bs : List ℕ) → list_all is_graphic bs ≡ true → list_all is_graphic (flat_map escape bs) ≡ true
 escapes_graphic [] h = refl
 escapes_graphic (b ∷ bs) h =
     list_all-joined is_graphic (escape b) (flat_map escape bs) (escape_graphic b (first_so (is_graphic b) (list_all is_graphic bs) h)) (escapes_graphic bs (second_so (is_graphic b) (list_all is_graphic bs) h))
 
-keys_graphic : (ks : List (List ℕ)) → list_all is_plain ks ≡ true → list_all is_graphic (flat_map key_text ks) ≡ true
+keys_graphic : (ks : List (List ℕ)) → list_all is_plain_word ks ≡ true → list_all is_graphic (flat_map key_text ks) ≡ true
 keys_graphic [] h = refl
 keys_graphic (k ∷ ks) h =
-    list_all-joined is_graphic (key_text k) (flat_map key_text ks) (list_all-joined is_graphic (flat_map escape k) (93 ∷ []) (escapes_graphic k (plain_graphic k (first_so (is_plain k) (list_all is_plain ks) h))) refl) (keys_graphic ks (second_so (is_plain k) (list_all is_plain ks) h))
+    list_all-joined is_graphic (key_text k) (flat_map key_text ks) (list_all-joined is_graphic (flat_map escape k) (93 ∷ []) (escapes_graphic k (plain_graphic k (first_so (is_plain_word k) (list_all is_plain_word ks) h))) refl) (keys_graphic ks (second_so (is_plain_word k) (list_all is_plain_word ks) h))
 
 step_graphic : (s : PathStep) → list_all is_graphic s.node ≡ true → has_plain_keys s ≡ true → list_all is_graphic (step_text s) ≡ true
 step_graphic s h k = list_all-joined is_graphic s.node (flat_map key_text s.keys) h (keys_graphic s.keys k)
@@ -113,7 +114,7 @@ path_graphic (s ∷ ss) h k =
 digits_graphic : (ds : List ℕ) → AllDigits 10 ds → list_all is_graphic ds ≡ true
 digits_graphic [] h = refl
 digits_graphic (d ∷ ds) h =
-    let r = digit_from_value d h.0 in both _ _ (between d (omega (arith, r.0)) (omega (arith, r.1))) (digits_graphic ds h.1)
+    let r = digit_from_value d h.0 in and_from _ _ (between d (omega (arith, r.0)) (omega (arith, r.1))) (digits_graphic ds h.1)
 
 pub decimal_graphic : (n : ℕ) → n < 2 ^ 64 → list_all is_graphic (decimal n) ≡ true
 decimal_graphic n h = digits_graphic (decimal n) (digits_decimal own n h)

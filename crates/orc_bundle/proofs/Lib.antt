@@ -12,4 +12,5 @@ mod Story
 mod BundleText
 mod Rereading
 mod WholeBundle
+mod OneBundle
 pub mod Encodable

@@ -1,18 +1,17 @@
 -- The lines of a bundle by their words.
 use Rattle.std.proofs.Common.{◌≡◌, ℕ, ◌<◌, ◌^◌, Bool, true, false, not, List, ◌∷◌, ◌++◌, codes, Some, None, Option, refl, ap, ap₂, sym, ◌∙◌, decimal, ltb-true, lt-ltb, nat_lt, Result, bytes_eq, subst}
 use Rattle.std.proofs.lemmas.Slice.Eq.{bytes_eq-Decides}
-use Rattle.std.proofs.lemmas.Bool.{false≢true}
+use Rattle.std.proofs.lemmas.Bool.{and_from, false≢true}
 use Rattle.std.specs.Cmp.{first_so, second_so}
 use Rattle.orc_path.specs.Alphabet.{is_identifier}
-use Rattle.orc_print.specs.Printed.{item_text}
-use Rattle.orc_bundle.specs.Lines.{lacks, word_of, rest_of, joined}
-use Rattle.orc_bundle.specs.Reading.{IsOnly, Reads, IsNameOf, IsNumberOf, IsPutOf, IsDevicePutOf, IsBehind, IsLineOf}
+use Rattle.orc_path.specs.Items.{item_text}
+use Rattle.orc_bundle.specs.inside.Lines.{lacks, word_of, rest_of, joined}
+use Rattle.orc_bundle.specs.inside.Reading.{IsOnly, Reads, IsNameOf, IsNumberOf, IsPutOf, IsDevicePutOf, IsBehind, IsLineOf}
 use Rattle.orc_call.specs.declared.call.Put.{Put}
 use Rattle.orc_call.specs.declared.call.DevicePut.{DevicePut}
 use Rattle.orc_bundle.specs.declared.read.BundleFault.{BundleFault}
 use Rattle.orc_bundle.specs.declared.read.line.Line.{Line}
 use Rattle.orc_bundle.specs.declared.read.line.Line.TheVariants as line
-use Rattle.orc_bundle.proofs.Bytes.{both}
 use Rattle.orc_bundle.proofs.Cuts.{cut_once, has_cut}
 use Rattle.orc_bundle.proofs.Graphic.{name_lacks, number_lacks}
 use Rattle.orc_bundle.proofs.Readers.{reads_alike}
@@ -33,7 +32,7 @@ pub call_only : (a b rest caller : List ℕ) (number : ℕ) → rest ≡ a ++ 32
 call_only a b rest caller number e k name num =
     let whole : caller ++ 32 ∷ decimal number ≡ rest = ap₂ (λ (x y : List ℕ). x ++ 32 ∷ y) name.holds.text num.holds.text ∙ sym e in
     record {
-      holds = record { lawful = both _ _ name.holds.lawful (lt-ltb number (2 ^ 64) num.holds.lawful); word = refl; rest = ap Some whole };
+      holds = record { lawful = and_from _ _ name.holds.lawful (lt-ltb number (2 ^ 64) num.holds.lawful); word = refl; rest = ap Some whole };
       only = λ l h.
           let p = call_parts a b rest e k l h in
           p.4 ∙ ap₂ (λ (x : List ℕ) (n : ℕ). line.Call x n) (name.only p.0 p.2) (num.only p.1 p.3);
@@ -56,7 +55,7 @@ pub stop_only : (a b rest : List ℕ) (count bytes : ℕ) → rest ≡ a ++ 32 �
 stop_only a b rest count bytes e k first second =
     let whole : decimal count ++ 32 ∷ decimal bytes ≡ rest = ap₂ (λ (x y : List ℕ). x ++ 32 ∷ y) first.holds.text second.holds.text ∙ sym e in
     record {
-      holds = record { lawful = both _ _ (lt-ltb count (2 ^ 64) first.holds.lawful) (lt-ltb bytes (2 ^ 64) second.holds.lawful); word = refl; rest = ap Some whole };
+      holds = record { lawful = and_from _ _ (lt-ltb count (2 ^ 64) first.holds.lawful) (lt-ltb bytes (2 ^ 64) second.holds.lawful); word = refl; rest = ap Some whole };
       only = λ l h.
           let p = stop_parts a b rest e k l h in
           p.4 ∙ ap₂ (λ (x y : ℕ). line.StopAt x y) (first.only p.0 p.2) (second.only p.1 p.3);
@@ -109,7 +108,7 @@ device_put_only a b text device put e k name only =
 
 -- a line of several words
 
-word_lacks : (l : Line) → lacks 32 (word_of l) ≡ true
+pub word_lacks : (l : Line) → lacks 32 (word_of l) ≡ true
 word_lacks line.Header = refl
 word_lacks (line.Device name) = refl
 word_lacks (line.Base w) = refl

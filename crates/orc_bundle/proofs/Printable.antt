@@ -10,14 +10,15 @@ use Rattle.orc_path.specs.Texts.{path_text}
 use Rattle.orc_path.specs.Items.{fits}
 use Rattle.orc_path.specs.declared.item.Item.{Item}
 use Rattle.orc_path.specs.declared.item.Item.TheVariants.{Entry, Leaf}
-use Rattle.orc_print.specs.Printed.{item_text}
-use Rattle.orc_state.specs.Calls.{has_plain_keys, is_plain_item, is_item}
-use Rattle.orc_bundle.specs.Lines.{lacks, put_text, line_text, is_line}
-use Rattle.orc_bundle.specs.Reading.{IsLineOf}
+use Rattle.orc_path.specs.Items.{item_text}
+use Rattle.orc_state.specs.Calls.{has_plain_keys, is_plain_item, is_item_at}
+use Rattle.orc_bundle.specs.inside.Lines.{lacks, put_text, line_text, is_line}
+use Rattle.orc_bundle.specs.inside.Reading.{IsLineOf}
 use Rattle.orc_call.specs.declared.call.DevicePut.{DevicePut}
 use Rattle.orc_bundle.specs.declared.read.line.Line.{Line}
 use Rattle.orc_bundle.specs.declared.read.line.Line.TheVariants as line
-use Rattle.orc_bundle.proofs.Bytes.{both, not_true, list_all-weaker, list_all-joined}
+use Rattle.std.proofs.lemmas.Bool.{and_from}
+use Rattle.orc_bundle.proofs.Bytes.{not_true, list_all-weaker, list_all-joined}
 use Rattle.orc_bundle.proofs.Graphic.{is_graphic, identifier_graphic, plain_graphic, path_graphic, decimal_graphic}
 
 abbrev is_printable : ℕ → Bool
@@ -26,7 +27,7 @@ is_printable b = nat_lt 31 b && nat_lt b 127
 graphic_printable : (b : ℕ) → is_graphic b ≡ true → is_printable b ≡ true
 graphic_printable b h =
     let low : 32 < b = ltb-true 32 b (first_so (nat_lt 32 b) (nat_lt b 127) h) in
-    both _ _ (lt-ltb 31 b (omega arith)) (second_so (nat_lt 32 b) (nat_lt b 127) h)
+    and_from _ _ (lt-ltb 31 b (omega arith)) (second_so (nat_lt 32 b) (nat_lt b 127) h)
 
 word_printable : (bs : List ℕ) → list_all is_graphic bs ≡ true → list_all is_printable bs ≡ true
 word_printable bs h = list_all-weaker is_graphic is_printable graphic_printable bs h
@@ -43,13 +44,13 @@ item_printable p Entry h k = word_printable (path_text p) h
 item_printable p (Leaf value) h k =
     list_all-joined is_printable (path_text p ++ codes " = ") value (list_all-joined is_printable (path_text p) (codes " = ") (word_printable (path_text p) h) refl) (word_printable value (plain_graphic value k))
 
-put_printable : (w : DevicePut) → (is_identifier w.device && is_item w.path w.item) ≡ true → list_all is_printable (put_text w) ≡ true
+put_printable : (w : DevicePut) → (is_identifier w.device && is_item_at w.path w.item) ≡ true → list_all is_printable (put_text w) ≡ true
 put_printable w h =
-    let item = second_so (is_identifier w.device) (is_item w.path w.item) h in
+    let item = second_so (is_identifier w.device) (is_item_at w.path w.item) h in
     let three = first_so (is_path w.path && list_all has_plain_keys w.path && is_plain_item w.item) (fits w.path w.item) item in
     let two = first_so (is_path w.path && list_all has_plain_keys w.path) (is_plain_item w.item) three in
     let path = path_graphic w.path (first_so (is_path w.path) (list_all has_plain_keys w.path) two) (second_so (is_path w.path) (list_all has_plain_keys w.path) two) in
-    spaced w.device (item_text w.path w.item) (name_printable w.device (first_so (is_identifier w.device) (is_item w.path w.item) h)) (item_printable w.path w.item path (second_so (is_path w.path && list_all has_plain_keys w.path) (is_plain_item w.item) three))
+    spaced w.device (item_text w.path w.item) (name_printable w.device (first_so (is_identifier w.device) (is_item_at w.path w.item) h)) (item_printable w.path w.item path (second_so (is_path w.path && list_all has_plain_keys w.path) (is_plain_item w.item) three))
 
 line_printable : (l : Line) → is_line l ≡ true → list_all is_printable (line_text l) ≡ true
 line_printable line.Header h = refl

@@ -7,10 +7,10 @@ use Rattle.orc_path.specs.Texts.{path_text}
 use Rattle.orc_path.specs.Items.{fits}
 use Rattle.orc_path.specs.declared.item.Item.{Item}
 use Rattle.orc_path.specs.declared.item.Item.TheVariants.{Entry, Leaf}
-use Rattle.orc_print.specs.Printed.{item_text}
-use Rattle.orc_state.specs.Calls.{has_plain_keys, is_plain_item, is_item}
-use Rattle.orc_bundle.specs.Lines.{lacks}
-use Rattle.orc_bundle.specs.Reading.{Reads, IsEntryOf, IsLeafOf, IsPutOf}
+use Rattle.orc_path.specs.Items.{item_text}
+use Rattle.orc_state.specs.Calls.{has_plain_keys, is_plain_item, is_item_at}
+use Rattle.orc_bundle.specs.inside.Lines.{lacks}
+use Rattle.orc_bundle.specs.inside.Reading.{Reads, IsEntryOf, IsLeafOf, IsPutOf}
 use Rattle.orc_call.specs.declared.call.Put.{Put}
 use Rattle.orc_bundle.specs.declared.read.BundleFault.{BundleFault}
 use Rattle.orc_bundle.proofs.Cuts.{cut_once, has_cut}
@@ -18,22 +18,22 @@ use Rattle.orc_bundle.proofs.Graphic.{path_lacks}
 use Rattle.orc_bundle.proofs.Readers.{reads_alike}
 
 -- the path of an item has no space
-item_path_lacks : (p : List PathStep) (i : Item) → is_item p i ≡ true → lacks 32 (path_text p) ≡ true
+pub item_path_lacks : (p : List PathStep) (i : Item) → is_item_at p i ≡ true → lacks 32 (path_text p) ≡ true
 item_path_lacks p i h =
     let three = first_so (is_path p && list_all has_plain_keys p && is_plain_item i) (fits p i) h in
     let two = first_so (is_path p && list_all has_plain_keys p) (is_plain_item i) three in
     path_lacks p (first_so (is_path p) (list_all has_plain_keys p) two) (second_so (is_path p) (list_all has_plain_keys p) two)
 
-leaf_text_is : (p : List PathStep) (value : List ℕ) → item_text p (Leaf value) ≡ path_text p ++ 32 ∷ 61 ∷ 32 ∷ value
+pub leaf_text_is : (p : List PathStep) (value : List ℕ) → item_text p (Leaf value) ≡ path_text p ++ 32 ∷ 61 ∷ 32 ∷ value
 leaf_text_is p value = append_assoc (path_text p) (codes " = ") value
 
-entry_alone : (p : List PathStep) (i : Item) (text : List ℕ) → lacks 32 text ≡ true → item_text p i ≡ text → i ≡ Entry
+pub entry_alone : (p : List PathStep) (i : Item) (text : List ℕ) → lacks 32 text ≡ true → item_text p i ≡ text → i ≡ Entry
 entry_alone p Entry text k e = refl
 entry_alone p (Leaf value) text k e =
     let whole : text ≡ path_text p ++ 32 ∷ 61 ∷ 32 ∷ value = sym e ∙ leaf_text_is p value in
     absurd (has_cut 32 (path_text p) (61 ∷ 32 ∷ value) (rw whole at k))
 
-entry_text : (p : List PathStep) (i : Item) → i ≡ Entry → item_text p i ≡ path_text p
+pub entry_text : (p : List PathStep) (i : Item) → i ≡ Entry → item_text p i ≡ path_text p
 entry_text p Entry e = refl
 entry_text p (Leaf value) e = cc
 
@@ -45,7 +45,7 @@ entry_read text k r h =
     r h
 
 -- an item whose text is cut is a leaf of its path and its value
-leaf_parts : (p : List PathStep) (i : Item) (word rest : List ℕ) → is_item p i ≡ true → lacks 32 word ≡ true → item_text p i ≡ word ++ 32 ∷ rest → (value : List ℕ) × (i ≡ Leaf value) × (path_text p ≡ word) × (61 ∷ 32 ∷ value ≡ rest)
+pub leaf_parts : (p : List PathStep) (i : Item) (word rest : List ℕ) → is_item_at p i ≡ true → lacks 32 word ≡ true → item_text p i ≡ word ++ 32 ∷ rest → (value : List ℕ) × (i ≡ Leaf value) × (path_text p ≡ word) × (61 ∷ 32 ∷ value ≡ rest)
 leaf_parts p Entry word rest h k e =
     let path = item_path_lacks p Entry h in absurd (has_cut 32 word rest (rw e at path))
 leaf_parts p (Leaf value) word rest h k e =

@@ -1,6 +1,6 @@
 -- What readers of parts say of the reader of the whole.
 use Rattle.std.proofs.Common.{◌≡◌, Result, Ok, Err, refl}
-use Rattle.orc_bundle.specs.Reading.{Fails, Reads}
+use Rattle.orc_bundle.specs.inside.Reading.{Fails, Reads}
 use Rattle.orc_bundle.specs.declared.read.BundleFault.{BundleFault}
 use Rattle.orc_bundle.specs.declared.read.BundleFault.TheVariants as fault
 

@@ -3,14 +3,14 @@ use Rattle.std.proofs.Common.{◌≡◌, ℕ, zero, suc, ◌<◌, ◌^◌, Bool,
 use Rattle.std.specs.List.{list_all, list_any, flat_map}
 use Rattle.std.specs.Option.{option_and_then}
 use Rattle.std.specs.Cmp.{first_so, second_so}
-use Rattle.std.proofs.lemmas.Bool.{false≢true}
+use Rattle.std.proofs.lemmas.Bool.{and_from, false≢true}
 use Rattle.std.proofs.lemmas.Slice.Eq.{bytes_eq-Decides}
 use Rattle.orc_path.specs.Alphabet.{is_identifier}
-use Rattle.orc_state.specs.States.{first_action, action_of, is_text}
-use Rattle.orc_state.specs.Calls.{is_item, is_put, is_device, is_write, is_action}
+use Rattle.orc_state.specs.States.{first_action, action_of, is_same_text}
+use Rattle.orc_state.specs.Calls.{is_item_at, is_put, is_device, is_write, is_action}
 use Rattle.orc_bundle.specs.Bundles.{is_step}
-use Rattle.orc_bundle.specs.Lines.{is_line}
-use Rattle.orc_bundle.specs.Places.{behind, behind_all, with_step}
+use Rattle.orc_bundle.specs.inside.Lines.{is_line}
+use Rattle.orc_bundle.specs.inside.Places.{behind, behind_all, with_step}
 use Rattle.orc_bundle.specs.declared.bundle.Bundle.{Bundle}
 use Rattle.orc_state.specs.declared.declarations.Device.{Device}
 use Rattle.orc_call.specs.declared.call.Put.{Put}
@@ -25,10 +25,10 @@ use Rattle.orc_bundle.specs.declared.read.line.Line.TheVariants as line
 use Rattle.orc_bundle.specs.declared.read.place.Place.{Place}
 use Rattle.orc_bundle.specs.declared.read.place.Place.TheVariants as place
 use Rattle.orc_bundle.specs.declared.read.place.Script.{Script}
-use Rattle.orc_bundle.proofs.Bytes.{both, either, list_all-joined}
+use Rattle.orc_bundle.proofs.Bytes.{either, list_all-joined}
 use Rattle.orc_bundle.proofs.Story.{put_line, device_lines, action_lines, call_lines, step_lines, bundle_lines, names}
 
-same_text : (n : List ℕ) → is_text n n ≡ true
+same_text : (n : List ℕ) → is_same_text n n ≡ true
 same_text n = (bytes_eq-Decides n n).1 refl
 
 reads_base : (d : Device) (puts : List Put) (ls : List Line) → behind_all (place.Base d) (map (put_line d.name) puts ++ ls) ≡ behind_all (place.Base (record d { base = d.base ++ puts })) ls
@@ -40,9 +40,9 @@ reads_base d (p ∷ ps) ls =
     ∙ reads_base further ps ls
     ∙ ap (λ (b : List Put). behind_all (place.Base (record d { base = b })) ls) (append_assoc d.base (p ∷ []) ps)
 
-write_is_known : (s : Script) (w : DevicePut) → is_write (names s) w ≡ true → is_text w.device s.device.name ≡ true
+write_is_known : (s : Script) (w : DevicePut) → is_write (names s) w ≡ true → is_same_text w.device s.device.name ≡ true
 write_is_known s w h =
-    elim (either (is_text w.device s.device.name) false (first_so (list_any (is_text w.device) (names s)) (is_item w.path w.item) h)) [ inl e ↦ e | inr e ↦ absurd (false≢true e) ]
+    elim (either (is_same_text w.device s.device.name) false (first_so (list_any (is_same_text w.device) (names s)) (is_item_at w.path w.item) h)) [ inl e ↦ e | inr e ↦ absurd (false≢true e) ]
 
 reads_writes : (s : Script) (caller : List ℕ) (number : ℕ) (id : List ℕ) (ws us : List DevicePut) (ls : List Line) → list_all (is_write (names s)) us ≡ true → behind_all (place.Write s caller number id ws) (map line.Write us ++ ls) ≡ behind_all (place.Write s caller number id (ws ++ us)) ls
 reads_writes s caller number id ws [] ls h = ap (λ (b : List DevicePut). behind_all (place.Write s caller number id b) ls) (sym (append-nil ws))
@@ -110,35 +110,35 @@ reads_bundle s h =
 puts_lawful : (name : List ℕ) (puts : List Put) → is_identifier name ≡ true → list_all is_put puts ≡ true → list_all is_line (map (put_line name) puts) ≡ true
 puts_lawful name [] k h = refl
 puts_lawful name (p ∷ ps) k h =
-    both (is_line (put_line name p)) (list_all is_line (map (put_line name) ps)) (both (is_identifier name) (is_put p) k (first_so (is_put p) (list_all is_put ps) h)) (puts_lawful name ps k (second_so (is_put p) (list_all is_put ps) h))
+    and_from (is_line (put_line name p)) (list_all is_line (map (put_line name) ps)) (and_from (is_identifier name) (is_put p) k (first_so (is_put p) (list_all is_put ps) h)) (puts_lawful name ps k (second_so (is_put p) (list_all is_put ps) h))
 
 write_lawful : (s : Script) (w : DevicePut) → is_identifier s.device.name ≡ true → is_write (names s) w ≡ true → is_line (line.Write w) ≡ true
 write_lawful s w k h =
     let same : w.device ≡ s.device.name = (bytes_eq-Decides w.device s.device.name).0 (write_is_known s w h) in
-    both (is_identifier w.device) (is_item w.path w.item) (ap is_identifier same ∙ k) (second_so (list_any (is_text w.device) (names s)) (is_item w.path w.item) h)
+    and_from (is_identifier w.device) (is_item_at w.path w.item) (ap is_identifier same ∙ k) (second_so (list_any (is_same_text w.device) (names s)) (is_item_at w.path w.item) h)
 
 writes_lawful : (s : Script) (ws : List DevicePut) → is_identifier s.device.name ≡ true → list_all (is_write (names s)) ws ≡ true → list_all is_line (map line.Write ws) ≡ true
 writes_lawful s [] k h = refl
 writes_lawful s (w ∷ ws) k h =
-    both (is_line (line.Write w)) (list_all is_line (map line.Write ws)) (write_lawful s w k (first_so (is_write (names s) w) (list_all (is_write (names s)) ws) h)) (writes_lawful s ws k (second_so (is_write (names s) w) (list_all (is_write (names s)) ws) h))
+    and_from (is_line (line.Write w)) (list_all is_line (map line.Write ws)) (write_lawful s w k (first_so (is_write (names s) w) (list_all (is_write (names s)) ws) h)) (writes_lawful s ws k (second_so (is_write (names s) w) (list_all (is_write (names s)) ws) h))
 
 action_lawful : (s : Script) (a : Action) → is_identifier s.device.name ≡ true → is_action (names s) a ≡ true → list_all is_line (action_lines a) ≡ true
 action_lawful s (action.Literal id writes) k h =
-    both (is_identifier id) (list_all is_line (map line.Write writes)) (first_so (is_identifier id) (list_all (is_write (names s)) writes) h) (writes_lawful s writes k (second_so (is_identifier id) (list_all (is_write (names s)) writes) h))
-action_lawful s (action.Delete id) k h = both (is_identifier id) true h refl
+    and_from (is_identifier id) (list_all is_line (map line.Write writes)) (first_so (is_identifier id) (list_all (is_write (names s)) writes) h) (writes_lawful s writes k (second_so (is_identifier id) (list_all (is_write (names s)) writes) h))
+action_lawful s (action.Delete id) k h = and_from (is_identifier id) true h refl
 action_lawful s other k h = refl
 
 step_lawful : (s : Script) (x : ScriptStep) → is_identifier s.device.name ≡ true → is_step (names s) x ≡ true → list_all is_line (step_lines (names s) x) ≡ true
-step_lawful s (step.Show zero) k h = both (is_identifier s.device.name) true k refl
+step_lawful s (step.Show zero) k h = and_from (is_identifier s.device.name) true k refl
 step_lawful s (step.Show (suc d)) k h = let within : suc d < 1 = ltb-true (suc d) 1 h in absurd (omega arith)
 step_lawful s step.Stop k h = refl
-step_lawful s (step.StopAt count bytes) k h = both (nat_lt count (2 ^ 64) && nat_lt bytes (2 ^ 64)) true h refl
+step_lawful s (step.StopAt count bytes) k h = and_from (nat_lt count (2 ^ 64) && nat_lt bytes (2 ^ 64)) true h refl
 step_lawful s step.Recover k h = refl
 step_lawful s step.History k h = refl
 step_lawful s (step.Serve call) k h =
     let head = first_so (is_numbered call) (length call.actions == 1) (first_so (is_numbered call && (length call.actions == 1)) (is_action (names s) (action_of call)) h) in
     let action = second_so (is_numbered call && (length call.actions == 1)) (is_action (names s) (action_of call)) h in
-    list_all-joined is_line (call_lines call) (line.End ∷ line.Settle ∷ []) (both (is_numbered call) (list_all is_line (action_lines (action_of call))) head (action_lawful s (action_of call) k action)) refl
+    list_all-joined is_line (call_lines call) (line.End ∷ line.Settle ∷ []) (and_from (is_numbered call) (list_all is_line (action_lines (action_of call))) head (action_lawful s (action_of call) k action)) refl
 
 steps_lawful : (s : Script) (xs : List ScriptStep) → is_identifier s.device.name ≡ true → list_all (is_step (names s)) xs ≡ true → list_all is_line (flat_map (step_lines (names s)) xs) ≡ true
 steps_lawful s [] k h = refl
@@ -150,5 +150,5 @@ bundle_lawful s d h =
     let name = first_so (is_identifier s.device.name) (list_all is_put s.device.base) d in
     let base = second_so (is_identifier s.device.name) (list_all is_put s.device.base) d in
     let steps = flat_map (step_lines (names s)) s.steps in
-    let device : list_all is_line (device_lines s.device) ≡ true = both (is_identifier s.device.name) (list_all is_line (map (put_line s.device.name) s.device.base)) name (puts_lawful s.device.name s.device.base name base) in
+    let device : list_all is_line (device_lines s.device) ≡ true = and_from (is_identifier s.device.name) (list_all is_line (map (put_line s.device.name) s.device.base)) name (puts_lawful s.device.name s.device.base name base) in
     list_all-joined is_line (flat_map device_lines (s.device ∷ [])) (line.Script ∷ steps) (list_all-joined is_line (device_lines s.device) [] device refl) (steps_lawful s s.steps name h)

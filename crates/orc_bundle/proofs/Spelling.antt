@@ -4,20 +4,21 @@ use Rattle.std.specs.List.{list_all}
 use Rattle.std.specs.Option.{option_and_then}
 use Rattle.std.specs.Cmp.{first_so, second_so}
 use Rattle.std.proofs.lemmas.List.Concat.{flat_map-append}
-use Rattle.orc_bundle.specs.Lines.{lacks, line_text, lines_text, is_line}
-use Rattle.orc_bundle.specs.Reading.{IsOnly, IsLineOf}
-use Rattle.orc_bundle.specs.Places.{behind, behind_all, AreLinesOf, IsReached, Turns, Reaches}
+use Rattle.orc_bundle.specs.inside.Lines.{lacks, line_text, lines_text, is_line}
+use Rattle.orc_bundle.specs.inside.Reading.{IsOnly, IsLineOf}
+use Rattle.orc_bundle.specs.inside.Places.{behind, behind_all, AreLinesOf, IsReached, Turns, ReachesPlace}
 use Rattle.orc_bundle.specs.declared.read.BundleFault.{BundleFault}
 use Rattle.orc_bundle.specs.declared.read.BundleFault.TheVariants as fault
 use Rattle.orc_bundle.specs.declared.read.line.Line.{Line}
 use Rattle.orc_bundle.specs.declared.read.place.Place.{Place}
 use Rattle.orc_bundle.specs.declared.read.place.Place.TheVariants as place
-use Rattle.orc_bundle.proofs.Bytes.{both, list_all-joined}
+use Rattle.std.proofs.lemmas.Bool.{and_from}
+use Rattle.orc_bundle.proofs.Bytes.{list_all-joined}
 use Rattle.orc_bundle.proofs.Cuts.{cut_once, has_cut}
 use Rattle.orc_bundle.proofs.Printable.{line_lacks}
 
 -- lines of bytes with a line feed begin with the line in front of it
-first_line : (rest text after : List ℕ) → rest ≡ text ++ 10 ∷ after → lacks 10 text ≡ true → (ls : List Line) → AreLinesOf rest ls → (l : Line) × (more : List Line) × (ls ≡ l ∷ more) × IsLineOf text l × AreLinesOf after more
+pub first_line : (rest text after : List ℕ) → rest ≡ text ++ 10 ∷ after → lacks 10 text ≡ true → (ls : List Line) → AreLinesOf rest ls → (l : Line) × (more : List Line) × (ls ≡ l ∷ more) × IsLineOf text l × AreLinesOf after more
 first_line rest text after e k [] h =
     let none : text ++ 10 ∷ after ≡ [] = sym e ∙ sym h.text in
     let short : length (text ++ 10 ∷ after) ≡ 0 = ap length none in
@@ -61,7 +62,7 @@ one_further bytes rest text after p q h e k turn =
     let same : line_text l ++ 10 ∷ after ≡ rest = ap (λ x. x ++ 10 ∷ after) only.holds.text ∙ sym e in
     record {
       before = h.before ++ l ∷ [];
-      lawful = list_all-joined is_line h.before (l ∷ []) h.lawful (both _ _ only.holds.lawful refl);
+      lawful = list_all-joined is_line h.before (l ∷ []) h.lawful (and_from _ _ only.holds.lawful refl);
       text = ap (λ x. x ++ after) ended ∙ regrouped ∙ ap (λ x. lines_text h.before ++ x) same ∙ h.text;
       reached = behind_all-push place.Header h.before l p q h.reached next;
       every = λ ls lines.
@@ -80,7 +81,7 @@ no_turn rest text after p e k none ls lines =
     let first = first_line rest text after e k ls lines in
     ap (behind_all p) first.2 ∙ ap (option_and_then (λ (x : Place). behind_all x first.1)) (none first.0 first.3)
 
-pub turn_refused : (bytes rest text after : List ℕ) (p : Place) → IsReached bytes rest p → rest ≡ text ++ 10 ∷ after → lacks 10 text ≡ true → (e : BundleFault) → Turns p text (Err e) → Reaches bytes (Err e)
+pub turn_refused : (bytes rest text after : List ℕ) (p : Place) → IsReached bytes rest p → rest ≡ text ++ 10 ∷ after → lacks 10 text ≡ true → (e : BundleFault) → Turns p text (Err e) → ReachesPlace bytes (Err e)
 turn_refused bytes rest text after p h cut k fault.Refused turn = refused_here bytes rest p h (no_turn rest text after p cut k turn)
 turn_refused bytes rest text after p h cut k fault.Memory turn = tt
 

@@ -3,18 +3,18 @@ use Rattle.std.proofs.Common.{◌≡◌, ℕ, ◌^◌, Bool, true, false, cond, 
 use Rattle.std.specs.List.{list_all, list_any, flat_map}
 use Rattle.std.specs.Option.{option_and_then}
 use Rattle.std.specs.Cmp.{first_so, second_so}
-use Rattle.std.proofs.lemmas.Bool.{false≢true}
+use Rattle.std.proofs.lemmas.Bool.{and_from, false≢true}
 use Rattle.std.proofs.lemmas.List.{map-append}
 use Rattle.std.proofs.lemmas.List.Concat.{flat_map-append}
 use Rattle.std.proofs.lemmas.Slice.Eq.{bytes_eq-Decides}
 use Rattle.orc_path.specs.Alphabet.{is_identifier}
-use Rattle.orc_state.specs.States.{action_of, is_text}
-use Rattle.orc_print.specs.Printed.{name_of}
+use Rattle.orc_state.specs.States.{action_of, is_same_text}
+use Rattle.orc_state.specs.States.{name_of}
 use Rattle.orc_state.specs.States.{names_of}
-use Rattle.orc_state.specs.Calls.{is_item, is_put, is_device, is_write, is_action}
+use Rattle.orc_state.specs.Calls.{is_item_at, is_put, is_device, is_write, is_action}
 use Rattle.orc_bundle.specs.Bundles.{is_step}
-use Rattle.orc_bundle.specs.Lines.{is_line}
-use Rattle.orc_bundle.specs.Places.{behind, behind_header, behind_device, behind_base, behind_step, behind_action, behind_write, behind_end, behind_settle, behind_all, with_step}
+use Rattle.orc_bundle.specs.inside.Lines.{is_line}
+use Rattle.orc_bundle.specs.inside.Places.{behind, behind_header, behind_device, behind_base, behind_step, behind_action, behind_write, behind_end, behind_settle, behind_all, with_step}
 use Rattle.orc_bundle.specs.declared.bundle.Bundle.{Bundle}
 use Rattle.orc_state.specs.declared.declarations.Device.{Device}
 use Rattle.orc_call.specs.declared.call.Put.{Put}
@@ -29,7 +29,7 @@ use Rattle.orc_bundle.specs.declared.read.line.Line.TheVariants as line
 use Rattle.orc_bundle.specs.declared.read.place.Place.{Place}
 use Rattle.orc_bundle.specs.declared.read.place.Place.TheVariants as place
 use Rattle.orc_bundle.specs.declared.read.place.Script.{Script}
-use Rattle.orc_bundle.proofs.Bytes.{both, list_all-joined}
+use Rattle.orc_bundle.proofs.Bytes.{list_all-joined}
 
 -- the lines of a bundle
 
@@ -120,7 +120,7 @@ step_added s x =
     ap (λ z. front ++ line.Script ∷ z) steps ∙ sym (append_assoc front (line.Script ∷ flat_map f s.steps) (f x))
 
 step_lawful : (s : Script) (x : ScriptStep) → IsScript s → is_step (names s) x ≡ true → IsScript (with_step s x)
-step_lawful s x h k = record { device = h.device; steps = list_all-joined (is_step (names s)) s.steps (x ∷ []) h.steps (both (is_step (names s) x) true k refl) }
+step_lawful s x h k = record { device = h.device; steps = list_all-joined (is_step (names s)) s.steps (x ∷ []) h.steps (and_from (is_step (names s) x) true k refl) }
 
 grows_header : (l : Line) (q : Place) → behind_header l ≡ Some q → Grows place.Header l q
 grows_header line.Header q e = subst (λ (x : Place). Grows place.Header line.Header x) (some_is place.Device q e) (record { lines = refl; lawful = λ _ _. tt })
@@ -129,10 +129,10 @@ grows_header l q e = absurd (none_is q e)
 grows_device : (l : Line) (q : Place) → behind_device l ≡ Some q → Grows place.Device l q
 grows_device (line.Device name) q e =
     let d : Device = record { name = name; base = [] } in
-    subst (λ (x : Place). Grows place.Device (line.Device name) x) (some_is (place.Base d) q e) (record { lines = refl; lawful = λ _ h. both (is_identifier name) true h refl })
+    subst (λ (x : Place). Grows place.Device (line.Device name) x) (some_is (place.Base d) q e) (record { lines = refl; lawful = λ _ h. and_from (is_identifier name) true h refl })
 grows_device l q e = absurd (none_is q e)
 
-base_grows : (d : Device) (w : DevicePut) → is_text w.device d.name ≡ true → Grows (place.Base d) (line.Base w) (place.Base (record d { base = d.base ++ (record { path = w.path; item = w.item }) ∷ [] }))
+base_grows : (d : Device) (w : DevicePut) → is_same_text w.device d.name ≡ true → Grows (place.Base d) (line.Base w) (place.Base (record d { base = d.base ++ (record { path = w.path; item = w.item }) ∷ [] }))
 base_grows d w same =
     let put : Put = record { path = w.path; item = w.item } in
     let name : w.device ≡ d.name = (bytes_eq-Decides w.device d.name).0 same in
@@ -140,20 +140,20 @@ base_grows d w same =
     record {
       lines = ap (λ (z : List Line). line.Header ∷ line.Device d.name ∷ z) (map-append (put_line d.name) d.base (put ∷ []) ∙ ap (λ (z : List Line). map (put_line d.name) d.base ++ z) last);
       lawful = λ h k.
-          both (is_identifier d.name) (list_all is_put (d.base ++ put ∷ [])) (first_so (is_identifier d.name) (list_all is_put d.base) h) (list_all-joined is_put d.base (put ∷ []) (second_so (is_identifier d.name) (list_all is_put d.base) h) (both (is_put put) true (second_so (is_identifier w.device) (is_item w.path w.item) k) refl));
+          and_from (is_identifier d.name) (list_all is_put (d.base ++ put ∷ [])) (first_so (is_identifier d.name) (list_all is_put d.base) h) (list_all-joined is_put d.base (put ∷ []) (second_so (is_identifier d.name) (list_all is_put d.base) h) (and_from (is_put put) true (second_so (is_identifier w.device) (is_item_at w.path w.item) k) refl));
     }
 
 grows_base : (d : Device) (l : Line) (q : Place) → behind_base d l ≡ Some q → Grows (place.Base d) l q
 grows_base d (line.Base w) q e =
     let next = place.Base (record d { base = d.base ++ (record { path = w.path; item = w.item }) ∷ [] }) in
-    let p = chosen_is (is_text w.device d.name) next q e in
+    let p = chosen_is (is_same_text w.device d.name) next q e in
     subst (λ (x : Place). Grows (place.Base d) (line.Base w) x) p.1 (base_grows d w p.0)
 grows_base d line.Script q e =
     let s : Script = record { device = d; steps = [] } in
     subst (λ (x : Place). Grows (place.Base d) line.Script x) (some_is (place.Step s) q e) (record { lines = refl; lawful = λ h _. record { device = h; steps = refl } })
 grows_base d l q e = absurd (none_is q e)
 
-show_grows : (s : Script) (name : List ℕ) → is_text name s.device.name ≡ true → Grows (place.Step s) (line.Show name) (place.Step (with_step s (step.Show 0)))
+show_grows : (s : Script) (name : List ℕ) → is_same_text name s.device.name ≡ true → Grows (place.Step s) (line.Show name) (place.Step (with_step s (step.Show 0)))
 show_grows s name same =
     let named : name ≡ s.device.name = (bytes_eq-Decides name s.device.name).0 same in
     record {
@@ -171,7 +171,7 @@ line_grows s l x q e spelled same =
 
 grows_step : (s : Script) (l : Line) (q : Place) → behind_step s l ≡ Some q → Grows (place.Step s) l q
 grows_step s (line.Show name) q e =
-    let p = chosen_is (is_text name s.device.name) (place.Step (with_step s (step.Show 0))) q e in
+    let p = chosen_is (is_same_text name s.device.name) (place.Step (with_step s (step.Show 0))) q e in
     subst (λ (x : Place). Grows (place.Step s) (line.Show name) x) p.1 (show_grows s name p.0)
 grows_step s (line.Call caller number) q e =
     subst (λ (x : Place). Grows (place.Step s) (line.Call caller number) x) (some_is (place.Action s caller number) q e) (record { lines = refl; lawful = λ h k. (h, first_so (is_identifier caller) (nat_lt number (2 ^ 64)) k, second_so (is_identifier caller) (nat_lt number (2 ^ 64)) k) })
@@ -183,7 +183,7 @@ grows_step s l q e = absurd (none_is q e)
 
 -- what is_call asks in front of the action
 numbered : (caller : List ℕ) (number : ℕ) → is_identifier caller ≡ true → nat_lt number (2 ^ 64) ≡ true → (is_identifier caller && nat_lt number (2 ^ 64) && true) ≡ true
-numbered caller number h k = both (is_identifier caller && nat_lt number (2 ^ 64)) true (both (is_identifier caller) (nat_lt number (2 ^ 64)) h k) refl
+numbered caller number h k = and_from (is_identifier caller && nat_lt number (2 ^ 64)) true (and_from (is_identifier caller) (nat_lt number (2 ^ 64)) h k) refl
 
 grows_action : (s : Script) (caller : List ℕ) (number : ℕ) (l : Line) (q : Place) → behind_action s caller number l ≡ Some q → Grows (place.Action s caller number) l q
 grows_action s caller number (line.Literal id) q e =
@@ -195,29 +195,29 @@ grows_action s caller number (line.Delete id) q e =
     let call : Call = record { caller = caller; number = number; actions = action.Delete id ∷ [] } in
     subst (λ (x : Place). Grows (place.Action s caller number) (line.Delete id) x) (some_is (place.End s call) q e) (record {
       lines = sym (append_assoc (script_lines s) (line.Call caller number ∷ []) (line.Delete id ∷ []));
-      lawful = λ h k. (h.0, both (is_identifier caller && nat_lt number (2 ^ 64) && true) (is_identifier id) (numbered caller number h.1 h.2) k);
+      lawful = λ h k. (h.0, and_from (is_identifier caller && nat_lt number (2 ^ 64) && true) (is_identifier id) (numbered caller number h.1 h.2) k);
     })
 grows_action s caller number l q e = absurd (none_is q e)
 
-write_grows : (s : Script) (caller : List ℕ) (number : ℕ) (id : List ℕ) (writes : List DevicePut) (w : DevicePut) → is_text w.device s.device.name ≡ true → Grows (place.Write s caller number id writes) (line.Write w) (place.Write s caller number id (writes ++ w ∷ []))
+write_grows : (s : Script) (caller : List ℕ) (number : ℕ) (id : List ℕ) (writes : List DevicePut) (w : DevicePut) → is_same_text w.device s.device.name ≡ true → Grows (place.Write s caller number id writes) (line.Write w) (place.Write s caller number id (writes ++ w ∷ []))
 write_grows s caller number id writes w same =
     let begun = line.Call caller number ∷ line.Literal id ∷ map line.Write writes in
-    let lawful_write : is_item w.path w.item ≡ true → is_write (names s) w ≡ true =
-    λ k. both (list_any (is_text w.device) (names s)) (is_item w.path w.item) (or_left (is_text w.device s.device.name) false same) k in
+    let lawful_write : is_item_at w.path w.item ≡ true → is_write (names s) w ≡ true =
+    λ k. and_from (list_any (is_same_text w.device) (names s)) (is_item_at w.path w.item) (or_left (is_same_text w.device s.device.name) false same) k in
     record {
       lines = ap (λ (z : List Line). script_lines s ++ line.Call caller number ∷ line.Literal id ∷ z) (map-append line.Write writes (w ∷ [])) ∙ sym (append_assoc (script_lines s) begun (line.Write w ∷ []));
-      lawful = λ h k. (h.0, h.1, h.2, h.3, list_all-joined (is_write (names s)) writes (w ∷ []) h.4 (both (is_write (names s) w) true (lawful_write (second_so (is_identifier w.device) (is_item w.path w.item) k)) refl));
+      lawful = λ h k. (h.0, h.1, h.2, h.3, list_all-joined (is_write (names s)) writes (w ∷ []) h.4 (and_from (is_write (names s) w) true (lawful_write (second_so (is_identifier w.device) (is_item_at w.path w.item) k)) refl));
     }
 
 grows_write : (s : Script) (caller : List ℕ) (number : ℕ) (id : List ℕ) (writes : List DevicePut) (l : Line) (q : Place) → behind_write s caller number id writes l ≡ Some q → Grows (place.Write s caller number id writes) l q
 grows_write s caller number id writes (line.Write w) q e =
-    let p = chosen_is (is_text w.device s.device.name) (place.Write s caller number id (writes ++ w ∷ [])) q e in
+    let p = chosen_is (is_same_text w.device s.device.name) (place.Write s caller number id (writes ++ w ∷ [])) q e in
     subst (λ (x : Place). Grows (place.Write s caller number id writes) (line.Write w) x) p.1 (write_grows s caller number id writes w p.0)
 grows_write s caller number id writes line.End q e =
     let call : Call = record { caller = caller; number = number; actions = action.Literal id writes ∷ [] } in
     subst (λ (x : Place). Grows (place.Write s caller number id writes) line.End x) (some_is (place.Settle s call) q e) (record {
       lines = sym (append_assoc (script_lines s) (call_lines call) (line.End ∷ []));
-      lawful = λ h k. (h.0, both (is_identifier caller && nat_lt number (2 ^ 64) && true) (is_action (names s) (action_of call)) (numbered caller number h.1 h.2) (both (is_identifier id) (list_all (is_write (names s)) writes) h.3 h.4));
+      lawful = λ h k. (h.0, and_from (is_identifier caller && nat_lt number (2 ^ 64) && true) (is_action (names s) (action_of call)) (numbered caller number h.1 h.2) (and_from (is_identifier id) (list_all (is_write (names s)) writes) h.3 h.4));
     })
 grows_write s caller number id writes l q e = absurd (none_is q e)
 

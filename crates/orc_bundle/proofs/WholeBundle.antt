@@ -2,12 +2,12 @@
 use Rattle.std.proofs.Common.{◌≡◌, ℕ, suc, true, ◌&&◌, ◌==◌, List, [], ◌∷◌, ◌++◌, length, Some, None, refl, ap, sym, subst, ◌∙◌, arith, append-nil, eqb-true, Result, Err, Ok, IfOk}
 use Rattle.std.specs.List.{list_all, flat_map}
 use Rattle.std.specs.Cmp.{first_so, second_so}
-use Rattle.std.proofs.lemmas.Bool.{false≢true}
+use Rattle.std.proofs.lemmas.Bool.{and_from, false≢true}
 use Rattle.orc_state.specs.States.{names_of}
 use Rattle.orc_state.specs.Calls.{is_device}
 use Rattle.orc_bundle.specs.Bundles.{is_step, is_bundle, bundle_text, Spells}
-use Rattle.orc_bundle.specs.Lines.{lines_text}
-use Rattle.orc_bundle.specs.Places.{behind_all, whole, Gives, AreLinesOf, IsReached, Reaches}
+use Rattle.orc_bundle.specs.inside.Lines.{lines_text}
+use Rattle.orc_bundle.specs.inside.Places.{behind_all, whole, Gives, AreLinesOf, IsReached, ReachesPlace}
 use Rattle.orc_bundle.specs.declared.read.BundleFault.{BundleFault}
 use Rattle.orc_bundle.specs.declared.read.BundleFault.TheVariants as fault
 use Rattle.orc_bundle.specs.declared.bundle.Bundle.{Bundle}
@@ -17,7 +17,6 @@ use Rattle.orc_bundle.specs.declared.read.line.Line.TheVariants as line
 use Rattle.orc_bundle.specs.declared.read.place.Place.{Place}
 use Rattle.orc_bundle.specs.declared.read.place.Place.TheVariants as place
 use Rattle.orc_bundle.specs.declared.read.place.Script.{Script}
-use Rattle.orc_bundle.proofs.Bytes.{both}
 use Rattle.orc_bundle.proofs.Story.{device_lines, step_lines, bundle_lines, names, script_lines, IsScript, all_grow}
 use Rattle.orc_bundle.proofs.BundleText.{bundle_text-lines}
 use Rattle.orc_bundle.proofs.Rereading.{bundle_of, reads_bundle, bundle_lawful}
@@ -67,7 +66,7 @@ bundle_first b h =
     let s : Script = record { device = one.0; steps = b.steps } in
     (s, ap (λ (ds : List Device). record b { devices = ds }) one.1)
 
-bundle_read : (bytes : List ℕ) (b : Bundle) → Spells bytes b → IsRead bytes b
+pub bundle_read : (bytes : List ℕ) (b : Bundle) → Spells bytes b → IsRead bytes b
 bundle_read bytes b h =
     let first = bundle_first b h.bundle in
     subst (λ (x : Bundle). IsRead bytes x) (sym first.1) (script_read bytes first.0 (subst (λ (x : Bundle). Spells bytes x) first.1 h))
@@ -79,7 +78,7 @@ none_spelled bytes none b h =
     let bad : None ≡ Some (place.Step r.script) = sym (none (bundle_lines (bundle_of r.script)) r.lines) ∙ r.reached in
     step_none r.script bad
 
-no_lines : (ls : List Line) → AreLinesOf [] ls → ls ≡ []
+pub no_lines : (ls : List Line) → AreLinesOf [] ls → ls ≡ []
 no_lines [] h = refl
 no_lines (l ∷ ls) h = absurd (ends_in_line_feed _ _ h.text)
 
@@ -102,7 +101,7 @@ spelled bytes (place.Step s) b h e =
     let listed : bundle_lines (bundle_of s) ≡ script_lines s = ap (λ (z : List Line). (line.Header ∷ z) ++ line.Script ∷ flat_map (step_lines (names s)) s.steps) (append-nil (device_lines s.device)) in
     let text : bundle_text (bundle_of s) ≡ bytes = bundle_text-lines (bundle_of s) ∙ ap lines_text (listed ∙ lines) ∙ sym (append-nil (lines_text h.before)) ∙ h.text in
     subst (λ (x : Bundle). Spells bytes x) same (record {
-      bundle = both _ (list_all (is_step (names s)) s.steps) (both true (list_all is_device (s.device ∷ [])) refl (both (is_device s.device) true script.device refl)) script.steps;
+      bundle = and_from _ (list_all (is_step (names s)) s.steps) (and_from true (list_all is_device (s.device ∷ [])) refl (and_from (is_device s.device) true script.device refl)) script.steps;
       text = text;
     })
 spelled bytes p b h e = absurd (bundle_none b e)
@@ -116,7 +115,7 @@ memory_refused e = cc
 pub err_is : (a b : BundleFault) → (T : Type 0) → ◌≡◌ {A = Result T BundleFault} (Err a) (Err b) → a ≡ b
 err_is a b T e = cc
 
-pub reached_refused : (bytes : List ℕ) (e : BundleFault) → Reaches bytes (Err e) → e ≡ fault.Refused → (b : Bundle) → Spells bytes b → ⊥
+pub reached_refused : (bytes : List ℕ) (e : BundleFault) → ReachesPlace bytes (Err e) → e ≡ fault.Refused → (b : Bundle) → Spells bytes b → ⊥
 reached_refused bytes fault.Refused h same b s = none_spelled bytes h b s
 reached_refused bytes fault.Memory h same b s = memory_refused same
 

@@ -1,5 +1,3 @@
 pub mod Bundles
-pub mod Encodable
-pub mod Lines
-pub mod Reading
-pub mod Places
+pub mod Laws
+pub mod inside

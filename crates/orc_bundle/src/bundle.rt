@@ -3,6 +3,9 @@ use orc_call::Call;
 use orc_state::Device;
 use orc_text::Row;
 
+/// The most bytes of a bundle.
+pub const LARGEST_BUNDLE: usize = 16_777_216;
+
 /// A step of a script. A device is given by its number, its place in the declarations from 0 on.
 #[derive(Debug, Drop)]
 pub enum ScriptStep {
@@ -12,10 +15,10 @@ pub enum ScriptStep {
     Serve(Call),
     /// Stop the controller.
     Stop,
-    /// Arm a stop, in place of one that is armed: so many calls of the disk from now on, the last of
-    /// them stops the controller, and none does where the count is 0. Where that one is a write, so
-    /// many of its bytes are put as the second number says; where it is a sync, it is done exactly
-    /// where that number is at least 1.
+    /// Arm a stop, in place of one that is armed: so many operations of the disk from now on, the
+    /// last of them stops the controller, and none does where the count is 0. Where that one is a
+    /// write, so many of its bytes are put as the second number says; where it is a sync, it is done
+    /// exactly where that number is at least 1.
     StopAt(u64, u64),
     /// Stop the controller where it is up, disarm, and open the journal again.
     Recover,

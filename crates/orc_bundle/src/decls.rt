@@ -6,7 +6,7 @@ ghost use Rattle.orc_bundle.specs.Bundles.{base_line, decls_text, device_lines};
 ghost use Rattle.orc_state.specs.States.{names_of};
 
 use orc_call::Put;
-use orc_print::push_item;
+use orc_path::push_item;
 use orc_state::{Decls, Device};
 use orc_text::{Memory, Row, Text};
 use std::alloc::Global;
@@ -46,6 +46,7 @@ fn text_of(alloc: Global, devices: &[Device]) -> Result<String, Memory>
     Ok(out)
 }
 
+// The lines of a device with its base.
 fn push_device(out: &mut String, alloc: Global, device: &Device) -> Result<(), Memory>
     ensures { OnOk result (string_bytes out.new ≡ string_bytes out.old ++ device_lines device.now) }
 {
@@ -55,6 +56,7 @@ fn push_device(out: &mut String, alloc: Global, device: &Device) -> Result<(), M
     push_base(out, alloc, &device.name, device.base.as_slice())
 }
 
+// The lines of a base.
 fn push_base(out: &mut String, alloc: Global, name: &Text, base: &[Put]) -> Result<(), Memory>
     ensures { OnOk result (string_bytes out.new ≡ string_bytes out.old ++ flat_map (base_line name.now) base.now) }
 {
@@ -64,6 +66,7 @@ fn push_base(out: &mut String, alloc: Global, name: &Text, base: &[Put]) -> Resu
     Ok(())
 }
 
+// The line of an item of a base.
 fn push_base_line(out: &mut String, alloc: Global, name: &Text, put: &Put) -> Result<(), Memory>
     ensures { OnOk result (string_bytes out.new ≡ string_bytes out.old ++ base_line name.now put.now) }
 {

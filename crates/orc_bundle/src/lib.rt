@@ -4,8 +4,10 @@
 
 mod bundle;
 mod decls;
+mod laws;
 mod read;
 
-pub use bundle::{Bundle, ScriptStep};
+pub use bundle::{Bundle, LARGEST_BUNDLE, ScriptStep};
 pub use decls::declare;
+pub use laws::bytes_have_one_bundle;
 pub use read::{BundleFault, read_bundle};

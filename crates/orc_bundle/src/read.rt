@@ -1,13 +1,11 @@
 //! Reading of a bundle.
 ghost use Rattle.std.specs.Prelude.{◌≡◌, ◌++◌, ◌∷◌, IfOk, IsErrOf, IsTrue, MatchOption};
-ghost use Rattle.orc_bundle.specs.Lines.{lacks};
-ghost use Rattle.orc_bundle.specs.Places.{Turns, Reaches};
+ghost use Rattle.orc_bundle.specs.inside.Lines.{lacks};
+ghost use Rattle.orc_bundle.specs.inside.Places.{Turns, ReachesPlace};
 
 mod item;
 mod line;
 mod place;
-#[cfg(test)]
-mod tests;
 mod words;
 
 use self::line::read_line;
@@ -39,9 +37,10 @@ impl From<Memory> for BundleFault {
 ghost use Rattle.orc_bundle.specs.Bundles.{Spells};
 ghost use Rattle.orc_bundle.specs.declared.bundle.Bundle.{Bundle};
 
-/// The bytes in front of the first line feed and the bytes behind it.
+// The bytes in front of the first line feed and the bytes behind it.
 fn cut_line(bytes: &[u8]) -> Option<(&[u8], &[u8])>
-    ensures { MatchOption result (IsTrue (lacks 10 bytes.now)) (λ parts. (bytes.now ≡ parts.0.now ++ 10 ∷ parts.1.now) × IsTrue (lacks 10 parts.0.now)) }
+    ensures { MatchOption result (IsTrue (lacks 10 bytes.now))
+        (λ parts. (bytes.now ≡ parts.0.now ++ 10 ∷ parts.1.now) × IsTrue (lacks 10 parts.0.now)) }
 {
     for (at, byte) in bytes.iter().enumerate() {
         if *byte == b'\n' {
@@ -51,7 +50,7 @@ fn cut_line(bytes: &[u8]) -> Option<(&[u8], &[u8])>
     None
 }
 
-/// The place behind a line of this text.
+// The place behind a line of this text.
 fn read_next(alloc: Global, place: Place, text: &[u8]) -> Result<Place, BundleFault>
     ensures { Turns place text.now result }
 {
@@ -59,12 +58,13 @@ fn read_next(alloc: Global, place: Place, text: &[u8]) -> Result<Place, BundleFa
     place.take(alloc, line)
 }
 
-/// The place behind all lines.
+// The place behind all lines.
 fn read_lines(alloc: Global, bytes: &[u8]) -> Result<Place, BundleFault>
-    ensures { Reaches bytes.now result }
+    ensures { ReachesPlace bytes.now result }
 {
     let mut place = Place::Header;
     let mut rest = bytes;
+    // The label names the loop for its proof.
     'lines: while !rest.is_empty() {
         let Some((text, behind)) = cut_line(rest) else {
             return Err(BundleFault::Refused);

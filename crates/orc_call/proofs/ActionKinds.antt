@@ -12,8 +12,8 @@ use Rattle.orc_call.specs.declared.call.Call.{Call}
 use Rattle.orc_call.specs.declared.fields.Stuck.{Stuck}
 use Rattle.orc_call.specs.declared.fields.Stuck.TheVariants.{Bad}
 use Rattle.orc_call.specs.Fields.{a_text, a_number, a_count_of_actions, a_kind, a_path}
-use Rattle.orc_call.specs.Encoding.{put_fields, device_put_fields, kind_byte, content_fields, action_fields, call_fields}
-use Rattle.orc_call.specs.Reading.{Grammar, Begins, IsWhole, Fails, one, any, many, body, literal, device_path, kind, content}
+use Rattle.orc_call.specs.Encoding.{put_fields, device_put_fields, action_kind, content_fields, action_fields, call_fields}
+use Rattle.orc_call.specs.inside.Reading.{Grammar, BeginsWith, IsWhole, ReadFails, one, any, many, body, literal, device_path, kind, content}
 use Rattle.orc_call.proofs.Sequels.{Determined, Sequel, Renamed, renamed_determined, sequel_determined}
 use Rattle.orc_call.proofs.Determined.{text_determined, number_determined, action_count_determined, many_determined, path_determined, put_determined, device_put_determined, body_determined, literal_determined, device_path_determined, some_put, some_device_put}
 
@@ -32,68 +32,68 @@ base_remove read = BaseRemove read.0 read.1
 pub create_renamed : Renamed body (content 1) create
 create_renamed = record { parts = parts; has = λ _ _. refl; fields = λ _. refl }
   where
-    parts : (z : Action) → kind_byte z ≡ 1 → (x : List ℕ × List Put) × (create x ≡ z) × Unit {0}
+    parts : (z : Action) → action_kind z ≡ 1 → (x : List ℕ × List Put) × (create x ≡ z) × Unit {0}
     parts (Create service puts) e = ((service, puts), refl, tt)
     parts _ e = absurd (omega arith)
 
 pub modify_renamed : Renamed body (content 2) modify
 modify_renamed = record { parts = parts; has = λ _ _. refl; fields = λ _. refl }
   where
-    parts : (z : Action) → kind_byte z ≡ 2 → (x : List ℕ × List Put) × (modify x ≡ z) × Unit {0}
+    parts : (z : Action) → action_kind z ≡ 2 → (x : List ℕ × List Put) × (modify x ≡ z) × Unit {0}
     parts (Modify service puts) e = ((service, puts), refl, tt)
     parts _ e = absurd (omega arith)
 
 pub redeploy_renamed : Renamed (one a_text) (content 3) Redeploy
 redeploy_renamed = record { parts = parts; has = λ _ _. refl; fields = λ _. refl }
   where
-    parts : (z : Action) → kind_byte z ≡ 3 → (x : List ℕ) × (Redeploy x ≡ z) × Unit {0}
+    parts : (z : Action) → action_kind z ≡ 3 → (x : List ℕ) × (Redeploy x ≡ z) × Unit {0}
     parts (Redeploy service) e = (service, refl, tt)
     parts _ e = absurd (omega arith)
 
 pub delete_renamed : Renamed (one a_text) (content 4) Delete
 delete_renamed = record { parts = parts; has = λ _ _. refl; fields = λ _. refl }
   where
-    parts : (z : Action) → kind_byte z ≡ 4 → (x : List ℕ) × (Delete x ≡ z) × Unit {0}
+    parts : (z : Action) → action_kind z ≡ 4 → (x : List ℕ) × (Delete x ≡ z) × Unit {0}
     parts (Delete service) e = (service, refl, tt)
     parts _ e = absurd (omega arith)
 
 pub set_renamed : Renamed (any (put_fields None)) (content 5) Set
 set_renamed = record { parts = parts; has = λ _ _. refl; fields = λ _. refl }
   where
-    parts : (z : Action) → kind_byte z ≡ 5 → (x : Put) × (Set x ≡ z) × Unit {0}
+    parts : (z : Action) → action_kind z ≡ 5 → (x : Put) × (Set x ≡ z) × Unit {0}
     parts (Set put) e = (put, refl, tt)
     parts _ e = absurd (omega arith)
 
 pub unset_renamed : Renamed (one (a_path None)) (content 6) Unset
 unset_renamed = record { parts = parts; has = λ _ _. refl; fields = λ _. refl }
   where
-    parts : (z : Action) → kind_byte z ≡ 6 → (x : List PathStep) × (Unset x ≡ z) × Unit {0}
+    parts : (z : Action) → action_kind z ≡ 6 → (x : List PathStep) × (Unset x ≡ z) × Unit {0}
     parts (Unset path) e = (path, refl, tt)
     parts _ e = absurd (omega arith)
 
 pub base_put_renamed : Renamed (any device_put_fields) (content 7) BasePut
 base_put_renamed = record { parts = parts; has = λ _ _. refl; fields = λ _. refl }
   where
-    parts : (z : Action) → kind_byte z ≡ 7 → (x : DevicePut) × (BasePut x ≡ z) × Unit {0}
+    parts : (z : Action) → action_kind z ≡ 7 → (x : DevicePut) × (BasePut x ≡ z) × Unit {0}
     parts (BasePut put) e = (put, refl, tt)
     parts _ e = absurd (omega arith)
 
 pub base_remove_renamed : Renamed device_path (content 8) base_remove
 base_remove_renamed = record { parts = parts; has = λ _ _. refl; fields = λ _. refl }
   where
-    parts : (z : Action) → kind_byte z ≡ 8 → (x : List ℕ × List PathStep) × (base_remove x ≡ z) × Unit {0}
+    parts : (z : Action) → action_kind z ≡ 8 → (x : List ℕ × List PathStep) × (base_remove x ≡ z) × Unit {0}
     parts (BaseRemove device path) e = ((device, path), refl, tt)
     parts _ e = absurd (omega arith)
 
 pub literal_renamed : Renamed literal (content 9) literal_action
 literal_renamed = record { parts = parts; has = λ _ _. refl; fields = λ _. refl }
   where
-    parts : (z : Action) → kind_byte z ≡ 9 → (x : List ℕ × List DevicePut) × (literal_action x ≡ z) × Unit {0}
+    parts : (z : Action) → action_kind z ≡ 9 → (x : List ℕ × List DevicePut) × (literal_action x ≡ z) × Unit {0}
     parts (Literal name writes) e = ((name, writes), refl, tt)
     parts _ e = absurd (omega arith)
 
 -- some action of each kind
-some_action : (byte : ℕ) → (1 ≤ byte) × (byte ≤ 9) → (z : Action) × (kind_byte z ≡ byte)
+some_action : (byte : ℕ) → (1 ≤ byte) × (byte ≤ 9) → (z : Action) × (action_kind z ≡ byte)
 some_action zero h = absurd (omega (arith, h.0))
 some_action (suc zero) h = (Create [] [], refl)
 some_action (suc (suc zero)) h = (Modify [] [], refl)
@@ -107,7 +107,7 @@ some_action (suc (suc (suc (suc (suc (suc (suc (suc (suc zero))))))))) h = (Lite
 some_action (suc (suc (suc (suc (suc (suc (suc (suc (suc (suc n)))))))))) h = absurd (omega (arith, h.1))
 
 -- the bytes of kinds
-x_kind : {byte : ℕ} (z : Action) → kind_byte z ≡ byte → (1 ≤ byte) × (byte ≤ 9)
+x_kind : {byte : ℕ} (z : Action) → action_kind z ≡ byte → (1 ≤ byte) × (byte ≤ 9)
 x_kind (Create service puts) e = (omega arith, omega arith)
 x_kind (Modify service puts) e = (omega arith, omega arith)
 x_kind (Redeploy service) e = (omega arith, omega arith)
@@ -144,19 +144,19 @@ kind_determined = record {
   same = λ bytes x y r s w v. let e : x ∷ r ≡ y ∷ s = sym w.parts ∙ v.parts in cc;
 }
   where
-    ends : (bytes : List ℕ) (x y : ℕ) (r s : List ℕ) (n : ℕ) → IsWhole kind bytes x r → Begins kind bytes y n s → length r ≤ length s
+    ends : (bytes : List ℕ) (x y : ℕ) (r s : List ℕ) (n : ℕ) → IsWhole kind bytes x r → BeginsWith kind bytes y n s → length r ≤ length s
     ends bytes x y r s zero w b = omega (arith, ap length b.parts, ap length w.parts)
     ends bytes x y r s (suc zero) w b = omega (arith, ap length b.parts, ap length w.parts)
     ends bytes x y r s (suc (suc n)) w b = omega (arith, ap length b.parts, ap length w.parts)
 
 -- no byte of a kind begins the bytes
-pub kind_fails : (bytes : List ℕ) (stuck : Stuck) → stuck ≡ Bad (length bytes) → ((byte : ℕ) (rest : List ℕ) → 1 ≤ byte → byte ≤ 9 → bytes ≡ byte ∷ rest → ⊥) → Fails kind bytes stuck
-kind_fails bytes stuck is none = subst (Fails kind bytes) (sym is) (record {
+pub kind_fails : (bytes : List ℕ) (stuck : Stuck) → stuck ≡ Bad (length bytes) → ((byte : ℕ) (rest : List ℕ) → 1 ≤ byte → byte ≤ 9 → bytes ≡ byte ∷ rest → ⊥) → ReadFails kind bytes stuck
+kind_fails bytes stuck is none = subst (ReadFails kind bytes) (sym is) (record {
   begins = (1, 0, bytes, record { has = (omega arith, omega arith); lawful = tt; parts = refl }, refl);
   no_further = λ x count rest b. further x count rest b;
 })
   where
-    further : (x : ℕ) (count : ℕ) (rest : List ℕ) → Begins kind bytes x count rest → (length bytes ≤ length rest) × (count < 1)
+    further : (x : ℕ) (count : ℕ) (rest : List ℕ) → BeginsWith kind bytes x count rest → (length bytes ≤ length rest) × (count < 1)
     further x zero rest b = (omega (arith, ap length b.parts), omega arith)
     further x (suc zero) rest b = absurd (none x rest b.has.0 b.has.1 b.parts)
     further x (suc (suc count)) rest b = absurd (none x rest b.has.0 b.has.1 b.parts)
@@ -167,7 +167,7 @@ action_of byte action = action
 -- the byte of a kind, and the content of an action of that kind
 pub action_sequel : Sequel kind content (any action_fields) action_of
 action_sequel = record {
-  parts = λ z _. (kind_byte z, z, refl, x_kind z refl, refl);
+  parts = λ z _. (action_kind z, z, refl, x_kind z refl, refl);
   has = λ x y _ _. tt;
   fields = λ x y h. ap (λ byte. a_kind byte ∷ content_fields y) h;
   some = some_action;

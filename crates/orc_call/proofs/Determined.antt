@@ -13,7 +13,7 @@ use Rattle.orc_call.specs.declared.call.DevicePut.{DevicePut}
 use Rattle.orc_call.specs.declared.fields.Stuck.{Stuck}
 use Rattle.orc_call.specs.Fields.{Field, a_text, a_number, a_count_of_actions, a_count_of_items, a_path, an_item, field_bytes, spelled, IsLawful}
 use Rattle.orc_call.specs.Encoding.{put_fields, puts_fields, device_put_fields}
-use Rattle.orc_call.specs.Reading.{Grammar, Begins, IsWhole, Fails, one, any, puts, many, body, literal, device_path, last_path}
+use Rattle.orc_call.specs.inside.Reading.{Grammar, BeginsWith, IsWhole, ReadFails, one, any, puts, many, body, literal, device_path, last_path}
 use Rattle.orc_call.proofs.Singles.{same_2, same_4, same_8, same_texts, same_items}
 use Rattle.orc_call.proofs.Sequels.{Determined, Sequel, sequel_determined}
 use Rattle.orc_call.proofs.Lists.{listed_determined, listed_more, listed_fails, after}
@@ -35,7 +35,7 @@ one_determined {X = X} field only = record {
         let e : spelled (field x ∷ []) ++ r ≡ spelled (field x ∷ []) ++ s = sym w.parts ∙ v.parts ∙ ap (λ z. spelled (field z ∷ []) ++ s) (sym (same x y r s w v)) in
         omega (arith, ap length e, length-append (spelled (field x ∷ [])) r, length-append (spelled (field x ∷ [])) s)
 
-    ends : (bytes : List ℕ) (x y : X) (r s : List ℕ) (n : ℕ) → IsWhole (one field) bytes x r → Begins (one field) bytes y n s → length r ≤ length s
+    ends : (bytes : List ℕ) (x y : X) (r s : List ℕ) (n : ℕ) → IsWhole (one field) bytes x r → BeginsWith (one field) bytes y n s → length r ≤ length s
     ends bytes x y r s zero w b = omega (arith, ap length b.parts, ap length w.parts, length-append (spelled (field x ∷ [])) r)
     ends bytes x y r s (suc zero) w b = behind bytes x y r s w (record { has = tt; lawful = b.lawful; parts = b.parts })
     ends bytes x y r s (suc (suc n)) w b = behind bytes x y r s w (record { has = tt; lawful = b.lawful; parts = b.parts })
@@ -198,9 +198,9 @@ puts_more i bytes xs x r t before is w v =
     listed_more put_fields put_behind puts_fields (λ _. refl) (λ _ _ _. refl) some_put None i bytes xs x r t w (subst (λ b. IsWhole (any (put_fields b)) r x t) (is ∙ last_is None xs) v)
 
 -- where the next put can't be read
-pub puts_fail : (i n : ℕ) (bytes : List ℕ) (xs : List Put) (r : List ℕ) (e : Stuck) (before : Option (List PathStep)) → before ≡ last_path None xs → IsWhole (puts None i) bytes xs r → Fails (any (put_fields before)) r e → i < n → Fails (puts None n) bytes e
+pub puts_fail : (i n : ℕ) (bytes : List ℕ) (xs : List Put) (r : List ℕ) (e : Stuck) (before : Option (List PathStep)) → before ≡ last_path None xs → IsWhole (puts None i) bytes xs r → ReadFails (any (put_fields before)) r e → i < n → ReadFails (puts None n) bytes e
 puts_fail i n bytes xs r e before is w h lt =
-    listed_fails put_fields put_behind puts_fields (λ _. refl) (λ _ _ _. refl) some_put put_determined xs None i n bytes r e w (subst (λ b. Fails (any (put_fields b)) r e) (is ∙ last_is None xs) h) lt
+    listed_fails put_fields put_behind puts_fields (λ _. refl) (λ _ _ _. refl) some_put put_determined xs None i n bytes r e w (subst (λ b. ReadFails (any (put_fields b)) r e) (is ∙ last_is None xs) h) lt
 
 module _ {X : Type 0} (fields : X → List Field) (some : X) where
   nothing_behind : (xs : List X) → after (alike fields some) (λ _ _. tt) (all_alike fields some) (λ _. refl) (λ _ _ _. refl) some tt xs ≡ tt
@@ -208,6 +208,6 @@ module _ {X : Type 0} (fields : X → List Field) (some : X) where
   nothing_behind (x ∷ xs) = nothing_behind xs
 
   -- where the next value can't be read
-  pub many_fail : Determined (any fields) → (i n : ℕ) (bytes : List ℕ) (xs : List X) (r : List ℕ) (e : Stuck) → IsWhole (many fields i) bytes xs r → Fails (any fields) r e → i < n → Fails (many fields n) bytes e
+  pub many_fail : Determined (any fields) → (i n : ℕ) (bytes : List ℕ) (xs : List X) (r : List ℕ) (e : Stuck) → IsWhole (many fields i) bytes xs r → ReadFails (any fields) r e → i < n → ReadFails (many fields n) bytes e
   many_fail d i n bytes xs r e w h lt =
       listed_fails (alike fields some) (λ _ _. tt) (all_alike fields some) (λ _. refl) (λ _ _ _. refl) some (λ _. d) xs tt i n bytes r e w h lt

@@ -1,13 +1,12 @@
 -- The fields of one element of a list.
-use Rattle.std.proofs.Common.{◌≡◌, ℕ, zero, suc, ◌+◌, ◌<◌, ◌≤◌, List, [], ◌∷◌, length, take, get_or, Bool, false, IsTrue, ◌↔◌, Option, Result, Ok, Err, OnErr, Any, sym, subst, arith, ◌^◌, add-one}
+use Rattle.std.proofs.Common.{◌≡◌, ℕ, zero, suc, ◌+◌, ◌<◌, List, [], ◌∷◌, length, take, get_or, Bool, false, IsTrue, ◌↔◌, Option, sym, subst, arith, add-one}
 use Rattle.std.specs.declared.option.Option.TheVariants.{None, Some}
 use Rattle.std.specs.List.{flat_map}
 use Rattle.orc_path.specs.Steps.{PathStep}
 use Rattle.orc_call.specs.declared.call.Put.{Put}
-use Rattle.orc_call.specs.declared.call.Call.{Call}
-use Rattle.orc_call.specs.Fields.{Field, AreLawful, IsText}
-use Rattle.orc_call.specs.Encoding.{put_fields, puts_fields, action_fields, IsCall}
-use Rattle.orc_call.specs.Reading.{last_path}
+use Rattle.orc_call.specs.Fields.{Field, AreLawful}
+use Rattle.orc_call.specs.Encoding.{put_fields, puts_fields}
+use Rattle.orc_call.specs.inside.Reading.{last_path}
 use Rattle.orc_call.proofs.Sequels.{lawful_parts}
 
 -- a test that failed refuses what needs it
@@ -40,15 +39,3 @@ puts_to_put xs i put before is e lt h k =
     let here : AreLawful (put_fields (last_path None (take i xs)) (get_or xs i put)) = subst (λ b. AreLawful (put_fields b (get_or xs i put))) e (subst (λ p. AreLawful (put_fields before p)) is k) in
     let more : AreLawful (puts_fields None (take (suc i) xs)) = puts_lawful_more None xs i put lt h here in
     subst (λ n. AreLawful (puts_fields None (take n xs))) (sym (add-one i)) more
-
--- the actions alone decide where the rest of a call is lawful
-pub call_by_actions : (test : Bool) (call : Call) → IsText call.caller → call.number < 2 ^ 64 → 1 ≤ length call.actions → length call.actions ≤ 64 → (IsTrue test ↔ AreLawful (flat_map action_fields call.actions)) → (IsTrue test ↔ IsCall call)
-call_by_actions test call caller number least greatest same = (λ t. (caller, (number, ((least, greatest), same.0 t))), λ h. same.1 h.1.1.1)
-
--- a fact that holds whatever was answered
-pub on_any_err : {X Y P : Type 0} (r : Result X Y) → P → OnErr r P
-on_any_err (Ok x) p = tt
-on_any_err (Err e) p = p
-
-pub found_at : {X : Type 0} (P : X → Type 0) (xs : List X) (i : ℕ) (x : X) → x ≡ get_or xs i x → i < length xs → P x → Any P xs
-found_at P xs i x is lt p = (i, x, lt, sym is, p)

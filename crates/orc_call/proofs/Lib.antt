@@ -7,3 +7,4 @@ pub mod ActionKinds
 mod Prefixes
 pub mod Written
 mod Elements
+mod Counts

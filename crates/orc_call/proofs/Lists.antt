@@ -4,7 +4,7 @@ use Rattle.std.proofs.lemmas.List.{append-nil, length-replicate, length_push}
 use Rattle.std.proofs.lemmas.List.Concat.{flat_map-append}
 use Rattle.orc_call.specs.Fields.{Field, field_bytes, spelled, AreLawful}
 use Rattle.orc_call.specs.declared.fields.Stuck.{Stuck}
-use Rattle.orc_call.specs.Reading.{Grammar, IsWhole, Fails, any}
+use Rattle.orc_call.specs.inside.Reading.{Grammar, IsWhole, ReadFails, any}
 use Rattle.orc_call.proofs.Sequels.{Determined, Sequel, lawful-append, whole_parts, first_fails, later_fails, sequel_determined}
 
 abbrev no_fields : List Field
@@ -69,11 +69,11 @@ module _ {S X : Type 0} (F : S → X → List Field) (next : S → X → S) (G :
   }
 
   -- where the next value can't be read, the list can't
-  pub listed_fails : ((s : S) → Determined (any (F s))) → (xs : List X) (s : S) (i n : ℕ) (bytes r : List ℕ) (e : Stuck) → IsWhole (listed s i) bytes xs r → Fails (any (F (after s xs))) r e → i < n → Fails (listed s n) bytes e
+  pub listed_fails : ((s : S) → Determined (any (F s))) → (xs : List X) (s : S) (i n : ℕ) (bytes r : List ℕ) (e : Stuck) → IsWhole (listed s i) bytes xs r → ReadFails (any (F (after s xs))) r e → i < n → ReadFails (listed s n) bytes e
   listed_fails d xs s i zero bytes r e w h lt = absurd (omega arith)
   listed_fails d [] s i (suc m) bytes r e w h lt =
       let begins : r ≡ bytes = sym (w.parts ∙ ap (λ fs. spelled fs ++ r) (nil s)) in
-      first_fails _ _ _ _ (cons_sequel s m) bytes e (subst (λ t. Fails (any (F s)) t e) begins h)
+      first_fails _ _ _ _ (cons_sequel s m) bytes e (subst (λ t. ReadFails (any (F s)) t e) begins h)
   listed_fails d (x ∷ xs) s i (suc m) bytes r e w h lt =
       let k = length xs in
       let w' : IsWhole (listed s (suc k)) bytes (x ∷ xs) r = record { has = refl; lawful = w.lawful; parts = w.parts } in

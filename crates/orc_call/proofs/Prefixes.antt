@@ -3,8 +3,8 @@ use Rattle.std.proofs.Common.{◌≡◌, ℕ, ◌-◌, List, [], ◌++◌, lengt
 use Rattle.std.proofs.lemmas.List.{take_at, take-append-drop, length-append, length-drop, append-nil, append_cancel_left}
 use Rattle.orc_call.specs.declared.call.Call.{Call}
 use Rattle.orc_call.specs.Fields.{spelled}
-use Rattle.orc_call.specs.Encoding.{IsCall, HasEncoding, IsBadAt, call_bytes, call_fields}
-use Rattle.orc_call.specs.Reading.{Grammar, Begins, IsWhole, IsStuck, any}
+use Rattle.orc_call.specs.Encoding.{IsCall, HasEncoding, IsBadFieldAt, call_bytes, call_fields}
+use Rattle.orc_call.specs.inside.Reading.{Grammar, BeginsWith, IsWhole, IsStuck, any}
 use Rattle.orc_call.proofs.Sequels.{whole_begins}
 use Rattle.orc_call.proofs.ActionKinds.{call_determined}
 
@@ -39,7 +39,7 @@ encoding_not_stuck bytes left call rest h lawful parts =
     let none = (h.no_further call (length (call_fields call)) rest front).1 in
     omega (arith, none)
 
-pub bad_at : (bytes : List ℕ) (left : ℕ) → IsStuck calls bytes left → IsBadAt bytes (length bytes - left)
+pub bad_at : (bytes : List ℕ) (left : ℕ) → IsStuck calls bytes left → IsBadFieldAt bytes (length bytes - left)
 bad_at bytes left h = record {
   begins =
       let b = h.begins in
@@ -53,7 +53,7 @@ bad_at bytes left h = record {
         },
       );
   no_further = λ call count other front.
-      let there : Begins calls bytes call count (drop other bytes) = record {
+      let there : BeginsWith calls bytes call count (drop other bytes) = record {
         has = tt;
         lawful = front.lawful;
         parts = sym (take-append-drop other bytes) ∙ ap (λ t. t ++ drop other bytes) front.spells;

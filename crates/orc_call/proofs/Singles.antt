@@ -5,8 +5,8 @@ use Rattle.std.proofs.lemmas.List.{take_at, append-nil}
 use Rattle.std.proofs.lemmas.Nat.{from_be_bytes-to_be_bytes_2, from_be_bytes-to_be_bytes_4, from_be_bytes-to_be_bytes_8}
 use Rattle.orc_path.specs.declared.item.Item.{Item}
 use Rattle.orc_path.specs.declared.item.Item.TheVariants.{Entry, Leaf}
-use Rattle.orc_call.specs.Fields.{a_text, text_bytes, IsText, item_bytes, IsItem}
-use Rattle.orc_call.specs.Reading.{IsWhole, one, HasText, HasItem}
+use Rattle.orc_call.specs.Fields.{a_text, text_bytes, IsText, item_bytes, IsItem, HasText}
+use Rattle.orc_call.specs.inside.Reading.{IsWhole, one, HasItem}
 
 pub same_2 : (n m : ℕ) (r s : List ℕ) → n < 2 ^ 16 → m < 2 ^ 16 → to_be_bytes w16 n ++ r ≡ to_be_bytes w16 m ++ s → n ≡ m
 same_2 n m r s fits-n fits-m e =

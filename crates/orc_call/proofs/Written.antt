@@ -11,7 +11,8 @@ use Rattle.orc_call.specs.declared.call.DevicePut.{DevicePut}
 use Rattle.orc_call.specs.declared.call.Action.{Action}
 use Rattle.orc_call.specs.Fields.{field_bytes, spelled, AreLawful, text_bytes, item_bytes}
 use Rattle.orc_call.specs.Encoding.{puts_fields, device_put_fields, action_fields}
-use Rattle.orc_call.specs.Writing.{put_bytes, device_put_bytes, IsPutFit, IsDevicePutFit}
+use Rattle.orc_call.specs.Puts.{put_bytes, device_put_bytes}
+use Rattle.orc_call.specs.inside.Writing.{IsPutFit, IsDevicePutFit}
 use Rattle.orc_call.proofs.Sequels.{lawful_parts}
 
 -- one after another

@@ -32,16 +32,16 @@ abbrev pub literal_fields : List ℕ → List DevicePut → List Field
 literal_fields name writes = a_text name ∷ a_count_of_items (length writes) ∷ flat_map device_put_fields writes
 
 -- the byte that stands for each kind of action
-abbrev pub kind_byte : Action → ℕ
-kind_byte (Create service puts) = 1
-kind_byte (Modify service puts) = 2
-kind_byte (Redeploy service) = 3
-kind_byte (Delete service) = 4
-kind_byte (Set put) = 5
-kind_byte (Unset path) = 6
-kind_byte (BasePut put) = 7
-kind_byte (BaseRemove device path) = 8
-kind_byte (Literal name writes) = 9
+abbrev pub action_kind : Action → ℕ
+action_kind (Create service puts) = 1
+action_kind (Modify service puts) = 2
+action_kind (Redeploy service) = 3
+action_kind (Delete service) = 4
+action_kind (Set put) = 5
+action_kind (Unset path) = 6
+action_kind (BasePut put) = 7
+action_kind (BaseRemove device path) = 8
+action_kind (Literal name writes) = 9
 
 -- what stands behind that byte
 abbrev pub content_fields : Action → List Field
@@ -55,24 +55,14 @@ content_fields (BasePut put) = device_put_fields put
 content_fields (BaseRemove device path) = a_text device ∷ a_path None path ∷ []
 content_fields (Literal name writes) = literal_fields name writes
 
--- the action holds a path, a put's or its own
-abbrev pub HoldsPath : Action → Type 0
-HoldsPath (Create service puts) = 0 < length puts
-HoldsPath (Modify service puts) = 0 < length puts
-HoldsPath (Redeploy service) = ⊥
-HoldsPath (Delete service) = ⊥
-HoldsPath (Set put) = Unit {0}
-HoldsPath (Unset path) = Unit {0}
-HoldsPath (BasePut put) = Unit {0}
-HoldsPath (BaseRemove device path) = Unit {0}
-HoldsPath (Literal name writes) = 0 < length writes
-
 abbrev pub action_fields : Action → List Field
-action_fields action = a_kind (kind_byte action) ∷ content_fields action
+action_fields action = a_kind (action_kind action) ∷ content_fields action
 
 -- the caller, its number, the number of actions, and the actions
 abbrev pub call_fields : Call → List Field
-call_fields call = a_text call.caller ∷ a_number call.number ∷ a_count_of_actions (length call.actions) ∷ flat_map action_fields call.actions
+call_fields call =
+    a_text call.caller ∷ a_number call.number ∷ a_count_of_actions (length call.actions)
+    ∷ flat_map action_fields call.actions
 
 -- the encoding of a call
 abbrev pub call_bytes : Call → List ℕ
@@ -96,6 +86,7 @@ pub record BeginsAs (bytes : List ℕ) (call : Call) (count at : ℕ) : Type 0 w
 
 -- The first field that isn't there whole or has no lawful value is at this offset: up to there the bytes are the first
 -- fields of some call, and no call has more of its fields there, let alone all of them.
-pub record IsBadAt (bytes : List ℕ) (at : ℕ) : Type 0 where
+pub record IsBadFieldAt (bytes : List ℕ) (at : ℕ) : Type 0 where
   pub begins : (call : Call) × (count : ℕ) × BeginsAs bytes call count at
-  pub no_further : (call : Call) (count other : ℕ) → BeginsAs bytes call count other → (other ≤ at) × (count < length (call_fields call))
+  pub no_further : (call : Call) (count other : ℕ) → BeginsAs bytes call count other
+      → (other ≤ at) × (count < length (call_fields call))

@@ -9,6 +9,7 @@ use Rattle.orc_path.specs.Texts.{path_text}
 use Rattle.orc_path.specs.Items.{fits}
 use Rattle.orc_path.specs.declared.item.Item.{Item}
 use Rattle.orc_path.specs.declared.item.Item.TheVariants.{Entry, Leaf}
+use Rattle.orc_call.specs.declared.call.TheConstants.{MOST_ACTIONS}
 
 -- a value where it stands: a path may stand behind another one in a list in path order, and an item belongs to a path
 pub data Field : Type 0 where
@@ -47,6 +48,15 @@ spelled fields = flat_map field_bytes fields
 abbrev pub IsText : List ℕ → Type 0
 IsText text = (length text < 2 ^ 32) × IsUtf8 text
 
+-- the bytes begin with a text of these bytes, and the rest follows
+pub record HasText (bytes text rest : List ℕ) : Type 0 where
+  pub is_text : IsText text
+  pub parts : bytes ≡ text_bytes text ++ rest
+
+-- the bytes begin with a text
+abbrev pub HasSomeText : List ℕ → Type 0
+HasSomeText bytes = (text rest : List ℕ) × HasText bytes text rest
+
 -- an entry, or a leaf with a text
 abbrev pub IsItem : Item → Type 0
 IsItem Entry = Unit {0}
@@ -54,13 +64,14 @@ IsItem (Leaf text) = IsText text
 
 -- a path behind the one before it, where there is one
 abbrev pub IsPathAfter : Option (List PathStep) → List PathStep → Type 0
-IsPathAfter before path = IsTrue (is_path path) × IsText (path_text path) × IfSome before (λ earlier. path_cmp earlier path ≡ Less)
+IsPathAfter before path =
+    IsTrue (is_path path) × IsText (path_text path) × IfSome before (λ earlier. path_cmp earlier path ≡ Less)
 
 -- the field's value may stand there
 abbrev pub IsLawful : Field → Type 0
 IsLawful (a_text text) = IsText text
 IsLawful (a_number number) = number < 2 ^ 64
-IsLawful (a_count_of_actions count) = (1 ≤ count) × (count ≤ 64)
+IsLawful (a_count_of_actions count) = (1 ≤ count) × (count ≤ MOST_ACTIONS)
 IsLawful (a_count_of_items count) = count < 2 ^ 32
 IsLawful (a_kind byte) = (1 ≤ byte) × (byte ≤ 9)
 IsLawful (a_path before path) = IsPathAfter before path

@@ -1,6 +1,6 @@
 pub mod Fields
 pub mod Encoding
+pub mod Puts
 pub mod Faults
-pub mod Reading
-pub mod Writing
 pub mod Answers
+pub mod inside

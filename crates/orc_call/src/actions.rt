@@ -1,7 +1,7 @@
 //! Reading actions from the front of the bytes.
 ghost use Rattle.std.specs.Prelude.{◌≤◌};
 ghost use Rattle.orc_call.specs.Encoding.{action_fields};
-ghost use Rattle.orc_call.specs.Reading.{Reads, any, many, content};
+ghost use Rattle.orc_call.specs.inside.Reading.{ReadsFront, any, many, content};
 
 use crate::Action;
 use crate::fields::{Stuck, kind_at, path_at, text_at};
@@ -9,11 +9,11 @@ use crate::parts::{body_at, device_path_at, device_put_at, literal_at, put_at};
 use orc_text::Row;
 use std::alloc::Global;
 
-/// What stands behind the byte of an action's kind.
+// What stands behind the byte of an action's kind.
 fn content_at(alloc: Global, kind: u8, bytes: &[u8]) -> Result<(Action, &[u8]), Stuck>
     requires least { 1 ≤ kind }
     requires greatest { kind ≤ 9 }
-    ensures { Reads (content kind) (λ read. (read.0, read.1.now)) bytes.now result }
+    ensures { ReadsFront (content kind) bytes.now result }
 {
     match kind {
         1 => {
@@ -56,9 +56,9 @@ fn content_at(alloc: Global, kind: u8, bytes: &[u8]) -> Result<(Action, &[u8]), 
     }
 }
 
-/// An action.
+// An action.
 fn action_at(alloc: Global, bytes: &[u8]) -> Result<(Action, &[u8]), Stuck>
-    ensures { Reads (any action_fields) (λ read. (read.0, read.1.now)) bytes.now result }
+    ensures { ReadsFront (any action_fields) bytes.now result }
 {
     let (kind, rest) = kind_at(bytes)?;
     let (action, rest) = content_at(alloc, kind, rest)?;
@@ -71,7 +71,7 @@ pub(crate) fn actions_at(
     count: u16,
     bytes: &[u8],
 ) -> Result<(Row<Action>, &[u8]), Stuck>
-    ensures { Reads (many action_fields count) (λ read. (read.0, read.1.now)) bytes.now result }
+    ensures { ReadsFront (many action_fields count) bytes.now result }
 {
     let mut actions = Row::new(alloc);
     let mut rest = bytes;

@@ -116,6 +116,9 @@ impl Copied for Action {
     }
 }
 
+/// The most actions that a call may have.
+pub const MOST_ACTIONS: usize = 64;
+
 /// What a caller asks for: its actions in order, under a number of the caller's own.
 #[derive(Debug, PartialEq, Eq, Drop)]
 pub struct Call {

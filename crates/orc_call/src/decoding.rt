@@ -1,17 +1,18 @@
 //! Decoding a call.
 ghost use Rattle.std.specs.Prelude.{◌≡◌, ◌++◌, ℕ, List, length, IfOk, IfErr, IsErrOf, MatchResult};
 ghost use Rattle.orc_call.specs.Encoding.{IsCall, HasEncoding, call_bytes, call_fields};
-ghost use Rattle.orc_call.specs.Faults.{IsCauseOf};
-ghost use Rattle.orc_call.specs.Reading.{Reads, any, HasSomeText};
+ghost use Rattle.orc_call.specs.Faults.{IsCodecFault};
+ghost use Rattle.orc_call.specs.inside.Reading.{ReadsFront, any};
+ghost use Rattle.orc_call.specs.Fields.{HasSomeText};
 
 use crate::actions::actions_at;
 use crate::fields::{Stuck, action_count_at, number_at, text_at};
 use crate::{Call, CodecFault};
 use std::alloc::Global;
 
-/// A call.
+// A call.
 fn call_at(alloc: Global, bytes: &[u8]) -> Result<(Call, &[u8]), Stuck>
-    ensures reads { Reads (any call_fields) (λ read. (read.0, read.1.now)) bytes.now result }
+    ensures reads { ReadsFront (any call_fields) bytes.now result }
     ensures memory { IsErrOf result Stuck.Memory → HasSomeText bytes.now }
 {
     let (caller, rest) = text_at(alloc, bytes)?;
@@ -38,8 +39,9 @@ pub fn decode(alloc: Global, bytes: &[u8]) -> Result<(Call, usize), CodecFault>
     ensures found { IfOk result (λ read. HasEncoding bytes.now read.0 read.1) }
     // What is encoded is decoded again, whatever follows, unless memory runs out.
     ensures again { (call : Call) (rest : List ℕ) → IsCall call → bytes.now ≡ call_bytes call ++ rest
-        → MatchResult result (λ read. (read.0 ≡ call) × (read.1 ≡ length (call_bytes call))) (λ fault. fault ≡ CodecFault.Memory) }
-    ensures bad { IfErr result (IsCauseOf bytes.now) }
+        → MatchResult result (λ read. (read.0 ≡ call) × (read.1 ≡ length (call_bytes call)))
+        (λ fault. fault ≡ CodecFault.Memory) }
+    ensures bad { IfErr result (IsCodecFault bytes.now) }
 {
     match call_at(alloc, bytes) {
         Ok((call, rest)) => Ok((call, bytes.len() - rest.len())),

@@ -1,10 +1,11 @@
 //! Encoding a call.
-ghost use Rattle.std.specs.Prelude.{◌≡◌, ◌++◌, ℕ, List, [], length, IfOk, OnOk, All};
+ghost use Rattle.std.specs.Prelude.{◌≡◌, ◌++◌, ℕ, List, [], length, IfOk, All};
 ghost use Rattle.std.specs.List.{flat_map};
 ghost use Rattle.orc_path.specs.Texts.{path_text};
 ghost use Rattle.orc_call.specs.Fields.{IsText, IsItem, AreLawful, spelled, text_bytes, item_bytes};
-ghost use Rattle.orc_call.specs.Encoding.{IsCall, call_bytes, body_fields, literal_fields, kind_byte, content_fields, action_fields};
-ghost use Rattle.orc_call.specs.Writing.{put_bytes, device_put_bytes, IsPutFit, IsDevicePutFit};
+ghost use Rattle.orc_call.specs.Encoding.{IsCall, call_bytes, body_fields, literal_fields, action_kind, content_fields, action_fields};
+ghost use Rattle.orc_call.specs.Puts.{put_bytes, device_put_bytes};
+ghost use Rattle.orc_call.specs.inside.Writing.{Adds, IsPutFit, IsDevicePutFit};
 
 use crate::{Action, Call, DevicePut, Put};
 use orc_path::{Item, Path};
@@ -13,7 +14,7 @@ use std::alloc::Global;
 
 fn push_text(out: &mut Vec<u8>, text: &Text) -> Result<(), Memory>
     requires { IsText text.now }
-    ensures { OnOk result (out.new.items ≡ out.old.items ++ text_bytes text.now) }
+    ensures { Adds result out.old.items out.new.items (text_bytes text.now) }
 {
     let bytes = text.as_str().as_bytes();
     out.extend_from_slice(&(bytes.len() as u32).to_be_bytes())?;
@@ -23,7 +24,7 @@ fn push_text(out: &mut Vec<u8>, text: &Text) -> Result<(), Memory>
 
 fn push_path(alloc: Global, out: &mut Vec<u8>, path: &Path) -> Result<(), Memory>
     requires { IsText (path_text path.now) }
-    ensures { OnOk result (out.new.items ≡ out.old.items ++ text_bytes (path_text path.now)) }
+    ensures { Adds result out.old.items out.new.items (text_bytes (path_text path.now)) }
 {
     let text = path.text(alloc)?;
     push_text(out, &text)
@@ -31,7 +32,7 @@ fn push_path(alloc: Global, out: &mut Vec<u8>, path: &Path) -> Result<(), Memory
 
 fn push_item(out: &mut Vec<u8>, item: &Item) -> Result<(), Memory>
     requires { IsItem item.now }
-    ensures { OnOk result (out.new.items ≡ out.old.items ++ item_bytes item.now) }
+    ensures { Adds result out.old.items out.new.items (item_bytes item.now) }
 {
     match item {
         Item::Entry => {
@@ -47,7 +48,7 @@ fn push_item(out: &mut Vec<u8>, item: &Item) -> Result<(), Memory>
 
 fn push_put(alloc: Global, out: &mut Vec<u8>, put: &Put) -> Result<(), Memory>
     requires { IsPutFit put.now }
-    ensures { OnOk result (out.new.items ≡ out.old.items ++ put_bytes put.now) }
+    ensures { Adds result out.old.items out.new.items (put_bytes put.now) }
 {
     push_path(alloc, out, &put.path)?;
     push_item(out, &put.item)
@@ -55,7 +56,7 @@ fn push_put(alloc: Global, out: &mut Vec<u8>, put: &Put) -> Result<(), Memory>
 
 fn push_puts(alloc: Global, out: &mut Vec<u8>, puts: &[Put]) -> Result<(), Memory>
     requires { All IsPutFit puts.now }
-    ensures { OnOk result (out.new.items ≡ out.old.items ++ flat_map put_bytes puts.now) }
+    ensures { Adds result out.old.items out.new.items (flat_map put_bytes puts.now) }
 {
     for put in puts {
         push_put(alloc, out, put)?;
@@ -65,7 +66,7 @@ fn push_puts(alloc: Global, out: &mut Vec<u8>, puts: &[Put]) -> Result<(), Memor
 
 fn push_device_put(alloc: Global, out: &mut Vec<u8>, put: &DevicePut) -> Result<(), Memory>
     requires { IsDevicePutFit put.now }
-    ensures { OnOk result (out.new.items ≡ out.old.items ++ device_put_bytes put.now) }
+    ensures { Adds result out.old.items out.new.items (device_put_bytes put.now) }
 {
     push_text(out, &put.device)?;
     push_path(alloc, out, &put.path)?;
@@ -74,7 +75,7 @@ fn push_device_put(alloc: Global, out: &mut Vec<u8>, put: &DevicePut) -> Result<
 
 fn push_device_puts(alloc: Global, out: &mut Vec<u8>, puts: &[DevicePut]) -> Result<(), Memory>
     requires { All IsDevicePutFit puts.now }
-    ensures { OnOk result (out.new.items ≡ out.old.items ++ flat_map device_put_bytes puts.now) }
+    ensures { Adds result out.old.items out.new.items (flat_map device_put_bytes puts.now) }
 {
     for put in puts {
         push_device_put(alloc, out, put)?;
@@ -84,7 +85,7 @@ fn push_device_puts(alloc: Global, out: &mut Vec<u8>, puts: &[DevicePut]) -> Res
 
 fn push_body(alloc: Global, out: &mut Vec<u8>, service: &Text, puts: &[Put]) -> Result<(), Memory>
     requires { AreLawful (body_fields service.now puts.now) }
-    ensures { OnOk result (out.new.items ≡ out.old.items ++ spelled (body_fields service.now puts.now)) }
+    ensures { Adds result out.old.items out.new.items (spelled (body_fields service.now puts.now)) }
 {
     push_text(out, service)?;
     out.extend_from_slice(&(puts.len() as u32).to_be_bytes())?;
@@ -98,7 +99,7 @@ fn push_literal(
     writes: &[DevicePut],
 ) -> Result<(), Memory>
     requires { AreLawful (literal_fields name.now writes.now) }
-    ensures { OnOk result (out.new.items ≡ out.old.items ++ spelled (literal_fields name.now writes.now)) }
+    ensures { Adds result out.old.items out.new.items (spelled (literal_fields name.now writes.now)) }
 {
     push_text(out, name)?;
     out.extend_from_slice(&(writes.len() as u32).to_be_bytes())?;
@@ -107,7 +108,7 @@ fn push_literal(
 
 fn push_content(alloc: Global, out: &mut Vec<u8>, action: &Action) -> Result<(), Memory>
     requires { AreLawful (content_fields action.now) }
-    ensures { OnOk result (out.new.items ≡ out.old.items ++ spelled (content_fields action.now)) }
+    ensures { Adds result out.old.items out.new.items (spelled (content_fields action.now)) }
 {
     match action {
         Action::Create(service, body) => push_body(alloc, out, service, body.as_slice()),
@@ -125,9 +126,9 @@ fn push_content(alloc: Global, out: &mut Vec<u8>, action: &Action) -> Result<(),
     }
 }
 
-/// The byte that stands for the action's kind.
-fn kind_byte(action: &Action) -> u8
-    ensures { result ≡ kind_byte action.now }
+// The byte that stands for the action's kind.
+fn action_kind(action: &Action) -> u8
+    ensures { result ≡ action_kind action.now }
 {
     match action {
         Action::Create(_, _) => 1,
@@ -144,15 +145,15 @@ fn kind_byte(action: &Action) -> u8
 
 fn push_action(alloc: Global, out: &mut Vec<u8>, action: &Action) -> Result<(), Memory>
     requires { AreLawful (action_fields action.now) }
-    ensures { OnOk result (out.new.items ≡ out.old.items ++ spelled (action_fields action.now)) }
+    ensures { Adds result out.old.items out.new.items (spelled (action_fields action.now)) }
 {
-    out.push(kind_byte(action))?;
+    out.push(action_kind(action))?;
     push_content(alloc, out, action)
 }
 
 fn push_actions(alloc: Global, out: &mut Vec<u8>, actions: &[Action]) -> Result<(), Memory>
     requires { AreLawful (flat_map action_fields actions.now) }
-    ensures { OnOk result (out.new.items ≡ out.old.items ++ spelled (flat_map action_fields actions.now)) }
+    ensures { Adds result out.old.items out.new.items (spelled (flat_map action_fields actions.now)) }
 {
     for action in actions {
         push_action(alloc, out, action)?;
@@ -162,7 +163,7 @@ fn push_actions(alloc: Global, out: &mut Vec<u8>, actions: &[Action]) -> Result<
 
 fn push_call(alloc: Global, out: &mut Vec<u8>, call: &Call) -> Result<(), Memory>
     requires { IsCall call.now }
-    ensures { OnOk result (out.new.items ≡ out.old.items ++ call_bytes call.now) }
+    ensures { Adds result out.old.items out.new.items (call_bytes call.now) }
 {
     push_text(out, &call.caller)?;
     out.extend_from_slice(&call.number.to_be_bytes())?;
@@ -177,7 +178,8 @@ pub fn encode(alloc: Global, call: &Call) -> Result<Vec<u8>, Memory>
     requires { IsCall call.now }
     ensures spells { IfOk result (λ bytes. bytes.items ≡ call_bytes call.now) }
     // It begins the encoding of no other call.
-    ensures alone { (other : Call) (rest : List ℕ) → IsCall other → call_bytes other ≡ call_bytes call.now ++ rest → (other ≡ call.now) × (rest ≡ []) }
+    ensures alone { (other : Call) (rest : List ℕ) → IsCall other → call_bytes other ≡ call_bytes call.now ++ rest
+        → (other ≡ call.now) × (rest ≡ []) }
 {
     let mut out = Vec::new(alloc);
     push_call(alloc, &mut out, call)?;

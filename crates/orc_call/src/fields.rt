@@ -3,9 +3,10 @@ ghost use Rattle.std.specs.Prelude.{◌≡◌, ◌↔◌, IsTrue, IfSome, length
 ghost use Rattle.std.specs.Option.{option_copied};
 ghost use Rattle.orc_path.specs.Order.{path_cmp};
 ghost use Rattle.std.specs.declared.cmp.Ordering.TheVariants.{Less};
-ghost use Rattle.orc_call.specs.Fields.{a_text, a_number, a_count_of_actions, a_count_of_items, a_path, an_item};
-ghost use Rattle.orc_call.specs.Reading.{Reads, one, kind, HasText, HasSomeText, HasNoText, HasItem, HasSomeLeaf, HasNoItem};
+ghost use Rattle.orc_call.specs.Fields.{a_text, a_number, a_count_of_actions, a_count_of_items, a_path, an_item, HasText, HasSomeText};
+ghost use Rattle.orc_call.specs.inside.Reading.{ReadsFront, one, kind, HasNoText, HasItem, HasSomeLeaf, HasNoItem};
 
+use crate::MOST_ACTIONS;
 use orc_path::{Item, Path, PathFault};
 use orc_text::{Memory, Text};
 use std::alloc::Global;
@@ -31,7 +32,7 @@ impl From<Memory> for Stuck {
     }
 }
 
-/// The field at the front of these bytes is bad.
+// The field at the front of these bytes is bad.
 fn bad(bytes: &[u8]) -> Stuck
     ensures { result ≡ Stuck.Bad (length bytes.now) }
 {
@@ -40,7 +41,7 @@ fn bad(bytes: &[u8]) -> Stuck
 
 /// The caller's number. It takes no memory.
 pub(crate) fn number_at(bytes: &[u8]) -> Result<(u64, &[u8]), Stuck>
-    ensures reads { Reads (one a_number) (λ read. (read.0, read.1.now)) bytes.now result }
+    ensures reads { ReadsFront (one a_number) bytes.now result }
     ensures memory { IsErrOf result Stuck.Memory → ⊥ }
 {
     if bytes.len() < 8 {
@@ -55,7 +56,7 @@ pub(crate) fn number_at(bytes: &[u8]) -> Result<(u64, &[u8]), Stuck>
 
 /// How many actions there are. It takes no memory.
 pub(crate) fn action_count_at(bytes: &[u8]) -> Result<(u16, &[u8]), Stuck>
-    ensures reads { Reads (one a_count_of_actions) (λ read. (read.0, read.1.now)) bytes.now result }
+    ensures reads { ReadsFront (one a_count_of_actions) bytes.now result }
     ensures memory { IsErrOf result Stuck.Memory → ⊥ }
 {
     if bytes.len() < 2 {
@@ -63,7 +64,7 @@ pub(crate) fn action_count_at(bytes: &[u8]) -> Result<(u16, &[u8]), Stuck>
     }
     let (front, rest) = bytes.split_at(2);
     let count = u16::from_be_bytes([front[0], front[1]]);
-    if count < 1 || count > 64 {
+    if count < 1 || count as usize > MOST_ACTIONS {
         return Err(bad(bytes));
     }
     Ok((count, rest))
@@ -71,7 +72,7 @@ pub(crate) fn action_count_at(bytes: &[u8]) -> Result<(u16, &[u8]), Stuck>
 
 /// How many items there are. It takes no memory.
 pub(crate) fn item_count_at(bytes: &[u8]) -> Result<(u32, &[u8]), Stuck>
-    ensures reads { Reads (one a_count_of_items) (λ read. (read.0, read.1.now)) bytes.now result }
+    ensures reads { ReadsFront (one a_count_of_items) bytes.now result }
     ensures memory { IsErrOf result Stuck.Memory → ⊥ }
 {
     if bytes.len() < 4 {
@@ -84,7 +85,7 @@ pub(crate) fn item_count_at(bytes: &[u8]) -> Result<(u32, &[u8]), Stuck>
 
 /// The byte of an action's kind. It takes no memory.
 pub(crate) fn kind_at(bytes: &[u8]) -> Result<(u8, &[u8]), Stuck>
-    ensures reads { Reads kind (λ read. (read.0, read.1.now)) bytes.now result }
+    ensures reads { ReadsFront kind bytes.now result }
     ensures memory { IsErrOf result Stuck.Memory → ⊥ }
 {
     if bytes.is_empty() || bytes[0] < 1 || bytes[0] > 9 {
@@ -93,7 +94,7 @@ pub(crate) fn kind_at(bytes: &[u8]) -> Result<(u8, &[u8]), Stuck>
     Ok((bytes[0], &bytes[1..]))
 }
 
-/// The text at the front.
+// The text at the front.
 fn str_at(bytes: &[u8]) -> Option<(&str, &[u8])>
     ensures { MatchOption result (HasNoText bytes.now) (λ read. HasText bytes.now read.0.now read.1.now) }
 {
@@ -114,7 +115,7 @@ fn str_at(bytes: &[u8]) -> Option<(&str, &[u8])>
 
 /// A text.
 pub(crate) fn text_at(alloc: Global, bytes: &[u8]) -> Result<(Text, &[u8]), Stuck>
-    ensures reads { Reads (one a_text) (λ read. (read.0, read.1.now)) bytes.now result }
+    ensures reads { ReadsFront (one a_text) bytes.now result }
     ensures memory { IsErrOf result Stuck.Memory → HasSomeText bytes.now }
 {
     match str_at(bytes) {
@@ -139,7 +140,7 @@ pub(crate) fn path_at<'a>(
     before: Option<&Path>,
     bytes: &'a [u8],
 ) -> Result<(Path, &'a [u8]), Stuck>
-    ensures reads { Reads (one (a_path (option_copied before.entry))) (λ read. (read.0, read.1.now)) bytes.now result }
+    ensures reads { ReadsFront (one (a_path (option_copied before.entry))) bytes.now result }
     ensures memory { IsErrOf result Stuck.Memory → HasSomeText bytes.now }
 {
     let Some((text, rest)) = str_at(bytes) else {
@@ -147,6 +148,7 @@ pub(crate) fn path_at<'a>(
     };
     match Path::parse(alloc, text) {
         Ok(path) => {
+            // Read, so that its range is known to the proof.
             let _ = &path.steps;
             if follows(before, &path) {
                 Ok((path, rest))
@@ -159,9 +161,10 @@ pub(crate) fn path_at<'a>(
     }
 }
 
-/// The item at the front, whatever path it belongs to.
+// The item at the front, whatever path it belongs to.
 fn any_item_at(alloc: Global, bytes: &[u8]) -> Result<Option<(Item, &[u8])>, Memory>
-    ensures found { IfOk result (λ found. MatchOption found (HasNoItem bytes.now) (λ read. HasItem bytes.now read.0 read.1.now)) }
+    ensures found { IfOk result
+        (λ found. MatchOption found (HasNoItem bytes.now) (λ read. HasItem bytes.now read.0 read.1.now)) }
     ensures memory { OnErr result (HasSomeLeaf bytes.now) }
 {
     match bytes {
@@ -180,7 +183,7 @@ pub(crate) fn item_at<'a>(
     path: &Path,
     bytes: &'a [u8],
 ) -> Result<(Item, &'a [u8]), Stuck>
-    ensures reads { Reads (one (an_item path.now)) (λ read. (read.0, read.1.now)) bytes.now result }
+    ensures reads { ReadsFront (one (an_item path.now)) bytes.now result }
     ensures memory { IsErrOf result Stuck.Memory → HasSomeLeaf bytes.now }
 {
     match any_item_at(alloc, bytes)? {

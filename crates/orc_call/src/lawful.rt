@@ -1,19 +1,20 @@
 //! Whether a call has an encoding.
-ghost use Rattle.std.specs.Prelude.{◌↔◌, ◌<◌, IfOk, OnErr, IsTrue, Any, length};
+ghost use Rattle.std.specs.Prelude.{◌↔◌, IsTrue};
 ghost use Rattle.std.specs.declared.option.Option.TheVariants.{None};
 ghost use Rattle.std.specs.List.{flat_map};
 ghost use Rattle.std.specs.Option.{option_copied};
+ghost use Rattle.orc_path.specs.Steps.{is_path};
+ghost use Rattle.orc_path.specs.Texts.{path_text};
 ghost use Rattle.orc_call.specs.Fields.{IsText, IsPathAfter, IsLawful, AreLawful, a_count_of_actions, an_item};
-ghost use Rattle.orc_call.specs.Encoding.{IsCall, put_fields, puts_fields, device_put_fields, body_fields, literal_fields, content_fields, action_fields, HoldsPath};
+ghost use Rattle.orc_call.specs.Encoding.{IsCall, put_fields, puts_fields, device_put_fields, body_fields, literal_fields, content_fields, action_fields};
 
 use crate::fields::follows;
 use crate::parts::last_path;
-use crate::{Action, Call, DevicePut, Put};
+use crate::{Action, Call, DevicePut, MOST_ACTIONS, Put};
 use orc_path::{Item, Path};
-use orc_text::{Memory, Text};
-use std::alloc::Global;
+use orc_text::Text;
 
-/// The longest list that fits its count, and the longest text that fits its length.
+// The longest list that fits its count, and the longest text that fits its length.
 const LONGEST: usize = 0xffff_ffff;
 
 fn is_text(text: &Text) -> bool
@@ -31,121 +32,109 @@ fn is_item(path: &Path, item: &Item) -> bool
     }
 }
 
-fn is_path_after(alloc: Global, before: Option<&Path>, path: &Path) -> Result<bool, Memory>
-    ensures { IfOk result (λ yes. IsTrue yes ↔ IsPathAfter (option_copied before.entry) path.now) }
+// Whether the text of the path fits its field.
+fn is_path_fit(path: &Path) -> bool
+    ensures fit { IsTrue result ↔ IsText (path_text path.now) }
+    ensures path { IsTrue (is_path path.now) }
 {
-    let text = path.text(alloc)?;
-    Ok(is_text(&text) && follows(before, path))
+    path.text_len() <= LONGEST as u64
 }
 
-fn is_put(alloc: Global, before: Option<&Path>, put: &Put) -> Result<bool, Memory>
-    ensures { IfOk result (λ yes. IsTrue yes ↔ AreLawful (put_fields (option_copied before.entry) put.now)) }
+fn is_path_after(before: Option<&Path>, path: &Path) -> bool
+    ensures { IsTrue result ↔ IsPathAfter (option_copied before.entry) path.now }
 {
-    let path = is_path_after(alloc, before, &put.path)?;
-    Ok(path && is_item(&put.path, &put.item))
+    is_path_fit(path) && follows(before, path)
 }
 
-fn are_puts(alloc: Global, puts: &[Put]) -> Result<bool, Memory>
-    ensures exact { IfOk result (λ yes. IsTrue yes ↔ AreLawful (puts_fields None puts.now)) }
-    ensures memory { OnErr result (0 < length puts.now) }
+fn is_put(before: Option<&Path>, put: &Put) -> bool
+    ensures { IsTrue result ↔ AreLawful (put_fields (option_copied before.entry) put.now) }
+{
+    is_path_after(before, &put.path) && is_item(&put.path, &put.item)
+}
+
+fn are_puts(puts: &[Put]) -> bool
+    ensures { IsTrue result ↔ AreLawful (puts_fields None puts.now) }
 {
     for (i, put) in puts.iter().enumerate() {
-        if !is_put(alloc, last_path(&puts[..i]), put)? {
-            return Ok(false);
+        if !is_put(last_path(&puts[..i]), put) {
+            return false;
         }
     }
-    Ok(true)
+    true
 }
 
-fn is_body(alloc: Global, service: &Text, puts: &[Put]) -> Result<bool, Memory>
-    ensures exact { IfOk result (λ yes. IsTrue yes ↔ AreLawful (body_fields service.now puts.now)) }
-    ensures memory { OnErr result (0 < length puts.now) }
+fn is_body(service: &Text, puts: &[Put]) -> bool
+    ensures { IsTrue result ↔ AreLawful (body_fields service.now puts.now) }
 {
-    let puts_are = are_puts(alloc, puts)?;
-    Ok(is_text(service) && puts.len() <= LONGEST && puts_are)
+    is_text(service) && puts.len() <= LONGEST && are_puts(puts)
 }
 
-fn is_device_put(alloc: Global, put: &DevicePut) -> Result<bool, Memory>
-    ensures { IfOk result (λ yes. IsTrue yes ↔ AreLawful (device_put_fields put.now)) }
+fn is_device_put(put: &DevicePut) -> bool
+    ensures { IsTrue result ↔ AreLawful (device_put_fields put.now) }
 {
-    let path = is_path_after(alloc, None, &put.path)?;
-    Ok(is_text(&put.device) && path && is_item(&put.path, &put.item))
+    is_text(&put.device) && is_path_after(None, &put.path) && is_item(&put.path, &put.item)
 }
 
-fn are_device_puts(alloc: Global, puts: &[DevicePut]) -> Result<bool, Memory>
-    ensures exact { IfOk result (λ yes. IsTrue yes ↔ AreLawful (flat_map device_put_fields puts.now)) }
-    ensures memory { OnErr result (0 < length puts.now) }
+fn are_device_puts(puts: &[DevicePut]) -> bool
+    ensures { IsTrue result ↔ AreLawful (flat_map device_put_fields puts.now) }
 {
     for put in puts {
-        if !is_device_put(alloc, put)? {
-            return Ok(false);
+        if !is_device_put(put) {
+            return false;
         }
     }
-    Ok(true)
+    true
 }
 
-fn is_literal(alloc: Global, name: &Text, writes: &[DevicePut]) -> Result<bool, Memory>
-    ensures exact { IfOk result (λ yes. IsTrue yes ↔ AreLawful (literal_fields name.now writes.now)) }
-    ensures memory { OnErr result (0 < length writes.now) }
+fn is_literal(name: &Text, writes: &[DevicePut]) -> bool
+    ensures { IsTrue result ↔ AreLawful (literal_fields name.now writes.now) }
 {
-    let writes_are = are_device_puts(alloc, writes)?;
-    Ok(is_text(name) && writes.len() <= LONGEST && writes_are)
+    is_text(name) && writes.len() <= LONGEST && are_device_puts(writes)
 }
 
-fn is_content(alloc: Global, action: &Action) -> Result<bool, Memory>
-    ensures exact { IfOk result (λ yes. IsTrue yes ↔ AreLawful (content_fields action.now)) }
-    ensures memory { OnErr result (HoldsPath action.now) }
+fn is_content(action: &Action) -> bool
+    ensures { IsTrue result ↔ AreLawful (content_fields action.now) }
 {
     match action {
-        Action::Create(service, body) => is_body(alloc, service, body.as_slice()),
-        Action::Modify(service, body) => is_body(alloc, service, body.as_slice()),
-        Action::Redeploy(service) => Ok(is_text(service)),
-        Action::Delete(service) => Ok(is_text(service)),
-        Action::Set(put) => is_put(alloc, None, put),
-        Action::Unset(path) => is_path_after(alloc, None, path),
-        Action::BasePut(put) => is_device_put(alloc, put),
-        Action::BaseRemove(device, path) => {
-            let path_is = is_path_after(alloc, None, path)?;
-            Ok(is_text(device) && path_is)
-        }
-        Action::Literal(name, writes) => is_literal(alloc, name, writes.as_slice()),
+        Action::Create(service, body) => is_body(service, body.as_slice()),
+        Action::Modify(service, body) => is_body(service, body.as_slice()),
+        Action::Redeploy(service) => is_text(service),
+        Action::Delete(service) => is_text(service),
+        Action::Set(put) => is_put(None, put),
+        Action::Unset(path) => is_path_after(None, path),
+        Action::BasePut(put) => is_device_put(put),
+        Action::BaseRemove(device, path) => is_text(device) && is_path_after(None, path),
+        Action::Literal(name, writes) => is_literal(name, writes.as_slice()),
     }
 }
 
-fn are_actions(alloc: Global, actions: &[Action]) -> Result<bool, Memory>
-    ensures exact { IfOk result (λ yes. IsTrue yes ↔ AreLawful (flat_map action_fields actions.now)) }
-    ensures memory { OnErr result (Any HoldsPath actions.now) }
+fn are_actions(actions: &[Action]) -> bool
+    ensures { IsTrue result ↔ AreLawful (flat_map action_fields actions.now) }
 {
     for action in actions {
-        if !is_content(alloc, action)? {
-            return Ok(false);
+        if !is_content(action) {
+            return false;
         }
     }
-    Ok(true)
+    true
 }
 
-/// Whether so many actions may stand in a call.
+// Whether so many actions may stand in a call.
 fn is_action_count(count: usize) -> bool
     ensures { IsTrue result ↔ IsLawful (a_count_of_actions count) }
 {
-    (1..=64).contains(&count)
+    (1..=MOST_ACTIONS).contains(&count)
 }
 
 /// Whether the call has an encoding: each text's and list's length fits its field, there are 1 to
 /// 64 actions, the items of each `Create` and `Modify` stand in path order, each path once, and
-/// each item fits its path. It takes memory for one path's text at a time, and none where the call
-/// holds no path.
-pub fn is_encodable(alloc: Global, call: &Call) -> Result<bool, Memory>
-    ensures exact { IfOk result (λ yes. IsTrue yes ↔ IsCall call.now) }
-    ensures memory { OnErr result (Any HoldsPath call.now.actions) }
+/// each item fits its path. It takes no memory.
+pub fn is_encodable(call: &Call) -> bool
+    ensures { IsTrue result ↔ IsCall call.now }
 {
-    // Each u64 is lawful.
+    // Read, so that its range is known to the proof.
     let _number = call.number;
-    if !is_text(&call.caller) {
-        return Ok(false);
-    }
-    if !is_action_count(call.actions.len()) {
-        return Ok(false);
-    }
-    are_actions(alloc, call.actions.as_slice())
+    is_text(&call.caller)
+        && is_action_count(call.actions.len())
+        && are_actions(call.actions.as_slice())
 }

@@ -8,17 +8,17 @@
 mod actions;
 mod answer;
 mod call;
+mod counting;
 mod decoding;
 mod encoding;
 mod fault;
 mod fields;
 mod lawful;
 mod parts;
-#[cfg(test)]
-mod tests;
 
 pub use answer::{Answer, RecFault, Tag, Why};
-pub use call::{Action, Call, DevicePut, Put};
+pub use call::{Action, Call, DevicePut, MOST_ACTIONS, Put};
+pub use counting::encoded_len;
 pub use decoding::decode;
 pub use encoding::encode;
 pub use fault::CodecFault;

@@ -3,7 +3,7 @@ ghost use Rattle.std.specs.Prelude.{◌≡◌};
 ghost use Rattle.std.specs.declared.option.Option.TheVariants.{None};
 ghost use Rattle.std.specs.Option.{option_copied};
 ghost use Rattle.orc_call.specs.Encoding.{put_fields, device_put_fields};
-ghost use Rattle.orc_call.specs.Reading.{Reads, any, puts, many, body, literal, device_path, last_path};
+ghost use Rattle.orc_call.specs.inside.Reading.{ReadsFront, any, puts, many, body, literal, device_path, last_path};
 
 use crate::fields::{Stuck, item_at, item_count_at, path_at, text_at};
 use crate::{DevicePut, Put};
@@ -17,7 +17,7 @@ pub(crate) fn put_at<'a>(
     before: Option<&Path>,
     bytes: &'a [u8],
 ) -> Result<(Put, &'a [u8]), Stuck>
-    ensures { Reads (any (put_fields (option_copied before.entry))) (λ read. (read.0, read.1.now)) bytes.now result }
+    ensures { ReadsFront (any (put_fields (option_copied before.entry))) bytes.now result }
 {
     let (path, rest) = path_at(alloc, before, bytes)?;
     let (item, rest) = item_at(alloc, &path, rest)?;
@@ -34,9 +34,9 @@ pub(crate) fn last_path(puts: &[Put]) -> Option<&Path>
     }
 }
 
-/// So many puts in path order.
+// So many puts in path order.
 fn puts_at(alloc: Global, count: u32, bytes: &[u8]) -> Result<(Row<Put>, &[u8]), Stuck>
-    ensures { Reads (puts None count) (λ read. (read.0, read.1.now)) bytes.now result }
+    ensures { ReadsFront (puts None count) bytes.now result }
 {
     let mut puts = Row::new(alloc);
     let mut rest = bytes;
@@ -50,7 +50,7 @@ fn puts_at(alloc: Global, count: u32, bytes: &[u8]) -> Result<(Row<Put>, &[u8]),
 
 /// A service, the number of its puts, and the puts.
 pub(crate) fn body_at(alloc: Global, bytes: &[u8]) -> Result<((Text, Row<Put>), &[u8]), Stuck>
-    ensures { Reads body (λ read. (read.0, read.1.now)) bytes.now result }
+    ensures { ReadsFront body bytes.now result }
 {
     let (service, rest) = text_at(alloc, bytes)?;
     let (count, rest) = item_count_at(rest)?;
@@ -60,7 +60,7 @@ pub(crate) fn body_at(alloc: Global, bytes: &[u8]) -> Result<((Text, Row<Put>), 
 
 /// A device, a path and its item.
 pub(crate) fn device_put_at(alloc: Global, bytes: &[u8]) -> Result<(DevicePut, &[u8]), Stuck>
-    ensures { Reads (any device_put_fields) (λ read. (read.0, read.1.now)) bytes.now result }
+    ensures { ReadsFront (any device_put_fields) bytes.now result }
 {
     let (device, rest) = text_at(alloc, bytes)?;
     let (put, rest) = put_at(alloc, None, rest)?;
@@ -68,9 +68,9 @@ pub(crate) fn device_put_at(alloc: Global, bytes: &[u8]) -> Result<(DevicePut, &
     Ok((DevicePut { device, path, item }, rest))
 }
 
-/// So many writes in the order given.
+// So many writes in the order given.
 fn device_puts_at(alloc: Global, count: u32, bytes: &[u8]) -> Result<(Row<DevicePut>, &[u8]), Stuck>
-    ensures { Reads (many device_put_fields count) (λ read. (read.0, read.1.now)) bytes.now result }
+    ensures { ReadsFront (many device_put_fields count) bytes.now result }
 {
     let mut writes = Row::new(alloc);
     let mut rest = bytes;
@@ -87,7 +87,7 @@ pub(crate) fn literal_at(
     alloc: Global,
     bytes: &[u8],
 ) -> Result<((Text, Row<DevicePut>), &[u8]), Stuck>
-    ensures { Reads literal (λ read. (read.0, read.1.now)) bytes.now result }
+    ensures { ReadsFront literal bytes.now result }
 {
     let (name, rest) = text_at(alloc, bytes)?;
     let (count, rest) = item_count_at(rest)?;
@@ -97,7 +97,7 @@ pub(crate) fn literal_at(
 
 /// A device and a path.
 pub(crate) fn device_path_at(alloc: Global, bytes: &[u8]) -> Result<((Text, Path), &[u8]), Stuck>
-    ensures { Reads device_path (λ read. (read.0, read.1.now)) bytes.now result }
+    ensures { ReadsFront device_path bytes.now result }
 {
     let (device, rest) = text_at(alloc, bytes)?;
     let (path, rest) = path_at(alloc, None, rest)?;

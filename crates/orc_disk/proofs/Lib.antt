@@ -4,3 +4,4 @@ mod KeptLemmas
 pub mod Moments
 mod Puts
 mod Synced
+pub mod Torn

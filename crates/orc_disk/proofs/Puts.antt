@@ -4,7 +4,9 @@ use Rattle.std.proofs.Common.{sym, subst, arith}
 use Rattle.std.proofs.lemmas.List.{length-take}
 use Rattle.std.proofs.lemmas.Result.{on_ok_weaker}
 use Rattle.orc_disk.specs.Files.{written}
-use Rattle.orc_disk.specs.Torn.{Torn, Torn-within, Torn-trans, Torn-written, Torn-append}
+use Rattle.orc_disk.specs.Torn.{Torn}
+use Rattle.orc_disk.specs.laws.Torn.{Torn-written, Torn-append}
+use Rattle.orc_disk.proofs.Torn.{Torn-within, Torn-trans}
 
 -- a put leaves what a write of its bytes may leave
 pub put_torn : {T E : Type 0} (r : Result T E) (at : ℕ) (bytes old new : List ℕ) → OnOk r (new ≡ written at bytes old) → OnOk r (Torn at (length bytes) old new)

@@ -3,7 +3,7 @@ use Rattle.std.specs.Prelude.{◌≡◌, ℕ, None}
 use Rattle.std.proofs.Common.{sym, subst}
 use Rattle.orc_disk.specs.Crashes.{LeavesNoMore}
 use Rattle.orc_disk.specs.History.{History, changed, IsImage}
-use Rattle.orc_disk.specs.HistoryLaws.{IsImage-content}
+use Rattle.orc_disk.specs.laws.History.{IsImage-content}
 
 pub LeavesNoMore-synced : (old now : History) (used : ℕ) → now ≡ changed old None used → LeavesNoMore (IsImage old.start old.changes) (IsImage now.start now.changes)
 LeavesNoMore-synced old now used is c left =
@@ -11,6 +11,6 @@ LeavesNoMore-synced old now used is c left =
     subst (IsImage old.start old.changes) (sym image.2) (IsImage-content old.start old.changes)
 
 -- the same where the history before is known by another name
-pub LeavesNoMore-sync : (old told now : History) (used : ℕ) → told ≡ old → now ≡ changed told None used → LeavesNoMore (IsImage old.start old.changes) (IsImage now.start now.changes)
-LeavesNoMore-sync old told now used same is =
-    subst (λ (h : History). LeavesNoMore (IsImage h.start h.changes) (IsImage now.start now.changes)) same (LeavesNoMore-synced told now used is)
+pub LeavesNoMore-sync : (old seen now : History) (used : ℕ) → seen ≡ old → now ≡ changed seen None used → LeavesNoMore (IsImage old.start old.changes) (IsImage now.start now.changes)
+LeavesNoMore-sync old seen now used same is =
+    subst (λ (h : History). LeavesNoMore (IsImage h.start h.changes) (IsImage now.start now.changes)) same (LeavesNoMore-synced seen now used is)

@@ -5,7 +5,7 @@ use Rattle.std.specs.Prelude.{◌≡◌, ℕ, ◌+◌, ◌-◌, min, List, ◌++
 abbrev pub written : ℕ → List ℕ → List ℕ → List ℕ
 written at bytes file = take at file ++ (bytes ++ drop (at + length bytes) file)
 
--- a read of n bytes at this offset gave what there is and fits
-pub record ReadsFrom (at : ℕ) (buf file : List ℕ) (n : ℕ) : Type 0 where
-  pub count : n ≡ min (length buf) (length file - at)
-  pub bytes : take n buf ≡ take n (drop at file)
+-- a read at this offset gave so many bytes, which are what there is and fits
+pub record ReadsFrom (at : ℕ) (buf file : List ℕ) (given : ℕ) : Type 0 where
+  pub count : given ≡ min (length buf) (length file - at)
+  pub bytes : take given buf ≡ take given (drop at file)

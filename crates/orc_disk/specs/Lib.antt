@@ -1,10 +1,13 @@
 pub mod Files
 pub mod Torn
 pub mod Crashes
+pub mod Rows
+pub mod Meanings
 pub mod Moments
 pub mod Course
+pub mod RealFiles
 pub mod Stops
 pub mod History
-pub mod HistoryLaws
-pub mod Kept
 pub mod Memory
+pub mod laws
+pub mod inside

@@ -1,11 +1,15 @@
--- What contracts see of a disk in memory.
+-- What contracts see of a disk in memory, and what it tells of itself.
 use Rattle.std.specs.Prelude.{ℕ, ◌+◌, List, length, Some, None}
+use Rattle.orc_text.specs.Counts.{capped}
 use Rattle.orc_io.specs.Counts.{next_count}
+use Rattle.orc_disk.specs.Meanings.{DiskMeaning}
+use Rattle.orc_disk.specs.Course.{Tallied}
 use Rattle.orc_disk.specs.History.{History, changed, content_of, IsImage, WasImage}
 use Rattle.orc_disk.specs.declared.disk.DiskOp.{DiskOp}
+use Rattle.orc_disk.specs.declared.history.TheConstants.{CHANGE_ROOM}
 
--- its history, the calls that are to fail, each by its kind and its number among the calls of that kind, how many calls
--- of each kind came, and how many failed
+-- its history, the operations that are to fail, each by its kind and its number among those of that kind, how many of
+-- each kind came, and how many failed
 pub record MemoryDisk : Type 0 where
   pub history : History
   pub fails : List (DiskOp × ℕ)
@@ -15,39 +19,52 @@ pub record MemoryDisk : Type 0 where
   pub syncs : ℕ
   pub faults : ℕ
 
--- the disk after a call of each kind
-abbrev pub len_called : MemoryDisk → MemoryDisk
-len_called d = record d { lens = next_count d.lens }
-
-abbrev pub read_called : MemoryDisk → MemoryDisk
-read_called d = record d { reads = next_count d.reads }
-
-abbrev pub write_called : MemoryDisk → MemoryDisk
-write_called d = record d { writes = next_count d.writes }
-
-abbrev pub sync_called : MemoryDisk → MemoryDisk
-sync_called d = record d { syncs = next_count d.syncs }
-
--- the same where that call failed
-abbrev pub call_failed : MemoryDisk → MemoryDisk
-call_failed d = record d { faults = next_count d.faults }
-
--- the same where the call was a write, or a sync, that was done
-abbrev pub write_done : MemoryDisk → ℕ → List ℕ → MemoryDisk
-write_done d at bytes = record d { history = changed d.history (Some (at, bytes)) (length bytes + 64) }
-
-abbrev pub sync_done : MemoryDisk → MemoryDisk
-sync_done d = record d { history = changed d.history None 64 }
-
--- what a read gives, what a crash now may leave, the moment, and what a crash since a moment may have left
+-- what a read gives
 abbrev pub disk_content : MemoryDisk → List ℕ
-disk_content d = content_of d.history.start d.history.changes
+disk_content disk = content_of disk.history.start disk.history.changes
 
-abbrev pub disk_leaves : MemoryDisk → List ℕ → Type 0
-disk_leaves d = IsImage d.history.start d.history.changes
+-- how many writes and syncs it was asked for
+abbrev pub memory_ops : MemoryDisk → ℕ
+memory_ops disk = capped (disk.writes + disk.syncs)
 
-abbrev pub disk_moment : MemoryDisk → ℕ
-disk_moment d = length d.history.changes
+-- it tells all
+abbrev pub memory_disk : DiskMeaning MemoryDisk
+memory_disk = record {
+  content = λ disk. Some (disk_content disk);
+  may_leave = λ disk. IsImage disk.history.start disk.history.changes;
+  moment = λ disk. length disk.history.changes;
+  left_since = λ disk. WasImage disk.history.start disk.history.changes;
+  faults = λ disk. disk.faults;
+  ops = memory_ops;
+  leads = λ course old new. Tallied course old.faults new.faults (memory_ops old) (memory_ops new);
+}
 
-abbrev pub disk_left : MemoryDisk → ℕ → List ℕ → Type 0
-disk_left d = WasImage d.history.start d.history.changes
+-- the disk after it was asked for its length
+abbrev pub len_came : MemoryDisk → MemoryDisk
+len_came disk = record disk { lens = next_count disk.lens }
+
+-- or was to be read
+abbrev pub read_came : MemoryDisk → MemoryDisk
+read_came disk = record disk { reads = next_count disk.reads }
+
+-- or written
+abbrev pub write_came : MemoryDisk → MemoryDisk
+write_came disk = record disk { writes = next_count disk.writes }
+
+-- or synced
+abbrev pub sync_came : MemoryDisk → MemoryDisk
+sync_came disk = record disk { syncs = next_count disk.syncs }
+
+-- the same where that operation failed
+abbrev pub op_failed : MemoryDisk → MemoryDisk
+op_failed disk = record disk { faults = next_count disk.faults }
+
+-- the same where it was a write, which was done
+abbrev pub write_done : MemoryDisk → ℕ → List ℕ → MemoryDisk
+write_done disk at bytes = record disk {
+  history = changed disk.history (Some (at, bytes)) (length bytes + CHANGE_ROOM);
+}
+
+-- the same where it was a sync, which was done
+abbrev pub sync_done : MemoryDisk → MemoryDisk
+sync_done disk = record disk { history = changed disk.history None CHANGE_ROOM }

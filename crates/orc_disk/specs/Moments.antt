@@ -1,16 +1,29 @@
--- What crashes at the moments of a run of disk calls may leave.
-use Rattle.std.specs.Prelude.{ℕ, ◌≤◌, ◌⊎◌, List}
+-- What crashes at the moments of a row of operations may leave.
+use Rattle.std.specs.Prelude.{◌≡◌, ℕ, ◌≤◌, ◌⊎◌, List}
+use Rattle.orc_disk.specs.Crashes.{LeavesNoMore}
+use Rattle.orc_disk.specs.Meanings.{DiskMeaning}
 
-module _ {D : Type 0} (moment : D → ℕ) (left_since : D → ℕ → List ℕ → Type 0) where
-  -- One call went by: a crash since an earlier moment may have left what it may have left before the call, or what it may leave now.
-  pub record Elapses (may_leave : D → List ℕ → Type 0) (old new : D) : Type 0 where
-    pub later : moment old ≤ moment new
-    pub nothing_else : (t : ℕ) (c : List ℕ) → t ≤ moment old → left_since new t c → left_since old t c ⊎ may_leave new c
-    pub keeps : (t : ℕ) (c : List ℕ) → t ≤ moment old → left_since old t c → left_since new t c
+module _ {D : Type 0} (disk : DiskMeaning D) where
+  -- One operation went by: a crash since an earlier moment may have left what it may have left before the operation, or
+  -- what it may leave now.
+  pub record Elapses (old new : D) : Type 0 where
+    pub later : disk.moment old ≤ disk.moment new
+    pub nothing_else : (since : ℕ) (file : List ℕ) → since ≤ disk.moment old
+        → disk.left_since new since file → disk.left_since old since file ⊎ disk.may_leave new file
+    pub keeps : (since : ℕ) (file : List ℕ) → since ≤ disk.moment old
+        → disk.left_since old since file → disk.left_since new since file
 
-  -- Calls went by, and a crash at each moment since they began leaves a file that has P.
+  -- An operation that changes no byte went by: a read gives the same, and a crash leaves no other file.
+  pub record Unchanged (old new : D) : Type 0 where
+    pub same : disk.content new ≡ disk.content old
+    pub crash : LeavesNoMore (disk.may_leave old) (disk.may_leave new)
+    pub time : Elapses old new
+
+  -- Operations went by, and a crash at each moment since they began leaves a file that has P.
   pub record LeavesOnly (old new : D) (P : List ℕ → Type 0) : Type 0 where
-    pub later : moment old ≤ moment new
-    pub each : (c : List ℕ) → left_since new (moment old) c → P c
-    -- the same for a run that began before
-    pub before : (t : ℕ) (c : List ℕ) → t ≤ moment old → left_since new t c → left_since old t c ⊎ P c
+    pub later : disk.moment old ≤ disk.moment new
+    pub each : (file : List ℕ) → disk.left_since new (disk.moment old) file → P file
+    -- For rows that began before this one: a crash since an earlier moment leaves what it might have left before, or a
+    -- file that has P. So rows can be put behind one another.
+    pub earlier_rows : (since : ℕ) (file : List ℕ) → since ≤ disk.moment old
+        → disk.left_since new since file → disk.left_since old since file ⊎ P file

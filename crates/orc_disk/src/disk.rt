@@ -1,16 +1,18 @@
 //! What a disk promises: its content, its failures and its crash images.
-ghost use Rattle.std.specs.Prelude.{◌≡◌, ◌≤◌, ◌+◌, ℕ, List, length, IfOk, OnOk, IfSome, Option, Bool, true, false, ◌||◌, is_some, is_err};
+ghost use Rattle.std.specs.Prelude.{◌≡◌, ◌≤◌, ◌+◌, ℕ, List, length, IfOk, OnOk, IfSome, true, false, is_some};
 ghost use Rattle.std.specs.Option.{ForSome, option_map};
 ghost use Rattle.std.specs.Io.{ReadsAtMost};
-ghost use Rattle.orc_io.specs.Counts.{HasCause};
+ghost use Rattle.orc_text.specs.Counts.{capped};
 ghost use Rattle.orc_disk.specs.Files.{written, ReadsFrom};
-ghost use Rattle.orc_disk.specs.Crashes.{TearsAt, LeavesNoMore, LeavesAsRead};
-ghost use Rattle.orc_disk.specs.Moments.{Elapses};
-ghost use Rattle.orc_disk.specs.Course.{Counted};
+ghost use Rattle.orc_disk.specs.Crashes.{TearsAt, LeavesAsRead};
+ghost use Rattle.orc_disk.specs.Rows.{Course, joined, row};
+ghost use Rattle.orc_disk.specs.Meanings.{DiskMeaning};
+ghost use Rattle.orc_disk.specs.Moments.{Elapses, Unchanged};
+ghost use Rattle.orc_disk.specs.Course.{Counted, Performed, PerformedRead};
 
 use orc_io::Failed;
 
-/// The kinds of calls of a disk.
+/// The kinds of operations of a disk.
 #[derive(Clone, Copy, Debug, PartialEq, Eq)]
 pub enum DiskOp {
     Len,
@@ -25,90 +27,73 @@ pub enum DiskOp {
 /// after a crash, and bytes outside stay. After a sync that succeeds a crash leaves what a read
 /// gives.
 pub trait Disk: Drop {
-    /// What a read gives, where the disk tells it.
-    ghost content: { Self → Option (List ℕ) };
-
-    /// The images that a crash now may leave.
-    ghost may_leave: { Self → List ℕ → Type 0 };
-
-    /// The moment, a number that never falls.
-    ghost moment: { Self → ℕ };
-
-    /// The images that a crash at some moment since that one may have left.
-    ghost left_since: { Self → ℕ → List ℕ → Type 0 };
-
-    /// How often the disk failed.
-    ghost faults: { Self → ℕ };
-
-    /// Calls led from one state to another, so many of them writes and syncs, and where the truth
-    /// value is true one of them failed. So a disk round another one tells of itself what code that
-    /// knows only this trait keeps.
-    ghost leads: { ℕ → Bool → Self → Self → Type 0 };
+    /// What the disk tells of itself: its content, the files that a crash may leave, how often it
+    /// failed, and where its operations led.
+    ghost disk: { DiskMeaning Self };
 
     /// The length in bytes.
     fn len(&mut self) -> Result<u64, Failed>
-        ensures length { IfOk result (λ n. IfSome (content self.old) (λ file. n ≡ length file)) }
-        ensures same { content self.new ≡ content self.old }
-        ensures crash { LeavesNoMore (may_leave self.old) (may_leave self.new) }
-        ensures time { Elapses moment left_since may_leave self.old self.new }
-        ensures course { leads 0 (is_err result) self.old self.new }
-        ensures cause { HasCause (faults self.old) (faults self.new) result };
+        ensures length { IfOk result (λ n. IfSome (disk.content self.old) (λ file. n ≡ length file)) }
+        ensures unchanged { Unchanged disk self.old self.new }
+        ensures performed { Performed disk 0 result self.old self.new };
 
     /// Reads at an offset as many bytes as there are and fit, and answers how many.
     fn read_at(&mut self, at: u64, buf: &mut [u8]) -> Result<usize, Failed>
         ensures bound { ReadsAtMost result buf.new }
-        ensures bytes { IfOk result (λ n. IfSome (content self.old) (λ file. ReadsFrom at buf.new file n)) }
-        ensures same { content self.new ≡ content self.old }
-        ensures crash { LeavesNoMore (may_leave self.old) (may_leave self.new) }
-        ensures time { Elapses moment left_since may_leave self.old self.new }
-        ensures course { leads 0 (is_err result) self.old self.new }
-        ensures cause { HasCause (faults self.old) (faults self.new) result };
+        ensures bytes { IfOk result (λ n. IfSome (disk.content self.old) (λ file. ReadsFrom at buf.new file n)) }
+        ensures unchanged { Unchanged disk self.old self.new }
+        ensures performed { PerformedRead disk at buf.new result self.old self.new };
 
-    /// Writes at an offset, over what is there and past the end. A call that fails may have put some
-    /// of the bytes.
+    /// Writes at an offset, over what is there and past the end. A write that fails may have put
+    /// some of the bytes.
     fn write_at(&mut self, at: u64, bytes: &[u8]) -> Result<(), Failed>
-        requires { ForSome (content self.old) (λ file. at ≤ length file) }
-        ensures done { OnOk result (content self.new ≡ option_map (written at bytes.now) (content self.old)) }
-        ensures tells { is_some (content self.new) ≡ is_some (content self.old) }
-        ensures crash { TearsAt at (length bytes.now) (may_leave self.old) (may_leave self.new) }
-        ensures time { Elapses moment left_since may_leave self.old self.new }
-        ensures course { leads 1 (is_err result) self.old self.new }
-        ensures cause { HasCause (faults self.old) (faults self.new) result };
+        requires { ForSome (disk.content self.old) (λ file. at ≤ length file) }
+        ensures done { OnOk result (disk.content self.new ≡ option_map (written at bytes.now) (disk.content self.old)) }
+        ensures still_tells { is_some (disk.content self.new) ≡ is_some (disk.content self.old) }
+        ensures crash { TearsAt at (length bytes.now) (disk.may_leave self.old) (disk.may_leave self.new) }
+        ensures time { Elapses disk self.old self.new }
+        ensures performed { Performed disk 1 result self.old self.new };
 
     /// Makes what was written outlive crashes: from then on a crash leaves what a read gives.
     fn sync(&mut self) -> Result<(), Failed>
-        ensures durable { OnOk result (LeavesAsRead (content self.new) (may_leave self.new)) }
-        ensures same { content self.new ≡ content self.old }
-        ensures crash { LeavesNoMore (may_leave self.old) (may_leave self.new) }
-        ensures time { Elapses moment left_since may_leave self.old self.new }
-        ensures course { leads 1 (is_err result) self.old self.new }
-        ensures cause { HasCause (faults self.old) (faults self.new) result };
+        ensures durable { OnOk result (LeavesAsRead (disk.content self.new) (disk.may_leave self.new)) }
+        ensures unchanged { Unchanged disk self.old self.new }
+        ensures performed { Performed disk 1 result self.old self.new };
 
     /// How often the disk failed. At its last value the count stays.
     fn faults(&self) -> u64
-        ensures { result ≡ faults self.now };
+        ensures { result ≡ disk.faults self.now };
 
     /// A disk as it reads is one of its images.
-    ghost reads_as_image: { (disk : Self) → IfSome (content disk) (may_leave disk) };
+    ghost reads_as_image: { (d : Self) → IfSome (disk.content d) (disk.may_leave d) };
 
     /// This moment is one of those since an earlier one.
-    ghost counts_now: { (disk : Self) (t : ℕ) (c : List ℕ) → t ≤ moment disk → may_leave disk c → left_since disk t c };
+    ghost counts_now: { (d : Self) (since : ℕ) (file : List ℕ)
+        → since ≤ disk.moment d → disk.may_leave d file → disk.left_since d since file };
 
     /// Since this moment there is no other.
-    ghost only_now: { (disk : Self) (c : List ℕ) → left_since disk (moment disk) c → may_leave disk c };
+    ghost only_now: { (d : Self) (file : List ℕ) → disk.left_since d (disk.moment d) file → disk.may_leave d file };
 
     /// A disk that doesn't tell what it holds has no image, at no moment.
-    ghost told: { (disk : Self) (t : ℕ) (c : List ℕ) → left_since disk t c → is_some (content disk) ≡ true };
+    ghost untold_has_no_image: { (d : Self) (since : ℕ) (file : List ℕ)
+        → disk.left_since d since file → is_some (disk.content d) ≡ true };
 
     /// The moments since an earlier moment are more.
-    ghost earlier: { (disk : Self) (t u : ℕ) (c : List ℕ) → t ≤ u → left_since disk u c → left_since disk t c };
+    ghost earlier: { (d : Self) (early late : ℕ) (file : List ℕ)
+        → early ≤ late → disk.left_since d late file → disk.left_since d early file };
 
-    /// No call leads to the same state.
-    ghost stays: { (disk : Self) → leads 0 false disk disk };
+    /// No operation leads to the same state.
+    ghost stays: { (d : Self) → disk.leads (row 0 false) d d };
 
-    /// A row of calls and then another is a row of calls.
-    ghost goes_on: { (m n : ℕ) (x y : Bool) (a b c : Self) → leads m x a b → leads n y b c → leads (m + n) (x || y) a c };
+    /// A row of operations and then another is a row of operations.
+    ghost goes_on: { (first second : Course) (a b c : Self)
+        → disk.leads first a b → disk.leads second b c → disk.leads (joined first second) a c };
 
-    /// The count tells of failed calls.
-    ghost counts: { (n : ℕ) (x : Bool) (a b : Self) → leads n x a b → Counted x (faults a) (faults b) };
+    /// The count of faults tells of failed operations.
+    ghost counts: { (course : Course) (a b : Self)
+        → disk.leads course a b → Counted course.failed (disk.faults a) (disk.faults b) };
+
+    /// The count of writes and syncs is that of the row more. At its last value it stays.
+    ghost counts_ops: { (course : Course) (a b : Self)
+        → disk.leads course a b → disk.ops b ≡ capped (disk.ops a + course.operations) };
 }

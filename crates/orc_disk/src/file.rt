@@ -1,8 +1,10 @@
 //! A real file as a disk, which tells nothing of its content.
-ghost use Rattle.std.specs.Prelude.{◌≡◌, None, Ok, MatchResult, IsErr, OnOk, OnErr, is_err};
+ghost use Rattle.std.specs.Prelude.{◌≡◌, Ok, MatchResult, IsErr, OnOk, OnErr};
 ghost use Rattle.std.specs.Io.{ReadsAtMost};
-ghost use Rattle.orc_io.specs.Counts.{HasCause, next_count};
-ghost use Rattle.orc_disk.specs.Course.{Counted, Counted-refl, Counted-trans};
+ghost use Rattle.orc_io.specs.Counts.{HasCause};
+ghost use Rattle.orc_disk.specs.Course.{Performed, PerformedRead};
+ghost use Rattle.orc_disk.specs.RealFiles.{file_disk, file_failed, file_asked};
+ghost use Rattle.orc_disk.specs.laws.Course.{Tallied-refl, Tallied-trans};
 
 use crate::Disk;
 use orc_io::Failed;
@@ -11,37 +13,42 @@ use std::io;
 use std::marker::Model;
 use std::os::unix::fs::FileExt;
 
-/// A real file, which contracts see as its count of faults. Each error of the file is a fault, and
-/// nothing else is.
+/// A real file, which contracts see as its count of faults and its count of writes and syncs. Each
+/// error of the file is a fault, and nothing else is.
 #[derive(Drop)]
 pub struct FileDisk {
     file: File,
     faults: u64,
+    ops: u64,
 }
 
 impl Model for FileDisk {
-    ghost use Rattle.std.specs.Prelude.{ℕ};
+    ghost use Rattle.orc_disk.specs.RealFiles.{RealFile};
 
-    ghost Value = { ℕ };
+    ghost Value = { RealFile };
 
-    ghost view = { λ disk. disk.faults };
+    ghost view = { λ disk. record { faults = disk.faults; ops = disk.ops } };
 }
 
 impl FileDisk {
-    /// A disk over a file that was opened to be read and written, with no fault.
+    /// A disk over a file that was opened to be read and written, with no fault, which was asked for
+    /// nothing yet.
     pub fn over(file: File) -> FileDisk
-        ensures { result ≡ 0 }
+        ensures { result ≡ record { faults = 0; ops = 0 } }
     {
-        FileDisk { file, faults: 0 }
+        FileDisk {
+            file,
+            faults: 0,
+            ops: 0,
+        }
     }
 
     // Counts a fault where the file answered an error.
     fn counted<T: Drop>(&mut self, outcome: io::Result<T>) -> Result<T, Failed>
         ensures value { MatchResult outcome (λ value. result ≡ Ok value) (λ _. IsErr result) }
-        ensures course { Counted (is_err result) self.old self.new }
-        ensures cause { HasCause self.old self.new result }
+        ensures cause { HasCause self.old.faults self.new.faults result }
         ensures still { OnOk result (self.new ≡ self.old) }
-        ensures rose { OnErr result (self.new ≡ next_count self.old) }
+        ensures rose { OnErr result (self.new ≡ file_failed self.old) }
     {
         match outcome {
             Ok(value) => Ok(value),
@@ -53,25 +60,23 @@ impl FileDisk {
     }
 }
 
+impl FileDisk {
+    // Counts a write or a sync that it is asked for.
+    fn ask(&mut self)
+        ensures { self.new ≡ file_asked self.old }
+    {
+        self.ops = self.ops.saturating_add(1);
+    }
+}
+
 impl Disk for FileDisk {
-    ghost content = { λ _. None };
-
-    ghost may_leave = { λ _ _. ⊥ };
-
-    ghost moment = { λ _. 0 };
-
-    ghost left_since = { λ _ _ _. ⊥ };
-
-    ghost faults = { λ faults. faults };
-
-    ghost leads = { λ _ failed old new. Counted failed old new };
+    ghost disk = { file_disk };
 
     fn len(&mut self) -> Result<u64, Failed>
-        ensures course { Counted (is_err result) self.old self.new }
-        ensures cause { HasCause self.old self.new result }
+        ensures performed { Performed file_disk 0 result self.old self.new }
 
         ensures still { OnOk result (self.new ≡ self.old) }
-        ensures rose { OnErr result (self.new ≡ next_count self.old) }
+        ensures rose { OnErr result (self.new ≡ file_failed self.old) }
     {
         let metadata = self.file.metadata();
         Ok(self.counted(metadata)?.len())
@@ -79,11 +84,10 @@ impl Disk for FileDisk {
 
     fn read_at(&mut self, at: u64, buf: &mut [u8]) -> Result<usize, Failed>
         ensures bound { ReadsAtMost result buf.new }
-        ensures course { Counted (is_err result) self.old self.new }
-        ensures cause { HasCause self.old self.new result }
+        ensures performed { PerformedRead file_disk at buf.new result self.old self.new }
 
         ensures still { OnOk result (self.new ≡ self.old) }
-        ensures rose { OnErr result (self.new ≡ next_count self.old) }
+        ensures rose { OnErr result (self.new ≡ file_failed self.old) }
     {
         let mut count = 0;
         while count < buf.len() {
@@ -99,23 +103,23 @@ impl Disk for FileDisk {
     }
 
     fn write_at(&mut self, at: u64, bytes: &[u8]) -> Result<(), Failed>
-        ensures course { Counted (is_err result) self.old self.new }
-        ensures cause { HasCause self.old self.new result }
+        ensures performed { Performed file_disk 1 result self.old self.new }
 
-        ensures still { OnOk result (self.new ≡ self.old) }
-        ensures rose { OnErr result (self.new ≡ next_count self.old) }
+        ensures still { OnOk result (self.new ≡ file_asked self.old) }
+        ensures rose { OnErr result (self.new ≡ file_failed (file_asked self.old)) }
     {
+        self.ask();
         let outcome = self.file.write_all_at(bytes, at);
         self.counted(outcome)
     }
 
     fn sync(&mut self) -> Result<(), Failed>
-        ensures course { Counted (is_err result) self.old self.new }
-        ensures cause { HasCause self.old self.new result }
+        ensures performed { Performed file_disk 1 result self.old self.new }
 
-        ensures still { OnOk result (self.new ≡ self.old) }
-        ensures rose { OnErr result (self.new ≡ next_count self.old) }
+        ensures still { OnOk result (self.new ≡ file_asked self.old) }
+        ensures rose { OnErr result (self.new ≡ file_failed (file_asked self.old)) }
     {
+        self.ask();
         let outcome = self.file.sync_all();
         self.counted(outcome)
     }
@@ -130,13 +134,15 @@ impl Disk for FileDisk {
 
     ghost only_now = { λ _ _ left. left };
 
-    ghost told = { λ _ _ _ left. absurd left };
+    ghost untold_has_no_image = { λ _ _ _ left. absurd left };
 
     ghost earlier = { λ _ _ _ _ _ left. left };
 
-    ghost stays = { λ faults. Counted-refl faults };
+    ghost stays = { λ file. Tallied-refl file.faults file.ops };
 
-    ghost goes_on = { λ _ _ x y a b c first second. Counted-trans x y a b c first second };
+    ghost goes_on = { λ first second a b c p q. Tallied-trans first second _ _ _ _ _ _ p q };
 
-    ghost counts = { λ _ _ _ _ led. led };
+    ghost counts = { λ _ _ _ led. led.faulted };
+
+    ghost counts_ops = { λ _ _ _ led. led.asked };
 }

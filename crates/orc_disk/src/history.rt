@@ -2,47 +2,53 @@
 ghost use Rattle.std.specs.Prelude.{◌≡◌, ◌+◌, ◌-◌, ◌*◌, ◌≤◌, ◌++◌, [], ◌∷◌, length, OnOk, IfOk, IsOk, Some, None, vec_len, vec_capacity};
 ghost use Rattle.orc_disk.specs.Files.{written};
 ghost use Rattle.orc_disk.specs.History.{content_of, synced_of, changed, IsImage};
+ghost use Rattle.orc_disk.specs.declared.history.TheConstants.{CHANGE_ROOM};
 
 use crate::tear::replayed;
 use orc_text::Memory;
 use std::alloc::{AllocError, Global};
 use std::marker::Model;
 
-/// One change that was made: a write, whose bytes are kept apart, or a sync.
+// One change that was made: a write, whose bytes are kept apart, or a sync.
 #[derive(Clone, Copy)]
-pub(crate) enum Call {
+pub(crate) enum Change {
     Write { at: usize, len: usize },
     Sync,
 }
 
 // The room that a change uses beside its bytes.
-const CALL_ROOM: u64 = 64;
+pub(crate) const CHANGE_ROOM: u64 = 64;
 
-/// A file, what it held at first and each change since. Its memory is taken when it is made.
+// A file, what it held at first and each change since. Its memory is taken when it is made.
 #[derive(Drop)]
-pub struct Kept {
+pub(crate) struct Kept {
     start: Vec<u8>,
     content: Vec<u8>,
-    calls: Vec<Call>,
+    changes: Vec<Change>,
     store: Vec<u8>,
     room: u64,
 }
 
 impl Model for Kept {
-    ghost use Rattle.std.specs.Prelude.{[], vec_len, vec_capacity};
+    ghost use Rattle.std.specs.Prelude.{[]};
     ghost use Rattle.orc_disk.specs.History.{History};
-    ghost use Rattle.orc_disk.specs.Kept.{told, IsKept, HasRoom};
+    ghost use Rattle.orc_disk.specs.inside.Kept.{changes_of, IsStored, HasRoom};
 
     ghost Value = { History };
 
-    ghost view = { λ k. record { start = k.start.items; changes = told [] k.calls.items k.store.items; room = k.room } };
+    ghost view = { λ kept. record {
+      start = kept.start.items;
+      changes = changes_of [] kept.changes.items kept.store.items;
+      room = kept.room;
+    } };
 
-    ghost invariant = { λ k. IsKept k.start.items k.content.items k.calls.items k.store.items
-        × HasRoom (vec_len k.content) (vec_capacity k.content) (vec_len k.store) (vec_capacity k.store) (vec_len k.calls) (vec_capacity k.calls) k.room };
+    ghost invariant = { λ kept.
+        IsStored kept.start.items kept.content.items kept.changes.items kept.store.items
+        × HasRoom kept.content kept.store kept.changes kept.room };
 }
 
-/// Puts bytes at an offset, or at the end where the file is shorter, over what is there and past the
-/// end.
+// Puts bytes at an offset, or at the end where the file is shorter, over what is there and past the
+// end.
 pub(crate) fn put(file: &mut Vec<u8>, at: usize, bytes: &[u8]) -> Result<(), AllocError>
     ensures ok { OnOk result (file.new.items ≡ written at bytes.now file.old.items) }
     ensures len { OnOk result (vec_len file.new ≤ vec_len file.old + length bytes.now) }
@@ -68,14 +74,14 @@ fn put_within(file: &mut Vec<u8>, at: usize, bytes: &[u8])
     }
 }
 
-// Adds a call where there is memory for it.
-fn push_within(calls: &mut Vec<Call>, call: Call)
-    requires { vec_len calls.old + 1 ≤ vec_capacity calls.old }
-    ensures items { calls.new.items ≡ calls.old.items ++ call ∷ [] }
-    ensures len { vec_len calls.new ≡ vec_len calls.old + 1 }
-    ensures capacity { vec_capacity calls.old ≤ vec_capacity calls.new }
+// Adds a change where there is memory for it.
+fn push_within(changes: &mut Vec<Change>, change: Change)
+    requires { vec_len changes.old + 1 ≤ vec_capacity changes.old }
+    ensures items { changes.new.items ≡ changes.old.items ++ change ∷ [] }
+    ensures len { vec_len changes.new ≡ vec_len changes.old + 1 }
+    ensures capacity { vec_capacity changes.old ≤ vec_capacity changes.new }
 {
-    match calls.push(call) {
+    match changes.push(change) {
         Ok(()) => {}
         Err(_) => unreachable!(),
     }
@@ -95,70 +101,70 @@ fn extend_within(store: &mut Vec<u8>, bytes: &[u8])
 }
 
 impl Kept {
-    /// A file of these bytes that no change was made to, with memory for changes that use this room.
-    pub fn new(alloc: Global, bytes: Vec<u8>, room: u64) -> Result<Kept, Memory>
+    // A file of these bytes that no change was made to, with memory for changes that use this room.
+    pub(crate) fn new(alloc: Global, bytes: Vec<u8>, room: u64) -> Result<Kept, Memory>
         ensures { IfOk result (λ k. k ≡ record { start = bytes.items; changes = []; room = room }) }
     {
         let room_len = usize::try_from(room).map_err(|_| Memory)?;
         let content_len = bytes.len().checked_add(room_len).ok_or(Memory)?;
         let mut content = Vec::with_capacity(alloc, content_len)?;
         content.extend_from_slice(&bytes)?;
-        let calls = Vec::with_capacity(alloc, room_len / 64 + 1)?;
+        let changes = Vec::with_capacity(alloc, room_len / (CHANGE_ROOM as usize) + 1)?;
         let store = Vec::with_capacity(alloc, room_len)?;
         Ok(Kept {
             start: bytes,
             content,
-            calls,
+            changes,
             store,
             room,
         })
     }
 
-    /// What a read gives.
-    pub fn content(&self) -> &[u8]
+    // What a read gives.
+    pub(crate) fn content(&self) -> &[u8]
         ensures { result.now ≡ content_of self.now.start self.now.changes }
     {
         self.content.as_slice()
     }
 
-    /// The room that is left.
-    pub fn room(&self) -> u64
+    // The room that is left.
+    pub(crate) fn room(&self) -> u64
         ensures { result ≡ self.now.room }
     {
         self.room
     }
 
-    /// Writes at an offset. It uses the bytes and 64 of the room.
-    pub fn write(&mut self, at: usize, bytes: &[u8])
+    // Writes at an offset. It uses the bytes and 64 of the room.
+    pub(crate) fn write(&mut self, at: usize, bytes: &[u8])
         requires inside { at ≤ length (content_of self.old.start self.old.changes) }
-        requires room { length bytes.now + 64 ≤ self.old.room }
-        ensures { self.new ≡ changed self.old (Some (at, bytes.now)) (length bytes.now + 64) }
+        requires room { length bytes.now + CHANGE_ROOM ≤ self.old.room }
+        ensures { self.new ≡ changed self.old (Some (at, bytes.now)) (length bytes.now + CHANGE_ROOM) }
     {
         put_within(&mut self.content, at, bytes);
         extend_within(&mut self.store, bytes);
         let len = bytes.len();
-        push_within(&mut self.calls, Call::Write { at, len });
-        self.room -= bytes.len() as u64 + CALL_ROOM;
+        push_within(&mut self.changes, Change::Write { at, len });
+        self.room -= bytes.len() as u64 + CHANGE_ROOM;
     }
 
-    /// Syncs. It uses 64 of the room.
-    pub fn sync(&mut self)
-        requires room { 64 ≤ self.old.room }
-        ensures { self.new ≡ changed self.old None 64 }
+    // Syncs. It uses 64 of the room.
+    pub(crate) fn sync(&mut self)
+        requires room { CHANGE_ROOM ≤ self.old.room }
+        ensures { self.new ≡ changed self.old None CHANGE_ROOM }
     {
-        push_within(&mut self.calls, Call::Sync);
-        self.room -= CALL_ROOM;
+        push_within(&mut self.changes, Change::Sync);
+        self.room -= CHANGE_ROOM;
     }
 
-    /// One file that a crash now may leave, by choice. With 0 no write since the last sync outlives
-    /// it, and with 3 each does. With others parts of these writes do, or other bytes in their
-    /// ranges, or more bytes behind the end.
-    pub fn image(&self, alloc: Global, choice: u64) -> Result<Vec<u8>, Memory>
+    // One file that a crash now may leave, by choice. With 0 no write since the last sync outlives
+    // it, and with 3 each does. With others parts of these writes do, or other bytes in their
+    // ranges, or more bytes behind the end.
+    pub(crate) fn image(&self, alloc: Global, choice: u64) -> Result<Vec<u8>, Memory>
         ensures image { IfOk result (λ image. IsImage self.now.start self.now.changes image.items) }
         ensures none { choice ≡ 0 → IfOk result (λ image. image.items ≡ synced_of self.now.start self.now.changes) }
         ensures all { choice ≡ 3 → IfOk result (λ image. image.items ≡ content_of self.now.start self.now.changes) }
     {
-        let image = replayed(alloc, &self.start, &self.calls, &self.store, choice)?;
+        let image = replayed(alloc, &self.start, &self.changes, &self.store, choice)?;
         Ok(image)
     }
 }

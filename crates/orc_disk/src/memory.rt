@@ -1,15 +1,16 @@
-//! A disk in memory, which tells everything and fails at chosen calls.
-ghost use Rattle.std.specs.Prelude.{◌≡◌, ◌⊎◌, ◌+◌, ◌-◌, ◌<◌, ◌≤◌, ◌↔◌, [], length, IfOk, OnOk, OnErr, IsErr, IsTrue, Contains, Some, min, take, drop, ◌++◌, is_some, is_err, true};
+//! A disk in memory, which tells everything and fails at chosen operations.
+ghost use Rattle.std.specs.Prelude.{◌≡◌, ◌⊎◌, ◌+◌, ◌-◌, ◌<◌, ◌≤◌, ◌↔◌, [], length, IfOk, OnOk, OnErr, IsErr, IsTrue, Contains, min, take, drop, ◌++◌, true};
 ghost use Rattle.std.specs.Io.{ReadsAtMost};
-ghost use Rattle.orc_io.specs.Counts.{HasCause, next_count};
+ghost use Rattle.orc_io.specs.Counts.{next_count};
 ghost use Rattle.orc_disk.specs.Files.{written, ReadsFrom};
-ghost use Rattle.orc_disk.specs.Crashes.{TearsAt, LeavesNoMore, LeavesAsRead};
-ghost use Rattle.orc_disk.specs.Moments.{Elapses};
-ghost use Rattle.orc_disk.specs.Course.{Counted};
+ghost use Rattle.orc_disk.specs.Crashes.{TearsAt, LeavesAsRead};
+ghost use Rattle.orc_disk.specs.Moments.{Elapses, Unchanged};
+ghost use Rattle.orc_disk.specs.Course.{Counted, Performed, PerformedRead};
 ghost use Rattle.orc_disk.specs.History.{content_of, synced_of, IsImage};
-ghost use Rattle.orc_disk.specs.Memory.{disk_content, disk_leaves, disk_moment, disk_left, len_called, read_called, write_called, sync_called, call_failed, write_done, sync_done};
+ghost use Rattle.orc_disk.specs.Memory.{disk_content, memory_disk, len_came, read_came, write_came, sync_came, op_failed, write_done, sync_done};
+ghost use Rattle.orc_disk.specs.declared.history.TheConstants.{CHANGE_ROOM};
 
-use crate::history::Kept;
+use crate::history::{CHANGE_ROOM, Kept};
 use crate::{Disk, DiskOp};
 use orc_io::Failed;
 use orc_text::Memory;
@@ -17,7 +18,7 @@ use std::alloc::Global;
 use std::io::Read;
 use std::marker::Model;
 
-/// A disk in memory. A call fails exactly where a listed pair names its number among the calls of
+/// A disk in memory. An operation fails exactly where a listed pair names its number among those of
 /// its kind, counted from 1, or where it would use more than is left of the room. A write uses its
 /// bytes and 64 of the room, a sync uses 64. After it is made only `image` takes memory.
 #[derive(Drop)]
@@ -36,10 +37,18 @@ impl Model for MemDisk {
 
     ghost Value = { MemoryDisk };
 
-    ghost view = { λ d. record { history = d.history; fails = d.fails.items; lens = d.lens; reads = d.reads; writes = d.writes; syncs = d.syncs; faults = d.faults } };
+    ghost view = { λ disk. record {
+      history = disk.history;
+      fails = disk.fails.items;
+      lens = disk.lens;
+      reads = disk.reads;
+      writes = disk.writes;
+      syncs = disk.syncs;
+      faults = disk.faults;
+    } };
 }
 
-// Whether the list names this call.
+// Whether the list names this operation.
 fn is_listed(fails: &[(DiskOp, u64)], op: DiskOp, number: u64) -> bool
     ensures { IsTrue result ↔ Contains fails.now (op, number) }
 {
@@ -69,7 +78,15 @@ impl MemDisk {
         room: u64,
         fails: Vec<(DiskOp, u64)>,
     ) -> Result<MemDisk, Memory>
-        ensures { IfOk result (λ d. d ≡ record { history = record { start = bytes.items; changes = []; room = room }; fails = fails.items; lens = 0; reads = 0; writes = 0; syncs = 0; faults = 0 }) }
+        ensures { IfOk result (λ disk. disk ≡ record {
+          history = record { start = bytes.items; changes = []; room = room };
+          fails = fails.items;
+          lens = 0;
+          reads = 0;
+          writes = 0;
+          syncs = 0;
+          faults = 0;
+        }) }
     {
         Ok(MemDisk {
             history: Kept::new(alloc, bytes, room)?,
@@ -86,18 +103,19 @@ impl MemDisk {
     /// it, and with 3 each does. With others parts of these writes do, or other bytes in their
     /// ranges, or more bytes behind the end.
     pub fn image(&self, alloc: Global, choice: u64) -> Result<Vec<u8>, Memory>
-        ensures image { IfOk result (λ image. IsImage self.now.history.start self.now.history.changes image.items) }
-        ensures none { choice ≡ 0 → IfOk result (λ image. image.items ≡ synced_of self.now.history.start self.now.history.changes) }
-        ensures all { choice ≡ 3 → IfOk result (λ image. image.items ≡ content_of self.now.history.start self.now.history.changes) }
+        ensures image { IfOk result (λ image. memory_disk.may_leave self.now image.items) }
+        ensures none { choice ≡ 0 → IfOk result
+            (λ image. image.items ≡ synced_of self.now.history.start self.now.history.changes) }
+        ensures all { choice ≡ 3 → IfOk result (λ image. image.items ≡ disk_content self.now) }
     {
         self.history.image(alloc, choice)
     }
 }
 
 impl MemDisk {
-    // Counts a failed call.
+    // Counts a failed operation.
     fn fault(&mut self) -> Failed
-        ensures state { self.new ≡ call_failed self.old }
+        ensures state { self.new ≡ op_failed self.old }
         ensures count { Counted true self.old.faults self.new.faults }
     {
         self.faults = self.faults.saturating_add(1);
@@ -106,33 +124,20 @@ impl MemDisk {
 }
 
 impl Disk for MemDisk {
-    ghost use Rattle.orc_disk.specs.HistoryLaws.{IsImage-content, WasImage-now, WasImage-only, WasImage-earlier};
-    ghost use Rattle.orc_disk.specs.Course.{Counted-refl, Counted-trans};
+    ghost use Rattle.orc_disk.specs.laws.History.{IsImage-content, WasImage-now, WasImage-only, WasImage-earlier};
+    ghost use Rattle.orc_disk.specs.laws.Course.{Tallied-refl, Tallied-trans};
     ghost use Rattle.std.proofs.Common.{refl};
 
-    ghost content = { λ d. Some (disk_content d) };
-
-    ghost may_leave = { disk_leaves };
-
-    ghost moment = { disk_moment };
-
-    ghost left_since = { disk_left };
-
-    ghost faults = { λ d. d.faults };
-
-    ghost leads = { λ _ failed old new. Counted failed old.faults new.faults };
+    ghost disk = { memory_disk };
 
     fn len(&mut self) -> Result<u64, Failed>
         ensures length { IfOk result (λ n. n ≡ length (disk_content self.old)) }
-        ensures same { Some (disk_content self.new) ≡ Some (disk_content self.old) }
-        ensures crash { LeavesNoMore (disk_leaves self.old) (disk_leaves self.new) }
-        ensures time { Elapses disk_moment disk_left disk_leaves self.old self.new }
-        ensures course { Counted (is_err result) self.old.faults self.new.faults }
-        ensures cause { HasCause self.old.faults self.new.faults result }
+        ensures unchanged { Unchanged memory_disk self.old self.new }
+        ensures performed { Performed memory_disk 0 result self.old self.new }
 
         ensures exact { IsErr result ↔ Contains self.old.fails (DiskOp.Len, next_count self.old.lens) }
-        ensures ok { OnOk result (self.new ≡ len_called self.old) }
-        ensures err { OnErr result (self.new ≡ call_failed (len_called self.old)) }
+        ensures ok { OnOk result (self.new ≡ len_came self.old) }
+        ensures err { OnErr result (self.new ≡ op_failed (len_came self.old)) }
     {
         self.lens = self.lens.saturating_add(1);
         if is_listed(&self.fails, DiskOp::Len, self.lens) {
@@ -144,16 +149,13 @@ impl Disk for MemDisk {
     fn read_at(&mut self, at: u64, buf: &mut [u8]) -> Result<usize, Failed>
         ensures bound { ReadsAtMost result buf.new }
         ensures bytes { IfOk result (λ n. ReadsFrom at buf.new (disk_content self.old) n) }
-        ensures same { Some (disk_content self.new) ≡ Some (disk_content self.old) }
-        ensures crash { LeavesNoMore (disk_leaves self.old) (disk_leaves self.new) }
-        ensures time { Elapses disk_moment disk_left disk_leaves self.old self.new }
-        ensures course { Counted (is_err result) self.old.faults self.new.faults }
-        ensures cause { HasCause self.old.faults self.new.faults result }
+        ensures unchanged { Unchanged memory_disk self.old self.new }
+        ensures performed { PerformedRead memory_disk at buf.new result self.old self.new }
 
         ensures exact { IsErr result ↔ Contains self.old.fails (DiskOp.Read, next_count self.old.reads) }
         ensures buffer { IfOk result (λ n. buf.new ≡ take n (drop at (disk_content self.old)) ++ drop n buf.old) }
-        ensures ok { OnOk result (self.new ≡ read_called self.old) }
-        ensures err { OnErr result (self.new ≡ call_failed (read_called self.old)) }
+        ensures ok { OnOk result (self.new ≡ read_came self.old) }
+        ensures err { OnErr result (self.new ≡ op_failed (read_came self.old)) }
     {
         self.reads = self.reads.saturating_add(1);
         if is_listed(&self.fails, DiskOp::Read, self.reads) {
@@ -164,19 +166,21 @@ impl Disk for MemDisk {
 
     fn write_at(&mut self, at: u64, bytes: &[u8]) -> Result<(), Failed>
         requires { at ≤ length (disk_content self.old) }
-        ensures done { OnOk result (Some (disk_content self.new) ≡ Some (written at bytes.now (disk_content self.old))) }
-        ensures crash { TearsAt at (length bytes.now) (disk_leaves self.old) (disk_leaves self.new) }
-        ensures time { Elapses disk_moment disk_left disk_leaves self.old self.new }
-        ensures course { Counted (is_err result) self.old.faults self.new.faults }
-        ensures cause { HasCause self.old.faults self.new.faults result }
+        ensures done { OnOk result (disk_content self.new ≡ written at bytes.now (disk_content self.old)) }
+        ensures crash { TearsAt at (length bytes.now)
+            (memory_disk.may_leave self.old) (memory_disk.may_leave self.new) }
+        ensures time { Elapses memory_disk self.old self.new }
+        ensures performed { Performed memory_disk 1 result self.old self.new }
 
-        ensures exact { IsErr result ↔ (Contains self.old.fails (DiskOp.Write, next_count self.old.writes) ⊎ (self.old.history.room < length bytes.now + 64)) }
-        ensures ok { OnOk result (self.new ≡ write_done (write_called self.old) at bytes.now) }
-        ensures err { OnErr result (self.new ≡ call_failed (write_called self.old)) }
+        ensures exact { IsErr result
+            ↔ (Contains self.old.fails (DiskOp.Write, next_count self.old.writes)
+            ⊎ (self.old.history.room < length bytes.now + CHANGE_ROOM)) }
+        ensures ok { OnOk result (self.new ≡ write_done (write_came self.old) at bytes.now) }
+        ensures err { OnErr result (self.new ≡ op_failed (write_came self.old)) }
     {
         self.writes = self.writes.saturating_add(1);
         let listed = is_listed(&self.fails, DiskOp::Write, self.writes);
-        if listed || self.history.room() < bytes.len() as u64 + 64 {
+        if listed || self.history.room() < bytes.len() as u64 + CHANGE_ROOM {
             return Err(self.fault());
         }
         self.history.write(at as usize, bytes);
@@ -184,20 +188,19 @@ impl Disk for MemDisk {
     }
 
     fn sync(&mut self) -> Result<(), Failed>
-        ensures durable { OnOk result (LeavesAsRead (Some (disk_content self.new)) (disk_leaves self.new)) }
-        ensures same { Some (disk_content self.new) ≡ Some (disk_content self.old) }
-        ensures crash { LeavesNoMore (disk_leaves self.old) (disk_leaves self.new) }
-        ensures time { Elapses disk_moment disk_left disk_leaves self.old self.new }
-        ensures course { Counted (is_err result) self.old.faults self.new.faults }
-        ensures cause { HasCause self.old.faults self.new.faults result }
+        ensures durable { OnOk result (LeavesAsRead (memory_disk.content self.new) (memory_disk.may_leave self.new)) }
+        ensures unchanged { Unchanged memory_disk self.old self.new }
+        ensures performed { Performed memory_disk 1 result self.old self.new }
 
-        ensures exact { IsErr result ↔ (Contains self.old.fails (DiskOp.Sync, next_count self.old.syncs) ⊎ (self.old.history.room < 64)) }
-        ensures ok { OnOk result (self.new ≡ sync_done (sync_called self.old)) }
-        ensures err { OnErr result (self.new ≡ call_failed (sync_called self.old)) }
+        ensures exact { IsErr result
+            ↔ (Contains self.old.fails (DiskOp.Sync, next_count self.old.syncs)
+            ⊎ (self.old.history.room < CHANGE_ROOM)) }
+        ensures ok { OnOk result (self.new ≡ sync_done (sync_came self.old)) }
+        ensures err { OnErr result (self.new ≡ op_failed (sync_came self.old)) }
     {
         self.syncs = self.syncs.saturating_add(1);
         let listed = is_listed(&self.fails, DiskOp::Sync, self.syncs);
-        if listed || self.history.room() < 64 {
+        if listed || self.history.room() < CHANGE_ROOM {
             return Err(self.fault());
         }
         self.history.sync();
@@ -214,13 +217,15 @@ impl Disk for MemDisk {
 
     ghost only_now = { λ d c was. WasImage-only d.history.start d.history.changes c was };
 
-    ghost told = { λ d t c was. refl };
+    ghost untold_has_no_image = { λ d t c was. refl };
 
     ghost earlier = { λ d t u c le was. WasImage-earlier d.history.start d.history.changes t u c le was };
 
-    ghost stays = { λ d. Counted-refl d.faults };
+    ghost stays = { λ d. Tallied-refl d.faults (d.writes + d.syncs) };
 
-    ghost goes_on = { λ _ _ x y a b c first second. Counted-trans x y a.faults b.faults c.faults first second };
+    ghost goes_on = { λ first second a b c p q. Tallied-trans first second _ _ _ _ _ _ p q };
 
-    ghost counts = { λ _ _ _ _ led. led };
+    ghost counts = { λ _ _ _ led. led.faulted };
+
+    ghost counts_ops = { λ _ _ _ led. led.asked };
 }

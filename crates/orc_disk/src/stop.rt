@@ -1,27 +1,29 @@
 //! A disk that stops another one inside a chosen write or sync.
-ghost use Rattle.std.specs.Prelude.{◌≡◌, ◌⊎◌, ◌-◌, ◌<◌, ◌≤◌, ◌↔◌, Bool, true, false, min, length, take, IfOk, OnOk, IfSome, IsTrue, IsErr, is_some, is_err, ◌≢◌};
+ghost use Rattle.std.specs.Prelude.{◌≡◌, ◌⊎◌, ◌-◌, ◌<◌, ◌≤◌, ◌↔◌, Bool, true, false, min, length, take, IfOk, OnOk, IfSome, IsTrue, IsErr, is_some};
 ghost use Rattle.std.specs.Option.{ForSome, option_map};
 ghost use Rattle.std.specs.Io.{ReadsAtMost};
-ghost use Rattle.orc_io.specs.Counts.{HasCause, Rose};
 ghost use Rattle.orc_disk.specs.Files.{written, ReadsFrom};
-ghost use Rattle.orc_disk.specs.Crashes.{TearsAt, LeavesNoMore, LeavesAsRead};
-ghost use Rattle.orc_disk.specs.Moments.{Elapses};
-ghost use Rattle.orc_disk.specs.Course.{Counted, Reaches};
-ghost use Rattle.orc_disk.specs.Stops.{Led, all_faults, refused, passed, stopped_at, moment_in, left_in, leaves_in};
+ghost use Rattle.orc_disk.specs.Rows.{row};
+ghost use Rattle.orc_disk.specs.Crashes.{TearsAt, LeavesAsRead};
+ghost use Rattle.orc_disk.specs.Moments.{Elapses, Unchanged};
+ghost use Rattle.orc_disk.specs.Course.{Counted, Performed, PerformedRead};
+ghost use Rattle.orc_disk.specs.Stops.{inside, asked, refused, stopped_at, Refuses, HandsOn, PassesOn, Reached};
 
 use crate::Disk;
 use orc_io::Failed;
 use std::marker::Model;
 
-/// Another disk that can be stopped: from the armed call on until `disarm` each call fails. Its
-/// count of faults is that of the disk inside and its own, which rises with each such call.
+/// Another disk that can be stopped: from the armed operation on until `disarm` each operation
+/// fails. Its count of faults is that of the disk inside and its own, which rises with each such
+/// operation.
 #[derive(Drop)]
 pub struct StopDisk<D: Disk> {
     inner: D,
-    call: u64,
+    op: u64,
     bytes: u64,
     stopped: bool,
     stops: u64,
+    ops: u64,
 }
 
 impl<D: Disk> Model for StopDisk<D> {
@@ -29,43 +31,52 @@ impl<D: Disk> Model for StopDisk<D> {
 
     ghost Value = { Stopping D };
 
-    ghost view = { λ s. record { inner = s.inner; call = s.call; bytes = s.bytes; stopped = s.stopped; stops = s.stops } };
+    ghost view = { λ s. record {
+      inner = s.inner;
+      op = s.op;
+      bytes = s.bytes;
+      stopped = s.stopped;
+      stops = s.stops;
+      ops = s.ops;
+    } };
 }
 
 impl<D: Disk> StopDisk<D> {
     /// A disk round another one, where no stop is armed.
     pub fn new(inner: D) -> StopDisk<D>
-        ensures { result ≡ record { inner = inner; call = 0; bytes = 0; stopped = false; stops = 0 } }
+        ensures { result ≡ record { inner = inner; op = 0; bytes = 0; stopped = false; stops = 0; ops = 0 } }
     {
         StopDisk {
             inner,
-            call: 0,
+            op: 0,
             bytes: 0,
             stopped: false,
             stops: 0,
+            ops: 0,
         }
     }
 
-    /// Arms a stop, in place of one that is armed. The given call stops the disk, counted from 1
-    /// among the writes and syncs from now on; with 0 none does. Where that is a write, its first
+    /// Arms a stop, in place of one that is armed. The given operation stops the disk, counted from
+    /// 1 among the writes and syncs from now on; with 0 none does. Where that is a write, its first
     /// `bytes` bytes are put, or all where it has fewer. Where it is a sync, it is done exactly
     /// where `bytes` is at least 1.
-    pub fn arm(&mut self, call: u64, bytes: u64)
-        ensures { self.new ≡ record self.old { call = call; bytes = bytes } }
+    /// Where the disk inside fails that operation, its count of faults alone tells so.
+    pub fn arm(&mut self, op: u64, bytes: u64)
+        ensures { self.new ≡ record self.old { op = op; bytes = bytes } }
     {
-        self.call = call;
+        self.op = op;
         self.bytes = bytes;
     }
 
-    /// No stop is armed, and calls reach the disk inside again.
+    /// No stop is armed, and operations reach the disk inside again.
     pub fn disarm(&mut self)
-        ensures { self.new ≡ record self.old { call = 0; stopped = false } }
+        ensures { self.new ≡ record self.old { op = 0; stopped = false } }
     {
-        self.call = 0;
+        self.op = 0;
         self.stopped = false;
     }
 
-    /// Whether the armed call came and nothing disarmed since.
+    /// Whether the armed operation came and nothing disarmed since.
     pub fn stopped(&self) -> bool
         ensures { result ≡ self.now.stopped }
     {
@@ -81,37 +92,48 @@ impl<D: Disk> StopDisk<D> {
 }
 
 impl<D: Disk> StopDisk<D> {
-    // Fails a call by itself.
+    // Fails an operation by itself.
     fn refuse(&mut self) -> Failed
         ensures state { self.new ≡ refused self.old }
         ensures count { Counted true self.old.stops self.new.stops }
         ensures still { self.new.stopped ≡ self.old.stopped }
-        ensures inner { D.leads 0 false self.old.inner self.new.inner }
     {
         self.stops = self.stops.saturating_add(1);
         Failed
     }
 
-    // Counts a write or a sync, and says whether it is the armed one.
-    fn comes(&mut self) -> bool
-        ensures armed { IsTrue result ↔ (self.old.call ≡ 1) }
-        ensures state { self.new ≡ record self.old { call = self.old.call - 1; stopped = result } }
+    // Counts a write or a sync that it is asked for.
+    fn ask(&mut self)
+        ensures { self.new ≡ asked self.old }
     {
-        let armed = self.call == 1;
-        self.call = self.call.saturating_sub(1);
+        self.ops = self.ops.saturating_add(1);
+    }
+
+    // Counts down to the armed operation in a disk that runs, and says whether it is that one.
+    fn comes(&mut self) -> bool
+        requires { self.old.stopped ≡ false }
+        ensures armed { IsTrue result ↔ (self.old.op ≡ 1) }
+        ensures state { self.new ≡ record self.old { op = self.old.op - 1; stopped = result } }
+    {
+        let armed = self.op == 1;
+        self.op = self.op.saturating_sub(1);
         self.stopped = armed;
         armed
     }
 
     // Puts what the armed write still puts, and tells nothing of how that went.
     fn put_front(&mut self, at: u64, bytes: &[u8])
-        requires { ForSome (D.content self.old.inner) (λ file. at ≤ length file) }
+        requires { ForSome (D.disk.content self.old.inner) (λ file. at ≤ length file) }
         ensures state { self.new ≡ record self.old { inner = self.new.inner } }
-        ensures tells { is_some (D.content self.new.inner) ≡ is_some (D.content self.old.inner) }
-        ensures crash { TearsAt at (length bytes.now) (D.may_leave self.old.inner) (D.may_leave self.new.inner) }
-        ensures time { Elapses D.moment D.left_since D.may_leave self.old.inner self.new.inner }
-        ensures course { (failed : Bool) × Reaches D.leads failed self.old.inner self.new.inner }
-        ensures put { (D.content self.new.inner ≡ option_map (written at (take self.old.bytes bytes.now)) (D.content self.old.inner)) ⊎ Rose (D.faults self.old.inner) (D.faults self.new.inner) }
+        ensures still_tells { is_some (D.disk.content self.new.inner) ≡ is_some (D.disk.content self.old.inner) }
+        ensures crash { TearsAt at (length bytes.now)
+            (D.disk.may_leave self.old.inner) (D.disk.may_leave self.new.inner) }
+        ensures time { Elapses D.disk self.old.inner self.new.inner }
+        ensures none { self.old.bytes ≡ 0 → self.new ≡ self.old }
+        ensures last { 0 < self.old.bytes → Reached D.disk
+            (D.disk.content self.new.inner
+            ≡ option_map (written at (take self.old.bytes bytes.now)) (D.disk.content self.old.inner))
+            self.old.inner self.new.inner }
     {
         if self.bytes == 0 {
             return;
@@ -123,12 +145,11 @@ impl<D: Disk> StopDisk<D> {
     // Does the armed sync where it is to be done, and tells nothing of how that went.
     fn sync_last(&mut self)
         ensures state { self.new ≡ record self.old { inner = self.new.inner } }
-        ensures same { D.content self.new.inner ≡ D.content self.old.inner }
-        ensures crash { LeavesNoMore (D.may_leave self.old.inner) (D.may_leave self.new.inner) }
-        ensures time { Elapses D.moment D.left_since D.may_leave self.old.inner self.new.inner }
-        ensures course { (failed : Bool) × Reaches D.leads failed self.old.inner self.new.inner }
+        ensures unchanged { Unchanged D.disk self.old.inner self.new.inner }
         ensures none { self.old.bytes ≡ 0 → self.new ≡ self.old }
-        ensures done { 0 < self.old.bytes → LeavesAsRead (D.content self.new.inner) (D.may_leave self.new.inner) ⊎ Rose (D.faults self.old.inner) (D.faults self.new.inner) }
+        ensures last { 0 < self.old.bytes → Reached D.disk
+            (LeavesAsRead (D.disk.content self.new.inner) (D.disk.may_leave self.new.inner))
+            self.old.inner self.new.inner }
     {
         if self.bytes > 0 {
             let _ = self.inner.sync();
@@ -137,31 +158,17 @@ impl<D: Disk> StopDisk<D> {
 }
 
 impl<D: Disk> Disk for StopDisk<D> {
-    ghost use Rattle.orc_disk.specs.Stops.{Led-refl, Led-trans, Led-counts};
+    ghost use Rattle.orc_disk.specs.laws.Stops.{Led-refl, Led-trans, Led-counts};
 
-    ghost content = { λ s. D.content s.inner };
-
-    ghost may_leave = { λ s. D.may_leave s.inner };
-
-    ghost moment = { λ s. D.moment s.inner };
-
-    ghost left_since = { λ s. D.left_since s.inner };
-
-    ghost faults = { all_faults D.faults };
-
-    ghost leads = { Led D.leads };
+    ghost disk = { inside D.disk };
 
     fn len(&mut self) -> Result<u64, Failed>
-        ensures length { IfOk result (λ n. IfSome (D.content self.old.inner) (λ file. n ≡ length file)) }
-        ensures same { D.content self.new.inner ≡ D.content self.old.inner }
-        ensures crash { LeavesNoMore (D.may_leave self.old.inner) (D.may_leave self.new.inner) }
-        ensures time { Elapses (moment_in D.moment) (left_in D.left_since) (leaves_in D.may_leave) self.old self.new }
-        ensures course { Led D.leads 0 (is_err result) self.old self.new }
-        ensures cause { HasCause (all_faults D.faults self.old) (all_faults D.faults self.new) result }
+        ensures length { IfOk result (λ n. IfSome (D.disk.content self.old.inner) (λ file. n ≡ length file)) }
+        ensures unchanged { Unchanged (inside D.disk) self.old self.new }
+        ensures performed { Performed (inside D.disk) 0 result self.old self.new }
 
-        // A stopped disk fails by itself.
-        ensures refused { self.old.stopped ≡ true → IsErr result × (self.new ≡ refused self.old) }
-        ensures passed { self.old.stopped ≡ false → HasCause (D.faults self.old.inner) (D.faults self.new.inner) result × (self.new ≡ record self.old { inner = self.new.inner }) }
+        ensures refused { Refuses result self.old self.new }
+        ensures passed { HandsOn D.disk result self.old self.new }
     {
         if self.stopped() {
             return Err(self.refuse());
@@ -171,16 +178,13 @@ impl<D: Disk> Disk for StopDisk<D> {
 
     fn read_at(&mut self, at: u64, buf: &mut [u8]) -> Result<usize, Failed>
         ensures bound { ReadsAtMost result buf.new }
-        ensures bytes { IfOk result (λ n. IfSome (D.content self.old.inner) (λ file. ReadsFrom at buf.new file n)) }
-        ensures same { D.content self.new.inner ≡ D.content self.old.inner }
-        ensures crash { LeavesNoMore (D.may_leave self.old.inner) (D.may_leave self.new.inner) }
-        ensures time { Elapses (moment_in D.moment) (left_in D.left_since) (leaves_in D.may_leave) self.old self.new }
-        ensures course { Led D.leads 0 (is_err result) self.old self.new }
-        ensures cause { HasCause (all_faults D.faults self.old) (all_faults D.faults self.new) result }
+        ensures bytes { IfOk result
+            (λ n. IfSome (D.disk.content self.old.inner) (λ file. ReadsFrom at buf.new file n)) }
+        ensures unchanged { Unchanged (inside D.disk) self.old self.new }
+        ensures performed { PerformedRead (inside D.disk) at buf.new result self.old self.new }
 
-        // A stopped disk fails by itself.
-        ensures refused { self.old.stopped ≡ true → IsErr result × (self.new ≡ refused self.old) }
-        ensures passed { self.old.stopped ≡ false → HasCause (D.faults self.old.inner) (D.faults self.new.inner) result × (self.new ≡ record self.old { inner = self.new.inner }) }
+        ensures refused { Refuses result self.old self.new }
+        ensures passed { HandsOn D.disk result self.old self.new }
     {
         if self.stopped() {
             return Err(self.refuse());
@@ -189,21 +193,28 @@ impl<D: Disk> Disk for StopDisk<D> {
     }
 
     fn write_at(&mut self, at: u64, bytes: &[u8]) -> Result<(), Failed>
-        requires { ForSome (D.content self.old.inner) (λ file. at ≤ length file) }
-        ensures done { OnOk result (D.content self.new.inner ≡ option_map (written at bytes.now) (D.content self.old.inner)) }
-        ensures tells { is_some (D.content self.new.inner) ≡ is_some (D.content self.old.inner) }
-        ensures crash { TearsAt at (length bytes.now) (D.may_leave self.old.inner) (D.may_leave self.new.inner) }
-        ensures time { Elapses (moment_in D.moment) (left_in D.left_since) (leaves_in D.may_leave) self.old self.new }
-        ensures course { Led D.leads 1 (is_err result) self.old self.new }
-        ensures cause { HasCause (all_faults D.faults self.old) (all_faults D.faults self.new) result }
+        requires { ForSome (D.disk.content self.old.inner) (λ file. at ≤ length file) }
+        ensures done { OnOk result
+            (D.disk.content self.new.inner ≡ option_map (written at bytes.now) (D.disk.content self.old.inner)) }
+        ensures still_tells { is_some (D.disk.content self.new.inner) ≡ is_some (D.disk.content self.old.inner) }
+        ensures crash { TearsAt at (length bytes.now)
+            (D.disk.may_leave self.old.inner) (D.disk.may_leave self.new.inner) }
+        ensures time { Elapses (inside D.disk) self.old self.new }
+        ensures performed { Performed (inside D.disk) 1 result self.old self.new }
 
-        // A stopped disk fails by itself.
-        ensures refused { self.old.stopped ≡ true → IsErr result × (self.new ≡ refused self.old) }
-        ensures passed { self.old.stopped ≡ false → self.old.call ≢ 1 → HasCause (D.faults self.old.inner) (D.faults self.new.inner) result × (self.new ≡ passed self.old self.new.inner) }
-        // The armed write puts its first bytes, where the disk inside does not fail.
-        ensures armed { self.old.stopped ≡ false → self.old.call ≡ 1 → IsErr result × (self.new ≡ stopped_at self.old self.new.inner)
-            × ((D.content self.new.inner ≡ option_map (written at (take self.old.bytes bytes.now)) (D.content self.old.inner)) ⊎ Rose (D.faults self.old.inner) (D.faults self.new.inner)) }
+        ensures refused { Refuses result (asked self.old) self.new }
+        ensures passed { PassesOn D.disk result self.old self.new }
+        ensures armed { self.old.stopped ≡ false → self.old.op ≡ 1
+            → IsErr result × (self.new ≡ stopped_at self.old self.new.inner) }
+        // The armed write puts its first bytes where one is left, and else does not reach the disk inside.
+        ensures undone { self.old.stopped ≡ false → self.old.op ≡ 1 → self.old.bytes ≡ 0
+            → self.new.inner ≡ self.old.inner }
+        ensures front { self.old.stopped ≡ false → self.old.op ≡ 1 → 0 < self.old.bytes → Reached D.disk
+            (D.disk.content self.new.inner
+            ≡ option_map (written at (take self.old.bytes bytes.now)) (D.disk.content self.old.inner))
+            self.old.inner self.new.inner }
     {
+        self.ask();
         if self.stopped() {
             return Err(self.refuse());
         }
@@ -215,21 +226,23 @@ impl<D: Disk> Disk for StopDisk<D> {
     }
 
     fn sync(&mut self) -> Result<(), Failed>
-        ensures durable { OnOk result (LeavesAsRead (D.content self.new.inner) (D.may_leave self.new.inner)) }
-        ensures same { D.content self.new.inner ≡ D.content self.old.inner }
-        ensures crash { LeavesNoMore (D.may_leave self.old.inner) (D.may_leave self.new.inner) }
-        ensures time { Elapses (moment_in D.moment) (left_in D.left_since) (leaves_in D.may_leave) self.old self.new }
-        ensures course { Led D.leads 1 (is_err result) self.old self.new }
-        ensures cause { HasCause (all_faults D.faults self.old) (all_faults D.faults self.new) result }
+        ensures durable { OnOk result (LeavesAsRead (D.disk.content self.new.inner) (D.disk.may_leave self.new.inner)) }
+        ensures unchanged { Unchanged (inside D.disk) self.old self.new }
+        ensures performed { Performed (inside D.disk) 1 result self.old self.new }
 
-        // A stopped disk fails by itself.
-        ensures refused { self.old.stopped ≡ true → IsErr result × (self.new ≡ refused self.old) }
-        ensures passed { self.old.stopped ≡ false → self.old.call ≢ 1 → HasCause (D.faults self.old.inner) (D.faults self.new.inner) result × (self.new ≡ passed self.old self.new.inner) }
-        // The armed sync is done exactly where a byte is left, and the disk inside does not fail.
-        ensures armed { self.old.stopped ≡ false → self.old.call ≡ 1 → IsErr result × (self.new ≡ stopped_at self.old self.new.inner) }
-        ensures undone { self.old.stopped ≡ false → self.old.call ≡ 1 → self.old.bytes ≡ 0 → self.new.inner ≡ self.old.inner }
-        ensures last { self.old.stopped ≡ false → self.old.call ≡ 1 → 0 < self.old.bytes → LeavesAsRead (D.content self.new.inner) (D.may_leave self.new.inner) ⊎ Rose (D.faults self.old.inner) (D.faults self.new.inner) }
+        ensures refused { Refuses result (asked self.old) self.new }
+        ensures passed { PassesOn D.disk result self.old self.new }
+        ensures armed { self.old.stopped ≡ false → self.old.op ≡ 1
+            → IsErr result × (self.new ≡ stopped_at self.old self.new.inner) }
+        // The armed sync is done where a byte is left, and else does not reach the disk inside. Where that disk fails
+        // it, its count of faults rose, and what it holds and may leave is as it was (`unchanged`).
+        ensures undone { self.old.stopped ≡ false → self.old.op ≡ 1 → self.old.bytes ≡ 0
+            → self.new.inner ≡ self.old.inner }
+        ensures last { self.old.stopped ≡ false → self.old.op ≡ 1 → 0 < self.old.bytes → Reached D.disk
+            (LeavesAsRead (D.disk.content self.new.inner) (D.disk.may_leave self.new.inner))
+            self.old.inner self.new.inner }
     {
+        self.ask();
         if self.stopped() {
             return Err(self.refuse());
         }
@@ -250,13 +263,15 @@ impl<D: Disk> Disk for StopDisk<D> {
 
     ghost only_now = { λ s. D.only_now s.inner };
 
-    ghost told = { λ s. D.told s.inner };
+    ghost untold_has_no_image = { λ s. D.untold_has_no_image s.inner };
 
     ghost earlier = { λ s. D.earlier s.inner };
 
-    ghost stays = { Led-refl D.leads D.stays };
+    ghost stays = { Led-refl D.disk D.stays };
 
-    ghost goes_on = { Led-trans D.leads D.goes_on };
+    ghost goes_on = { Led-trans D.disk D.goes_on };
 
-    ghost counts = { Led-counts D.leads D.faults D.counts };
+    ghost counts = { Led-counts D.disk D.counts };
+
+    ghost counts_ops = { λ _ _ _ led. led.ops };
 }

@@ -2,10 +2,10 @@
 ghost use Rattle.std.specs.Prelude.{◌≡◌, ◌≤◌, ◌++◌, ◌∷◌, [], length, OnOk, IfOk};
 ghost use Rattle.orc_disk.specs.Files.{written};
 ghost use Rattle.orc_disk.specs.Torn.{Torn};
-ghost use Rattle.orc_disk.specs.History.{after, settled, content_of, synced_of, Leaves, IsImage};
-ghost use Rattle.orc_disk.specs.Kept.{told, change_of, written_count};
+ghost use Rattle.orc_disk.specs.History.{file_after, settled, content_of, synced_of, Leaves, IsImage};
+ghost use Rattle.orc_disk.specs.inside.Kept.{changes_of, change_of, written_count};
 
-use crate::history::{Call, put};
+use crate::history::{Change, put};
 use std::alloc::{AllocError, Global};
 
 // How many bytes of another value stand in a torn range at most.
@@ -28,14 +28,14 @@ fn lengthen(file: &mut Vec<u8>, bytes: &[u8]) -> Result<(), AllocError>
 
 // Puts a part of a write, or the whole with more. The last two bits of `choice` say how: a front of
 // it; a front of it and other bytes behind; the whole with other bytes in its front; the whole with
-// other bytes behind the end of the file. The next four bits say how much, and the rest which other
-// byte.
+// other bytes behind the end of the file. The next four bits say how much, and all but the last two
+// which other byte.
 fn tear_apart(file: &mut Vec<u8>, at: usize, bytes: &[u8], choice: u64) -> Result<(), AllocError>
     ensures { OnOk result (Torn at (length bytes.now) file.old.items file.new.items) }
 {
     let part = (choice / 4 % 16) as usize;
     let kept = (bytes.len() / 16 + 1).saturating_mul(part).min(bytes.len());
-    let fill = [((choice / 64 + 1) % 256) as u8; FILL_LEN];
+    let fill = [((choice / 4 + 1) % 256) as u8; FILL_LEN];
     match choice % 4 {
         0 => put_range(file, at, &bytes[..kept]),
         1 => {
@@ -67,63 +67,66 @@ fn tear(file: &mut Vec<u8>, at: usize, bytes: &[u8], choice: u64) -> Result<(), 
     }
 }
 
-// Makes the change of one call in a whole file and in a torn one. Behind a sync the torn file is the
+// Makes one change in a whole file and in a torn one. Behind a sync the torn file is the
 // whole one.
 fn step(
     whole: &mut Vec<u8>,
     torn: &mut Vec<u8>,
-    call: Call,
+    change: Change,
     store: &[u8],
     choice: u64,
 ) -> Result<(), AllocError>
-    requires { written_count (call ∷ []) ≤ length store.now }
-    ensures whole { OnOk result (whole.new.items ≡ after (change_of call store.now) whole.old.items) }
-    ensures torn { OnOk result (Leaves (change_of call store.now) whole.old.items torn.old.items torn.new.items) }
-    ensures none { choice ≡ 0 → OnOk result (torn.new.items ≡ settled (change_of call store.now) whole.old.items torn.old.items) }
+    requires { written_count (change ∷ []) ≤ length store.now }
+    ensures whole { OnOk result (whole.new.items ≡ file_after (change_of change store.now) whole.old.items) }
+    ensures torn { OnOk result (Leaves (change_of change store.now) whole.old.items torn.old.items torn.new.items) }
+    ensures none { choice ≡ 0 → OnOk result
+        (torn.new.items ≡ settled (change_of change store.now) whole.old.items torn.old.items) }
     ensures all { choice ≡ 3 → torn.old.items ≡ whole.old.items → OnOk result (torn.new.items ≡ whole.new.items) }
 {
-    match call {
-        Call::Write { at, len } => {
+    match change {
+        Change::Write { at, len } => {
             put(whole, at, &store[..len])?;
             tear(torn, at, &store[..len], choice)
         }
-        Call::Sync => {
+        Change::Sync => {
             torn.clear();
             torn.extend_from_slice(whole)
         }
     }
 }
 
-// How many bytes a call wrote.
-fn count(call: Call) -> usize
-    ensures { result ≡ written_count (call ∷ []) }
+// How many bytes a change wrote.
+fn count(change: Change) -> usize
+    ensures { result ≡ written_count (change ∷ []) }
 {
-    match call {
-        Call::Write { len, .. } => len,
-        Call::Sync => 0,
+    match change {
+        Change::Write { len, .. } => len,
+        Change::Sync => 0,
     }
 }
 
-/// What a crash after these calls leaves of a file by choice: none of the writes since the last sync
-/// with the choice 0, all of them with the choice 3.
+// What a crash after these changes leaves of a file by choice: none of the writes since the last sync
+// with the choice 0, all of them with the choice 3.
 pub(crate) fn replayed(
     alloc: Global,
     start: &[u8],
-    calls: &[Call],
+    changes: &[Change],
     store: &[u8],
     choice: u64,
 ) -> Result<Vec<u8>, AllocError>
-    requires { written_count calls.now ≡ length store.now }
-    ensures image { IfOk result (λ image. IsImage start.now (told [] calls.now store.now) image.items) }
-    ensures none { choice ≡ 0 → IfOk result (λ image. image.items ≡ synced_of start.now (told [] calls.now store.now)) }
-    ensures all { choice ≡ 3 → IfOk result (λ image. image.items ≡ content_of start.now (told [] calls.now store.now)) }
+    requires { written_count changes.now ≡ length store.now }
+    ensures image { IfOk result (λ image. IsImage start.now (changes_of [] changes.now store.now) image.items) }
+    ensures none { choice ≡ 0 → IfOk result
+        (λ image. image.items ≡ synced_of start.now (changes_of [] changes.now store.now)) }
+    ensures all { choice ≡ 3 → IfOk result
+        (λ image. image.items ≡ content_of start.now (changes_of [] changes.now store.now)) }
 {
     let mut whole = start.to_vec(alloc)?;
     let mut torn = start.to_vec(alloc)?;
     let mut from = 0;
-    for call in calls {
-        step(&mut whole, &mut torn, *call, &store[from..], choice)?;
-        from += count(*call);
+    for change in changes {
+        step(&mut whole, &mut torn, *change, &store[from..], choice)?;
+        from += count(*change);
     }
     Ok(torn)
 }

@@ -1,46 +1,114 @@
-//! Runs each example that the words name, and says whether it prints what stands beside it.
+//! Runs each example of a folder, of the one that it is started in where no word names another, and
+//! says whether it does what stands beside it.
+//!
+//! `NAME.orc` is a bundle that is run to its end over an empty disk and must print `NAME.out`.
+//! `NAME.case` has bundles of its own and runs of them, over disks, sources and sinks that fail where
+//! it says so; `case` says how it is written.
 #![tactic(auto)]
 
-use orc_disk::MemDisk;
-use orc_io::{MemSink, MemSource};
-use orc_run::orchestrate;
+mod block;
+mod case;
+mod faults;
+mod run;
+mod settings;
+
+use crate::case::Case;
+use crate::faults::faults;
+use crate::run::run_to_end;
+use std::process::ExitCode;
 use std::rt::{Env, Files};
 use std::{env, fs, io};
 
-/// The most bytes that an example prints.
-const ROOM: usize = 65_536;
-
-/// The room of an example's journal, in bytes.
-const JOURNAL_ROOM: u64 = 1_048_576;
-
-/// Prints a line for each example.
-fn main(rt: HostRuntime) -> io::Result<()> {
-    let mut names = env::args(&rt)?;
-    let _program = names.next();
-    for name in names {
-        if is_as_printed(&rt, name.as_str())? {
-            println!(rt; "{name}: as it must print")?;
-        } else {
-            println!(rt; "{name}: DIFFERS")?;
+// Ends with 0 where each example does what it must.
+fn main(rt: HostRuntime) -> ExitCode {
+    match run_all(&rt) {
+        Ok(true) => ExitCode::SUCCESS,
+        Ok(false) => ExitCode::FAILURE,
+        Err(error) => {
+            let _ = println!(rt; "{error}");
+            ExitCode::FAILURE
         }
     }
-    Ok(())
 }
 
-/// Whether the bundle `NAME.orc` is run to its end and prints exactly `NAME.out`.
-fn is_as_printed<R: Files + Env + AllocGlobal>(rt: &R, name: &str) -> io::Result<bool> {
+// Prints a line for each example, in the order of their names.
+fn run_all<R: Files + Env + Print + AllocGlobal + Clone + Drop>(rt: &R) -> io::Result<bool> {
+    let mut words = env::args(rt)?;
+    let _program = words.next();
+    let folder = match words.next() {
+        Some(folder) => folder,
+        None => String::from_str(rt.alloc(), ".")?,
+    };
+    let files = files(rt, folder.as_str())?;
+    let mut good = faults(rt)?;
+    for file in files.iter() {
+        if !is_as_it_must_be(rt, folder.as_str(), &files, file.as_str())? {
+            println!(rt; "{file}: DIFFERS")?;
+            good = false;
+        }
+    }
+    Ok(good)
+}
+
+// The names of the files in the folder, in order.
+fn files<R: Files + AllocGlobal + Clone + Drop>(rt: &R, folder: &str) -> io::Result<Vec<String>> {
+    let mut names = Vec::new(rt.alloc());
+    for entry in fs::read_dir(rt, folder)? {
+        names.push(String::from_str(rt.alloc(), entry?.file_name())?)?;
+    }
+    names.sort()?;
+    Ok(names)
+}
+
+// Whether the file, where it is part of an example, does what it must.
+fn is_as_it_must_be<R: Files + Print + AllocGlobal>(
+    rt: &R,
+    folder: &str,
+    files: &[String],
+    file: &str,
+) -> io::Result<bool> {
+    if let Some(name) = file.strip_suffix(".orc") {
+        return is_bundle_as_it_must_be(rt, folder, name);
+    }
+    if let Some(name) = file.strip_suffix(".out") {
+        let bundle = format!(in rt.alloc(); "{name}.orc")?;
+        return Ok(files.contains(&bundle));
+    }
+    if let Some(name) = file.strip_suffix(".case") {
+        return is_case_as_it_must_be(rt, folder, name);
+    }
+    Ok(true)
+}
+
+// Whether the bundle is run to its end and prints what stands beside it.
+fn is_bundle_as_it_must_be<R: Files + Print + AllocGlobal>(
+    rt: &R,
+    folder: &str,
+    name: &str,
+) -> io::Result<bool> {
     let alloc = rt.alloc();
-    let bundle = fs::read(rt, format!(in alloc; "{name}.orc")?.as_str())?;
-    let wanted = fs::read(rt, format!(in alloc; "{name}.out")?.as_str())?;
-    let mut words = Vec::new(alloc);
-    words.push(String::from_str(alloc, "run")?)?;
-    let mut source = MemSource::new(bundle, Vec::new(alloc));
-    let Ok(mut sink) = MemSink::new(alloc, ROOM, Vec::new(alloc)) else {
+    let bundle = fs::read(rt, format!(in alloc; "{folder}/{name}.orc")?.as_str())?;
+    let Ok(wanted) = fs::read(rt, format!(in alloc; "{folder}/{name}.out")?.as_str()) else {
         return Ok(false);
     };
-    let Ok(disk) = MemDisk::new(alloc, Vec::new(alloc), JOURNAL_ROOM, Vec::new(alloc)) else {
-        return Ok(false);
-    };
-    let ended = orchestrate(alloc, words.as_slice(), &mut source, &mut sink, disk);
-    Ok(ended.status.is_ok() && sink.bytes() == wanted.as_slice())
+    let good = run_to_end(alloc, bundle, wanted.as_slice())?;
+    if good {
+        println!(rt; "{name}: as it must be")?;
+    }
+    Ok(good)
+}
+
+// Whether each run of the case does what stands beside it.
+fn is_case_as_it_must_be<R: Files + Print + AllocGlobal>(
+    rt: &R,
+    folder: &str,
+    name: &str,
+) -> io::Result<bool> {
+    let text = fs::read_to_string(rt, format!(in rt.alloc(); "{folder}/{name}.case")?.as_str())?;
+    let mut case = Case::new(rt.alloc(), text.as_str());
+    let good = case.run_all(rt, name)?;
+    if good {
+        println!(rt; "{name}: {} runs as they must be", case.runs())?;
+    }
+    Ok(good)
 }

@@ -1,9 +1,10 @@
--- Counts that never pass the largest 64-bit number, and what a count of faults says of a call.
-use Rattle.std.specs.Prelude.{ℕ, ◌+◌, ◌-◌, ◌^◌, ◌≤◌, min, Result, OnErr}
+-- What a count of faults says of a call.
+use Rattle.std.specs.Prelude.{ℕ, ◌+◌, ◌≤◌, Result, OnErr}
+use Rattle.orc_text.specs.Counts.{capped}
 
 -- one more, but the largest 64-bit number stays
 abbrev pub next_count : ℕ → ℕ
-next_count count = min (count + 1) (2 ^ 64 - 1)
+next_count count = capped (count + 1)
 
 -- a count of faults rose, or it stands at its last value
 abbrev pub Rose : ℕ → ℕ → Type 0

@@ -1,3 +1,5 @@
 pub mod Counts
+pub mod Meanings
 pub mod Pieces
-pub mod Told
+pub mod Sources
+pub mod Sinks

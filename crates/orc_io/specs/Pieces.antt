@@ -4,7 +4,7 @@ use Rattle.std.specs.Io.KnownBytes.{Appends, Consumes}
 
 -- the sink took a front of the bytes and nothing else
 abbrev pub TakesFront : Option (List ℕ) → Option (List ℕ) → List ℕ → Type 0
-TakesFront old new bytes = (n : ℕ) × Appends old new (take n bytes)
+TakesFront old new bytes = (count : ℕ) × Appends old new (take count bytes)
 
 -- the source gave some bytes, which stood first, and lost no others
 abbrev pub GivesFront : Option (List ℕ) → Option (List ℕ) → Type 0

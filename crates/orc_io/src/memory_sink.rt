@@ -3,7 +3,7 @@ ghost use Rattle.std.specs.Prelude.{◌≡◌, ◌<◌, ◌↔◌, ◌⊎◌, []
 ghost use Rattle.std.specs.Io.{WritesAtMost};
 ghost use Rattle.std.specs.Io.KnownBytes.{WriteAppends};
 ghost use Rattle.orc_io.specs.Counts.{HasCause, next_count};
-ghost use Rattle.orc_io.specs.Told.{write_failed, write_took};
+ghost use Rattle.orc_io.specs.Sinks.{memory_sink, write_failed, write_took};
 
 use crate::{Failed, Sink};
 use orc_text::Memory;
@@ -24,11 +24,17 @@ pub struct MemSink {
 
 impl Model for MemSink {
     ghost use Rattle.std.specs.Prelude.{◌≤◌, ◌+◌, vec_len, vec_capacity};
-    ghost use Rattle.orc_io.specs.Told.{Writing};
+    ghost use Rattle.orc_io.specs.Sinks.{MemorySink};
 
-    ghost Value = { Writing };
+    ghost Value = { MemorySink };
 
-    ghost view = { λ s. record { held = s.bytes.items; room = s.room; fails = s.fails.items; calls = s.calls; faults = s.faults } };
+    ghost view = { λ s. record {
+      held = s.bytes.items;
+      room = s.room;
+      fails = s.fails.items;
+      calls = s.calls;
+      faults = s.faults;
+    } };
 
     ghost invariant = { λ s. vec_len s.bytes + s.room ≤ vec_capacity s.bytes };
 }
@@ -36,7 +42,13 @@ impl Model for MemSink {
 impl MemSink {
     /// An empty sink with room for so many bytes, at its first call.
     pub fn new(alloc: Global, room: usize, fails: Vec<u64>) -> Result<MemSink, Memory>
-        ensures { IfOk result (λ s. s ≡ record { held = []; room = room; fails = fails.items; calls = 0; faults = 0 }) }
+        ensures { IfOk result (λ sink. sink ≡ record {
+          held = [];
+          room = room;
+          fails = fails.items;
+          calls = 0;
+          faults = 0;
+        }) }
     {
         Ok(MemSink {
             bytes: Vec::with_capacity(alloc, room)?,
@@ -56,16 +68,15 @@ impl MemSink {
 }
 
 impl Sink for MemSink {
-    ghost held = { λ s. Some s.held };
-
-    ghost faults = { λ s. s.faults };
+    ghost sink = { memory_sink };
 
     fn write_some(&mut self, bytes: &[u8]) -> Result<usize, Failed>
         ensures bound { WritesAtMost result bytes.now }
         ensures progress { IfOk result (λ n. 0 < length bytes.now → 0 < n) }
-        ensures bytes { WriteAppends (Some self.old.held) (Some self.new.held) result bytes.now }
-        ensures cause { HasCause self.old.faults self.new.faults result }
-        ensures exact { IsErr result ↔ (Contains self.old.fails (next_count self.old.calls) ⊎ (self.old.room < length bytes.now)) }
+        ensures bytes { WriteAppends (memory_sink.held self.old) (memory_sink.held self.new) result bytes.now }
+        ensures cause { HasCause (memory_sink.faults self.old) (memory_sink.faults self.new) result }
+        ensures exact { IsErr result
+            ↔ (Contains self.old.fails (next_count self.old.calls) ⊎ (self.old.room < length bytes.now)) }
         ensures whole { IfOk result (λ n. n ≡ length bytes.now) }
         ensures ok { OnOk result (self.new ≡ write_took self.old bytes.now) }
         ensures err { OnErr result (self.new ≡ write_failed self.old) }

@@ -3,7 +3,7 @@ ghost use Rattle.std.specs.Prelude.{◌≡◌, ◌↔◌, length, min, IsErr, If
 ghost use Rattle.std.specs.Io.{ReadsAtMost};
 ghost use Rattle.std.specs.Io.KnownBytes.{ReadConsumes};
 ghost use Rattle.orc_io.specs.Counts.{HasCause, next_count};
-ghost use Rattle.orc_io.specs.Told.{read_failed, read_gave};
+ghost use Rattle.orc_io.specs.Sources.{memory_source, read_failed, read_gave};
 
 use crate::{Failed, Source};
 use std::io::Read;
@@ -22,11 +22,16 @@ pub struct MemSource {
 
 impl Model for MemSource {
     ghost use Rattle.std.specs.Prelude.{drop, length, ◌≤◌};
-    ghost use Rattle.orc_io.specs.Told.{Reading};
+    ghost use Rattle.orc_io.specs.Sources.{MemorySource};
 
-    ghost Value = { Reading };
+    ghost Value = { MemorySource };
 
-    ghost view = { λ s. record { left = drop s.at s.bytes.items; fails = s.fails.items; calls = s.calls; faults = s.faults } };
+    ghost view = { λ s. record {
+      left = drop s.at s.bytes.items;
+      fails = s.fails.items;
+      calls = s.calls;
+      faults = s.faults;
+    } };
 
     ghost invariant = { λ s. s.at ≤ length s.bytes.items };
 }
@@ -47,14 +52,12 @@ impl MemSource {
 }
 
 impl Source for MemSource {
-    ghost left = { λ s. Some s.left };
-
-    ghost faults = { λ s. s.faults };
+    ghost source = { memory_source };
 
     fn read_some(&mut self, buf: &mut [u8]) -> Result<usize, Failed>
         ensures bound { ReadsAtMost result buf.new }
-        ensures bytes { ReadConsumes (Some self.old.left) (Some self.new.left) result buf.new }
-        ensures cause { HasCause self.old.faults self.new.faults result }
+        ensures bytes { ReadConsumes (memory_source.left self.old) (memory_source.left self.new) result buf.new }
+        ensures cause { HasCause (memory_source.faults self.old) (memory_source.faults self.new) result }
         ensures exact { IsErr result ↔ Contains self.old.fails (next_count self.old.calls) }
         ensures count { IfOk result (λ n. n ≡ min (length buf.old) (length self.old.left)) }
         ensures buffer { IfOk result (λ n. buf.new ≡ take n self.old.left ++ drop n buf.old) }

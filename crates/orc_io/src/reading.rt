@@ -7,6 +7,9 @@ ghost use Rattle.orc_io.specs.Pieces.{GivesFront, GivesMore};
 use crate::{Failed, Source};
 use std::alloc::Global;
 
+// How many bytes are asked of a source at once.
+const PIECE_LEN: usize = 4096;
+
 /// Why a source was not read to its end.
 #[derive(Clone, Copy, Debug, PartialEq, Eq)]
 pub enum WholeFault {
@@ -26,17 +29,18 @@ pub fn read_whole<S: Source>(
     limit: usize,
 ) -> Result<Vec<u8>, WholeFault>
     requires { limit < 2 ^ 60 }
-    ensures whole { IfOk result (λ v. Consumes (S.left source.old) (S.left source.new) v.items) }
+    ensures whole { IfOk result (λ v. Consumes (S.source.left source.old) (S.source.left source.new) v.items) }
     ensures short { IfOk result (λ v. vec_len v ≤ limit) }
-    ensures end { OnOk result (IsAtEnd (S.left source.new)) }
+    ensures end { OnOk result (IsAtEnd (S.source.left source.new)) }
 
-    ensures begun { OnErr result (GivesFront (S.left source.old) (S.left source.new)) }
-    ensures too_long { IsErrOf result WholeFault.TooLong → GivesMore (S.left source.old) (S.left source.new) limit }
-    ensures later { S.faults source.old ≤ S.faults source.new }
-    ensures failed { IsErrOf result WholeFault.Failed → Rose (S.faults source.old) (S.faults source.new) }
+    ensures begun { OnErr result (GivesFront (S.source.left source.old) (S.source.left source.new)) }
+    ensures too_long { IsErrOf result WholeFault.TooLong
+        → GivesMore (S.source.left source.old) (S.source.left source.new) limit }
+    ensures later { S.source.faults source.old ≤ S.source.faults source.new }
+    ensures failed { IsErrOf result WholeFault.Failed → Rose (S.source.faults source.old) (S.source.faults source.new) }
 {
     let mut whole = Vec::new(alloc);
-    let mut buf = [0u8; 4096];
+    let mut buf = [0u8; PIECE_LEN];
     while whole.len() <= limit {
         match source.read_some(&mut buf) {
             Err(Failed) => return Err(WholeFault::Failed),

@@ -1,5 +1,10 @@
 //! A source over std's readers and a sink over std's writers.
-ghost use Rattle.std.specs.Prelude.{◌≡◌};
+ghost use Rattle.std.specs.Prelude.{◌≡◌, ◌<◌, length, IfOk, OnOk, OnErr};
+ghost use Rattle.std.specs.Io.{ReadsAtMost, WritesAtMost};
+ghost use Rattle.std.specs.Io.KnownBytes.{ReadConsumes, WriteAppends};
+ghost use Rattle.orc_io.specs.Counts.{HasCause, next_count};
+ghost use Rattle.orc_io.specs.Sources.{reader_source};
+ghost use Rattle.orc_io.specs.Sinks.{writer_sink};
 
 use crate::{Failed, Sink, Source};
 use std::io::{Read, Write};
@@ -14,9 +19,9 @@ pub struct StdSource<R: Read> {
 }
 
 impl<R: Read> Model for StdSource<R> {
-    ghost use Rattle.orc_io.specs.Told.{Input};
+    ghost use Rattle.orc_io.specs.Sources.{ReaderSource};
 
-    ghost Value = { Input };
+    ghost Value = { ReaderSource };
 
     ghost view = { λ s. record { left = R.remaining s.reader; faults = s.faults } };
 }
@@ -31,11 +36,15 @@ impl<R: Read> StdSource<R> {
 }
 
 impl<R: Read + Drop> Source for StdSource<R> {
-    ghost left = { λ s. s.left };
+    ghost source = { reader_source };
 
-    ghost faults = { λ s. s.faults };
-
-    fn read_some(&mut self, buf: &mut [u8]) -> Result<usize, Failed> {
+    fn read_some(&mut self, buf: &mut [u8]) -> Result<usize, Failed>
+        ensures bound { ReadsAtMost result buf.new }
+        ensures bytes { ReadConsumes (reader_source.left self.old) (reader_source.left self.new) result buf.new }
+        ensures cause { HasCause (reader_source.faults self.old) (reader_source.faults self.new) result }
+        ensures still { OnOk result (self.new.faults ≡ self.old.faults) }
+        ensures rose { OnErr result (self.new.faults ≡ next_count self.old.faults) }
+    {
         match self.reader.read(buf) {
             Ok(count) => Ok(count),
             Err(_) => {
@@ -59,9 +68,9 @@ pub struct StdSink<W: Write> {
 }
 
 impl<W: Write> Model for StdSink<W> {
-    ghost use Rattle.orc_io.specs.Told.{Output};
+    ghost use Rattle.orc_io.specs.Sinks.{WriterSink};
 
-    ghost Value = { Output };
+    ghost Value = { WriterSink };
 
     ghost view = { λ s. record { held = W.contents s.writer; faults = s.faults } };
 }
@@ -76,11 +85,16 @@ impl<W: Write> StdSink<W> {
 }
 
 impl<W: Write + Drop> Sink for StdSink<W> {
-    ghost held = { λ s. s.held };
+    ghost sink = { writer_sink };
 
-    ghost faults = { λ s. s.faults };
-
-    fn write_some(&mut self, bytes: &[u8]) -> Result<usize, Failed> {
+    fn write_some(&mut self, bytes: &[u8]) -> Result<usize, Failed>
+        ensures bound { WritesAtMost result bytes.now }
+        ensures progress { IfOk result (λ n. 0 < length bytes.now → 0 < n) }
+        ensures bytes { WriteAppends (writer_sink.held self.old) (writer_sink.held self.new) result bytes.now }
+        ensures cause { HasCause (writer_sink.faults self.old) (writer_sink.faults self.new) result }
+        ensures still { OnOk result (self.new.faults ≡ self.old.faults) }
+        ensures rose { OnErr result (self.new.faults ≡ next_count self.old.faults) }
+    {
         match self.writer.write(bytes) {
             Ok(count) => {
                 if count == 0 && !bytes.is_empty() {

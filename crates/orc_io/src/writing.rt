@@ -8,9 +8,9 @@ use crate::{Failed, Sink};
 
 /// Writes all of a piece. After a failure the sink took a front of it.
 pub fn write_whole<K: Sink>(sink: &mut K, bytes: &[u8]) -> Result<(), Failed>
-    ensures ok { OnOk result (Appends (K.held sink.old) (K.held sink.new) bytes.now) }
-    ensures err { OnErr result (TakesFront (K.held sink.old) (K.held sink.new) bytes.now) }
-    ensures cause { HasCause (K.faults sink.old) (K.faults sink.new) result }
+    ensures ok { OnOk result (Appends (K.sink.held sink.old) (K.sink.held sink.new) bytes.now) }
+    ensures err { OnErr result (TakesFront (K.sink.held sink.old) (K.sink.held sink.new) bytes.now) }
+    ensures cause { HasCause (K.sink.faults sink.old) (K.sink.faults sink.new) result }
 {
     let mut at = 0;
     while at < bytes.len() {

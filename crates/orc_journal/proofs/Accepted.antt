@@ -6,9 +6,9 @@ use Rattle.std.proofs.lemmas.List.Elements.{All-head, All-tail}
 use Rattle.orc_journal.specs.Entries.{entry_bytes, IsWritable}
 use Rattle.orc_journal.specs.Orders.{follows, are_ordered, is_ordered}
 use Rattle.orc_journal.specs.Journals.{magic, header, gated, is_ending, IsJournal, IsNotJournal, IsForeign, IsDamaged}
-use Rattle.orc_journal.specs.Reading.{HasEntry}
+use Rattle.orc_journal.specs.inside.Fronts.{HasEntry}
 use Rattle.orc_journal.specs.declared.entry.Entry.{Entry}
-use Rattle.orc_journal.proofs.Readings.{one_entry}
+use Rattle.orc_journal.proofs.Fronts.{one_entry}
 
 -- the bytes begin with an entry that may follow
 record BeginsNext (before : List Entry) (bytes : List ℕ) : Type 0 where

@@ -1,19 +1,19 @@
--- The cause of a fault, from before calls that changed nothing.
-use Rattle.std.specs.Prelude.{◌≡◌, ℕ, ◌≤◌, List, [], Option, IfSome}
-use Rattle.std.proofs.Common.{subst, arith}
-use Rattle.orc_journal.specs.Journals.{IsNotJournal, IsForeign, IsDamaged}
-use Rattle.orc_journal.specs.Faults.{IsCauseOf}
+-- The cause of a fault, from that of the bytes which the disk gave before.
+use Rattle.std.specs.Prelude.{◌≡◌, ℕ, ◌≤◌, List}
+use Rattle.std.proofs.Common.{arith}
+use Rattle.orc_disk.specs.Meanings.{DiskMeaning}
+use Rattle.orc_journal.specs.Faults.{IsOpenFault}
+use Rattle.orc_journal.specs.Hearing.{Heard}
+use Rattle.orc_journal.specs.inside.ReadFaults.{IsFileFault}
 use Rattle.orc_journal.specs.declared.fault.OpenFault.{OpenFault}
 use Rattle.orc_journal.specs.declared.fault.OpenFault.TheVariants.{Foreign, NotJournal, DiskFault, Memory, Full, Damaged}
 
-module _ {D : Type 0} (content : D → Option (List ℕ)) (faults : D → ℕ) (old mid new : D) (same : content mid ≡ content old) (later : faults old ≤ faults mid) (decls : List ℕ) (limit : ℕ) where
-  told : (P : List ℕ → Type 0) → IfSome (content mid) P → IfSome (content old) P
-  told P holds = subst (λ (o : Option (List ℕ)). IfSome o P) same holds
-
-  pub IsCauseOf-earlier : (fault : OpenFault) → IsCauseOf content faults mid new decls limit fault → IsCauseOf content faults old new decls limit fault
-  IsCauseOf-earlier (Foreign at) cause = told (λ file. IsForeign file decls at) cause
-  IsCauseOf-earlier NotJournal cause = told (λ file. IsNotJournal file) cause
-  IsCauseOf-earlier DiskFault cause = grind (arith, cause, later)
-  IsCauseOf-earlier Memory cause = cause
-  IsCauseOf-earlier (Full len) cause = (cause.0, cause.1, told (λ file. file ≡ []) cause.2)
-  IsCauseOf-earlier (Damaged at) cause = told (λ file. IsDamaged file decls at) cause
+module _ {D : Type 0} (disk : DiskMeaning D) (old synced mid new : D) (file decls : List ℕ) (limit : ℕ) where
+  pub IsOpenFault-heard : disk.faults old ≤ disk.faults mid → (fault : OpenFault) → ((fault ≡ DiskFault → ⊥) → Heard disk synced new file)
+      → IsFileFault disk mid new file decls limit fault → IsOpenFault disk old synced new decls limit fault
+  IsOpenFault-heard later (Foreign at) heard cause = (file, heard (λ is. cc), cause)
+  IsOpenFault-heard later NotJournal heard cause = (file, heard (λ is. cc), cause)
+  IsOpenFault-heard later DiskFault heard cause = grind (arith, cause, later)
+  IsOpenFault-heard later Memory heard cause = cause
+  IsOpenFault-heard later (Full len) heard cause = (cause.0, cause.1, (file, heard (λ is. cc), cause.2))
+  IsOpenFault-heard later (Damaged at) heard cause = (file, heard (λ is. cc), cause)

@@ -1,24 +1,42 @@
--- Rows of disk calls that change nothing.
-use Rattle.std.specs.Prelude.{ℕ, List, Option}
-use Rattle.std.proofs.Common.{refl, ◌∙◌}
-use Rattle.orc_disk.proofs.Moments.{started, joined, weaker}
-use Rattle.orc_journal.specs.Opened.{ChangesNothing}
+-- Rows of operations that change nothing.
+use Rattle.std.specs.Prelude.{ℕ, ◌≤◌, List}
+use Rattle.std.proofs.Common.{refl, ◌∙◌, inl, inr, ⊎_elim, arith}
+use Rattle.orc_disk.specs.Meanings.{DiskMeaning}
+use Rattle.orc_disk.specs.Moments.{Unchanged, LeavesOnly}
+use Rattle.orc_disk.proofs.Moments.{started, goes_on}
 
-module _ {D : Type 0} (content : D → Option (List ℕ)) (may_leave : D → List ℕ → Type 0) (moment : D → ℕ) (left_since : D → ℕ → List ℕ → Type 0) where
-  -- no call
-  pub ChangesNothing-refl : ((disk : D) (c : List ℕ) → left_since disk (moment disk) c → may_leave disk c) → (disk : D) → ChangesNothing content may_leave moment left_since disk disk
-  ChangesNothing-refl only_now disk = record {
+module _ {D : Type 0} (disk : DiskMeaning D) where
+  -- no operation
+  pub Unchanged-refl : (at : D) → Unchanged disk at at
+  Unchanged-refl at = record {
     same = refl;
-    crash = λ c left. left;
-    any_moment = started moment left_since disk (may_leave disk) (only_now disk);
+    crash = λ file left. left;
+    time = record {
+      later = omega arith;
+      nothing_else = λ since file le left. inl left;
+      keeps = λ since file le left. left;
+    };
   }
 
   -- two rows
-  pub ChangesNothing-trans : (old mid new : D) → ChangesNothing content may_leave moment left_since old mid → ChangesNothing content may_leave moment left_since mid new
-      → ChangesNothing content may_leave moment left_since old new
-  ChangesNothing-trans old mid new first second = record {
+  pub Unchanged-trans : ((at : D) (since : ℕ) (file : List ℕ) → since ≤ disk.moment at → disk.may_leave at file → disk.left_since at since file)
+      → (old mid new : D) → Unchanged disk old mid → Unchanged disk mid new → Unchanged disk old new
+  Unchanged-trans counts_now old mid new first second = record {
     same = second.same ∙ first.same;
-    crash = λ c left. first.crash c (second.crash c left);
-    any_moment = joined moment left_since old mid new (may_leave old) first.any_moment
-        (weaker moment left_since mid new (may_leave mid) (may_leave old) first.crash second.any_moment);
+    crash = λ file left. first.crash file (second.crash file left);
+    time = record {
+      later = omega (arith, first.time.later, second.time.later);
+      nothing_else = λ since file le left.
+          ⊎_elim
+          (λ earlier. ⊎_elim (λ before. inl before) (λ now. inl (counts_now old since file le (first.crash file now))) (first.time.nothing_else since file le earlier))
+          (λ now. inr now)
+          (second.time.nothing_else since file (omega (arith, le, first.time.later)) left);
+      keeps = λ since file le left. second.time.keeps since file (omega (arith, le, first.time.later)) (first.time.keeps since file le left);
+    };
   }
+
+  -- a crash at each moment of it leaves what one before it would have left
+  pub Unchanged-leaves : ((at : D) (file : List ℕ) → disk.left_since at (disk.moment at) file → disk.may_leave at file)
+      → (old new : D) → Unchanged disk old new → LeavesOnly disk old new (disk.may_leave old)
+  Unchanged-leaves only_now old new row =
+      goes_on disk old old new (disk.may_leave old) (started disk old (disk.may_leave old) (only_now old)) row.time row.crash

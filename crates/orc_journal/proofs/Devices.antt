@@ -7,7 +7,7 @@ use Rattle.std.proofs.lemmas.List.Elements.{All-head, All-tail}
 use Rattle.std.proofs.lemmas.Map.Keys.{sorted_from_strictly_increasing, IsStrictlyIncreasing-from_sorted}
 use Rattle.orc_call.proofs.Singles.{same_2}
 use Rattle.orc_journal.specs.Entries.{devices_bytes, AreDevices}
-use Rattle.orc_journal.specs.Reading.{HasDevices, HasNoDevices, HasCount, AreNumbers}
+use Rattle.orc_journal.specs.inside.Fronts.{HasDevices, HasNoDevices, HasCount, AreNumbers}
 
 abbrev pub Fits16 : ℕ → Type 0
 Fits16 number = number < 2 ^ 16

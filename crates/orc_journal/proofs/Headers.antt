@@ -3,8 +3,8 @@ use Rattle.std.proofs.Common.{◌≡◌, ℕ, ◌<◌, ◌≤◌, ◌^◌, List,
 use Rattle.std.specs.Int.{w32, to_be_bytes, from_be_bytes}
 use Rattle.std.proofs.lemmas.List.{take_at, drop_at, take-append-drop, append_cancel_left, drop_all}
 use Rattle.orc_call.proofs.Singles.{same_4}
-use Rattle.orc_journal.specs.Reading.{BeginsOtherwise}
 use Rattle.orc_journal.specs.Journals.{magic, header, common, IsNotJournal, IsForeign}
+use Rattle.orc_journal.specs.inside.Fronts.{BeginsOtherwise}
 
 -- a front that isn't there
 pub otherwise_more : (bytes front more : List ℕ) → BeginsOtherwise bytes front → BeginsOtherwise bytes (front ++ more)

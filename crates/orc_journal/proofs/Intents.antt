@@ -4,11 +4,11 @@ use Rattle.std.specs.Int.{w64, to_be_bytes}
 use Rattle.std.proofs.lemmas.List.{append_cancel_left, take-append-drop, take_rest}
 use Rattle.orc_call.specs.declared.call.Call.{Call}
 use Rattle.orc_call.specs.Encoding.{IsCall, HasEncoding, call_bytes, call_fields}
-use Rattle.orc_call.specs.Reading.{IsWhole, any}
+use Rattle.orc_call.specs.inside.Reading.{IsWhole, any}
 use Rattle.orc_call.proofs.Singles.{same_8}
 use Rattle.orc_call.proofs.ActionKinds.{call_determined}
 use Rattle.orc_journal.specs.Entries.{devices_bytes, AreDevices}
-use Rattle.orc_journal.specs.Reading.{HasNumber, HasCall, HasNoCall, HasDevices, HasNoDevices, Says, SaysNothing}
+use Rattle.orc_journal.specs.inside.Fronts.{HasNumber, HasCall, HasNoCall, HasDevices, HasNoDevices, Says, SaysNothing}
 use Rattle.orc_journal.specs.declared.entry.Entry.{Entry}
 use Rattle.orc_journal.specs.declared.entry.Entry.TheVariants.{Intent, Decide, Abort, Settled}
 use Rattle.orc_journal.proofs.Devices.{same_devices}

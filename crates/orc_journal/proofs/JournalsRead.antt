@@ -3,12 +3,13 @@ use Rattle.std.proofs.Common.{◌≡◌, ℕ, ◌-◌, ◌<◌, true, false, Lis
 use Rattle.std.proofs.lemmas.List.{flat_map_more}
 use Rattle.std.proofs.lemmas.List.Elements.{All-push}
 use Rattle.orc_journal.specs.Entries.{entry_bytes, IsWritable}
-use Rattle.orc_journal.specs.Orders.{follows, is_ordered, AreStages}
+use Rattle.orc_journal.specs.Orders.{follows, is_ordered}
 use Rattle.orc_journal.specs.Journals.{header, gated, journal_bytes, IsDamaged}
-use Rattle.orc_journal.specs.Reading.{HasEntry, HasNoNext, HasNext}
+use Rattle.orc_journal.specs.inside.Stages.{AreStages}
+use Rattle.orc_journal.specs.inside.Fronts.{HasEntry, HasNoNext, HasNext}
 use Rattle.orc_journal.specs.declared.entry.Entry.{Entry}
 use Rattle.orc_journal.specs.declared.order.Stages.{Stages}
-use Rattle.orc_journal.proofs.Readings.{one_entry}
+use Rattle.orc_journal.proofs.Fronts.{one_entry}
 use Rattle.orc_journal.proofs.Orderings.{is_ordered-push}
 
 -- where the entry that is there may not follow, none does

@@ -1,10 +1,14 @@
 mod Causes
-mod Changes
+pub mod Changes
 mod Counts
-mod Endings
+pub mod Endings
+pub mod Synced
+mod Openings
+mod Pieces
+mod Loading
 mod Devices
 mod Intents
-mod Readings
+mod Fronts
 mod Headers
 pub mod Orderings
 mod JournalsRead
@@ -12,7 +16,10 @@ pub mod Unique
 pub mod Accepted
 mod Verdicts
 mod Rules
-mod Opened
+mod Appended
 mod LeftBehind
 mod Puts
 mod TornFiles
+pub mod Newest
+mod Leaving
+mod Outcomes

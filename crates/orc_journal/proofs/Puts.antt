@@ -1,13 +1,15 @@
 -- What the two writes of an append leave, the entry behind the gate and then the gate.
 use Rattle.std.specs.Prelude.{◌≡◌, ℕ, ◌-◌, List, [], ◌∷◌, ◌++◌, length, Option, Some, None, IfSome}
 use Rattle.std.specs.Option.{option_map}
-use Rattle.std.proofs.Common.{inl, sym, subst, arith}
+use Rattle.std.proofs.Common.{inl, refl, sym, ap, ◌∙◌, subst, arith}
 use Rattle.std.proofs.lemmas.Option.{MatchOption-at_some}
 use Rattle.orc_disk.specs.Files.{written}
 use Rattle.orc_disk.specs.Torn.{Torn}
-use Rattle.orc_journal.specs.Journals.{journal_bytes, IsGated}
+use Rattle.orc_disk.specs.Crashes.{LeavesAsRead}
 use Rattle.orc_journal.specs.Entries.{entry_bytes}
-use Rattle.orc_journal.specs.Opened.{IsBeforeOrAfter, IsTornFrom, PutsEntry}
+use Rattle.orc_journal.specs.Journals.{journal_bytes, IsGated}
+use Rattle.orc_journal.specs.Appends.{block_bytes, with_entry, IsBeforeOrAfter}
+use Rattle.orc_journal.specs.inside.Blocks.{IsTornFrom, PutsEntry}
 use Rattle.orc_journal.specs.declared.entry.Entry.{Entry}
 use Rattle.orc_journal.proofs.TornFiles.{IsStaged, torn_behind, written_behind, torn_gate, written_gate}
 
@@ -20,11 +22,22 @@ IfSome-mapped (Some file) new f P Q is holds step = subst (λ (o : Option (List 
 pub IfSome-some : (content : Option (List ℕ)) (P : List ℕ → Type 0) (file : List ℕ) → content ≡ Some file → IfSome content P → P file
 IfSome-some content P file is holds = MatchOption-at_some _ P file is holds
 
+-- both writes, one after the other
+pub with_entry-done : (old mid new : Option (List ℕ)) (at : ℕ) (block : List ℕ) (entry : Entry) → block ≡ block_bytes entry
+    → mid ≡ option_map (written at block) old → new ≡ option_map (written (at - 1) (1 ∷ [])) mid → new ≡ option_map (with_entry at entry) old
+with_entry-done old mid new at block entry is first second =
+    second ∙ ap (option_map (written (at - 1) (1 ∷ []))) (first ∙ ap (λ (b : List ℕ). option_map (written at b) old) is) ∙ twice old
+  where
+    twice : (o : Option (List ℕ)) → option_map (written (at - 1) (1 ∷ [])) (option_map (written at (block_bytes entry)) o) ≡ option_map (with_entry at entry) o
+    twice None = refl
+    twice (Some file) = refl
+
 module _ (decls : List ℕ) (entries : List Entry) (entry : Entry) (at : ℕ) (block : List ℕ) where
   module _ (content : Option (List ℕ)) (puts : PutsEntry content at block decls entries entry) where
-    pub first_torn : (c : List ℕ) → IsTornFrom content at (length block) c → IsBeforeOrAfter decls entries entry c
-    first_torn c torn =
-        let before = IfSome-some content (λ file. IsGated file decls entries) torn.0 torn.1 puts.file in
+    pub first_torn : (images : List ℕ → Type 0) → LeavesAsRead content images → (c : List ℕ) → IsTornFrom images at (length block) c
+        → IsBeforeOrAfter decls entries entry c
+    first_torn images as_read c torn =
+        let before = IfSome-some content (λ file. IsGated file decls entries) torn.0 (as_read torn.0 torn.1) puts.file in
         inl (torn_behind decls entries (length block) torn.0 c before (subst (λ (k : ℕ). Torn k (length block) torn.0 c) puts.place torn.2))
 
     staged : (file : List ℕ) → IsGated file decls entries → IsStaged decls entries entry (written at block file)
@@ -39,9 +52,10 @@ module _ (decls : List ℕ) (entries : List Entry) (entry : Entry) (at : ℕ) (b
     at_gate : at - 1 ≡ length (journal_bytes decls entries)
     at_gate = omega (arith, puts.place)
 
-    pub second_torn : (mid : Option (List ℕ)) → IfSome mid (IsStaged decls entries entry) → (c : List ℕ) → IsTornFrom mid (at - 1) 1 c → IsBeforeOrAfter decls entries entry c
-    second_torn mid is c torn =
-        let before = IfSome-some mid (IsStaged decls entries entry) torn.0 torn.1 is in
+    pub second_torn : (mid : Option (List ℕ)) (images : List ℕ → Type 0) → LeavesAsRead mid images → IfSome mid (IsStaged decls entries entry)
+        → (c : List ℕ) → IsTornFrom images (at - 1) 1 c → IsBeforeOrAfter decls entries entry c
+    second_torn mid images as_read is c torn =
+        let before = IfSome-some mid (IsStaged decls entries entry) torn.0 (as_read torn.0 torn.1) is in
         torn_gate decls entries entry torn.0 c before (subst (λ (k : ℕ). Torn k 1 torn.0 c) at_gate torn.2)
 
     opened : (file : List ℕ) → IsStaged decls entries entry file → IsGated (written (at - 1) (1 ∷ []) file) decls (entries ++ entry ∷ [])

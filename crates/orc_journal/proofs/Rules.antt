@@ -3,8 +3,8 @@ use Rattle.std.proofs.Common.{◌≡◌, ◌↔◌, ℕ, Bool, true, false, cond
 use Rattle.std.proofs.lemmas.Bool.{cases_eq, eq-eqb, ne_eqb}
 use Rattle.std.proofs.lemmas.List.{append-nil}
 use Rattle.std.proofs.lemmas.List.Elements.{All-nil, All-push, All-weaker, All-contains, Contains-append_left, Contains-push}
-use Rattle.orc_journal.specs.Entries.{kind_byte}
-use Rattle.orc_journal.specs.Orders.{number_of, next_stage, stage_of, follows, are_ordered, is_ordered}
+use Rattle.orc_journal.specs.Entries.{entry_kind, number_of}
+use Rattle.orc_journal.specs.Orders.{next_stage, stage_of, follows, are_ordered, is_ordered}
 use Rattle.orc_journal.specs.Laws.{IsUnnamed, HasIntent, HasOnlyIntents, IsUnsettled, MayFollow}
 use Rattle.orc_journal.specs.declared.entry.Entry.{Entry}
 use Rattle.orc_journal.specs.declared.entry.Entry.TheVariants.{Intent, Decide, Abort, Settled}
@@ -14,7 +14,7 @@ use Rattle.orc_journal.proofs.Orderings.{stage_of-push, parts}
 
 -- another entry of the transaction than an intent is there
 abbrev HasMore : List Entry → ℕ → Type 0
-HasMore before t = (entry : Entry) × Contains before entry × (number_of entry ≡ t) × (kind_byte entry ≡ 1 → ⊥)
+HasMore before t = (entry : Entry) × Contains before entry × (number_of entry ≡ t) × (entry_kind entry ≡ 1 → ⊥)
 
 -- what its stage tells of a transaction
 abbrev Tells : ℕ → List Entry → Option Stage → Type 0
@@ -37,22 +37,22 @@ module _ (xs : List Entry) (x : Entry) where
   -- an entry of another transaction changes nothing
   other_told : (t : ℕ) (s : Option Stage) → (number_of x ≡ t → ⊥) → Tells t xs s → Tells t (xs ++ x ∷ []) s
   other_told t None ne h = All-push (λ e. number_of e ≡ t → ⊥) xs x h ne
-  other_told t (Some Open) ne h = (intent_stays t h.0, All-push (λ e. number_of e ≡ t → kind_byte e ≡ 1) xs x h.1 (λ e. absurd (ne e)))
+  other_told t (Some Open) ne h = (intent_stays t h.0, All-push (λ e. number_of e ≡ t → entry_kind e ≡ 1) xs x h.1 (λ e. absurd (ne e)))
   other_told t (Some Decided) ne h = (intent_stays t h.0, more_stays t h.1, unsettled_stays t (λ e. ne (ap number_of e)) h.2)
   other_told t (Some Aborted) ne h = (intent_stays t h.0, more_stays t h.1, unsettled_stays t (λ e. ne (ap number_of e)) h.2)
   other_told t (Some Done) ne h = (intent_stays t h.0, Contains-append_left xs (x ∷ []) (Settled t) h.1)
 
 only_unsettled : (xs : List Entry) (t : ℕ) → HasOnlyIntents xs t → IsUnsettled xs t
-only_unsettled xs t h = All-weaker (λ e. number_of e ≡ t → kind_byte e ≡ 1) (λ e. e ≡ Settled t → ⊥) (λ e one same.
-    let kind : kind_byte e ≡ 4 = ap kind_byte same in
-    let first : kind_byte e ≡ 1 = one (ap number_of same) in
+only_unsettled xs t h = All-weaker (λ e. number_of e ≡ t → entry_kind e ≡ 1) (λ e. e ≡ Settled t → ⊥) (λ e one same.
+    let kind : entry_kind e ≡ 4 = ap entry_kind same in
+    let first : entry_kind e ≡ 1 = one (ap number_of same) in
     omega arith) xs h
 
 -- an entry of the transaction itself, where it may follow
 own_told : (s : Option Stage) (x : Entry) (xs : List Entry) → IsTrue (is_some (next_stage s x)) → Tells (number_of x) xs s → Tells (number_of x) (xs ++ x ∷ []) (next_stage s x)
 own_told None (Intent t call devices) xs fits h = (
   (call, devices, Contains-push xs (Intent t call devices)),
-  All-push (λ e. number_of e ≡ t → kind_byte e ≡ 1) xs (Intent t call devices) (All-weaker (λ e. number_of e ≡ t → ⊥) (λ e. number_of e ≡ t → kind_byte e ≡ 1) (λ e ne same. absurd (ne same)) xs h) (λ same. refl),
+  All-push (λ e. number_of e ≡ t → entry_kind e ≡ 1) xs (Intent t call devices) (All-weaker (λ e. number_of e ≡ t → ⊥) (λ e. number_of e ≡ t → entry_kind e ≡ 1) (λ e ne same. absurd (ne same)) xs h) (λ same. refl),
 )
 own_told (Some Open) (Decide t) xs fits h =
     (intent_stays xs (Decide t) t h.0, (Decide t, Contains-push xs (Decide t), refl, λ e. omega (arith, e)), unsettled_stays xs (Decide t) t (λ e. absurd cc) (only_unsettled xs t h.1))
@@ -91,7 +91,7 @@ named : (xs : List Entry) (t : ℕ) → HasIntent xs t → IsUnnamed xs t → �
 named xs t h none = All-contains (λ e. number_of e ≡ t → ⊥) xs (Intent t h.0 h.1) none h.2 refl
 
 has_more : (xs : List Entry) (t : ℕ) → HasMore xs t → HasOnlyIntents xs t → ⊥
-has_more xs t h only = h.3 (All-contains (λ e. number_of e ≡ t → kind_byte e ≡ 1) xs h.0 only h.1 h.2)
+has_more xs t h only = h.3 (All-contains (λ e. number_of e ≡ t → entry_kind e ≡ 1) xs h.0 only h.1 h.2)
 
 settled : (xs : List Entry) (t : ℕ) → Contains xs (Settled t) → IsUnsettled xs t → ⊥
 settled xs t h none = All-contains (λ e. e ≡ Settled t → ⊥) xs (Settled t) none h refl

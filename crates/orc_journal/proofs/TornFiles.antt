@@ -9,7 +9,7 @@ use Rattle.orc_disk.specs.Files.{written}
 use Rattle.orc_disk.specs.Torn.{Torn}
 use Rattle.orc_journal.specs.Entries.{entry_bytes, IsWritable}
 use Rattle.orc_journal.specs.Journals.{header, gated, journal_bytes, journal_length, is_closed, IsGated}
-use Rattle.orc_journal.specs.Opened.{IsBeforeOrAfter}
+use Rattle.orc_journal.specs.Appends.{IsBeforeOrAfter}
 use Rattle.orc_journal.specs.declared.entry.Entry.{Entry}
 
 -- what stands before a write is still there
@@ -30,7 +30,8 @@ torn_back at n file c le torn =
 closed_by : (gate : ℕ) → (gate ≡ 1 → ⊥) → IsTrue (is_closed gate)
 closed_by gate other = not_from_false (gate == 1) (ne_eqb gate 1 other)
 
-journal_push : (decls : List ℕ) (entries : List Entry) (entry : Entry) → journal_bytes decls (entries ++ entry ∷ []) ≡ journal_bytes decls entries ++ gated entry
+-- one entry more
+pub journal_push : (decls : List ℕ) (entries : List Entry) (entry : Entry) → journal_bytes decls (entries ++ entry ∷ []) ≡ journal_bytes decls entries ++ gated entry
 journal_push decls entries entry =
     ap (λ (l : List ℕ). header decls ++ l) (sym (flat_map_more gated [] entries entry)) ∙ sym (append_assoc (header decls) (flat_map gated entries) (gated entry))
 

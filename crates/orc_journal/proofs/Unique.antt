@@ -5,9 +5,9 @@ use Rattle.std.proofs.lemmas.List.{append_cancel_left}
 use Rattle.std.proofs.lemmas.List.Elements.{All-head, All-tail}
 use Rattle.orc_journal.specs.Entries.{entry_bytes, IsWritable}
 use Rattle.orc_journal.specs.Journals.{header, gated, is_ending, IsJournal, IsGated}
-use Rattle.orc_journal.specs.Reading.{HasEntry}
+use Rattle.orc_journal.specs.inside.Fronts.{HasEntry}
 use Rattle.orc_journal.specs.declared.entry.Entry.{Entry}
-use Rattle.orc_journal.proofs.Readings.{one_entry}
+use Rattle.orc_journal.proofs.Fronts.{one_entry}
 use Rattle.orc_journal.proofs.Headers.{one_header}
 
 -- entries behind open gates, up to one ending, are one list

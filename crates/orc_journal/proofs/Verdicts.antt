@@ -6,10 +6,10 @@ use Rattle.std.proofs.lemmas.List.Elements.{All-head, All-tail}
 use Rattle.orc_journal.specs.Entries.{entry_bytes, IsWritable}
 use Rattle.orc_journal.specs.Orders.{follows, are_ordered, is_ordered}
 use Rattle.orc_journal.specs.Journals.{header, gated, journal_bytes, is_ending, IsJournal, IsDamaged}
-use Rattle.orc_journal.specs.Reading.{HasEntry, HasNoNext}
 use Rattle.orc_journal.specs.Laws.{Verdict, a_journal, not_a_journal, foreign, damaged, Deserves}
+use Rattle.orc_journal.specs.inside.Fronts.{HasEntry, HasNoNext}
 use Rattle.orc_journal.specs.declared.entry.Entry.{Entry}
-use Rattle.orc_journal.proofs.Readings.{one_entry}
+use Rattle.orc_journal.proofs.Fronts.{one_entry}
 use Rattle.orc_journal.proofs.Orderings.{parts}
 use Rattle.orc_journal.proofs.Unique.{one_journal}
 

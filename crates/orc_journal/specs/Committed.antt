@@ -18,14 +18,14 @@ abbrev pub call_of : ℕ → List Entry → Option Call
 call_of t [] = None
 call_of t (entry ∷ entries) = option_or (call_of t entries) (call_in t entry)
 
-abbrev pub listed : Option Call → List Call
-listed None = []
-listed (Some call) = call ∷ []
+abbrev pub as_calls : Option Call → List Call
+as_calls None = []
+as_calls (Some call) = call ∷ []
 
 -- what an entry commits behind those before it: a Decide the call of its intent
 abbrev pub commits : List Entry → Entry → List Call
 commits before (Intent t call devices) = []
-commits before (Decide t) = listed (call_of t before)
+commits before (Decide t) = as_calls (call_of t before)
 commits before (Abort t) = []
 commits before (Settled t) = []
 

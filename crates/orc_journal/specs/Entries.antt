@@ -1,5 +1,5 @@
 -- The entries of a journal, and the bytes of each.
-use Rattle.std.specs.Prelude.{ℕ, ◌<◌, ◌^◌, List, ◌∷◌, ◌++◌, length, All}
+use Rattle.std.specs.Prelude.{ℕ, ◌<◌, ◌^◌, Bool, true, false, List, ◌∷◌, ◌++◌, length, All}
 use Rattle.std.specs.Int.{w16, w32, w64, to_be_bytes}
 use Rattle.std.specs.List.{flat_map}
 use Rattle.std.specs.List.Sorted.{IsStrictlySortedBy}
@@ -7,13 +7,21 @@ use Rattle.std.specs.Ordering.{nat_cmp}
 use Rattle.orc_call.specs.Encoding.{IsCall, call_bytes}
 use Rattle.orc_journal.specs.declared.entry.Entry.{Entry}
 use Rattle.orc_journal.specs.declared.entry.Entry.TheVariants.{Intent, Decide, Abort, Settled}
+use Rattle.orc_journal.specs.declared.kind.TheConstants.{INTENT, DECIDE, ABORT, SETTLED}
 
 -- the byte that stands for each kind of entry
-abbrev pub kind_byte : Entry → ℕ
-kind_byte (Intent t call devices) = 1
-kind_byte (Decide t) = 2
-kind_byte (Abort t) = 3
-kind_byte (Settled t) = 4
+abbrev pub entry_kind : Entry → ℕ
+entry_kind (Intent t call devices) = INTENT
+entry_kind (Decide t) = DECIDE
+entry_kind (Abort t) = ABORT
+entry_kind (Settled t) = SETTLED
+
+-- the number of the transaction that an entry names
+abbrev pub number_of : Entry → ℕ
+number_of (Intent t call devices) = t
+number_of (Decide t) = t
+number_of (Abort t) = t
+number_of (Settled t) = t
 
 -- how many devices, and the number of each
 abbrev pub devices_bytes : List ℕ → List ℕ
@@ -28,7 +36,7 @@ payload (Settled t) = to_be_bytes w64 t
 
 -- the kind, the length of what it says, and what it says
 abbrev pub entry_bytes : Entry → List ℕ
-entry_bytes entry = kind_byte entry ∷ to_be_bytes w32 (length (payload entry)) ++ payload entry
+entry_bytes entry = entry_kind entry ∷ to_be_bytes w32 (length (payload entry)) ++ payload entry
 
 -- device numbers that fit their fields, ascending
 pub record AreDevices (devices : List ℕ) : Type 0 where
@@ -47,3 +55,10 @@ IsEntry (Settled t) = t < 2 ^ 64
 pub record IsWritable (entry : Entry) : Type 0 where
   pub fields : IsEntry entry
   pub length : length (payload entry) < 2 ^ 32
+
+-- the entries whose bytes take memory to write
+abbrev pub is_intent : Entry → Bool
+is_intent (Intent t call devices) = true
+is_intent (Decide t) = false
+is_intent (Abort t) = false
+is_intent (Settled t) = false

@@ -1,14 +1,16 @@
 -- What the bytes of a file are as a journal.
-use Rattle.std.specs.Prelude.{◌≡◌, ℕ, ◌+◌, ◌<◌, Bool, true, not, ◌==◌, List, [], ◌∷◌, ◌++◌, codes, length, take, drop, All, IsTrue, if◌then◌else◌}
+use Rattle.std.specs.Prelude.{◌≡◌, ℕ, ◌+◌, ◌<◌, Bool, true, not, ◌==◌, List, [], ◌∷◌, ◌++◌, length, take, drop, All, IsTrue, if◌then◌else◌}
 use Rattle.std.specs.Int.{w32, to_be_bytes, from_be_bytes}
 use Rattle.std.specs.List.{flat_map}
 use Rattle.orc_journal.specs.Entries.{entry_bytes, IsWritable}
 use Rattle.orc_journal.specs.Orders.{is_ordered, follows}
 use Rattle.orc_journal.specs.declared.entry.Entry.{Entry}
+use Rattle.orc_journal.specs.declared.gate.TheConstants.{OPEN}
+use Rattle.orc_journal.specs.declared.header.TheConstants.{MAGIC, HEADER_LEN}
 
 -- the first bytes of each journal
 abbrev pub magic : List ℕ
-magic = codes "ORCJRNL1"
+magic = MAGIC.now
 
 -- the header: the first bytes, the length of the declarations, and the declarations
 abbrev pub header : List ℕ → List ℕ
@@ -16,15 +18,15 @@ header decls = magic ++ to_be_bytes w32 (length decls) ++ decls
 
 -- an open gate and the entry behind it
 abbrev pub gated : Entry → List ℕ
-gated entry = 1 ∷ entry_bytes entry
+gated entry = OPEN ∷ entry_bytes entry
 
 -- the header, and each entry behind its gate
 abbrev pub journal_bytes : List ℕ → List Entry → List ℕ
 journal_bytes decls entries = header decls ++ flat_map gated entries
 
--- 1 is open, every other value closed
+-- every value but one is closed
 abbrev pub is_closed : ℕ → Bool
-is_closed gate = not (gate == 1)
+is_closed gate = not (gate == OPEN)
 
 -- the end of the file in the gate's place, or a closed gate and whatever follows
 abbrev pub is_ending : List ℕ → Bool
@@ -59,7 +61,7 @@ pub record IsNotJournal (file : List ℕ) : Type 0 where
 
 -- the declarations that it holds, as far as they are there
 abbrev pub stored : List ℕ → List ℕ
-stored file = take (from_be_bytes w32 (take 4 (drop 8 file))) (drop 12 file)
+stored file = take (from_be_bytes w32 (take 4 (drop (length magic) file))) (drop HEADER_LEN file)
 
 -- the length of the longest front that two texts have in common
 abbrev pub common : List ℕ → List ℕ → ℕ
@@ -67,7 +69,8 @@ common [] ys = 0
 common (x ∷ xs) [] = 0
 common (x ∷ xs) (y ∷ ys) = if x == y then 1 + common xs ys else 0
 
--- it is a journal of other declarations, which differ first at this offset in them; a text that ended counts as different
+-- it is a journal of other declarations, which differ first at this offset in them; a text that ended counts as
+-- different
 pub record IsForeign (file decls : List ℕ) (at : ℕ) : Type 0 where
   pub begins : take (length magic) file ≡ magic
   pub other : (rest : List ℕ) → file ≡ header decls ++ rest → ⊥
@@ -77,8 +80,9 @@ pub record IsForeign (file decls : List ℕ) (at : ℕ) : Type 0 where
 pub record IsDamaged (file decls : List ℕ) (at : ℕ) : Type 0 where
   pub before : List Entry
   pub rest : List ℕ
-  pub bytes : file ≡ journal_bytes decls before ++ 1 ∷ rest
+  pub bytes : file ≡ journal_bytes decls before ++ OPEN ∷ rest
   pub place : at ≡ length (journal_bytes decls before) + 1
   pub writable : All IsWritable before
   pub ordered : IsTrue (is_ordered before)
-  pub none : (entry : Entry) (more : List ℕ) → rest ≡ entry_bytes entry ++ more → IsWritable entry → IsTrue (follows before entry) → ⊥
+  pub none : (entry : Entry) (more : List ℕ) → rest ≡ entry_bytes entry ++ more → IsWritable entry
+      → IsTrue (follows before entry) → ⊥

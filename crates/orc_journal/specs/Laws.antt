@@ -1,15 +1,18 @@
 -- A file is one journal only, and is refused for one reason only; what the order rules ask.
 use Rattle.std.specs.Prelude.{◌≡◌, ◌↔◌, ℕ, ◌<◌, ◌^◌, List, length, All, Contains, IsTrue}
 use Rattle.orc_call.specs.declared.call.Call.{Call}
-use Rattle.orc_journal.specs.Entries.{kind_byte}
-use Rattle.orc_journal.specs.Orders.{number_of, follows, is_ordered}
+use Rattle.orc_journal.specs.Entries.{entry_kind, number_of}
+use Rattle.orc_journal.specs.Orders.{follows, is_ordered}
 use Rattle.orc_journal.specs.Journals.{IsJournal, IsNotJournal, IsForeign, IsDamaged}
 use Rattle.orc_journal.specs.declared.entry.Entry.{Entry}
 use Rattle.orc_journal.specs.declared.entry.Entry.TheVariants.{Intent, Decide, Abort, Settled}
+use Rattle.orc_journal.specs.declared.kind.TheConstants.{INTENT}
 
 -- A file is the journal of one list of entries only.
 abbrev pub HasOneListOfEntries : Type 0
-HasOneListOfEntries = (file decls : List ℕ) (entries others : List Entry) → IsJournal file decls entries → IsJournal file decls others → entries ≡ others
+HasOneListOfEntries =
+    (file decls : List ℕ) (entries others : List Entry)
+    → IsJournal file decls entries → IsJournal file decls others → entries ≡ others
 
 -- It is the journal of one text of declarations only.
 abbrev pub HasOneTextOfDeclarations : Type 0
@@ -30,9 +33,12 @@ Deserves file decls not_a_journal = IsNotJournal file
 Deserves file decls (foreign at) = IsForeign file decls at
 Deserves file decls (damaged at) = IsDamaged file decls at
 
--- A file deserves one verdict only. So where a cause of refusal holds, nothing else is answered, unless memory or the disk fails.
+-- A file deserves one verdict only. So where a cause of refusal holds, nothing else is answered, unless memory or the
+-- disk fails.
 abbrev pub HasOneVerdict : Type 0
-HasOneVerdict = (file decls : List ℕ) (verdict other : Verdict) → Deserves file decls verdict → Deserves file decls other → verdict ≡ other
+HasOneVerdict =
+    (file decls : List ℕ) (verdict other : Verdict)
+    → Deserves file decls verdict → Deserves file decls other → verdict ≡ other
 
 -- what an intent needs: no earlier entry names its transaction
 abbrev pub IsUnnamed : List Entry → ℕ → Type 0
@@ -44,7 +50,7 @@ HasIntent before t = (call : Call) × (devices : List ℕ) × Contains before (I
 
 -- and nothing else of it
 abbrev pub HasOnlyIntents : List Entry → ℕ → Type 0
-HasOnlyIntents before t = All (λ entry. number_of entry ≡ t → kind_byte entry ≡ 1) before
+HasOnlyIntents before t = All (λ entry. number_of entry ≡ t → entry_kind entry ≡ INTENT) before
 
 -- it is not settled
 abbrev pub IsUnsettled : List Entry → ℕ → Type 0
@@ -57,7 +63,9 @@ MayFollow before (Decide t) = HasIntent before t × HasOnlyIntents before t
 MayFollow before (Abort t) = HasIntent before t × HasOnlyIntents before t
 MayFollow before (Settled t) = HasIntent before t × IsUnsettled before t
 
--- Behind entries in order another one may stand exactly where it finds what it asks: an intent is the first entry of its
--- transaction, a Decide or Abort comes behind the intent and nothing else, and a Settled behind the intent, once.
+-- Behind entries in order another one may stand exactly where it finds what it asks: an intent is the first entry of
+-- its transaction, a Decide or Abort comes behind the intent and nothing else, and a Settled behind the intent, once.
 abbrev pub KeepsOrder : Type 0
-KeepsOrder = (before : List Entry) (entry : Entry) → IsTrue (is_ordered before) → (IsTrue (follows before entry) ↔ MayFollow before entry)
+KeepsOrder =
+    (before : List Entry) (entry : Entry) → IsTrue (is_ordered before)
+    → (IsTrue (follows before entry) ↔ MayFollow before entry)

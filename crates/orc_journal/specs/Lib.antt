@@ -1,9 +1,11 @@
-pub mod Counts
 pub mod Entries
 pub mod Orders
-pub mod Reading
 pub mod Journals
-pub mod Opened
-pub mod Faults
-pub mod Laws
 pub mod Committed
+pub mod Hearing
+pub mod Faults
+pub mod Opened
+pub mod Opening
+pub mod Appends
+pub mod Laws
+pub mod inside

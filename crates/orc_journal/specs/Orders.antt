@@ -1,21 +1,12 @@
 -- Which entry may follow which.
-use Rattle.std.specs.Prelude.{◌≡◌, ℕ, Bool, true, ◌&&◌, ◌==◌, List, [], ◌∷◌, ◌++◌, Option, is_some, if◌then◌else◌}
+use Rattle.std.specs.Prelude.{ℕ, Bool, true, ◌&&◌, ◌==◌, List, [], ◌∷◌, ◌++◌, Option, is_some, if◌then◌else◌}
 use Rattle.std.specs.declared.option.Option.TheVariants.{None, Some}
 use Rattle.std.specs.List.{fold}
-use Rattle.std.specs.Ordering.{nat_cmp}
-use Rattle.std.specs.BTreeMap.{get}
+use Rattle.orc_journal.specs.Entries.{number_of}
 use Rattle.orc_journal.specs.declared.entry.Entry.{Entry}
 use Rattle.orc_journal.specs.declared.entry.Entry.TheVariants.{Intent, Decide, Abort, Settled}
-use Rattle.orc_journal.specs.declared.order.Stages.{Stages}
 use Rattle.orc_journal.specs.declared.stage.Stage.{Stage}
 use Rattle.orc_journal.specs.declared.stage.Stage.TheVariants as stage
-
--- the transaction that an entry names
-abbrev pub number_of : Entry → ℕ
-number_of (Intent t call devices) = t
-number_of (Decide t) = t
-number_of (Abort t) = t
-number_of (Settled t) = t
 
 -- The stage of a transaction behind an entry that names it, where the entry may follow: an intent comes first and once,
 -- then at most one of Decide and Abort, then at most one Settled.
@@ -34,10 +25,6 @@ stage_after t before entry = if number_of entry == t then next_stage before entr
 
 abbrev pub stage_of : ℕ → List Entry → Option Stage
 stage_of t entries = fold (stage_after t) None entries
-
--- what is known of each transaction is its stage behind these entries
-abbrev pub AreStages : Stages → List Entry → Type 0
-AreStages stages entries = (t : ℕ) → get nat_cmp stages.by_number t ≡ stage_of t entries
 
 -- the entry may stand behind these
 abbrev pub follows : List Entry → Entry → Bool

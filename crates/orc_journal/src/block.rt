@@ -1,9 +1,11 @@
 //! What an append writes: an entry, and a closed gate behind it.
 ghost use Rattle.std.specs.Prelude.{◌≡◌, ◌⊎◌, ◌≤◌, ◌^◌, ◌++◌, ◌∷◌, [], length, not, is_some, IfSome, IfOk, IfErr};
 ghost use Rattle.std.specs.Int.{w32, w64, to_be_bytes};
-ghost use Rattle.orc_journal.specs.Entries.{IsEntry, kind_byte, payload, entry_bytes};
-ghost use Rattle.orc_journal.specs.Opened.{is_intent};
+ghost use Rattle.orc_journal.specs.Entries.{IsEntry, entry_kind, payload, is_intent};
+ghost use Rattle.orc_journal.specs.Appends.{block_bytes};
 
+use crate::gate::CLOSED;
+use crate::kind::{ABORT, DECIDE, INTENT, SETTLED};
 use crate::writing::payload_of;
 use crate::{AppendFault, Entry};
 use orc_text::Memory;
@@ -13,27 +15,27 @@ const SHORT_LEN: usize = 14;
 
 // The byte that stands for the kind of an entry.
 fn kind_of(entry: &Entry) -> u8
-    ensures { result ≡ kind_byte entry.now }
+    ensures { result ≡ entry_kind entry.now }
 {
     match entry {
-        Entry::Intent { .. } => 1,
-        Entry::Decide { .. } => 2,
-        Entry::Abort { .. } => 3,
-        Entry::Settled { .. } => 4,
+        Entry::Intent { .. } => INTENT,
+        Entry::Decide { .. } => DECIDE,
+        Entry::Abort { .. } => ABORT,
+        Entry::Settled { .. } => SETTLED,
     }
 }
 
 // The block of an entry of this kind that says only a number.
 fn numbered(kind: u8, t: u64) -> [u8; SHORT_LEN]
-    ensures { result ≡ kind ∷ (to_be_bytes w32 8 ++ (to_be_bytes w64 t ++ 0 ∷ [])) }
+    ensures { result ≡ kind ∷ (to_be_bytes w32 8 ++ (to_be_bytes w64 t ++ CLOSED ∷ [])) }
 {
     let [a, b, c, d, e, f, g, h] = t.to_be_bytes();
-    [kind, 0, 0, 0, 8, a, b, c, d, e, f, g, h, 0]
+    [kind, 0, 0, 0, 8, a, b, c, d, e, f, g, h, CLOSED]
 }
 
 /// The block of an entry that takes no memory, which is any but an intent.
 pub(crate) fn short_block(entry: &Entry) -> Option<[u8; SHORT_LEN]>
-    ensures block { IfSome result (λ block. block ≡ entry_bytes entry.now ++ 0 ∷ []) }
+    ensures block { IfSome result (λ block. block ≡ block_bytes entry.now) }
     ensures some { is_some result ≡ not (is_intent entry.now) }
 {
     match entry {
@@ -46,13 +48,13 @@ pub(crate) fn short_block(entry: &Entry) -> Option<[u8; SHORT_LEN]>
 
 // A kind, the length of what is said, what is said, and a closed gate.
 fn framed(alloc: Global, kind: u8, len: u32, said: &[u8]) -> Result<Vec<u8>, Memory>
-    ensures { IfOk result (λ block. block.items ≡ kind ∷ (to_be_bytes w32 len ++ (said.now ++ 0 ∷ []))) }
+    ensures { IfOk result (λ block. block.items ≡ kind ∷ (to_be_bytes w32 len ++ (said.now ++ CLOSED ∷ []))) }
 {
     let mut block = Vec::new(alloc);
     block.push(kind)?;
     block.extend_from_slice(&len.to_be_bytes())?;
     block.extend_from_slice(said)?;
-    block.push(0)?;
+    block.push(CLOSED)?;
     Ok(block)
 }
 
@@ -60,8 +62,9 @@ fn framed(alloc: Global, kind: u8, len: u32, said: &[u8]) -> Result<Vec<u8>, Mem
 /// its own length, and then the journal is full.
 pub(crate) fn long_block(alloc: Global, entry: &Entry, len: u64) -> Result<Vec<u8>, AppendFault>
     requires { IsEntry entry.now }
-    ensures block { IfOk result (λ block. block.items ≡ entry_bytes entry.now ++ 0 ∷ []) }
-    ensures refused { IfErr result (λ fault. (fault ≡ AppendFault.Memory) ⊎ ((fault ≡ AppendFault.Full len) × (2 ^ 32 ≤ length (payload entry.now)))) }
+    ensures block { IfOk result (λ block. block.items ≡ block_bytes entry.now) }
+    ensures refused { IfErr result (λ fault. (fault ≡ AppendFault.Memory)
+        ⊎ ((fault ≡ AppendFault.Full len) × (2 ^ 32 ≤ length (payload entry.now)))) }
 {
     let said = payload_of(alloc, entry)?;
     match u32::try_from(said.len()) {

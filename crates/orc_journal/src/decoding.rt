@@ -1,14 +1,15 @@
 //! Reading one entry from the front of the bytes.
 ghost use Rattle.std.specs.Prelude.{◌≡◌, [], ◌↔◌, ◌*◌, ◌<◌, length, IfOk, IsTrue, MatchOption};
 ghost use Rattle.std.specs.List.Sorted.{IsStrictlyIncreasing};
-ghost use Rattle.orc_journal.specs.Reading.{HasEntry, HasNoEntry, HasFrame, HasNoFrame, Says, SaysNothing, HasNumber, IsNoNumber, HasCount, HasCall, HasNoCall, HasDevices, HasNoDevices, AreNumbers};
+ghost use Rattle.orc_journal.specs.inside.Fronts.{HasEntry, HasNoEntry, HasFrame, HasNoFrame, Says, SaysNothing, HasNumber, IsNoNumber, HasCount, HasCall, HasNoCall, HasDevices, HasNoDevices, AreNumbers};
 
 use crate::Entry;
+use crate::kind::{ABORT, DECIDE, INTENT, SETTLED};
 use orc_call::{Call, CodecFault, decode};
 use orc_text::{Memory, Row};
 use std::alloc::Global;
 
-/// The number of a transaction.
+// The number of a transaction.
 fn number_at(bytes: &[u8]) -> Option<(u64, &[u8])>
     ensures { MatchOption result (length bytes.now < 8) (λ read. HasNumber bytes.now read.0 read.1.now) }
 {
@@ -22,9 +23,10 @@ fn number_at(bytes: &[u8]) -> Option<(u64, &[u8])>
     Some((number, rest))
 }
 
-/// A call.
+// A call.
 fn call_at(alloc: Global, bytes: &[u8]) -> Result<Option<(Call, &[u8])>, Memory>
-    ensures { IfOk result (λ found. MatchOption found (HasNoCall bytes.now) (λ read. HasCall bytes.now read.0 read.1.now)) }
+    ensures { IfOk result (λ found.
+        MatchOption found (HasNoCall bytes.now) (λ read. HasCall bytes.now read.0 read.1.now)) }
 {
     match decode(alloc, bytes) {
         Ok((call, len)) => Ok(Some((call, &bytes[len..]))),
@@ -33,7 +35,7 @@ fn call_at(alloc: Global, bytes: &[u8]) -> Result<Option<(Call, &[u8])>, Memory>
     }
 }
 
-/// So many numbers of two bytes each.
+// So many numbers of two bytes each.
 fn numbers_of(alloc: Global, count: u16, bytes: &[u8]) -> Result<Row<u32>, Memory>
     requires { length bytes.now ≡ 2 * count }
     ensures { IfOk result (AreNumbers bytes.now count) }
@@ -48,7 +50,7 @@ fn numbers_of(alloc: Global, count: u16, bytes: &[u8]) -> Result<Row<u32>, Memor
     Ok(numbers)
 }
 
-/// Whether each number is less than the next one.
+// Whether each number is less than the next one.
 fn is_ascending(numbers: &[u32]) -> bool
     ensures { IsTrue result ↔ IsStrictlyIncreasing numbers.now }
 {
@@ -60,7 +62,7 @@ fn is_ascending(numbers: &[u32]) -> bool
     true
 }
 
-/// How many numbers follow.
+// How many numbers follow.
 fn count_at(bytes: &[u8]) -> Option<(u16, &[u8])>
     ensures { MatchOption result (length bytes.now < 2) (λ read. HasCount bytes.now read.0 read.1.now) }
 {
@@ -71,7 +73,7 @@ fn count_at(bytes: &[u8]) -> Option<(u16, &[u8])>
     Some((u16::from_be_bytes([front[0], front[1]]), rest))
 }
 
-/// The numbers of devices, to the end of the bytes.
+// The numbers of devices, to the end of the bytes.
 fn devices_of(alloc: Global, bytes: &[u8]) -> Result<Option<Row<u32>>, Memory>
     ensures { IfOk result (λ found. MatchOption found (HasNoDevices bytes.now) (HasDevices bytes.now)) }
 {
@@ -88,9 +90,9 @@ fn devices_of(alloc: Global, bytes: &[u8]) -> Result<Option<Row<u32>>, Memory>
     Ok(Some(devices))
 }
 
-/// The intent of this payload.
+// The intent of this payload.
 fn intent_of(alloc: Global, payload: &[u8]) -> Result<Option<Entry>, Memory>
-    ensures { IfOk result (λ found. MatchOption found (SaysNothing 1 payload.now) (Says 1 payload.now)) }
+    ensures { IfOk result (λ found. MatchOption found (SaysNothing INTENT payload.now) (Says INTENT payload.now)) }
 {
     let Some((t, rest)) = number_at(payload) else {
         return Ok(None);
@@ -104,7 +106,7 @@ fn intent_of(alloc: Global, payload: &[u8]) -> Result<Option<Entry>, Memory>
     }
 }
 
-/// The number of a transaction, to the end of the bytes.
+// The number of a transaction, to the end of the bytes.
 fn only_number(payload: &[u8]) -> Option<u64>
     ensures { MatchOption result (IsNoNumber payload.now) (λ t. HasNumber payload.now t []) }
 {
@@ -112,32 +114,32 @@ fn only_number(payload: &[u8]) -> Option<u64>
     if rest.is_empty() { Some(t) } else { None }
 }
 
-/// The entry of this kind and payload. It is no intent, and so it says no more than its number.
+// The entry of this kind and payload. It is no intent, and so it says no more than its number.
 fn mark_of(kind: u8, payload: &[u8]) -> Option<Entry>
-    requires { kind ≡ 1 → ⊥ }
+    requires { kind ≡ INTENT → ⊥ }
     ensures { MatchOption result (SaysNothing kind payload.now) (Says kind payload.now) }
 {
     let t = only_number(payload)?;
     match kind {
-        2 => Some(Entry::Decide { t }),
-        3 => Some(Entry::Abort { t }),
-        4 => Some(Entry::Settled { t }),
+        DECIDE => Some(Entry::Decide { t }),
+        ABORT => Some(Entry::Abort { t }),
+        SETTLED => Some(Entry::Settled { t }),
         _ => None,
     }
 }
 
-/// The entry of this kind and payload.
+// The entry of this kind and payload.
 fn entry_of(alloc: Global, kind: u8, payload: &[u8]) -> Result<Option<Entry>, Memory>
     ensures { IfOk result (λ found. MatchOption found (SaysNothing kind payload.now) (Says kind payload.now)) }
 {
-    if kind == 1 {
+    if kind == INTENT {
         intent_of(alloc, payload)
     } else {
         Ok(mark_of(kind, payload))
     }
 }
 
-/// The kind of an entry, and its payload.
+// The kind of an entry, and its payload.
 fn frame_at(bytes: &[u8]) -> Option<(u8, &[u8], &[u8])>
     ensures { MatchOption result (HasNoFrame bytes.now) (λ read. HasFrame bytes.now read.0 read.1.now read.2.now) }
 {
@@ -155,7 +157,8 @@ fn frame_at(bytes: &[u8]) -> Option<(u8, &[u8], &[u8])>
 
 /// The entry that the bytes begin with, and what follows it.
 pub(crate) fn entry_at(alloc: Global, bytes: &[u8]) -> Result<Option<(Entry, &[u8])>, Memory>
-    ensures { IfOk result (λ found. MatchOption found (HasNoEntry bytes.now) (λ read. HasEntry bytes.now read.0 read.1.now)) }
+    ensures { IfOk result (λ found.
+        MatchOption found (HasNoEntry bytes.now) (λ read. HasEntry bytes.now read.0 read.1.now)) }
 {
     match frame_at(bytes) {
         Some((kind, payload, rest)) => match entry_of(alloc, kind, payload)? {

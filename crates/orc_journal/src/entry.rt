@@ -1,6 +1,10 @@
 //! Entries of a journal.
-use orc_call::Call;
-use orc_text::Row;
+ghost use Rattle.std.specs.Prelude.{◌≡◌};
+ghost use Rattle.orc_journal.specs.Entries.{number_of};
+ghost use Rattle.orc_journal.specs.Journals.{gated};
+
+use orc_call::{Call, encoded_len};
+use orc_text::{Counted, Row};
 
 /// What the journal records of a transaction, which is given by its number.
 #[derive(Debug, PartialEq, Eq, Drop)]
@@ -23,4 +27,35 @@ pub enum Entry {
     Settled {
         t: u64,
     },
+}
+
+impl Entry {
+    /// The number of the transaction that the entry names.
+    pub fn number(&self) -> u64
+        ensures { result ≡ number_of self.now }
+    {
+        match self {
+            Entry::Intent { t, .. } => *t,
+            Entry::Decide { t } => *t,
+            Entry::Abort { t } => *t,
+            Entry::Settled { t } => *t,
+        }
+    }
+}
+
+// Counts an entry with the gate before it.
+impl Counted for Entry {
+    ghost spelling = { gated };
+
+    fn count(&self) -> u64 {
+        match self {
+            Entry::Intent { call, devices, .. } => {
+                let numbers = (devices.len() as u64).saturating_mul(2);
+                encoded_len(call).saturating_add(16).saturating_add(numbers)
+            }
+            Entry::Decide { .. } => 14,
+            Entry::Abort { .. } => 14,
+            Entry::Settled { .. } => 14,
+        }
+    }
 }

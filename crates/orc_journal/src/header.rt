@@ -1,32 +1,39 @@
 //! The header of a journal.
-ghost use Rattle.std.specs.Prelude.{◌≡◌, ◌++◌, ◌<◌, ◌^◌, length, take, drop, MatchOption, MatchResult};
+ghost use Rattle.std.specs.Prelude.{◌≡◌, ◌++◌, ◌<◌, ◌^◌, length, take, drop, MatchOption, MatchResult, IfOk, ◌∷◌, []};
 ghost use Rattle.std.specs.Int.{w32, to_be_bytes, from_be_bytes};
-ghost use Rattle.orc_journal.specs.Reading.{BeginsOtherwise};
 ghost use Rattle.orc_journal.specs.Journals.{common, header};
-ghost use Rattle.orc_journal.specs.Faults.{IsReadCauseOf};
+ghost use Rattle.orc_journal.specs.inside.Fronts.{BeginsOtherwise};
+ghost use Rattle.orc_journal.specs.inside.ReadFaults.{IsReadFault};
 
+use crate::gate::CLOSED;
 use crate::reading::ReadFault;
+use orc_text::Memory;
+use std::alloc::Global;
 
 /// The first bytes of each journal.
 pub(crate) const MAGIC: &[u8; 8] = b"ORCJRNL1";
 
-/// What stands behind this front.
+/// The length of a header without its declarations: the first bytes, and the length of those.
+pub(crate) const HEADER_LEN: u64 = 12;
+
+// What stands behind this front.
 fn behind<'a>(bytes: &'a [u8], front: &[u8]) -> Option<&'a [u8]>
     ensures { MatchOption result (BeginsOtherwise bytes.now front.now) (λ rest. bytes.now ≡ front.now ++ rest.now) }
 {
     bytes.strip_prefix(front)
 }
 
-/// What stands behind the length of these declarations, and behind them.
+// What stands behind the length of these declarations, and behind them.
 fn behind_decls<'a>(bytes: &'a [u8], decls: &[u8]) -> Option<&'a [u8]>
     requires { length decls.now < 2 ^ 32 }
-    ensures { MatchOption result (BeginsOtherwise bytes.now (to_be_bytes w32 (length decls.now) ++ decls.now)) (λ rest. bytes.now ≡ to_be_bytes w32 (length decls.now) ++ (decls.now ++ rest.now)) }
+    ensures { MatchOption result (BeginsOtherwise bytes.now (to_be_bytes w32 (length decls.now) ++ decls.now))
+        (λ rest. bytes.now ≡ to_be_bytes w32 (length decls.now) ++ (decls.now ++ rest.now)) }
 {
     let rest = behind(bytes, &(decls.len() as u32).to_be_bytes())?;
     behind(rest, decls)
 }
 
-/// The declarations whose length the bytes begin with, as far as they are there.
+// The declarations whose length the bytes begin with, as far as they are there.
 fn stored(bytes: &[u8]) -> &[u8]
     ensures { result.now ≡ take (from_be_bytes w32 (take 4 bytes.now)) (drop 4 bytes.now) }
 {
@@ -38,7 +45,7 @@ fn stored(bytes: &[u8]) -> &[u8]
     if len < rest.len() { &rest[..len] } else { rest }
 }
 
-/// The length of the longest front that two texts have in common.
+// The length of the longest front that two texts have in common.
 fn common(xs: &[u8], ys: &[u8]) -> usize
     ensures { result ≡ common xs.now ys.now }
 {
@@ -53,7 +60,7 @@ fn common(xs: &[u8], ys: &[u8]) -> usize
 pub(crate) fn behind_header<'a>(bytes: &'a [u8], decls: &[u8]) -> Result<&'a [u8], ReadFault>
     requires some { 0 < length bytes.now }
     requires short { length decls.now < 2 ^ 32 }
-    ensures { MatchResult result (λ rest. bytes.now ≡ header decls.now ++ rest.now) (IsReadCauseOf bytes.now decls.now) }
+    ensures { MatchResult result (λ rest. bytes.now ≡ header decls.now ++ rest.now) (IsReadFault bytes.now decls.now) }
 {
     let Some(rest) = behind(bytes, MAGIC) else {
         return Err(ReadFault::NotJournal);
@@ -64,4 +71,17 @@ pub(crate) fn behind_header<'a>(bytes: &'a [u8], decls: &[u8]) -> Result<&'a [u8
             at: common(stored(rest), decls) as u64,
         }),
     }
+}
+
+/// The header, and a closed gate behind it.
+pub(crate) fn header_block(alloc: Global, decls: &[u8]) -> Result<Vec<u8>, Memory>
+    requires { length decls.now < 2 ^ 32 }
+    ensures { IfOk result (λ block. block.items ≡ header decls.now ++ CLOSED ∷ []) }
+{
+    let mut block = Vec::new(alloc);
+    block.extend_from_slice(MAGIC)?;
+    block.extend_from_slice(&(decls.len() as u32).to_be_bytes())?;
+    block.extend_from_slice(decls)?;
+    block.push(CLOSED)?;
+    Ok(block)
 }

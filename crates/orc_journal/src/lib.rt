@@ -7,12 +7,14 @@
 #![tactic(auto)]
 
 mod block;
-mod counting;
+mod committed;
 mod decoding;
 mod entry;
 mod fault;
+mod gate;
 mod header;
 mod journal;
+mod kind;
 mod laws;
 mod opening;
 mod order;
@@ -23,6 +25,7 @@ mod stage;
 mod tests;
 mod writing;
 
+pub use committed::committed_by;
 pub use entry::Entry;
 pub use fault::{AppendFault, OpenFault};
 pub use journal::Journal;

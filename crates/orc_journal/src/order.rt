@@ -1,7 +1,8 @@
 //! The order rules of a journal, kept entry by entry.
 ghost use Rattle.std.specs.Prelude.{◌≡◌, ◌++◌, ◌∷◌, [], List, IfOk, IsTrue};
 ghost use Rattle.orc_journal.specs.declared.entry.Entry.{Entry};
-ghost use Rattle.orc_journal.specs.Orders.{number_of, next_stage, follows, AreStages};
+ghost use Rattle.orc_journal.specs.Orders.{next_stage, follows};
+ghost use Rattle.orc_journal.specs.inside.Stages.{AreStages};
 
 use crate::Entry;
 use crate::stage::Stage;
@@ -15,19 +16,7 @@ pub(crate) struct Stages {
     by_number: BTreeMap<u64, Stage>,
 }
 
-/// The number of the transaction that an entry names.
-fn number_of(entry: &Entry) -> u64
-    ensures { result ≡ number_of entry.now }
-{
-    match entry {
-        Entry::Intent { t, .. } => *t,
-        Entry::Decide { t } => *t,
-        Entry::Abort { t } => *t,
-        Entry::Settled { t } => *t,
-    }
-}
-
-/// The stage of a transaction behind an entry that names it, where the entry may follow.
+// The stage of a transaction behind an entry that names it, where the entry may follow.
 fn next_stage(before: Option<Stage>, entry: &Entry) -> Option<Stage>
     ensures { result ≡ next_stage before entry.now }
 {
@@ -54,10 +43,12 @@ impl Stages {
 
     /// Whether the entry may stand behind those so far. If it may, it is one of them from now on.
     pub(crate) fn take(&mut self, entry: &Entry) -> Result<bool, Memory>
-        ensures fits { (before : List Entry) → AreStages self.old before → IfOk result (λ fits. fits ≡ follows before entry.now) }
-        ensures counted { (before : List Entry) → AreStages self.old before → IfOk result (λ fits. IsTrue fits → AreStages self.new (before ++ entry.now ∷ [])) }
+        ensures fits { (before : List Entry) → AreStages self.old before
+            → IfOk result (λ fits. fits ≡ follows before entry.now) }
+        ensures counted { (before : List Entry) → AreStages self.old before
+            → IfOk result (λ fits. IsTrue fits → AreStages self.new (before ++ entry.now ∷ [])) }
     {
-        let t = number_of(entry);
+        let t = entry.number();
         match next_stage(self.by_number.get(&t).copied(), entry) {
             Some(stage) => {
                 self.by_number.insert(t, stage)?;

@@ -1,12 +1,14 @@
 //! What the bytes of a file hold as a journal.
 ghost use Rattle.std.specs.Prelude.{◌≡◌, ◌<◌, ◌^◌, ◌∷◌, length, IfOk, IfErr, IsTrue, MatchOption};
-ghost use Rattle.orc_journal.specs.Orders.{is_ordered, AreStages};
-ghost use Rattle.orc_journal.specs.Reading.{HasNoNext, HasNext};
+ghost use Rattle.orc_journal.specs.Orders.{is_ordered};
 ghost use Rattle.orc_journal.specs.Journals.{IsJournal, journal_length, is_ending};
-ghost use Rattle.orc_journal.specs.Faults.{IsReadCauseOf};
+ghost use Rattle.orc_journal.specs.inside.Stages.{AreStages};
+ghost use Rattle.orc_journal.specs.inside.Fronts.{HasNoNext, HasNext};
+ghost use Rattle.orc_journal.specs.inside.ReadFaults.{IsReadFault};
 
 use crate::Entry;
 use crate::decoding::entry_at;
+use crate::gate::OPEN;
 use crate::header::behind_header;
 use crate::order::Stages;
 use orc_text::Memory;
@@ -40,25 +42,27 @@ impl From<Memory> for ReadFault {
     }
 }
 
-/// What stands behind an open gate.
+// What stands behind an open gate.
 fn behind_gate(bytes: &[u8]) -> Option<&[u8]>
-    ensures { MatchOption result (IsTrue (is_ending bytes.now)) (λ rest. bytes.now ≡ 1 ∷ rest.now) }
+    ensures { MatchOption result (IsTrue (is_ending bytes.now)) (λ rest. bytes.now ≡ OPEN ∷ rest.now) }
 {
     match bytes {
-        [1, rest @ ..] => Some(rest),
+        [OPEN, rest @ ..] => Some(rest),
         _ => None,
     }
 }
 
-/// Reads the entry that the bytes begin with, where it may stand behind those that were read
-/// before, and answers what follows it.
+// Reads the entry that the bytes begin with, where it may stand behind those that were read
+// before, and answers what follows it.
 fn read_entry<'a>(
     alloc: Global,
     entries: &mut Vec<Entry>,
     stages: &mut Stages,
     bytes: &'a [u8],
 ) -> Result<Option<&'a [u8]>, Memory>
-    ensures { AreStages stages.old entries.old.items → IfOk result (λ found. MatchOption found (HasNoNext entries.old.items bytes.now) (λ rest. HasNext entries.old.items bytes.now entries.new.items rest.now stages.new)) }
+    ensures { AreStages stages.old entries.old.items → IfOk result (λ found.
+        MatchOption found (HasNoNext entries.old.items bytes.now)
+        (λ rest. HasNext entries.old.items bytes.now entries.new.items rest.now stages.new)) }
 {
     match entry_at(alloc, bytes)? {
         Some((entry, rest)) => {
@@ -79,7 +83,7 @@ pub(crate) fn read_journal(alloc: Global, bytes: &[u8], decls: &[u8]) -> Result<
     ensures journal { IfOk result (λ contents. IsJournal bytes.now decls.now contents.entries.items) }
     ensures ordered { IfOk result (λ contents. IsTrue (is_ordered contents.entries.items)) }
     ensures len { IfOk result (λ contents. contents.len ≡ journal_length decls.now contents.entries.items) }
-    ensures refused { IfErr result (IsReadCauseOf bytes.now decls.now) }
+    ensures refused { IfErr result (IsReadFault bytes.now decls.now) }
 {
     let mut rest = behind_header(bytes, decls)?;
     let mut entries = Vec::new(alloc);

@@ -9,7 +9,7 @@ use orc_call::{Call, encode};
 use orc_text::Memory;
 use std::alloc::Global;
 
-/// How many devices, and the number of each.
+// How many devices, and the number of each.
 fn push_devices(out: &mut Vec<u8>, devices: &[u32]) -> Result<(), Memory>
     requires { AreDevices devices.now }
     ensures { OnOk result (out.new.items ≡ out.old.items ++ devices_bytes devices.now) }
@@ -21,11 +21,12 @@ fn push_devices(out: &mut Vec<u8>, devices: &[u32]) -> Result<(), Memory>
     Ok(())
 }
 
-/// What an intent says.
+// What an intent says.
 fn intent_payload(alloc: Global, t: u64, call: &Call, devices: &[u32]) -> Result<Vec<u8>, Memory>
     requires call { IsCall call.now }
     requires devices { AreDevices devices.now }
-    ensures { IfOk result (λ bytes. bytes.items ≡ to_be_bytes w64 t ++ call_bytes call.now ++ devices_bytes devices.now) }
+    ensures { IfOk result (λ bytes.
+        bytes.items ≡ to_be_bytes w64 t ++ call_bytes call.now ++ devices_bytes devices.now) }
 {
     let mut out = Vec::from_slice(alloc, &t.to_be_bytes())?;
     out.extend_from_slice(&encode(alloc, call)?)?;

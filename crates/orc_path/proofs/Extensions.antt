@@ -1,13 +1,14 @@
 -- A path and those that begin with its steps.
 use Rattle.std.proofs.Common.{◌≡◌, ◌≢◌, true, List, [], ◌∷◌, ◌++◌, refl, sym, ap, ◌∙◌}
+use Rattle.std.proofs.lemmas.Bool.{and_from}
 use Rattle.std.specs.declared.cmp.Ordering.TheVariants.{Less}
 use Rattle.std.specs.Ordering.{ordering_then}
 use Rattle.std.specs.Bool.{Decides}
 use Rattle.std.specs.Cmp.{first_so, second_so}
 use Rattle.std.proofs.lemmas.Cmp.{tied_itself}
 use Rattle.orc_path.specs.Steps.{PathStep}
-use Rattle.orc_path.specs.Order.{step_cmp, step_cmp_total, path_cmp, is_prefix}
-use Rattle.orc_path.proofs.Parts.{both}
+use Rattle.orc_path.specs.Order.{step_cmp, path_cmp, is_prefix}
+use Rattle.orc_path.proofs.PathOrder.{step_cmp_total}
 use Rattle.orc_path.proofs.Equality.{step_eq_decides}
 
 -- what a path has beyond its first steps
@@ -22,7 +23,7 @@ is_prefix_rest (s ∷ p) (t ∷ q) h =
 -- a path begins with its first steps
 pub is_prefix-append : (p rest : List PathStep) → is_prefix p (p ++ rest) ≡ true
 is_prefix-append [] rest = refl
-is_prefix-append (s ∷ p) rest = both _ _ ((step_eq_decides s s).1 refl) (is_prefix-append p rest)
+is_prefix-append (s ∷ p) rest = and_from _ _ ((step_eq_decides s s).1 refl) (is_prefix-append p rest)
 
 -- the test of prefixes decides whether q is p and something more
 pub is_prefix_decides : (p q : List PathStep) → Decides (is_prefix p q) ((rest : List PathStep) × (q ≡ p ++ rest))

@@ -6,11 +6,11 @@ use Rattle.std.proofs.lemmas.List.{take_all}
 use Rattle.std.proofs.Math.Seq.{take-suc}
 use Rattle.std.proofs.lemmas.Grind.{flat_map-append}
 use Rattle.orc_path.specs.Steps.{PathStep, is_path}
-use Rattle.orc_path.specs.Texts.{step_text, path_text, IsPathText, Begins, IsBadAt}
-use Rattle.orc_path.specs.Reading.{present_step, feed, at_start, whole_at, whole, IsStepRead, FitsAt, Fits}
+use Rattle.orc_path.specs.Texts.{step_text, path_text, IsPathText, CanBegin, IsBadAt}
+use Rattle.orc_path.specs.inside.Reading.{present_step, feed, at_start, whole_at, whole, IsStepRead, FitsAt, Fits}
 use Rattle.orc_path.proofs.Runs.{feed_all, feed_all-append}
-use Rattle.orc_path.specs.declared.place.Place.{Place}
-use Rattle.orc_path.specs.declared.place.Place.TheVariants.{Start, Slash, Module, Colon, Inside, Next, Key, Escape, Closed}
+use Rattle.orc_path.specs.declared.mode.Mode.{Mode}
+use Rattle.orc_path.specs.declared.mode.Mode.TheVariants.{Start, Slash, Module, Colon, Inside, Next, Key, Escape, Closed}
 use Rattle.orc_path.specs.declared.reader.Reader.{Reader}
 use Rattle.orc_path.proofs.Parts.{none_given}
 use Rattle.orc_path.proofs.Stops.{IsReader, given_before, bad_at, bad_end}
@@ -26,7 +26,7 @@ reads_by : (o : Option Reader) (r s : Reader) (b : ℕ) (bs : List ℕ) → feed
     → option_and_then (λ t. feed_all t bs) o ≡ Some s → Fits s × (read s ≡ read r ++ b ∷ bs)
 reads_by None r s b bs f fits more e = none_given _ s e
 reads_by (Some t) r s b bs f fits more e =
-    let grown = feed_grows r.place r t b refl fits f in
+    let grown = feed_grows r.mode r t b refl fits f in
     let rest = more t e grown.0 in
     (rest.0, rest.1 ∙ ap (λ x. x ++ bs) grown.1 ∙ append_assoc (read r) (b ∷ []) bs)
 
@@ -53,7 +53,7 @@ step_whole r p f e =
     let is : r.done ++ present_step r ∷ [] ≡ p = cc in
     subst (λ q. IsTextOf q (front r)) is (is_path_more r.done (present_step r) f.before f.node f.keys, path_text-snoc r.done (present_step r))
 
-whole_by : (m : Place) (r : Reader) (p : List PathStep) → FitsAt m r → whole_at m r ≡ Some p → IsTextOf p (read_at m r)
+whole_by : (m : Mode) (r : Reader) (p : List PathStep) → FitsAt m r → whole_at m r ≡ Some p → IsTextOf p (read_at m r)
 whole_by Slash r p f e = let is : [] ≡ p = cc in subst (λ q. IsTextOf q (front r)) is (refl, sym (blank_front r f.node.0 f.node.1 f.keys))
 whole_by Inside r p f e = step_whole r p f.0 e
 whole_by Closed r p f e = step_whole r p f e
@@ -66,10 +66,10 @@ whole_by Escape r p f e = none_given _ p e
 
 -- what is read as a path is its text
 pub whole_text : (r : Reader) (p : List PathStep) (xs : List ℕ) → feed_all at_start xs ≡ Some r → whole r ≡ Some p → IsTextOf p xs
-whole_text r p xs e w = let so = reads_from_start r xs e in subst (IsTextOf p) so.1 (whole_by r.place r p so.0 w)
+whole_text r p xs e w = let so = reads_from_start r xs e in subst (IsTextOf p) so.1 (whole_by r.mode r p so.0 w)
 
 -- bytes that bring the reader to the end of a path
-abbrev ending : Place → List ℕ
+abbrev ending : Mode → List ℕ
 ending Start = 47 ∷ []
 ending Slash = []
 ending Module = 58 ∷ 97 ∷ []
@@ -80,7 +80,7 @@ ending Key = 93 ∷ []
 ending Escape = 92 ∷ 93 ∷ []
 ending Closed = []
 
-ends : (m : Place) (d : List PathStep) (n : List ℕ) (ks : List (List ℕ)) (k : List ℕ) → (p : List PathStep) × (path_behind (reader_at m d n ks k) (ending m) ≡ Some p)
+ends : (m : Mode) (d : List PathStep) (n : List ℕ) (ks : List (List ℕ)) (k : List ℕ) → (p : List PathStep) × (path_behind (reader_at m d n ks k) (ending m) ≡ Some p)
 ends Start d n ks k = (_, refl)
 ends Slash d n ks k = (_, refl)
 ends Module d n ks k = (_, refl)
@@ -95,12 +95,12 @@ path_of : (o : Option Reader) (p : List PathStep) (xs : List ℕ) → feed_all a
 path_of None p xs e w = none_given _ p w
 path_of (Some r) p xs e w = whole_text r p xs e w
 
-takes_begins : (xs : List ℕ) → Takes xs → Begins IsPathText xs
+takes_begins : (xs : List ℕ) → Takes xs → CanBegin IsPathText xs
 takes_begins xs (r, e) =
-    let end = ends r.place r.done r.node r.keys r.key in
-    let all : path_behind at_start (xs ++ ending r.place) ≡ Some end.0 =
-    ap (option_and_then whole) (feed_all-append at_start xs (ending r.place) ∙ ap (option_and_then (λ s. feed_all s (ending r.place))) e) ∙ end.1 in
-    (ending r.place, (end.0, path_of (feed_all at_start (xs ++ ending r.place)) end.0 (xs ++ ending r.place) refl all))
+    let end = ends r.mode r.done r.node r.keys r.key in
+    let all : path_behind at_start (xs ++ ending r.mode) ≡ Some end.0 =
+    ap (option_and_then whole) (feed_all-append at_start xs (ending r.mode) ∙ ap (option_and_then (λ s. feed_all s (ending r.mode))) e) ∙ end.1 in
+    (ending r.mode, (end.0, path_of (feed_all at_start (xs ++ ending r.mode)) end.0 (xs ++ ending r.mode) refl all))
 
 -- the reader of paths
 pub paths_read : IsReader IsPathText Takes

@@ -1,14 +1,14 @@
 -- Reading many bytes.
 use Rattle.std.proofs.Common.{◌≡◌, ℕ, List, [], ◌∷◌, ◌++◌, Some, None, Option, refl}
 use Rattle.std.specs.Option.{option_and_then}
-use Rattle.orc_path.specs.Reading.{name_place, feed}
-use Rattle.orc_path.specs.declared.place.Place.{Place}
+use Rattle.orc_path.specs.inside.Reading.{name_mode, feed}
+use Rattle.orc_path.specs.declared.mode.Mode.{Mode}
 use Rattle.orc_path.specs.declared.reader.Reader.{Reader}
 
--- the place behind bytes of a name
-abbrev pub name_places : Place → List ℕ → Option Place
-name_places place [] = Some place
-name_places place (b ∷ bs) = option_and_then (λ next. name_places next bs) (name_place place b)
+-- the mode behind bytes of a name
+abbrev pub name_modes : Mode → List ℕ → Option Mode
+name_modes mode [] = Some mode
+name_modes mode (b ∷ bs) = option_and_then (λ next. name_modes next bs) (name_mode mode b)
 
 -- the reader behind bytes
 abbrev pub feed_all : Reader → List ℕ → Option Reader
@@ -25,6 +25,6 @@ pub feed_all-append : (r : Reader) (xs ys : List ℕ) → feed_all r (xs ++ ys) 
 feed_all-append r [] ys = refl
 feed_all-append r (b ∷ bs) ys = through (feed r b) (λ s. feed_all s bs) (λ s. feed_all s ys) (λ s. feed_all s (bs ++ ys)) (λ s. feed_all-append s bs ys)
 
-pub name_places-append : (m : Place) (xs ys : List ℕ) → name_places m (xs ++ ys) ≡ option_and_then (λ k. name_places k ys) (name_places m xs)
-name_places-append m [] ys = refl
-name_places-append m (b ∷ bs) ys = through (name_place m b) (λ k. name_places k bs) (λ k. name_places k ys) (λ k. name_places k (bs ++ ys)) (λ k. name_places-append k bs ys)
+pub name_modes-append : (m : Mode) (xs ys : List ℕ) → name_modes m (xs ++ ys) ≡ option_and_then (λ k. name_modes k ys) (name_modes m xs)
+name_modes-append m [] ys = refl
+name_modes-append m (b ∷ bs) ys = through (name_mode m b) (λ k. name_modes k bs) (λ k. name_modes k ys) (λ k. name_modes k (bs ++ ys)) (λ k. name_modes-append k bs ys)

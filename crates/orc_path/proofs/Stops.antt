@@ -1,23 +1,16 @@
 -- Where a reader that goes on from the beginnings of texts alone stops, the text is bad.
-use Rattle.std.proofs.Common.{◌≡◌, ℕ, zero, suc, ◌<◌, ◌≤◌, List, [], ◌∷◌, ◌++◌, Some, None, Option, length, take, drop, refl, sym, ap, subst, arith}
+use Rattle.std.proofs.Common.{◌≡◌, ℕ, suc, ◌<◌, List, ◌++◌, Some, None, Option, length, take, drop, refl, sym, subst, arith}
 use Rattle.std.specs.Option.{option_and_then}
-use Rattle.std.proofs.lemmas.List.{take-append-drop}
+use Rattle.std.proofs.lemmas.List.{take-append-drop, take-take}
 use Rattle.std.proofs.Math.Seq.{take-length}
-use Rattle.orc_path.specs.Texts.{Begins, IsBadAt}
+use Rattle.orc_path.specs.Texts.{CanBegin, IsBadAt}
 use Rattle.orc_path.proofs.Parts.{none_given}
-
--- the first bytes of more bytes
-take-take : {A : Type 0} (n m : ℕ) (xs : List A) → n ≤ m → take n (take m xs) ≡ take n xs
-take-take zero m xs h = refl
-take-take (suc n) zero xs h = let not_so : ⊥ = omega arith in absurd not_so
-take-take (suc n) (suc m) [] h = refl
-take-take (suc n) (suc m) (x ∷ xs) h = ap (λ ys. x ∷ ys) (take-take n m xs (omega arith))
 
 -- a reader that goes on from the beginnings of texts alone
 pub record IsReader (IsText : List ℕ → Type 0) (Takes : List ℕ → Type 0) : Type 0 where
   pub front : (xs ys : List ℕ) → Takes (xs ++ ys) → Takes xs
   pub texts : (xs : List ℕ) → IsText xs → Takes xs
-  pub begins : (xs : List ℕ) → Takes xs → Begins IsText xs
+  pub begins : (xs : List ℕ) → Takes xs → CanBegin IsText xs
 
 -- where it does not go on the text is bad
 pub bad_at : (IsText Takes : List ℕ → Type 0) → IsReader IsText Takes → (xs : List ℕ) (at : ℕ) → at < length xs → Takes (take at xs) → (Takes (take (suc at) xs) → ⊥) → IsBadAt IsText xs at

@@ -2,7 +2,7 @@
 use Rattle.std.proofs.Common.{◌≡◌, true, List, Some, sym, ap, ◌∙◌}
 use Rattle.orc_path.specs.Steps.{PathStep, is_path}
 use Rattle.orc_path.specs.Texts.{path_text}
-use Rattle.orc_path.specs.Reading.{at_start}
+use Rattle.orc_path.specs.inside.Reading.{at_start}
 use Rattle.orc_path.proofs.Again.{path_behind, path_again}
 
 -- paths with one text are one path

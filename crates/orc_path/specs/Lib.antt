@@ -2,9 +2,8 @@ pub mod Alphabet
 pub mod Steps
 pub mod Order
 pub mod Texts
-pub mod Reading
 pub mod Faults
 pub mod Items
 pub mod Configurations
-pub mod Prefixes
-pub mod ConfigurationLaws
+pub mod Codes
+pub mod inside

@@ -1,7 +1,7 @@
-//! Which bytes names are made of.
+//! Which bytes names and keys are made of.
 ghost use Rattle.std.specs.Prelude.{◌≡◌};
 ghost use Rattle.std.specs.List.{list_all};
-ghost use Rattle.orc_path.specs.Alphabet.{is_name_start, is_name_byte, is_identifier};
+ghost use Rattle.orc_path.specs.Alphabet.{is_name_start, is_name_byte, is_identifier, is_key_byte, is_key};
 
 /// A letter or `_`.
 pub(crate) fn is_name_start(byte: u8) -> bool
@@ -32,4 +32,18 @@ pub fn is_identifier(text: &str) -> bool
         [] => false,
         [first, rest @ ..] => is_name_start(*first) && are_name_bytes(rest),
     }
+}
+
+// Tab, line feed, carriage return or an ASCII character from the space on.
+fn is_key_byte(byte: u8) -> bool
+    ensures { result ≡ is_key_byte byte }
+{
+    matches!(byte, b'\t' | b'\n' | b'\r' | b' '..=127)
+}
+
+/// Whether the text may be a key of a step.
+pub fn is_key(text: &str) -> bool
+    ensures { result ≡ is_key text.now }
+{
+    text.as_bytes().iter().all(|byte| is_key_byte(*byte))
 }

@@ -6,16 +6,19 @@
 #![tactic(auto)]
 
 mod alphabet;
+mod entry;
 mod item;
+mod length;
+mod mode;
 mod name;
 mod path;
-mod place;
 mod reader;
 #[cfg(test)]
 mod tests;
 mod text;
 
-pub use alphabet::{are_name_bytes, is_identifier};
+pub use alphabet::{are_name_bytes, is_identifier, is_key};
 pub use item::{Item, Write};
 pub use name::Name;
 pub use path::{Path, PathFault, Step};
+pub use text::push_item;

@@ -1,11 +1,11 @@
 //! Names of nodes.
-ghost use Rattle.std.specs.Prelude.{◌≡◌, IfOk, IfErr, IsTrue};
+ghost use Rattle.std.specs.Prelude.{◌≡◌, IfOk, IfErr, IsErrOf, IsTrue};
 ghost use Rattle.orc_path.specs.Alphabet.{is_node_name};
 ghost use Rattle.orc_path.specs.Texts.{IsNameText};
-ghost use Rattle.orc_path.specs.Faults.{IsCauseOf};
+ghost use Rattle.orc_path.specs.Faults.{IsPathFault};
 
 use crate::PathFault;
-use crate::place::{Place, is_name_end, name_place};
+use crate::mode::{Mode, is_name_end, name_mode};
 use orc_text::{Copied, Memory, Text};
 use std::alloc::Global;
 use std::marker::Model;
@@ -32,19 +32,21 @@ impl Model for Name {
 
 impl Name {
     /// The name of this text. `BadPath { at }` comes exactly where the text is no name; `at` is
-    /// then the length in bytes of its longest prefix that is a prefix of some name.
+    /// then the length in bytes of its longest prefix that is a prefix of some name. Memory is wanted
+    /// for a name alone.
     pub fn new(alloc: Global, text: &str) -> Result<Name, PathFault>
         ensures ok { IfOk result (λ name. name ≡ text.now) }
-        ensures fault { IfErr result (IsCauseOf IsNameText text.now) }
+        ensures fault { IfErr result (IsPathFault IsNameText text.now) }
+        ensures memory { IsErrOf result PathFault.Memory → IsNameText text.now }
     {
-        let mut place = Place::Slash;
+        let mut mode = Mode::Slash;
         for (at, byte) in text.as_bytes().iter().enumerate() {
-            match name_place(place, *byte) {
-                Some(next) => place = next,
+            match name_mode(mode, *byte) {
+                Some(next) => mode = next,
                 None => return Err(PathFault::BadPath { at: at as u64 }),
             }
         }
-        if !is_name_end(place) {
+        if !is_name_end(mode) {
             return Err(PathFault::BadPath {
                 at: text.len() as u64,
             });

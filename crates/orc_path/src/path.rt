@@ -1,11 +1,11 @@
 //! Steps and paths.
-ghost use Rattle.std.specs.Prelude.{◌≡◌, ◌≢◌, ◌≤◌, List, IfOk, IfErr, IsTrue, length, take};
+ghost use Rattle.std.specs.Prelude.{◌≡◌, ◌≢◌, ◌≤◌, List, IfOk, IfErr, IsTrue, length, take, ◌++◌, ◌∷◌, []};
 ghost use Rattle.std.specs.Cmp.{IsTotalOrder};
 ghost use Rattle.std.specs.declared.cmp.Ordering.TheVariants.{Less};
 ghost use Rattle.orc_path.specs.Order.{path_cmp, is_prefix};
-ghost use Rattle.orc_path.specs.Steps.{PathStep, ends_in_keys, is_path};
+ghost use Rattle.orc_path.specs.Steps.{PathStep, ends_in_keys, is_path, is_name_behind};
 ghost use Rattle.orc_path.specs.Texts.{path_text, IsPathText};
-ghost use Rattle.orc_path.specs.Faults.{IsCauseOf};
+ghost use Rattle.orc_path.specs.Faults.{IsPathFault};
 
 use crate::Name;
 use crate::reader::Reader;
@@ -99,8 +99,9 @@ impl Path {
     pub fn parse(alloc: Global, text: &str) -> Result<Path, PathFault>
         ensures ok { IfOk result (λ path. path_text path ≡ text.now) }
         // A path's text is read as that path.
-        ensures again { (p : List PathStep) → IsTrue (is_path p) → path_text p ≡ text.now → IfOk result (λ path. path ≡ p) }
-        ensures fault { IfErr result (IsCauseOf IsPathText text.now) }
+        ensures again { (written : List PathStep) → IsTrue (is_path written) → path_text written ≡ text.now
+            → IfOk result (λ path. path ≡ written) }
+        ensures fault { IfErr result (IsPathFault IsPathText text.now) }
     {
         let mut reader = Reader::new(alloc);
         for (at, byte) in text.as_bytes().iter().enumerate() {
@@ -151,6 +152,17 @@ impl Path {
         for step in &self.steps.as_slice()[..len] {
             steps.push(step.copy(alloc)?)?;
         }
+        Ok(Path { steps })
+    }
+
+    /// The path with one step more. The name of a first step has its module, and that of a later
+    /// one has none.
+    pub fn child(&self, alloc: Global, step: Step) -> Result<Path, Memory>
+        requires { IsTrue (is_name_behind self.now step.node) }
+        ensures { IfOk result (λ path. path ≡ self.now ++ step ∷ []) }
+    {
+        let mut steps = self.steps.copy(alloc)?;
+        steps.push(step)?;
         Ok(Path { steps })
     }
 

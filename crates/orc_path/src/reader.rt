@@ -1,15 +1,14 @@
 //! Reads a path byte by byte.
-ghost use Rattle.std.specs.Prelude.{◌≡◌, ◌++◌, ◌∷◌, [], IfOk, MatchBool};
-ghost use Rattle.std.specs.declared.option.Option.TheVariants.{None, Some};
-ghost use Rattle.orc_path.specs.Reading.{unescape, is_plain, feed_end, feed_key, feed_escape, feed_mark, feed, at_start, whole, present_step, Fits, IsStepRead};
+ghost use Rattle.std.specs.Prelude.{◌≡◌, ◌++◌, ◌∷◌, [], IfOk};
+ghost use Rattle.orc_path.specs.inside.Reading.{unescape, is_plain, feed_end, feed_key, feed_escape, feed_mark, feed, at_start, whole, present_step, Fits, IsStepRead, Fed};
 
-use crate::place::{Place, name_place};
+use crate::mode::{Mode, name_mode};
 use crate::{Name, Path, Step};
 use orc_text::{Memory, Row, Text};
 use std::alloc::Global;
 use std::mem;
 
-/// The byte that this one means behind a backslash.
+// The byte that this one means behind a backslash.
 fn unescaped(byte: u8) -> Option<u8>
     ensures { result ≡ unescape byte }
 {
@@ -23,7 +22,7 @@ fn unescaped(byte: u8) -> Option<u8>
     }
 }
 
-/// Whether this byte of a key stands for itself.
+// Whether this byte of a key stands for itself.
 fn is_plain(byte: u8) -> bool
     ensures { result ≡ is_plain byte }
 {
@@ -33,7 +32,7 @@ fn is_plain(byte: u8) -> bool
 /// The steps that are whole, and the parts of the one that is being read.
 #[derive(Drop)]
 pub(crate) struct Reader {
-    place: Place,
+    mode: Mode,
     done: Row<Step>,
     node: Text,
     keys: Row<Text>,
@@ -46,7 +45,7 @@ impl Reader {
         ensures { result ≡ at_start }
     {
         Reader {
-            place: Place::Start,
+            mode: Mode::Start,
             done: Row::new(alloc),
             node: Text::new(alloc),
             keys: Row::new(alloc),
@@ -54,18 +53,18 @@ impl Reader {
         }
     }
 
-    /// Takes a byte of a key.
+    // Takes a byte of a key.
     fn take_key(&mut self, alloc: Global, byte: u8) -> Result<bool, Memory>
-        ensures { IfOk result (λ taken. MatchBool taken (feed_key self.old byte ≡ Some self.new) (feed_key self.old byte ≡ None)) }
+        ensures { Fed (feed_key self.old byte) self.new result }
     {
         if byte == b']' {
             let key = mem::replace(&mut self.key, Text::new(alloc));
             self.keys.push(key)?;
-            self.place = Place::Closed;
+            self.mode = Mode::Closed;
             return Ok(true);
         }
         if byte == b'\\' {
-            self.place = Place::Escape;
+            self.mode = Mode::Escape;
             return Ok(true);
         }
         if !is_plain(byte) {
@@ -75,21 +74,21 @@ impl Reader {
         Ok(true)
     }
 
-    /// Takes a byte behind a backslash.
+    // Takes a byte behind a backslash.
     fn take_escaped(&mut self, byte: u8) -> Result<bool, Memory>
-        ensures { IfOk result (λ taken. MatchBool taken (feed_escape self.old byte ≡ Some self.new) (feed_escape self.old byte ≡ None)) }
+        ensures { Fed (feed_escape self.old byte) self.new result }
     {
         match unescaped(byte) {
             Some(meant) => {
                 self.key.push(char::from(meant))?;
-                self.place = Place::Key;
+                self.mode = Mode::Key;
                 Ok(true)
             }
             None => Ok(false),
         }
     }
 
-    /// The step that was read. Its parts are empty from then on.
+    // The step that was read. Its parts are empty from then on.
     fn take_step(&mut self, alloc: Global) -> Step
         requires { IsStepRead self.old }
         ensures step { result ≡ present_step self.old }
@@ -101,40 +100,40 @@ impl Reader {
         }
     }
 
-    /// Takes a byte behind a name or a key.
+    // Takes a byte behind a name or a key.
     fn take_end(&mut self, alloc: Global, byte: u8) -> Result<bool, Memory>
         requires { IsStepRead self.old }
-        ensures { IfOk result (λ taken. MatchBool taken (feed_end self.old byte ≡ Some self.new) (feed_end self.old byte ≡ None)) }
+        ensures { Fed (feed_end self.old byte) self.new result }
     {
         match byte {
             b'[' => {
                 self.key = Text::new(alloc);
-                self.place = Place::Key;
+                self.mode = Mode::Key;
                 Ok(true)
             }
             b'/' => {
                 let step = self.take_step(alloc);
                 self.done.push(step)?;
-                self.place = Place::Next;
+                self.mode = Mode::Next;
                 Ok(true)
             }
             _ => Ok(false),
         }
     }
 
-    /// Takes a byte that is none of a name.
+    // Takes a byte that is none of a name.
     fn take_mark(&mut self, alloc: Global, byte: u8) -> Result<bool, Memory>
         requires { Fits self.old }
-        ensures { IfOk result (λ taken. MatchBool taken (feed_mark self.old.place self.old byte ≡ Some self.new) (feed_mark self.old.place self.old byte ≡ None)) }
+        ensures { Fed (feed_mark self.old.mode self.old byte) self.new result }
     {
-        match self.place {
-            Place::Start if byte == b'/' => {
-                self.place = Place::Slash;
+        match self.mode {
+            Mode::Start if byte == b'/' => {
+                self.mode = Mode::Slash;
                 Ok(true)
             }
-            Place::Inside | Place::Closed => self.take_end(alloc, byte),
-            Place::Key => self.take_key(alloc, byte),
-            Place::Escape => self.take_escaped(byte),
+            Mode::Inside | Mode::Closed => self.take_end(alloc, byte),
+            Mode::Key => self.take_key(alloc, byte),
+            Mode::Escape => self.take_escaped(byte),
             _ => Ok(false),
         }
     }
@@ -142,19 +141,19 @@ impl Reader {
     /// Takes a byte, where one may stand here.
     pub(crate) fn take(&mut self, alloc: Global, byte: u8) -> Result<bool, Memory>
         requires { Fits self.old }
-        ensures { IfOk result (λ taken. MatchBool taken (feed self.old byte ≡ Some self.new) (feed self.old byte ≡ None)) }
+        ensures { Fed (feed self.old byte) self.new result }
     {
-        match name_place(self.place, byte) {
+        match name_mode(self.mode, byte) {
             Some(next) => {
                 self.node.push(char::from(byte))?;
-                self.place = next;
+                self.mode = next;
                 Ok(true)
             }
             None => self.take_mark(alloc, byte),
         }
     }
 
-    /// The path with the step that was read.
+    // The path with the step that was read.
     fn with_step(mut self, alloc: Global) -> Result<Path, Memory>
         requires { IsStepRead self }
         ensures { IfOk result (λ path. path ≡ self.done ++ present_step self ∷ []) }
@@ -169,9 +168,9 @@ impl Reader {
         requires { Fits self }
         ensures { IfOk result (λ path. path ≡ whole self) }
     {
-        match self.place {
-            Place::Slash => Ok(Some(Path { steps: self.done })),
-            Place::Inside | Place::Closed => Ok(Some(self.with_step(alloc)?)),
+        match self.mode {
+            Mode::Slash => Ok(Some(Path { steps: self.done })),
+            Mode::Inside | Mode::Closed => Ok(Some(self.with_step(alloc)?)),
             _ => Ok(None),
         }
     }

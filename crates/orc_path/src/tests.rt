@@ -1,160 +1,134 @@
-//! Texts of paths and names, their faults, and the order of paths.
+//! What no bundle shows: the whole alphabet of paths and its escapes, where a bad text is refused,
+//! and the order of paths and writes.
 use super::*;
-use orc_text::Text;
+use orc_text::{Row, Text};
 use std::alloc::Global;
 use std::cmp::Ordering;
+use std::process::Abort;
 use std::test::Fail;
 
-/// Where the text is refused as a path's.
-fn bad_path_at(alloc: Global, text: &str) -> Option<u64> {
-    match Path::parse(alloc, text) {
-        Err(PathFault::BadPath { at }) => Some(at),
-        _ => None,
+// Paths in ascending order, a line each.
+const PATHS: &str = r"/
+/a:B
+/a:b
+/a:b/c
+/a:b[]
+/a:b[\s\t\n\r]
+/a:b[\\\]]/c
+/a:b[k]
+/a:b[k]/c
+/a:b[k][a]
+/a:b[kk]
+/a_.-1:b[/:\\n][x]/c";
+
+// Texts that are no paths; a bar stands where each of them is refused.
+const BAD_PATHS: &str = r"|
+|if
+/|/
+/|1:a
+/if|
+/if|/a
+/if:|
+/if:|é
+/if:a|]
+/if:a|:b
+/if:a/|
+/if:a/b|:c
+/if:a[k|
+/if:a[k| l]
+/if:a[k|é]
+/if:a[k\|
+/if:a[k\|x]
+/if:a[k]|b";
+
+// Texts that are no names.
+const BAD_NAMES: &str = "|
+|1a
+|é
+a| b
+a:|
+a:b|:c
+a:b|/c";
+
+// The text of a line without its bar, and where the bar stands.
+fn cut_at_bar(alloc: Global, line: &str) -> Result<(String, Option<u64>), Fail> {
+    match line.split_once('|') {
+        Some((front, rest)) => {
+            let text = format!(in alloc; "{front}{rest}")?;
+            Ok((text, Some(front.len() as u64)))
+        }
+        None => Ok((String::from_str(alloc, line)?, None)),
     }
-}
-
-/// Where the text is refused as a name's.
-fn bad_name_at(alloc: Global, text: &str) -> Option<u64> {
-    match Name::new(alloc, text) {
-        Err(PathFault::BadPath { at }) => Some(at),
-        _ => None,
-    }
-}
-
-#[test]
-fn a_path_is_read_from_its_text(rt: HostRuntime) -> Result<(), Fail> {
-    let path = Path::parse(rt.alloc(), r"/if:port[a\]b]/mtu")?;
-    let steps = path.steps.as_slice();
-    assert_eq!(rt; steps.len(), 2);
-    let port = &steps[0];
-    let keys = port.keys.as_slice();
-    assert_eq!(rt; port.node.as_str(), "if:port");
-    assert_eq!(rt; keys.len(), 1);
-    assert_eq!(rt; keys[0].as_str(), "a]b");
-    let mtu = &steps[1];
-    assert_eq!(rt; mtu.node.as_str(), "mtu");
-    assert!(rt; mtu.keys.is_empty());
-    Ok(())
-}
-
-#[test]
-fn a_path_text_is_written_back(rt: HostRuntime) -> Result<(), Fail> {
-    for text in [
-        "/",
-        "/if:mtu",
-        "/if:port[][a\x7F]/x",
-        r"/a_.-1:b[\\\]\s\t\n\r/:\\n][x]/c",
-    ] {
-        let path = Path::parse(rt.alloc(), text)?;
-        assert_eq!(rt; path.text(rt.alloc())?.as_str(), text);
-    }
-    Ok(())
-}
-
-#[test]
-fn an_escape_stands_for_its_character(rt: HostRuntime) -> Result<(), Fail> {
-    let path = Path::parse(rt.alloc(), r"/a:b[\\\]\s\t\n\r]")?;
-    let steps = path.steps.as_slice();
-    assert_eq!(rt; steps.len(), 1);
-    let step = &steps[0];
-    let keys = step.keys.as_slice();
-    assert_eq!(rt; keys.len(), 1);
-    assert_eq!(rt; keys[0].as_str(), "\\] \t\n\r");
-    Ok(())
 }
 
 #[test]
 fn a_bad_path_is_refused_at_its_longest_good_beginning(rt: HostRuntime) -> Result<(), Fail> {
-    for (text, at) in [
-        ("", 0),
-        ("if", 0),
-        ("//", 1),
-        ("/1:a", 1),
-        ("/if", 3),
-        ("/if/a", 3),
-        ("/if:", 4),
-        ("/if:é", 4),
-        ("/if:a]", 5),
-        ("/if:a:b", 5),
-        ("/if:a/", 6),
-        ("/if:a/b:c", 7),
-        ("/if:a[k", 7),
-        ("/if:a[k l]", 7),
-        ("/if:a[ké]", 7),
-        ("/if:a[k\\", 8),
-        ("/if:a[k\\x]", 8),
-        ("/if:a[k]b", 8),
-    ] {
-        assert_eq!(rt; bad_path_at(rt.alloc(), text), Some(at));
+    for line in BAD_PATHS.lines() {
+        let (text, at) = cut_at_bar(rt.alloc(), line)?;
+        let refused_at = match Path::parse(rt.alloc(), text.as_str()) {
+            Err(PathFault::BadPath { at }) => Some(at),
+            _ => None,
+        };
+        assert!(rt; refused_at == at);
     }
     Ok(())
 }
 
 #[test]
-fn a_name_is_an_identifier_alone_or_behind_its_module(rt: HostRuntime) -> Result<(), Fail> {
-    for text in ["mtu", "_", "a-b.c_1", "if:mtu"] {
-        let name = Name::new(rt.alloc(), text)?;
-        assert_eq!(rt; name.as_str(), text);
-    }
-    for (text, at) in [
-        ("", 0),
-        ("1a", 0),
-        ("é", 0),
-        ("a b", 1),
-        ("a:", 2),
-        ("a:b:c", 3),
-        ("a:b/c", 3),
-    ] {
-        assert_eq!(rt; bad_name_at(rt.alloc(), text), Some(at));
+fn a_bad_name_is_refused_at_its_longest_good_beginning(rt: HostRuntime) -> Result<(), Fail> {
+    for line in BAD_NAMES.lines() {
+        let (text, at) = cut_at_bar(rt.alloc(), line)?;
+        let refused_at = match Name::new(rt.alloc(), text.as_str()) {
+            Err(PathFault::BadPath { at }) => Some(at),
+            _ => None,
+        };
+        assert!(rt; refused_at == at);
     }
     Ok(())
 }
 
-#[test]
-fn paths_are_in_order(rt: HostRuntime) -> Result<(), Fail> {
-    let texts = [
-        "/",
-        "/a:B",
-        "/a:b",
-        "/a:b/c",
-        "/a:b[]",
-        "/a:b[k]",
-        "/a:b[k]/c",
-        "/a:b[k][a]",
-        "/a:b[kk]",
-        "/a:c[a]",
-    ];
-    for (at, text) in texts.iter().enumerate() {
-        for (other_at, other_text) in texts.iter().enumerate() {
-            let path = Path::parse(rt.alloc(), text)?;
-            let other = Path::parse(rt.alloc(), other_text)?;
-            assert_eq!(rt; path.cmp(&other), at.cmp(&other_at));
-        }
+// The path of a line is written as the line again, and stands behind the paths of the lines before
+// it.
+fn is_read(rt: &impl Abort, alloc: Global, line: &str, at: usize) -> Result<(), Fail> {
+    let path = Path::parse(alloc, line)?;
+    assert!(rt; path.text(alloc)?.as_str() == line);
+    assert!(rt; path.text_len() == line.len() as u64);
+    for (other_at, other_line) in PATHS.lines().enumerate() {
+        let other = Path::parse(alloc, other_line)?;
+        assert!(rt; path.cmp(&other) == at.cmp(&other_at));
     }
     Ok(())
 }
 
 #[test]
-fn a_path_has_first_steps(rt: HostRuntime) -> Result<(), Fail> {
-    let path = Path::parse(rt.alloc(), "/a:b[k]/c")?;
-    let entry = path.first_steps(rt.alloc(), 1)?;
-    assert_eq!(rt; entry.text(rt.alloc())?.as_str(), "/a:b[k]");
-    assert!(rt; entry.ends_in_keys());
-    assert!(rt; !path.ends_in_keys());
-    assert!(rt; entry.is_prefix_of(&path));
-    assert!(rt; !path.is_prefix_of(&entry));
-    assert!(rt; !Path::parse(rt.alloc(), "/a:b")?.is_prefix_of(&path));
+fn paths_are_read_written_and_in_order(rt: HostRuntime) -> Result<(), Fail> {
+    for (at, line) in PATHS.lines().enumerate() {
+        is_read(&rt, rt.alloc(), line, at)?;
+    }
     Ok(())
 }
 
 #[test]
-fn items_and_writes_are_copied(rt: HostRuntime) -> Result<(), Fail> {
-    let leaf = Item::Leaf(Text::from_str(rt.alloc(), "9000")?);
-    assert!(rt; leaf.copy(rt.alloc())? == leaf);
-    assert!(rt; leaf != Item::Entry);
+fn a_child_is_an_entry_of_its_list(rt: HostRuntime) -> Result<(), Fail> {
+    let mut keys = Row::new(rt.alloc());
+    keys.push(Text::from_str(rt.alloc(), "e 0")?)?;
+    let node = Name::new(rt.alloc(), "if:port")?;
+    let root = Path {
+        steps: Row::new(rt.alloc()),
+    };
+    let entry = root.child(rt.alloc(), Step { node, keys })?;
+    let list = Path::parse(rt.alloc(), "/if:port")?;
+    assert!(rt; entry.text(rt.alloc())?.as_str() == r"/if:port[e\s0]");
+    assert!(rt; entry.is_entry_of(&list));
+    assert!(rt; !list.is_entry_of(&list));
+    Ok(())
+}
+
+#[test]
+fn paths_come_before_services(rt: HostRuntime) -> Result<(), Fail> {
     let at = Write::At(Path::parse(rt.alloc(), "/a:b")?);
     let service = Write::Service(Text::from_str(rt.alloc(), "a")?);
     assert!(rt; at.copy(rt.alloc())? == at);
-    assert_eq!(rt; at.cmp(&service), Ordering::Less);
+    assert!(rt; at.cmp(&service) == Ordering::Less);
     Ok(())
 }

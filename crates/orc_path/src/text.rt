@@ -1,11 +1,12 @@
-//! The text of a path.
+//! The text of a path, alone and with an item.
 ghost use Rattle.std.specs.Prelude.{◌≡◌, ◌<◌, ◌++◌, IfOk, OnOk, IsTrue};
 ghost use Rattle.std.specs.String.{string_bytes};
 ghost use Rattle.orc_path.specs.Alphabet.{is_key};
+ghost use Rattle.orc_path.specs.Items.{item_text};
 ghost use Rattle.orc_path.specs.Steps.{is_path};
 ghost use Rattle.orc_path.specs.Texts.{escape, key_text, step_text, path_text};
 
-use crate::{Path, Step};
+use crate::{Item, Path, Step};
 use orc_text::{Memory, Text};
 use std::alloc::{AllocError, Global};
 
@@ -61,4 +62,19 @@ impl Path {
         }
         Ok(Text::from_string(out))
     }
+}
+
+/// Adds an item to a text: its path, and behind it, where it is a leaf, ` = ` and its value.
+pub fn push_item(out: &mut String, alloc: Global, path: &Path, item: &Item) -> Result<(), Memory>
+    ensures { OnOk result (string_bytes out.new ≡ string_bytes out.old ++ item_text path.now item.now) }
+{
+    out.push_str(path.text(alloc)?.as_str())?;
+    match item {
+        Item::Entry => {}
+        Item::Leaf(text) => {
+            out.push_str(" = ")?;
+            out.push_str(text.as_str())?;
+        }
+    }
+    Ok(())
 }

@@ -1,9 +1,10 @@
 //! The answers of calls.
-ghost use Rattle.std.specs.Prelude.{◌≡◌, ◌++◌, ◌<◌, length, IfOk, OnOk, IsTrue};
-ghost use Rattle.std.specs.String.{string_bytes};
-ghost use Rattle.orc_print.specs.Printed.{answer_line, answer_words, is_answer_among, name_of};
+ghost use Rattle.std.specs.Prelude.{◌≡◌, length, IfOk, IsTrue};
+ghost use Rattle.orc_print.specs.inside.Adding.{Adds};
+ghost use Rattle.orc_print.specs.Printed.{answer_line, answer_words, is_answer_among};
 
 use orc_call::Answer;
+use orc_state::device_name;
 use orc_text::{Memory, Text};
 use std::alloc::Global;
 
@@ -28,6 +29,7 @@ pub fn answer(
     Ok(out.into_bytes())
 }
 
+// The words of an answer.
 fn push_answer(
     out: &mut String,
     alloc: Global,
@@ -35,12 +37,12 @@ fn push_answer(
     answer: &Answer,
 ) -> Result<(), Memory>
     requires { IsTrue (is_answer_among (length names.now) answer.now) }
-    ensures { OnOk result (string_bytes out.new ≡ string_bytes out.old ++ answer_words names.now answer.now) }
+    ensures { Adds result out.old out.new (answer_words names.now answer.now) }
 {
     match answer {
-        Answer::Committed(n) => {
+        Answer::Committed(entry) => {
             out.push_str("Committed ")?;
-            out.push_str(n.to_string(alloc)?.as_str())?;
+            out.push_str(entry.to_string(alloc)?.as_str())?;
         }
         Answer::Exists(id) => {
             out.push_str("Exists ")?;
@@ -58,9 +60,9 @@ fn push_answer(
             out.push_str(" ")?;
             out.push_str(id.as_str())?;
         }
-        Answer::Reused(n) => {
+        Answer::Reused(entry) => {
             out.push_str("Reused ")?;
-            out.push_str(n.to_string(alloc)?.as_str())?;
+            out.push_str(entry.to_string(alloc)?.as_str())?;
         }
         Answer::Down => out.push_str("Down")?,
         Answer::JournalFault => out.push_str("JournalFault")?,
@@ -68,12 +70,4 @@ fn push_answer(
         _ => {}
     }
     Ok(())
-}
-
-/// The name of the device of a number.
-pub fn device_name(names: &[Text], device: u32) -> &Text
-    requires { device < length names.now }
-    ensures { result.now ≡ name_of names.now device }
-{
-    &names[device as usize]
 }

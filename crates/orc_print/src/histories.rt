@@ -1,11 +1,12 @@
 //! Histories.
-ghost use Rattle.std.specs.Prelude.{◌≡◌, ◌++◌, IfOk, OnOk};
+ghost use Rattle.std.specs.Prelude.{◌≡◌, codes, IfOk};
 ghost use Rattle.std.specs.List.{flat_map};
-ghost use Rattle.std.specs.String.{string_bytes};
-ghost use Rattle.orc_print.specs.Printed.{history_action, history_call, history_lines, history_text, history_write};
+ghost use Rattle.orc_print.specs.inside.Adding.{Adds};
+ghost use Rattle.orc_print.specs.Printed.{history_call, history_lines, history_text};
+ghost use Rattle.orc_state.specs.Texts.{action_lines, write_line};
 
-use crate::push_item;
 use orc_call::{Action, Call, DevicePut};
+use orc_path::push_item;
 use orc_text::Memory;
 use std::alloc::Global;
 
@@ -22,18 +23,19 @@ pub fn history(alloc: Global, calls: &[Call]) -> Result<Vec<u8>, Memory>
     Ok(out.into_bytes())
 }
 
+// The calls of a history.
 fn push_calls(out: &mut String, alloc: Global, history: &[Call]) -> Result<(), Memory>
-    ensures { OnOk result (string_bytes out.new ≡ string_bytes out.old ++ history_lines 1 history.now) }
+    ensures { Adds result out.old out.new (history_lines 1 history.now) }
 {
-    for (place, call) in history.iter().enumerate() {
-        push_call(out, alloc, place as u64 + 1, call)?;
+    for (index, call) in history.iter().enumerate() {
+        push_call(out, alloc, index as u64 + 1, call)?;
     }
     Ok(())
 }
 
 // A call of a history, with its number in it.
 fn push_call(out: &mut String, alloc: Global, entry: u64, call: &Call) -> Result<(), Memory>
-    ensures { OnOk result (string_bytes out.new ≡ string_bytes out.old ++ history_call entry call.now) }
+    ensures { Adds result out.old out.new (history_call entry call.now) }
 {
     out.push_str(entry.to_string(alloc)?.as_str())?;
     out.push_str(" ")?;
@@ -44,8 +46,9 @@ fn push_call(out: &mut String, alloc: Global, entry: u64, call: &Call) -> Result
     push_actions(out, alloc, call.actions.as_slice())
 }
 
+// The actions of a call.
 fn push_actions(out: &mut String, alloc: Global, actions: &[Action]) -> Result<(), Memory>
-    ensures { OnOk result (string_bytes out.new ≡ string_bytes out.old ++ flat_map history_action actions.now) }
+    ensures { Adds result out.old out.new (flat_map (action_lines (codes "  ")) actions.now) }
 {
     for action in actions {
         push_action(out, alloc, action)?;
@@ -53,8 +56,9 @@ fn push_actions(out: &mut String, alloc: Global, actions: &[Action]) -> Result<(
     Ok(())
 }
 
+// An action.
 fn push_action(out: &mut String, alloc: Global, action: &Action) -> Result<(), Memory>
-    ensures { OnOk result (string_bytes out.new ≡ string_bytes out.old ++ history_action action.now) }
+    ensures { Adds result out.old out.new (action_lines (codes "  ") action.now) }
 {
     match action {
         Action::Literal(id, writes) => {
@@ -74,8 +78,9 @@ fn push_action(out: &mut String, alloc: Global, action: &Action) -> Result<(), M
     Ok(())
 }
 
+// The writes of a literal service, each on an indented line.
 fn push_writes(out: &mut String, alloc: Global, writes: &[DevicePut]) -> Result<(), Memory>
-    ensures { OnOk result (string_bytes out.new ≡ string_bytes out.old ++ flat_map history_write writes.now) }
+    ensures { Adds result out.old out.new (flat_map (write_line (codes "  ")) writes.now) }
 {
     for write in writes {
         out.push_str("  ")?;

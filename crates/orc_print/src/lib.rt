@@ -3,14 +3,10 @@
 
 mod answers;
 mod histories;
-mod item;
 mod line;
-#[cfg(test)]
-mod tests;
 mod tree;
 
-pub use answers::{answer, device_name};
+pub use answers::answer;
 pub use histories::history;
-pub use item::push_item;
 pub use line::{down, recovered, stopped};
 pub use tree::show;

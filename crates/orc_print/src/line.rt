@@ -20,11 +20,11 @@ pub fn down(alloc: Global) -> Result<Vec<u8>, Memory>
 }
 
 /// How many calls the history has behind a recovery.
-pub fn recovered(alloc: Global, n: u64) -> Result<Vec<u8>, Memory>
-    ensures { IfOk result (λ bytes. bytes.items ≡ recovered_line n) }
+pub fn recovered(alloc: Global, entries: u64) -> Result<Vec<u8>, Memory>
+    ensures { IfOk result (λ bytes. bytes.items ≡ recovered_line entries) }
 {
     let mut out = String::from_str(alloc, "recovered ")?;
-    out.push_str(n.to_string(alloc)?.as_str())?;
+    out.push_str(entries.to_string(alloc)?.as_str())?;
     out.push_str("\n")?;
     Ok(out.into_bytes())
 }

@@ -2,7 +2,7 @@
 ghost use Rattle.std.specs.Prelude.{◌≡◌, IfOk};
 ghost use Rattle.orc_print.specs.Printed.{tree_text};
 
-use crate::push_item;
+use orc_path::push_item;
 use orc_text::{Memory, Text};
 use orc_tree::Tree;
 use std::alloc::Global;
@@ -14,8 +14,7 @@ pub fn show(alloc: Global, name: &Text, tree: &Tree) -> Result<Vec<u8>, Memory>
     let mut out = String::from_str(alloc, "show ")?;
     out.push_str(name.as_str())?;
     out.push_str("\n")?;
-    let rows = tree.walk(alloc)?;
-    for row in &rows {
+    for row in tree.rows() {
         push_item(&mut out, alloc, &row.0, &row.1)?;
         out.push_str("\n")?;
     }

@@ -1,21 +1,21 @@
 -- What a call finds that is answered at once, or is to be committed.
-use Rattle.std.proofs.Common.{◌≡◌, ℕ, true, List, [], ◌∷◌, ◌++◌, take, Option, sym, ap, subst}
+use Rattle.std.proofs.Common.{◌≡◌, ℕ, true, List, [], ◌∷◌, ◌++◌, take, sym, ap, subst}
 use Rattle.std.proofs.Math.Seq.{take-length}
 use Rattle.orc_call.specs.declared.call.Call.{Call}
 use Rattle.orc_call.specs.declared.answer.Answer.{Answer}
 use Rattle.orc_state.specs.Legal.{AnswersAtOnce, IsDue, IsLegal}
-use Rattle.orc_run.specs.Pasts.{IsBehind}
-use Rattle.orc_run.specs.Serving.{ServesTo}
-use Rattle.orc_run.specs.Controllers.{world_of, IsCommitting, IsSound}
-use Rattle.orc_run.specs.Deciding.{Appends}
+use Rattle.orc_run.specs.inside.Pasts.{IsBehind}
+use Rattle.orc_run.specs.inside.Serving.{ServesTo}
+use Rattle.orc_run.specs.inside.Controllers.{view_of, IsCommitting, IsSound}
+use Rattle.orc_disk.specs.Meanings.{DiskMeaning}
 use Rattle.orc_run.specs.declared.controller.Controller.{Controller}
 use Rattle.orc_state.specs.declared.declarations.Decls.{Decls}
 use Rattle.orc_run.specs.declared.past.Past.{Past}
-use Rattle.orc_run.specs.declared.serving.Served.TheVariants.{Answered}
+use Rattle.orc_run.specs.declared.serving.CallOutcome.TheVariants.{Answered}
 use Rattle.orc_state.specs.declared.state.State.{State}
 
-module _ {D : Type 0} (content : D → Option (List ℕ)) (may_leave : D → List ℕ → Type 0) (moment : D → ℕ) (left_since : D → ℕ → List ℕ → Type 0)
-    (decls : Decls) (old : Controller D) (sound : IsSound content may_leave moment left_since decls old) where
+module _ {D : Type 0} (meaning : DiskMeaning D)
+    (decls : Decls) (old : Controller D) (sound : IsSound meaning decls old) where
   module _ (up : old.up ≡ true) where
     -- it knows its whole history
     pub knows_all : take old.known old.past.history ≡ old.past.history
@@ -25,21 +25,21 @@ module _ {D : Type 0} (content : D → Option (List ℕ)) (may_leave : D → Lis
     behind = subst (λ (l : List Call). IsBehind decls old.past l) knows_all sound.behind
 
     pub at_once : (call : Call) (given : Answer) (past : Past) → past ≡ old.past → AnswersAtOnce decls old.past.history call given
-        → ServesTo content decls (world_of old) call (Answered given) (world_of (record old { past = past }))
+        → ServesTo meaning decls (view_of old) call (Answered given) (view_of (record old { past = past }))
     at_once call given past kept answers =
-        subst (λ (p : Past). ServesTo content decls (world_of old) call (Answered given) (world_of (record old { past = p }))) (sym kept)
+        subst (λ (p : Past). ServesTo meaning decls (view_of old) call (Answered given) (view_of (record old { past = p }))) (sym kept)
         (ServesTo.at_once given up (subst (λ (l : List Call). AnswersAtOnce decls l call given) (sym knows_all) answers))
 
     module _ (call : Call) (past : Past) (rest : past ≡ record old.past { state = past.state }) (due : IsDue decls old.past.history call) where
-      pub is_due : IsDue decls (world_of old).known call
+      pub is_due : IsDue decls (view_of old).known call
       is_due = subst (λ (l : List Call). IsDue decls l call) (sym knows_all) due
 
       -- with another state it is the same world
-      pub same_world : world_of (record old { past = past }) ≡ world_of old
-      same_world = ap (λ (p : Past). world_of (record old { past = p })) rest
+      pub same_view : view_of (record old { past = past }) ≡ view_of old
+      same_view = ap (λ (p : Past). view_of (record old { past = p })) rest
 
       with_state : (s : State) → IsBehind decls (record old.past { state = s }) (old.past.history ++ call ∷ [])
-          → IsCommitting content may_leave decls call (record old { past = record old.past { state = s } })
+          → IsCommitting meaning decls call (record old { past = record old.past { state = s } })
       with_state s behind =
           let u = sound.up up in
           record {
@@ -51,6 +51,7 @@ module _ {D : Type 0} (content : D → Option (List ℕ)) (may_leave : D → Lis
               decided = u.decided;
               numbers = u.numbers;
               filled = u.filled;
+              named = u.named;
               running = u.running;
               limit = u.limit;
               all = u.all;
@@ -61,15 +62,7 @@ module _ {D : Type 0} (content : D → Option (List ℕ)) (may_leave : D → Lis
           }
 
       -- the call is to be committed
-      pub is_committing : IsBehind decls past (old.past.history ++ call ∷ []) → IsCommitting content may_leave decls call (record old { past = past })
+      pub is_committing : IsBehind decls past (old.past.history ++ call ∷ []) → IsCommitting meaning decls call (record old { past = past })
       is_committing done =
-          subst (λ (p : Past). IsBehind decls p (old.past.history ++ call ∷ []) → IsCommitting content may_leave decls call (record old { past = p })) (sym rest)
+          subst (λ (p : Past). IsBehind decls p (old.past.history ++ call ∷ []) → IsCommitting meaning decls call (record old { past = p })) (sym rest)
           (with_state past.state) done
-
-      -- what its commit appended
-      pub has_appended : (devices touched : List ℕ) (new : Controller D) → devices ≡ touched → Appends content may_leave call devices (record old { past = past }) new
-          → Appends content may_leave call touched old new
-      has_appended devices touched new is appends =
-          let moved = subst (λ (p : Past). Appends content may_leave call devices (record old { past = p }) new) rest appends in
-          subst (λ (l : List ℕ). Appends content may_leave call l old new) is
-          (record { t = moved.t; free = moved.free; least = moved.least; appended = moved.appended })

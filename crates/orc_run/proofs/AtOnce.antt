@@ -13,7 +13,7 @@ use Rattle.orc_call.specs.declared.answer.Answer.TheVariants.{Committed, Reused}
 use Rattle.orc_state.specs.States.{action_of, refusal}
 use Rattle.orc_state.specs.Legal as legal
 use Rattle.orc_state.specs.Legal.{AnswersAtOnce, IsDue, IsNew, IsSame}
-use Rattle.orc_run.specs.Pasts.{IsBehind}
+use Rattle.orc_run.specs.inside.Pasts.{IsBehind}
 use Rattle.orc_state.specs.declared.declarations.Decls.{Decls}
 use Rattle.orc_run.specs.declared.past.Past.{Past}
 use Rattle.orc_state.specs.declared.state.State.{State}

@@ -1,102 +1,183 @@
--- A call that is to be committed: what is so at each step of its commit.
-use Rattle.std.proofs.Common.{◌≡◌, ◌⊎◌, ℕ, ◌+◌, ◌<◌, ◌≤◌, Bool, true, false, not, ◌||◌, List, [], ◌∷◌, ◌++◌, length, take, drop, All, IsTrue, Option, Some, None, IfSome, is_some, Result, Ok, Err, OnErr, IfOk, is_err, inl, inr, ⊎_elim, refl, sym, ap, subst, ◌∙◌, arith}
+-- A call that is to be committed: what is so where its commit came to its end.
+use Rattle.std.proofs.Common.{◌≡◌, ◌⊎◌, ℕ, ◌+◌, ◌<◌, ◌≤◌, Bool, true, false, List, [], ◌∷◌, ◌++◌, length, take, drop, All, IsTrue, Option, Some, None, IfSome, is_some, Result, Ok, Err, OnErr, IfOk, inl, inr, ⊎_elim, refl, sym, ap, subst, ◌∙◌, arith}
 use Rattle.std.proofs.Math.Seq.{take-length, drop-length, take-append_seam, drop-append_seam}
 use Rattle.std.proofs.lemmas.List.{length-append}
 use Rattle.std.proofs.lemmas.Option.{IfSome_then}
-use Rattle.std.proofs.lemmas.Result.{IfOk-weaker}
 use Rattle.orc_text.specs.declared.memory.Memory.{Memory}
 use Rattle.orc_io.specs.Counts.{Rose}
-use Rattle.orc_disk.specs.Course.{Counted, FailsBehind, FailsAmong}
 use Rattle.orc_disk.specs.Moments.{LeavesOnly}
-use Rattle.orc_disk.specs.Stops.{Stopping, Led}
-use Rattle.orc_disk.proofs.Moments.{joined, weaker}
+use Rattle.orc_disk.specs.Stops.{Stopping}
+use Rattle.orc_disk.specs.Meanings.{DiskMeaning}
+use Rattle.orc_disk.proofs.Moments.{joined, started, weaker}
 use Rattle.orc_call.specs.declared.call.Call.{Call}
 use Rattle.orc_call.specs.declared.answer.Answer.{Answer}
-use Rattle.orc_call.specs.declared.answer.Answer.TheVariants as answer
-use Rattle.orc_journal.specs.Orders.{number_of, stage_of, follows}
+use Rattle.orc_journal.specs.Entries.{number_of}
+use Rattle.orc_journal.specs.Orders.{stage_of, follows}
 use Rattle.orc_journal.specs.Journals.{IsGated}
-use Rattle.orc_journal.specs.Opened.{Opened, Holds}
+use Rattle.orc_journal.specs.Opened.{OpenJournal}
+use Rattle.orc_journal.specs.Appends.{IsBeforeOrAfter}
 use Rattle.orc_journal.specs.declared.entry.Entry.{Entry}
-use Rattle.orc_journal.specs.declared.entry.Entry.TheVariants.{Intent, Decide, Settled}
-use Rattle.orc_journal.specs.declared.fault.AppendFault.{AppendFault}
-use Rattle.orc_journal.specs.declared.fault.AppendFault.TheVariants as fault
+use Rattle.orc_journal.specs.declared.entry.Entry.TheVariants as entry
+use Rattle.orc_append.specs.Views.{JournalView, journal_view, IsOpen}
+use Rattle.orc_append.specs.Appends.{Appends, LeavesOldOrNew}
+use Rattle.orc_append.specs.declared.outcome.Appended.{Appended}
+use Rattle.orc_append.specs.declared.outcome.Appended.TheVariants as appended
 use Rattle.orc_state.specs.States.{IsComplete, action_of}
 use Rattle.orc_state.specs.Calls.{is_call}
 use Rattle.orc_state.specs.Legal.{IsLegal, IsDue, state_of}
-use Rattle.orc_run.specs.Pasts.{IsBehind}
-use Rattle.orc_run.specs.Touched.{devices_of}
-use Rattle.orc_run.specs.Transactions.{is_taken, IsFilled}
-use Rattle.orc_run.specs.Worlds.{World, Decodes, IsWithin, IsKept, Rests, Outlives}
-use Rattle.orc_run.specs.Steps.{calls_to_decide, calls_to_commit, Commits, IsReadAs, LeavesOpen, Passes, StopsWithin, IsFull, IsCauseOf}
-use Rattle.orc_run.specs.Serving.{ComesTo, ComesShort, goes_on}
-use Rattle.orc_run.specs.Controllers.{world_of, IsCommitting, IsSound}
-use Rattle.orc_run.specs.Deciding.{Appends, IsIntentOf, HaveHistory, IsReadBehind, IsUpToDecision, IsDecided, Settles, SaysCommitted}
-use Rattle.orc_bundle.specs.declared.bundle.ScriptStep.{ScriptStep}
-use Rattle.orc_bundle.specs.declared.bundle.ScriptStep.TheVariants.{Serve}
-use Rattle.orc_run.specs.declared.controller.Controller.{Controller}
 use Rattle.orc_state.specs.declared.declarations.Decls.{Decls}
-use Rattle.orc_run.specs.declared.past.Past.{Past}
-use Rattle.orc_run.specs.declared.serving.Served.{Served}
-use Rattle.orc_run.specs.declared.serving.Served.TheVariants.{Answered, Stopped, Broken}
 use Rattle.orc_state.specs.declared.state.State.{State}
-use Rattle.orc_run.specs.declared.stop.Stop.{Stop}
-use Rattle.orc_run.specs.declared.stop.Stop.TheVariants as stop
 use Rattle.orc_state.proofs.Legality.{legal_more}
-use Rattle.orc_run.proofs.Pasts.{all_taken}
-use Rattle.orc_run.proofs.Deciding.{unnamed_stage, opened, decided, may_end, newest, intent_has, decision_has}
-use Rattle.orc_disk.proofs.Courses.{stopped_behind}
-use Rattle.orc_run.proofs.Courses.{passes_both, stops_behind}
-use Rattle.orc_run.proofs.Commits.{kept, rests_of, rose, inner_run}
-
--- what the contract of a commit says
-pub record CommitsTo {D : Type 0} (content : D → Option (List ℕ)) (may_leave : D → List ℕ → Type 0) (moment : D → ℕ) (left_since : D → ℕ → List ℕ → Type 0) (faults : D → ℕ)
-    (decls : Decls) (old : Controller D) (call : Call) (devices : List ℕ) (result : Result Served Memory) (new : Controller D) : Type 0 where
-  pub comes : IfOk result (λ served. ComesTo content decls (world_of old) call served (world_of new))
-  pub sound : IfOk result (λ served. goes_on served ≡ true → IsSound content may_leave moment left_since decls new)
-  pub broken : (given : Option Answer) (end : Stop) → result ≡ Ok (Broken given end) → devices ≡ devices_of decls.names (state_of decls (world_of old).known) (action_of call)
-      → IsCauseOf content faults decls (world_of old) (Serve call) end (world_of new)
-  pub memory : OnErr result (ComesShort decls (world_of old) call (world_of new))
-  pub rests : Rests content may_leave moment left_since decls (world_of new)
-  pub appends : (given : Answer) → result ≡ Ok (Answered given) → Appends content may_leave call devices old new
-  pub outlives : Outlives content may_leave moment left_since faults decls (world_of old) (world_of new)
+use Rattle.orc_bundle.specs.declared.bundle.ScriptStep.TheVariants.{Serve}
+use Rattle.orc_run.specs.Touched.{devices_of}
+use Rattle.orc_run.specs.Views.{View, Decodes, IsKept, Rests, Outlives}
+use Rattle.orc_run.specs.Commits.{AppendsUpTo, Commits, IsNext, answer_by, is_named, is_up_behind, journal_at, known_by, known_then, pending_then}
+use Rattle.orc_run.specs.Steps.{EndsBecause}
+use Rattle.orc_run.specs.declared.opening.TheConstants.{LARGEST_JOURNAL}
+use Rattle.orc_run.specs.inside.Pasts.{IsBehind}
+use Rattle.orc_run.specs.inside.Transactions.{is_taken, AreNamed, IsFilled}
+use Rattle.orc_run.specs.inside.Serving.{ComesTo, ComesShort, HasCome, goes_on, said_of, said_with, up_behind}
+use Rattle.orc_run.specs.inside.Controllers.{view_of, IsCommitting, IsSound, IsUp}
+use Rattle.orc_run.specs.inside.Deciding.{IsIntentOf, HaveHistory}
+use Rattle.orc_run.specs.declared.commit.Stage.{Stage}
+use Rattle.orc_run.specs.declared.commit.Stage.TheVariants.{Intent, Decide, Settled}
+use Rattle.orc_run.specs.declared.controller.Controller.{Controller}
+use Rattle.orc_run.specs.declared.past.Past.{Past}
+use Rattle.orc_run.specs.declared.serving.CallOutcome.{CallOutcome}
+use Rattle.orc_run.specs.declared.serving.CallOutcome.TheVariants.{Answered, Stopped, Broken}
+use Rattle.orc_run.specs.declared.stop.Stop.{Stop}
+use Rattle.orc_run.specs.declared.stop.Stop.TheVariants as ending
+use Rattle.orc_run.proofs.Pasts.{all_taken, named_more, named_taken}
+use Rattle.orc_run.proofs.Deciding.{unnamed_stage, opened, decided, may_end, newest, intent_has, decision_has, end_has}
 
 -- a cause that came later
 rose_later : (a b c : ℕ) → a ≤ b → Rose b c → Rose a c
 rose_later a b c le later = grind (arith, le, later)
 
-cause_before : {D : Type 0} (content : D → Option (List ℕ)) (faults : D → ℕ) (decls : Decls) (w mid new : World D) (s : ScriptStep) (end : Stop)
-    → mid.known ≡ w.known → faults w.disk ≤ faults mid.disk → is_some (content mid.disk) ≡ is_some (content w.disk) → IsCauseOf content faults decls mid s end new → IsCauseOf content faults decls w s end new
-cause_before content faults decls w mid new s stop.JournalFault known later tells h = rose_later (faults w.disk) (faults mid.disk) (faults new.disk) later h
-cause_before content faults decls w mid new s (stop.Full len) known later tells h =
-    ⊎_elim (λ f. inl (f.0, f.1, subst (λ (l : List Call). IsFull (content new.disk) decls.text f.0 (devices_of decls.names (state_of decls l) (action_of f.0)) len) known f.2)) (λ e. inr (sym tells ∙ e)) h
-cause_before content faults decls w mid new s stop.Memory known later tells h = tt
-cause_before content faults decls w mid new s (stop.Foreign at) known later tells h = (h.0, sym tells ∙ h.1)
-cause_before content faults decls w mid new s stop.NotJournal known later tells h = (h.0, sym tells ∙ h.1)
-cause_before content faults decls w mid new s (stop.Damaged at) known later tells h = (h.0, sym tells ∙ h.1)
-cause_before content faults decls w mid new s (stop.Bundle line rule) known later tells h = h
-cause_before content faults decls w mid new s stop.Usage known later tells h = h
-cause_before content faults decls w mid new s stop.ReadFault known later tells h = h
-cause_before content faults decls w mid new s stop.WriteFault known later tells h = h
+-- ---- what an append leaves
 
-on_err_by : {T E : Type 0} (P : Type 0) (result : Result T E) → P → OnErr result P
-on_err_by P (Ok x) h = tt
-on_err_by P (Err e) h = h
+-- a crash at any moment left what has P
+record Went {D : Type 0} (meaning : DiskMeaning D) (P : List ℕ → Type 0) (a b : D) : Type 0 where
+  later : meaning.faults a ≤ meaning.faults b
+  run : LeavesOnly meaning a b P
+  tells : is_some (meaning.content b) ≡ is_some (meaning.content a)
 
--- what is said of a committed call is what it comes to
-comes_of : {D : Type 0} (content : D → Option (List ℕ)) (decls : Decls) (w : World D) (call : Call) (count : ℕ) (stopped : Bool) (served : Served) (new : World D) → Commits w call new → count ≡ length new.known
-    → new.up ≡ not stopped → ((given : Answer) → served ≡ Answered given → stopped ≡ false → Passes calls_to_commit w new)
-    → (stopped ≡ true → new.up ≡ false → StopsWithin calls_to_decide calls_to_commit w new) → SaysCommitted count stopped served → ComesTo content decls w call served new
-comes_of content decls w call count stopped (Answered given) new commits is up passes stops says =
-    (record { commits = commits; answer = says.0 ∙ ap (λ (n : ℕ). answer.Committed n) is }, passes given refl says.1, up ∙ ap not says.1)
-comes_of content decls w call count stopped (Stopped None) new commits is up passes stops says = absurd says
-comes_of content decls w call count stopped (Stopped (Some given)) new commits is up passes stops says =
-    (record { commits = commits; answer = says.0 ∙ ap (λ (n : ℕ). answer.Committed n) is }, stops says.1 (up ∙ ap not says.1))
-comes_of content decls w call count stopped (Broken None end) new commits is up passes stops says = absurd says
-comes_of content decls w call count stopped (Broken (Some given) end) new commits is up passes stops says =
-    inl (record { commits = commits; answer = says.0 ∙ ap (λ (n : ℕ). answer.Committed n) is })
+-- so does a crash now, and a read
+record Stands {D : Type 0} (meaning : DiskMeaning D) (P : List ℕ → Type 0) (d : D) : Type 0 where
+  reads : IfSome (meaning.content d) P
+  images : (file : List ℕ) → meaning.may_leave d file → P file
 
-module _ {D : Type 0} (content : D → Option (List ℕ)) (may_leave : D → List ℕ → Type 0) (decls : Decls) (call : Call) (old : Controller D)
-    (is : IsCommitting content may_leave decls call old) (lawful : IsTrue (is_call decls.names call)) where
+module _ {D : Type 0} (meaning : DiskMeaning D) where
+  went_on : (P : List ℕ → Type 0) (a b c : D) → Went meaning P a b → Went meaning P b c → Went meaning P a c
+  went_on P a b c first second = record {
+    later = omega (arith, first.later, second.later);
+    run = joined meaning a b c P first.run second.run;
+    tells = second.tells ∙ first.tells;
+  }
+
+  went_weaker : (P Q : List ℕ → Type 0) (a b : D) → ((file : List ℕ) → P file → Q file) → Went meaning P a b → Went meaning Q a b
+  went_weaker P Q a b more went = record { later = went.later; run = weaker meaning a b P Q more went.run; tells = went.tells }
+
+  stands_weaker : (P Q : List ℕ → Type 0) (d : D) → ((file : List ℕ) → P file → Q file) → Stands meaning P d → Stands meaning Q d
+  stands_weaker P Q d more stands = record {
+    reads = IfSome_then (meaning.content d) stands.reads more;
+    images = λ file left. more file (stands.images file left);
+  }
+
+  module _ (only_now : (d : D) (c : List ℕ) → meaning.left_since d (meaning.moment d) c → meaning.may_leave d c)
+      (decls : List ℕ) (old new : JournalView D) (entry : Entry) (P : List ℕ → Type 0)
+      (keeps : (file : List ℕ) → IsBeforeOrAfter decls old.entries entry file → P file) (stands : Stands meaning P old.disk) where
+    left_by : meaning.faults old.disk ≤ meaning.faults new.disk → LeavesOldOrNew meaning decls old entry new → Went meaning P old.disk new.disk × Stands meaning P new.disk
+    left_by later leaves = (
+      record { later = later; run = weaker meaning old.disk new.disk (IsBeforeOrAfter decls old.entries entry) P keeps leaves.any_moment; tells = leaves.still_tells },
+      record { reads = IfSome_then (meaning.content new.disk) leaves.read keeps; images = λ file left. keeps file (leaves.crash file left) },
+    )
+
+    unchanged : new ≡ old → Went meaning P old.disk new.disk × Stands meaning P new.disk
+    unchanged same = subst (λ (v : JournalView D). Went meaning P old.disk v.disk × Stands meaning P v.disk) (sym same) (
+      record { later = omega arith; run = started meaning old.disk P (λ c left. stands.images c (only_now old.disk c left)); tells = refl },
+      stands,
+    )
+
+    append_went : (outcome : Appended) → Appends meaning decls old entry outcome new → Went meaning P old.disk new.disk × Stands meaning P new.disk
+    append_went appended.Done is = left_by is.did.faults.later is.leaves
+    append_went appended.Stopped is = left_by is.did.faults.later is.leaves
+    append_went appended.Failed is = left_by is.did.faults.later is.leaves
+    append_went (appended.Full len) is = unchanged is.same
+    append_went appended.Memory is = unchanged is.1
+
+  -- the limit stays
+  limit_same : (decls : List ℕ) (old new : JournalView D) (entry : Entry) (outcome : Appended) → Appends meaning decls old entry outcome new → new.limit ≡ old.limit
+  limit_same decls old new entry appended.Done is = is.limit
+  limit_same decls old new entry appended.Stopped is = is.limit
+  limit_same decls old new entry appended.Failed is = is.limit
+  limit_same decls old new entry (appended.Full len) is = ap (λ (v : JournalView D). v.limit) is.same
+  limit_same decls old new entry appended.Memory is = ap (λ (v : JournalView D). v.limit) is.1
+
+  limit_of : (decls : List ℕ) (stage : Stage) (old new : JournalView D) (intent : Entry) (t : ℕ) (outcome : Appended) → AppendsUpTo meaning decls stage old intent t outcome new
+      → new.limit ≡ old.limit
+  limit_of decls Intent old new intent t outcome is = limit_same decls old new intent outcome is.1
+  limit_of decls Decide old new intent t outcome is = limit_same decls is.1.0 new (entry.Decide t) outcome is.1.2 ∙ is.1.1.limit
+  limit_of decls Settled old new intent t outcome is = limit_same decls is.1 new (entry.Settled t) outcome is.4 ∙ is.3.limit ∙ is.2.limit
+
+  -- one that isn't the last was not done
+  unfinished : (decls : List ℕ) (stage : Stage) (old new : JournalView D) (intent : Entry) (t : ℕ) (outcome : Appended) → (stage ≡ Settled → ⊥)
+      → AppendsUpTo meaning decls stage old intent t outcome new → outcome ≡ appended.Done → ⊥
+  unfinished decls Intent old new intent t outcome unsettled is done = is.0 done
+  unfinished decls Decide old new intent t outcome unsettled is done = is.0 done
+  unfinished decls Settled old new intent t outcome unsettled is done = unsettled refl
+
+  -- where the last append failed the disk counted a fault
+  rose_by : (decls : List ℕ) (stage : Stage) (old new : JournalView D) (intent : Entry) (t : ℕ) → AppendsUpTo meaning decls stage old intent t appended.Failed new
+      → Rose (meaning.faults old.disk) (meaning.faults new.disk)
+  rose_by decls Intent old new intent t is = is.1.did.faults.rose refl
+  rose_by decls Decide old new intent t is =
+      rose_later (meaning.faults old.disk) (meaning.faults is.1.0.disk) (meaning.faults new.disk) is.1.1.did.faults.later (is.1.2.did.faults.rose refl)
+  rose_by decls Settled old new intent t is =
+      rose_later (meaning.faults old.disk) (meaning.faults is.1.disk) (meaning.faults new.disk) (omega (arith, is.2.did.faults.later, is.3.did.faults.later)) (is.4.did.faults.rose refl)
+
+-- what the contract of a commit says
+pub record CommitsTo {D : Type 0} (meaning : DiskMeaning D)
+    (decls : Decls) (old : Controller D) (call : Call) (result : Result CallOutcome Memory) (new : Controller D) : Type 0 where
+  pub comes : IfOk result (λ served. ComesTo meaning decls (view_of old) call served (view_of new))
+  pub sound : IfOk result (λ served. goes_on served ≡ true → IsSound meaning decls new)
+  pub broken : (given : Option Answer) (end : Stop) → result ≡ Ok (Broken given end)
+      → EndsBecause meaning decls (view_of old) (Serve call) end (view_of new)
+  pub memory : OnErr result (ComesShort meaning decls (view_of old) call (view_of new))
+  pub rests : Rests meaning decls (view_of new)
+  pub outlives : Outlives meaning decls (view_of old) (view_of new)
+
+-- why a run ends behind an append
+cause_of : (Q : Stop → Type 0) (outcome : Appended) (said : Option Answer) (given : Option Answer) (end : Stop) → said_with outcome said ≡ Broken given end
+    → (outcome ≡ appended.Failed → Q ending.JournalFault) → ((len : ℕ) → Q (ending.Full len)) → Q ending.Memory → Q end
+cause_of Q appended.Done (Some answer) given end is fault full memory = absurd cc
+cause_of Q appended.Done None given end is fault full memory = let e : ending.Memory ≡ end = cc in subst Q e memory
+cause_of Q appended.Stopped said given end is fault full memory = absurd cc
+cause_of Q appended.Failed said given end is fault full memory = let e : ending.JournalFault ≡ end = cc in subst Q e (fault refl)
+cause_of Q (appended.Full len) said given end is fault full memory = let e : ending.Full len ≡ end = cc in subst Q e (full len)
+cause_of Q appended.Memory said given end is fault full memory = let e : ending.Memory ≡ end = cc in subst Q e memory
+
+-- the run goes on where the entry was appended, or the disk stopped
+on_going : (P : Type 0) (outcome : Appended) (said : Option Answer) → goes_on (said_with outcome said) ≡ true → (outcome ≡ appended.Done → P) → (outcome ≡ appended.Stopped → P) → P
+on_going P appended.Done said on done stopped = done refl
+on_going P appended.Stopped said on done stopped = stopped refl
+on_going P appended.Failed said on done stopped = absurd cc
+on_going P (appended.Full len) said on done stopped = absurd cc
+on_going P appended.Memory said on done stopped = absurd cc
+
+up_is : (outcome : Appended) (up : Bool) → up ≡ true → up_behind outcome up ≡ is_up_behind outcome
+up_is appended.Done up is = is
+up_is appended.Stopped up is = refl
+up_is appended.Failed up is = is
+up_is (appended.Full len) up is = is
+up_is appended.Memory up is = is
+
+down_is : (outcome : Appended) (up : Bool) → outcome ≡ appended.Stopped → up_behind outcome up ≡ false
+down_is outcome up is = ap (λ (o : Appended). up_behind o up) is
+
+module _ {D : Type 0} (meaning : DiskMeaning D) (only_now : (d : D) (c : List ℕ) → meaning.left_since d (meaning.moment d) c → meaning.may_leave d c)
+    (decls : Decls) (call : Call) (old : Controller D)
+    (is : IsCommitting meaning decls call old) (lawful : IsTrue (is_call decls.names call)) where
   -- what it knows, and nothing is pending
   known_old : take old.known old.past.history ≡ old.past.history
   known_old = subst (λ (n : ℕ). take n old.past.history ≡ old.past.history) (sym is.up.all) (take-length old.past.history)
@@ -110,10 +191,43 @@ module _ {D : Type 0} (content : D → Option (List ℕ)) (may_leave : D → Lis
   legal_new : IsLegal decls (old.past.history ++ call ∷ [])
   legal_new = legal_more decls old.past.history call is.legal lawful is.due
 
-  decodes : (entries : List Entry) (history known : List Call) → HaveHistory decls entries history → history ≡ known → (file : List ℕ) → IsGated file decls.text entries
-      → Decodes decls file known
-  decodes entries history known have e file gated =
-      subst (λ (l : List Call). Decodes decls file l) e (record { entries = entries; gated = gated; ordered = have.ordered; decided = have.decided; legal = have.legal })
+  abbrev before : List Call
+  before = old.past.history
+
+  abbrev behind : List Call
+  behind = old.past.history ++ call ∷ []
+
+  -- the file has one history, or the other
+  abbrev HasEither : List ℕ → Type 0
+  HasEither file = Decodes decls file before ⊎ Decodes decls file behind
+
+  abbrev HasAt : Stage → List ℕ → Type 0
+  HasAt Intent file = Decodes decls file before
+  HasAt Decide file = HasEither file
+  HasAt Settled file = Decodes decls file behind
+
+  decodes : (entries : List Entry) (history : List Call) → HaveHistory decls entries history → (file : List ℕ) → IsGated file decls.text entries → Decodes decls file history
+  decodes entries history have file gated = record { entries = entries; gated = gated; ordered = have.ordered; decided = have.decided; legal = have.legal }
+
+  stands_old : Stands meaning (λ file. Decodes decls file before) old.journal.disk.inner
+  stands_old =
+      let reads = IfSome_then (meaning.content old.journal.disk.inner) is.up.holds.file (decodes is.up.entries before have_old) in
+      record { reads = reads; images = λ file left. subst (λ (o : Option (List ℕ)). IfSome o (λ f. Decodes decls f before)) (is.up.holds.durable file left) reads }
+
+  -- what is kept
+  kept_at : (stage : Stage) (w : View D) → w.known ≡ known_then stage before call → w.pending ≡ pending_then stage call → (file : List ℕ) → HasAt stage file → IsKept decls w file
+  kept_at Intent w known pending file has = record { history = before; decodes = has; within = inl (sym known) }
+  kept_at Decide w known pending file has = ⊎_elim
+      (λ (h : Decodes decls file before). record { history = before; decodes = h; within = inl (sym known) })
+      (λ (h : Decodes decls file behind). record { history = behind; decodes = h; within = inr (sym (ap (λ (l : List Call). l ++ w.pending) known ∙ ap (λ (l : List Call). before ++ l) pending)) })
+      has
+  kept_at Settled w known pending file has = record { history = behind; decodes = has; within = inl (sym known) }
+
+  kept_behind : (stage : Stage) (w : View D) → w.known ≡ known_then stage before call → w.pending ≡ pending_then stage call → (file : List ℕ) → Decodes decls file behind → IsKept decls w file
+  kept_behind Intent w known pending file has =
+      record { history = behind; decodes = has; within = inr (sym (ap (λ (l : List Call). l ++ w.pending) known ∙ ap (λ (l : List Call). before ++ l) pending)) }
+  kept_behind Decide w known pending file has = kept_at Decide w known pending file (inr has)
+  kept_behind Settled w known pending file has = kept_at Settled w known pending file has
 
   module _ (t : ℕ) (devices : List ℕ) (intent : Entry) (intended : IsIntentOf t call devices intent) (free : is_taken old.past.numbers t ≡ false) where
     stage_old : stage_of t is.up.entries ≡ None
@@ -125,277 +239,292 @@ module _ {D : Type 0} (content : D → Option (List ℕ)) (may_leave : D → Lis
         (intent_has t decls is.up.entries old.past.history have_old call devices stage_old)
 
     -- the decision commits the call
-    have_decision : HaveHistory decls ((is.up.entries ++ intent ∷ []) ++ Decide t ∷ []) (old.past.history ++ call ∷ [])
-    have_decision = subst (λ (e : Entry). HaveHistory decls ((is.up.entries ++ e ∷ []) ++ Decide t ∷ []) (old.past.history ++ call ∷ [])) (sym intended.is)
-        (decision_has t decls (is.up.entries ++ Intent t call devices ∷ []) old.past.history
+    have_decision : HaveHistory decls ((is.up.entries ++ intent ∷ []) ++ entry.Decide t ∷ []) (old.past.history ++ call ∷ [])
+    have_decision = subst (λ (e : Entry). HaveHistory decls ((is.up.entries ++ e ∷ []) ++ entry.Decide t ∷ []) (old.past.history ++ call ∷ [])) (sym intended.is)
+        (decision_has t decls (is.up.entries ++ entry.Intent t call devices ∷ []) old.past.history
         (intent_has t decls is.up.entries old.past.history have_old call devices stage_old) call devices
         (opened t call devices is.up.entries stage_old) (newest t call devices is.up.entries) legal_new)
 
-    ends : IsTrue (follows ((is.up.entries ++ intent ∷ []) ++ Decide t ∷ []) (Settled t))
-    ends = subst (λ (e : Entry). IsTrue (follows ((is.up.entries ++ e ∷ []) ++ Decide t ∷ []) (Settled t))) (sym intended.is)
-        (may_end t call devices ((is.up.entries ++ Intent t call devices ∷ []) ++ Decide t ∷ []) (decided t call devices (is.up.entries ++ Intent t call devices ∷ [])
+    ends : IsTrue (follows ((is.up.entries ++ intent ∷ []) ++ entry.Decide t ∷ []) (entry.Settled t))
+    ends = subst (λ (e : Entry). IsTrue (follows ((is.up.entries ++ e ∷ []) ++ entry.Decide t ∷ []) (entry.Settled t))) (sym intended.is)
+        (may_end t call devices ((is.up.entries ++ entry.Intent t call devices ∷ []) ++ entry.Decide t ∷ []) (decided t call devices (is.up.entries ++ entry.Intent t call devices ∷ [])
         (opened t call devices is.up.entries stage_old)))
 
-    -- what a decision may leave is kept by a world that has both histories, and else by the one before or the one behind
-    keeps_both : (w : World D) → IsWithin w old.past.history → IsWithin w (old.past.history ++ call ∷ []) → (file : List ℕ)
-        → IsUpToDecision decls.text is.up.entries intent t file → IsKept decls w file
-    keeps_both w before behind file h =
-        ⊎_elim (λ g. kept decls w is.up.entries old.past.history have_old before file g)
-        (λ k. ⊎_elim (λ g. kept decls w (is.up.entries ++ intent ∷ []) old.past.history have_intent before file g)
-        (λ g. kept decls w ((is.up.entries ++ intent ∷ []) ++ Decide t ∷ []) (old.past.history ++ call ∷ []) have_decision behind file g) k) h
+    have_end : HaveHistory decls (((is.up.entries ++ intent ∷ []) ++ entry.Decide t ∷ []) ++ entry.Settled t ∷ []) behind
+    have_end = end_has t decls ((is.up.entries ++ intent ∷ []) ++ entry.Decide t ∷ []) behind have_decision ends
 
-    keeps_either : (w new : World D) → IsWithin w old.past.history → IsWithin new (old.past.history ++ call ∷ []) → (file : List ℕ)
-        → IsUpToDecision decls.text is.up.entries intent t file → IsKept decls w file ⊎ IsKept decls new file
-    keeps_either w new before behind file h =
-        ⊎_elim (λ g. inl (kept decls w is.up.entries old.past.history have_old before file g))
-        (λ k. ⊎_elim (λ g. inl (kept decls w (is.up.entries ++ intent ∷ []) old.past.history have_intent before file g))
-        (λ g. inr (kept decls new ((is.up.entries ++ intent ∷ []) ++ Decide t ∷ []) (old.past.history ++ call ∷ []) have_decision behind file g)) k) h
+    keeps_first : (file : List ℕ) → IsBeforeOrAfter decls.text is.up.entries intent file → Decodes decls file before
+    keeps_first file = ⊎_elim (decodes is.up.entries before have_old file) (decodes (is.up.entries ++ intent ∷ []) before have_intent file)
 
-    module _ (past : Past) (taken : is_taken past.numbers t ≡ true) (others : (u : ℕ) → is_taken old.past.numbers u ≡ true → is_taken past.numbers u ≡ true)
-        (filled : IsFilled past.numbers) (more : past.history ≡ old.past.history ++ call ∷ []) (state : past.state ≡ old.past.state) (j : Opened (Stopping D)) where
-      behind_new : IsBehind decls past past.history
-      behind_new = record {
-        state = state ∙ is.behind.state ∙ ap (λ (l : List Call). state_of decls l) (sym more);
-        complete = subst IsComplete (sym state) is.behind.complete;
-        bases = ap (λ (s : State). length s.bases) state ∙ is.behind.bases;
-      }
+    keeps_next : (entries : List Entry) → entries ≡ is.up.entries ++ intent ∷ [] → (file : List ℕ) → IsBeforeOrAfter decls.text entries (entry.Decide t) file → HasEither file
+    keeps_next entries same file either = ⊎_elim
+        (λ g. inl (decodes (is.up.entries ++ intent ∷ []) before have_intent file g))
+        (λ g. inr (decodes ((is.up.entries ++ intent ∷ []) ++ entry.Decide t ∷ []) behind have_decision file g))
+        (subst (λ (l : List Entry). IsBeforeOrAfter decls.text l (entry.Decide t) file) same either)
 
-      numbers_new : All (λ entry. is_taken past.numbers (number_of entry) ≡ true) ((is.up.entries ++ intent ∷ []) ++ Decide t ∷ [])
-      numbers_new =
-          all_taken past.numbers past.numbers (is.up.entries ++ intent ∷ []) (Decide t)
-          (all_taken old.past.numbers past.numbers is.up.entries intent is.up.numbers others (subst (λ (e : Entry). is_taken past.numbers (number_of e) ≡ true) (sym intended.is) taken))
-          (λ u h. h) taken
+    keeps_last : (entries : List Entry) → entries ≡ (is.up.entries ++ intent ∷ []) ++ entry.Decide t ∷ [] → (file : List ℕ) → IsBeforeOrAfter decls.text entries (entry.Settled t) file → Decodes decls file behind
+    keeps_last entries same file either = ⊎_elim
+        (decodes ((is.up.entries ++ intent ∷ []) ++ entry.Decide t ∷ []) behind have_decision file)
+        (decodes (((is.up.entries ++ intent ∷ []) ++ entry.Decide t ∷ []) ++ entry.Settled t ∷ []) behind have_end file)
+        (subst (λ (l : List Entry). IsBeforeOrAfter decls.text l (entry.Settled t) file) same either)
 
-      -- the journal has the decision
-      pub is_decided : Holds {D = Stopping D} (λ s. content s.inner) (λ s. may_leave s.inner) j decls.text ((is.up.entries ++ intent ∷ []) ++ Decide t ∷ [])
-          → j.limit ≡ old.journal.limit → IsDecided content may_leave decls t (record { journal = j; up = old.up; past = past; known = old.known })
-      is_decided holds limit = record {
-        running = is.running;
-        entries = (is.up.entries ++ intent ∷ []) ++ Decide t ∷ [];
-        holds = holds;
-        have = subst (λ (l : List Call). HaveHistory decls ((is.up.entries ++ intent ∷ []) ++ Decide t ∷ []) l) (sym more) have_decision;
-        follows = ends;
-        number = taken;
-        numbers = numbers_new;
-        filled = filled;
-        limit = limit ∙ is.up.limit;
-        behind = behind_new;
-      }
+    -- what a commit leaves, by its last stage
+    commit_went : (stage : Stage) (outcome : Appended) (new : JournalView D) → AppendsUpTo meaning decls.text stage (journal_view old.journal is.up.entries) intent t outcome new
+        → Went meaning HasEither old.journal.disk.inner new.disk × Stands meaning (HasAt stage) new.disk
+    commit_went Intent outcome new so =
+        let a = journal_view old.journal is.up.entries in
+        let r = append_went meaning only_now decls.text a new intent (λ file. Decodes decls file before) keeps_first stands_old outcome so.1 in
+        (went_weaker meaning (λ file. Decodes decls file before) HasEither a.disk new.disk (λ file h. inl h) r.0, r.1)
+    commit_went Decide outcome new so =
+        let a = journal_view old.journal is.up.entries in
+        let b = so.1.0 in
+        let r = append_went meaning only_now decls.text a b intent (λ file. Decodes decls file before) keeps_first stands_old appended.Done so.1.1 in
+        let first = went_weaker meaning (λ file. Decodes decls file before) HasEither a.disk b.disk (λ file h. inl h) r.0 in
+        let s = append_went meaning only_now decls.text b new (entry.Decide t) HasEither (keeps_next b.entries so.1.1.known)
+        (stands_weaker meaning (λ file. Decodes decls file before) HasEither b.disk (λ file h. inl h) r.1) outcome so.1.2 in
+        (went_on meaning HasEither a.disk b.disk new.disk first s.0, s.1)
+    commit_went Settled outcome new so =
+        let a = journal_view old.journal is.up.entries in
+        let b = so.0 in
+        let d = so.1 in
+        let r = append_went meaning only_now decls.text a b intent (λ file. Decodes decls file before) keeps_first stands_old appended.Done so.2 in
+        let first = went_weaker meaning (λ file. Decodes decls file before) HasEither a.disk b.disk (λ file h. inl h) r.0 in
+        let s = append_went meaning only_now decls.text b d (entry.Decide t) HasEither (keeps_next b.entries so.2.known)
+        (stands_weaker meaning (λ file. Decodes decls file before) HasEither b.disk (λ file h. inl h) r.1) appended.Done so.3 in
+        let all : d.entries ≡ (is.up.entries ++ intent ∷ []) ++ entry.Decide t ∷ [] = so.3.known ∙ ap (λ (l : List Entry). l ++ entry.Decide t ∷ []) so.2.known in
+        let reads : IfSome (meaning.content d.disk) (λ file. Decodes decls file behind) = IfSome_then (meaning.content d.disk) so.3.reads (λ file g.
+        decodes ((is.up.entries ++ intent ∷ []) ++ entry.Decide t ∷ []) behind have_decision file
+        (subst (λ (l : List Entry). IsGated file decls.text (l ++ entry.Decide t ∷ [])) so.2.known g)) in
+        let stands : Stands meaning (λ file. Decodes decls file behind) d.disk = record {
+          reads = reads;
+          images = λ file left. subst (λ (o : Option (List ℕ)). IfSome o (λ f. Decodes decls f behind)) (so.3.durable file left) reads;
+        } in
+        let z = append_went meaning only_now decls.text d new (entry.Settled t) (λ file. Decodes decls file behind) (keeps_last d.entries all) stands outcome so.4 in (
+          went_on meaning HasEither a.disk d.disk new.disk (went_on meaning HasEither a.disk b.disk d.disk first s.0)
+              (went_weaker meaning (λ file. Decodes decls file behind) HasEither d.disk new.disk (λ file h. inr h) z.0),
+          z.1,
+        )
 
-      module _ (moment : D → ℕ) (left_since : D → ℕ → List ℕ → Type 0) (faults : D → ℕ) (leads : ℕ → Bool → D → D → Type 0)
-          (counts_now : (disk : D) (t : ℕ) (c : List ℕ) → t ≤ moment disk → may_leave disk c → left_since disk t c)
-          (goes_further : (m n : ℕ) (x y : Bool) (a b c : D) → leads m x a b → leads n y b c → leads (m + n) (x || y) a c)
-          (counts : (n : ℕ) (x : Bool) (a b : D) → leads n x a b → Counted x (faults a) (faults b))
-          (tells : is_some (content j.disk.inner) ≡ is_some (content old.journal.disk.inner))
-          (any_moment : LeavesOnly {D = Stopping D} (λ s. moment s.inner) (λ s. left_since s.inner) old.journal.disk j.disk (IsUpToDecision decls.text is.up.entries intent t))
-          (left : IfSome (content j.disk.inner) (IsUpToDecision decls.text is.up.entries intent t))
-          (calls : ℕ) (failed : Bool) (led : Led leads calls failed old.journal.disk j.disk) where
-        run : LeavesOnly moment left_since old.journal.disk.inner j.disk.inner (IsUpToDecision decls.text is.up.entries intent t)
-        run = inner_run moment left_since old.journal.disk j.disk (IsUpToDecision decls.text is.up.entries intent t) any_moment
+    is_free : is_named t is.up.entries ≡ false
+    is_free = on (is_named t is.up.entries) refl
+      where
+        on : (b : Bool) → is_named t is.up.entries ≡ b → is_named t is.up.entries ≡ false
+        on true named = absurd (let taken = named_taken old.past.numbers t is.up.entries is.up.numbers named in cc)
+        on false named = named
 
-        later : faults old.journal.disk.inner ≤ faults j.disk.inner
-        later = (counts led.inner_calls led.inner_failed old.journal.disk.inner j.disk.inner led.inner).later
+    module _ (touched : devices ≡ devices_of decls.names (state_of decls (take old.known old.past.history)) (action_of call)) (positive : 1 ≤ t)
+        (least : (u : ℕ) → 1 ≤ u → u < t → is_taken old.past.numbers u ≡ true)
+        (stage : Stage) (outcome : Appended) (j : OpenJournal (Stopping D))
+        (so : AppendsUpTo meaning decls.text stage (journal_view old.journal is.up.entries) intent t outcome (journal_view j (known_by stage outcome is.up.entries intent t))) where
+      moved : AppendsUpTo meaning decls.text stage (record (journal_view old.journal is.up.entries) { limit = LARGEST_JOURNAL }) intent t outcome
+          (record (journal_view j (known_by stage outcome is.up.entries intent t)) { limit = LARGEST_JOURNAL })
+      moved =
+          let a = journal_view old.journal is.up.entries in
+          let b = journal_view j (known_by stage outcome is.up.entries intent t) in
+          let A : ℕ → ℕ → Type 0 = λ m n. AppendsUpTo meaning decls.text stage (record a { limit = m }) intent t outcome (record b { limit = n }) in
+          subst (λ m. A m LARGEST_JOURNAL) is.up.limit
+          (subst (λ n. A old.journal.limit n) (limit_of meaning decls.text stage a b intent t outcome so ∙ is.up.limit) so)
 
-        -- the decided call is known
-        module _ (served : Served) (new : Controller D)
-            (to : Settles content may_leave moment left_since faults leads decls t (record { journal = j; up = old.up; past = past; known = old.known }) served new) where
-          known_new : (world_of new).known ≡ old.past.history ++ call ∷ []
-          known_new = ap (λ (n : ℕ). take n new.past.history) to.known ∙ ap (λ (p : Past). take (length past.history) p.history) to.past ∙ take-length past.history ∙ more
+      module _ (up : Bool) (past : Past) (known : ℕ) (known_is : take known past.history ≡ known_then stage before call) (pending_is : drop known past.history ≡ pending_then stage call)
+          (up_is : up ≡ is_up_behind outcome) where
+        abbrev now : Controller D
+        now = record { journal = j; up = up; past = past; known = known }
 
-          pending_new : (world_of new).pending ≡ []
-          pending_new = ap (λ (n : ℕ). drop n new.past.history) to.known ∙ ap (λ (p : Past). drop (length past.history) p.history) to.past ∙ drop-length past.history
+        commits : Commits meaning decls (view_of old) call stage outcome (view_of now)
+        commits = record {
+          entries = is.up.entries;
+          t = t;
+          next = record {
+            journal = is.up.holds.file;
+            ordered = is.up.ordered;
+            decided = is.up.decided ∙ sym known_old;
+            positive = positive;
+            free = is_free;
+            least = λ u from below. is.up.named u (least u from below);
+          };
+          appends = subst (λ (e : Entry). AppendsUpTo meaning decls.text stage (journal_at meaning (view_of old) is.up.entries) e t outcome
+              (journal_at meaning (view_of now) (known_by stage outcome is.up.entries e t)))
+              (intended.is ∙ ap (λ (l : List ℕ). entry.Intent t call l) touched) moved;
+          known = known_is ∙ ap (λ (l : List Call). known_then stage l call) (sym known_old);
+          pending = pending_is;
+          up = up_is;
+        }
 
-          commits : Commits (world_of old) call (world_of new)
-          commits = record {
-            known = known_new ∙ sym (ap (λ (l : List Call). l ++ call ∷ []) known_old);
-            pending = pending_new;
-          }
+        come : HasCome meaning decls (view_of old) call (view_of now)
+        come = record {
+          stage = stage;
+          outcome = outcome;
+          running = is.running;
+          due = subst (λ (l : List Call). IsDue decls l call) (sym known_old) is.due;
+          commits = commits;
+        }
 
-          known_mid : take old.known past.history ≡ take old.known old.past.history
-          known_mid = ap (λ (h : List Call). take old.known h) more
-              ∙ subst (λ (n : ℕ). take n (old.past.history ++ call ∷ []) ≡ old.past.history) (sym is.up.all) (take-append_seam old.past.history (call ∷ [])) ∙ sym known_old
+        went : Went meaning HasEither old.journal.disk.inner j.disk.inner × Stands meaning (HasAt stage) j.disk.inner
+        went = commit_went stage outcome (journal_view j (known_by stage outcome is.up.entries intent t)) so
 
-          count : new.known ≡ length (world_of new).known
-          count = to.known ∙ ap length more ∙ sym (ap length known_new)
+        rests_now : Rests meaning decls (view_of now)
+        rests_now =
+            let keeps = kept_at stage (view_of now) known_is pending_is in
+            record { reads = IfSome_then (meaning.content j.disk.inner) went.1.reads keeps; images = λ file left. keeps file (went.1.images file left) }
 
-          outlives : Outlives content may_leave moment left_since faults decls (world_of old) (world_of new)
-          outlives = record {
-            later = omega (arith, later, (counts to.course.inner_calls to.course.inner_failed j.disk.inner new.journal.disk.inner to.course.inner).later);
-            images =
-                joined moment left_since old.journal.disk.inner j.disk.inner new.journal.disk.inner (λ file. IsKept decls (world_of old) file ⊎ IsKept decls (world_of new) file)
-                (weaker moment left_since old.journal.disk.inner j.disk.inner (IsUpToDecision decls.text is.up.entries intent t) (λ file. IsKept decls (world_of old) file ⊎ IsKept decls (world_of new) file)
-                (keeps_either (world_of old) (world_of new) (inl (sym known_old)) (inl (sym known_new))) run)
-                (weaker moment left_since j.disk.inner new.journal.disk.inner (IsKept decls (world_of new)) (λ file. IsKept decls (world_of old) file ⊎ IsKept decls (world_of new) file)
-                (λ file h. inr h) to.images);
-            tells = to.tells ∙ tells;
-          }
+        outlives_now : Outlives meaning decls (view_of old) (view_of now)
+        outlives_now = record {
+          later = went.0.later;
+          images = weaker meaning old.journal.disk.inner j.disk.inner HasEither (λ file. IsKept decls (view_of old) file ⊎ IsKept decls (view_of now) file)
+              (λ file. ⊎_elim (λ (h : Decodes decls file before). inl (record { history = before; decodes = h; within = inl (sym known_old) }))
+              (λ h. inr (kept_behind stage (view_of now) known_is pending_is file h))) went.0.run;
+          still_tells = went.0.tells;
+        }
 
-          appends : ((u : ℕ) → 1 ≤ u → u < t → is_taken old.past.numbers u ≡ true)
-              → ((text : List ℕ) (entries : List Entry) → Holds {D = Stopping D} (λ s. content s.inner) (λ s. may_leave s.inner) old.journal text entries
-              → Holds {D = Stopping D} (λ s. content s.inner) (λ s. may_leave s.inner) j text ((entries ++ intent ∷ []) ++ Decide t ∷ []))
-              → (given : Answer) → served ≡ Answered given → Appends content may_leave call devices old new
-          appends least done given e = record {
-            t = t;
-            free = free;
-            least = least;
-            appended = λ text entries holds.
-                subst (λ (x : Entry). Holds {D = Stopping D} (λ s. content s.inner) (λ s. may_leave s.inner) new.journal text (((entries ++ x ∷ []) ++ Decide t ∷ []) ++ Settled t ∷ [])) intended.is
-                (to.appended given e text ((entries ++ intent ∷ []) ++ Decide t ∷ []) (done text entries holds));
-          }
+        cause_now : (given : Option Answer) (end : Stop) (count : ℕ) → said_of stage outcome count ≡ Broken given end → EndsBecause meaning decls (view_of old) (Serve call) end (view_of now)
+        cause_now given end count said =
+            cause_of (λ (x : Stop). EndsBecause meaning decls (view_of old) (Serve call) x (view_of now)) outcome (answer_by stage outcome count) given end said
+            (λ failed. rose_by meaning decls.text stage (journal_view old.journal is.up.entries) (journal_view j (known_by stage outcome is.up.entries intent t)) intent t
+            (subst (λ (o : Appended). AppendsUpTo meaning decls.text stage (journal_view old.journal is.up.entries) intent t o (journal_view j (known_by stage outcome is.up.entries intent t))) failed so))
+            (λ len. inl (call, refl)) tt
 
-          pub committed : calls ≡ calls_to_decide → failed ≡ false → ((u : ℕ) → 1 ≤ u → u < t → is_taken old.past.numbers u ≡ true)
-              → ((text : List ℕ) (entries : List Entry) → Holds {D = Stopping D} (λ s. content s.inner) (λ s. may_leave s.inner) old.journal text entries
-              → Holds {D = Stopping D} (λ s. content s.inner) (λ s. may_leave s.inner) j text ((entries ++ intent ∷ []) ++ Decide t ∷ []))
-              → CommitsTo content may_leave moment left_since faults decls old call devices (Ok served) new
-          committed whole unfailed least done = record {
-            comes = comes_of content decls (world_of old) call new.known new.journal.disk.stopped served (world_of new) commits count to.up
-                (λ given e running. let p = passes_both leads calls to.calls failed to.failed old.journal.disk j.disk new.journal.disk led to.course is.up.running unfailed whole (to.whole given e) running in
-                record { later = p.0; nearer = p.1 })
-                (λ stopped down. let s = stops_behind leads calls to.calls failed to.failed old.journal.disk j.disk new.journal.disk led to.course is.up.running unfailed whole to.few stopped in
-                record { behind = s.0; within = s.1; came = s.2; down = down }) to.says;
-            sound = to.sound;
-            broken = λ given end e touched. cause_before content faults decls (world_of old) (world_of (record { journal = j; up = old.up; past = past; known = old.known })) (world_of new) (Serve call) end
-                known_mid later tells (to.broken given end call (let s : served ≡ Broken given end = cc in s));
-            memory = tt;
-            appends = λ given e. appends least done given (let s : served ≡ Answered given = cc in s);
-            rests = to.rests;
-            outlives = outlives;
-          }
+        -- what its contract says, for what was said of it
+        pub said_so : (result : Result CallOutcome Memory) (count : ℕ) → count ≡ length (take known past.history) → IfOk result (λ served. served ≡ said_of stage outcome count)
+            → IfOk result (λ served. goes_on served ≡ true → IsSound meaning decls now) → CommitsTo meaning decls old call result now
+        unfolding come
+        said_so (Ok served) count all said sound = record {
+          comes = record { come = come; said = said ∙ ap (said_of stage outcome) all };
+          sound = sound;
+          broken = λ given end same. cause_now given end count (sym said ∙ (let s : served ≡ Broken given end = cc in s));
+          memory = tt;
+          rests = rests_now;
+          outlives = outlives_now;
+        }
+        said_so (Err memory) count all said sound = record {
+          comes = tt;
+          sound = tt;
+          broken = λ given end same. absurd cc;
+          memory = inr come;
+          rests = rests_now;
+          outlives = outlives_now;
+        }
 
-        -- the call was not decided
-        module _ (up : Bool) (new_state : State) where
-          abbrev open_at : Controller D
-          open_at = record { journal = j; up = up; past = record past { state = new_state }; known = old.known }
+      module _ (past : Past) (taken : is_taken past.numbers t ≡ true) (others : (u : ℕ) → is_taken old.past.numbers u ≡ true → is_taken past.numbers u ≡ true)
+          (only : (u : ℕ) → is_taken past.numbers u ≡ true → (is_taken old.past.numbers u ≡ true) ⊎ (u ≡ t))
+          (filled : IsFilled past.numbers) (more : past.history ≡ behind) (state : past.state ≡ old.past.state)
+          (open_now : (outcome ≡ appended.Stopped → ⊥) → (outcome ≡ appended.Failed → ⊥) → IsOpen meaning j decls.text (known_by stage outcome is.up.entries intent t)) where
+        behind_new : IsBehind decls past past.history
+        behind_new = record {
+          state = state ∙ is.behind.state ∙ ap (λ (l : List Call). state_of decls l) (sym more);
+          complete = subst IsComplete (sym state) is.behind.complete;
+          bases = ap (λ (s : State). length s.bases) state ∙ is.behind.bases;
+        }
 
-          known_open : take old.known past.history ≡ old.past.history
-          known_open = subst (λ (h : List Call). take old.known h ≡ old.past.history) (sym more)
-              (subst (λ (n : ℕ). take n (old.past.history ++ call ∷ []) ≡ old.past.history) (sym is.up.all) (take-append_seam old.past.history (call ∷ [])))
+        numbers_first : All (λ e. is_taken past.numbers (number_of e) ≡ true) (is.up.entries ++ intent ∷ [])
+        numbers_first = all_taken old.past.numbers past.numbers is.up.entries intent is.up.numbers others
+            (subst (λ (e : Entry). is_taken past.numbers (number_of e) ≡ true) (sym intended.is) taken)
 
-          pending_open : drop old.known past.history ≡ call ∷ []
-          pending_open = subst (λ (h : List Call). drop old.known h ≡ call ∷ []) (sym more)
-              (subst (λ (n : ℕ). drop n (old.past.history ++ call ∷ []) ≡ call ∷ []) (sym is.up.all) (drop-append_seam old.past.history (call ∷ [])))
+        numbers_all : All (λ e. is_taken past.numbers (number_of e) ≡ true) (((is.up.entries ++ intent ∷ []) ++ entry.Decide t ∷ []) ++ entry.Settled t ∷ [])
+        numbers_all =
+            all_taken past.numbers past.numbers ((is.up.entries ++ intent ∷ []) ++ entry.Decide t ∷ []) (entry.Settled t)
+            (all_taken past.numbers past.numbers (is.up.entries ++ intent ∷ []) (entry.Decide t) numbers_first (λ u h. h) taken) (λ u h. h) taken
 
-          leaves_open : LeavesOpen (world_of old) call (world_of open_at)
-          leaves_open = record {
-            known = known_open ∙ sym known_old;
-            pending = pending_open;
-          }
+        named_all : AreNamed past.numbers (((is.up.entries ++ intent ∷ []) ++ entry.Decide t ∷ []) ++ entry.Settled t ∷ [])
+        named_all =
+            named_more past.numbers past.numbers ((is.up.entries ++ intent ∷ []) ++ entry.Decide t ∷ []) (entry.Settled t)
+            (named_more past.numbers past.numbers (is.up.entries ++ intent ∷ []) (entry.Decide t)
+            (named_more old.past.numbers past.numbers is.up.entries intent is.up.named
+            (subst (λ (e : Entry). (u : ℕ) → is_taken past.numbers u ≡ true → (is_taken old.past.numbers u ≡ true) ⊎ (u ≡ number_of e)) (sym intended.is) only))
+            (λ u h. inl h)) (λ u h. inl h)
 
-          keeps_open : (file : List ℕ) → IsUpToDecision decls.text is.up.entries intent t file → IsKept decls (world_of open_at) file
-          keeps_open = keeps_both (world_of open_at) (inl (sym known_open)) (inr (sym (ap (λ (l : List Call). l ++ drop old.known past.history) known_open ∙ ap (λ (l : List Call). old.past.history ++ l) pending_open)))
+        whole : take (length past.history) past.history ≡ past.history
+        whole = take-length past.history
 
-          images_open : LeavesOnly moment left_since old.journal.disk.inner j.disk.inner (IsKept decls (world_of open_at))
-          images_open = weaker moment left_since old.journal.disk.inner j.disk.inner (IsUpToDecision decls.text is.up.entries intent t) (IsKept decls (world_of open_at)) keeps_open run
+        up_settled : outcome ≡ appended.Done → stage ≡ Settled → IsUp meaning decls (record { journal = j; up = up_behind outcome old.up; past = past; known = length past.history })
+        up_settled done last =
+            let open_there = open_now (λ e. let s = sym done ∙ e in absurd cc) (λ e. let s = sym done ∙ e in absurd cc) in
+            let held = subst (λ (o : Appended). IsOpen meaning j decls.text (known_by Settled o is.up.entries intent t)) done
+            (subst (λ (s : Stage). IsOpen meaning j decls.text (known_by s outcome is.up.entries intent t)) last open_there) in
+            record {
+              entries = ((is.up.entries ++ intent ∷ []) ++ entry.Decide t ∷ []) ++ entry.Settled t ∷ [];
+              holds = held.holds;
+              ordered = have_end.ordered;
+              decided = have_end.decided ∙ sym more;
+              numbers = numbers_all;
+              filled = filled;
+              named = named_all;
+              running = held.running;
+              limit = limit_of meaning decls.text stage (journal_view old.journal is.up.entries) (journal_view j (known_by stage outcome is.up.entries intent t)) intent t outcome so ∙ is.up.limit;
+              all = refl;
+            }
 
-          rests_open : Rests content may_leave moment left_since decls (world_of open_at)
-          rests_open = rests_of content may_leave moment left_since counts_now decls (world_of open_at) old.journal.disk.inner images_open (IfSome_then (content j.disk.inner) left keeps_open)
+        -- the decision was appended
+        pub settled : stage ≡ Settled → (served : CallOutcome) (new : Controller D)
+            → served ≡ said_of Settled outcome new.known → new ≡ record { journal = j; up = up_behind outcome old.up; past = past; known = length past.history }
+            → CommitsTo meaning decls old call (Ok served) new
+        settled last served new said made =
+            let n = length past.history in
+            let known_is : take n past.history ≡ known_then stage before call = whole ∙ more ∙ ap (λ (s : Stage). known_then s before call) (sym last) in
+            let pending_is : drop n past.history ≡ pending_then stage call = drop-length past.history ∙ ap (λ (s : Stage). pending_then s call) (sym last) in
+            let c : Controller D = record { journal = j; up = up_behind outcome old.up; past = past; known = n } in
+            let rests = rests_now (up_behind outcome old.up) past n known_is pending_is (up_is outcome old.up is.running) in
+            let sound : (outcome ≡ appended.Done) ⊎ (outcome ≡ appended.Stopped) → IsSound meaning decls c = λ which. record {
+              within = omega arith;
+              behind = subst (λ (l : List Call). IsBehind decls past l) (sym whole) behind_new;
+              legal = subst (λ (l : List Call). IsLegal decls l) (sym (whole ∙ more)) legal_new;
+              rests = rests;
+              up = λ on. ⊎_elim (λ done. up_settled done last) (λ stopped. let d = down_is outcome old.up stopped in absurd cc) which;
+            } in
+            let same : said_of Settled outcome new.known ≡ said_of stage outcome n =
+            ap (λ (s : Stage). said_of s outcome new.known) (sym last) ∙ ap (λ (k : Controller D). said_of stage outcome k.known) made in
+            subst (λ (k : Controller D). CommitsTo meaning decls old call (Ok served) k) (sym made)
+            (said_so (up_behind outcome old.up) past n known_is pending_is (up_is outcome old.up is.running) (Ok served) n (sym (ap length whole)) (said ∙ same)
+            (λ on. on_going (IsSound meaning decls c) outcome (answer_by stage outcome n) (sym (ap goes_on (said ∙ same)) ∙ on) (λ done. sound (inl done)) (λ stopped. sound (inr stopped))))
 
-          outlives_open : Outlives content may_leave moment left_since faults decls (world_of old) (world_of open_at)
-          outlives_open = record {
-            later = later;
-            images = weaker moment left_since old.journal.disk.inner j.disk.inner (IsKept decls (world_of open_at)) (λ file. IsKept decls (world_of old) file ⊎ IsKept decls (world_of open_at) file)
-                (λ file h. inr h) images_open;
-            tells = tells;
-          }
+        -- it was not
+        pub undecided : (stage ≡ Settled → ⊥) → (result : Result CallOutcome Memory) (new : Controller D)
+            → IfOk result (λ served. served ≡ said_of stage outcome new.known)
+            → (outcome ≡ appended.Stopped → IfOk result (λ served. IsBehind decls new.past (take old.known past.history)))
+            → new ≡ record { journal = j; up = up_behind outcome old.up; past = record past { state = new.past.state }; known = old.known }
+            → CommitsTo meaning decls old call result new
+        undecided unsettled result new said state_of_new made =
+            let known_open : take old.known past.history ≡ before = subst (λ (h : List Call). take old.known h ≡ before) (sym more)
+            (subst (λ (n : ℕ). take n behind ≡ before) (sym is.up.all) (take-append_seam before (call ∷ []))) in
+            let pending_open : drop old.known past.history ≡ call ∷ [] = subst (λ (h : List Call). drop old.known h ≡ call ∷ []) (sym more)
+            (subst (λ (n : ℕ). drop n behind ≡ call ∷ []) (sym is.up.all) (drop-append_seam before (call ∷ []))) in
+            let up = up_behind outcome old.up in
+            let p : Past = record past { state = new.past.state } in
+            let k : Controller D = record { journal = j; up = up; past = p; known = old.known } in
+            let known_is : take old.known past.history ≡ known_then stage before call = known_open ∙ sym (known_unsettled stage unsettled) in
+            let pending_is : drop old.known past.history ≡ pending_then stage call = pending_open ∙ sym (pending_unsettled stage unsettled) in
+            let count : old.known ≡ length (take old.known past.history) = is.up.all ∙ sym (ap length known_open) in
+            let rests = rests_now up p old.known known_is pending_is (up_is outcome old.up is.running) in
+            let sound : outcome ≡ appended.Stopped → IsBehind decls new.past (take old.known past.history) → IsSound meaning decls k = λ stopped behind_it. record {
+              within = omega (arith, ap length more, length-append before (call ∷ []), is.up.all);
+              behind = record { state = behind_it.state; complete = behind_it.complete; bases = behind_it.bases };
+              legal = subst (λ (l : List Call). IsLegal decls l) (sym known_open) is.legal;
+              rests = rests;
+              up = λ on. let d = down_is outcome old.up stopped in absurd cc;
+            } in
+            subst (λ (x : Controller D). CommitsTo meaning decls old call result x) (sym made)
+            (said_so up p old.known known_is pending_is (up_is outcome old.up is.running) result old.known count
+            (counted result (ap (λ (x : Controller D). x.known) made) said)
+            (sound_by result (counted result (ap (λ (x : Controller D). x.known) made) said) sound state_of_new))
+          where
+            known_unsettled : (s : Stage) → (s ≡ Settled → ⊥) → known_then s before call ≡ before
+            known_unsettled Intent other = refl
+            known_unsettled Decide other = refl
+            known_unsettled Settled other = absurd (other refl)
 
-          short : ComesShort decls (world_of old) call (world_of open_at)
-          short = inr (is.running, subst (λ (l : List Call). IsDue decls l call) (sym known_old) is.due, inl leaves_open)
+            pending_unsettled : (s : Stage) → (s ≡ Settled → ⊥) → pending_then s call ≡ call ∷ []
+            pending_unsettled Intent other = refl
+            pending_unsettled Decide other = refl
+            pending_unsettled Settled other = absurd (other refl)
 
-          -- the armed stop is the call that failed
-          stops_within : (done : ℕ) → done < calls_to_decide → FailsBehind (Led leads) done old.journal.disk j.disk → j.disk.stopped ≡ true → up ≡ false
-              → StopsWithin 0 calls_to_decide (world_of old) (world_of open_at)
-          stops_within done few fails stopped down =
-              let s = stopped_behind leads done old.journal.disk j.disk fails is.up.running stopped in
-              record { behind = omega (arith, s.0); within = omega (arith, s.0, few); came = s.1; down = down }
+            counted : (r : Result CallOutcome Memory) → new.known ≡ old.known → IfOk r (λ served. served ≡ said_of stage outcome new.known) → IfOk r (λ served. served ≡ said_of stage outcome old.known)
+            counted (Ok served) same h = h ∙ ap (said_of stage outcome) same
+            counted (Err memory) same h = tt
 
-          read_as : (done : ℕ) → old.journal.disk.call ≡ done + 1 → IfSome (content j.disk.inner) (IsReadBehind done decls.text is.up.entries intent t)
-              → IsReadAs content decls (world_of old) call (world_of open_at)
-          read_as done at read = record {
-            undecided = λ early. IfSome_then (content j.disk.inner) read (λ file r. ⊎_elim
-                (λ g. decodes is.up.entries old.past.history (take old.known old.past.history) have_old (sym known_old) file g)
-                (λ g. decodes (is.up.entries ++ intent ∷ []) old.past.history (take old.known old.past.history) have_intent (sym known_old) file g)
-                (r.undecided (omega (arith, early, at))));
-            decided = λ last. IfSome_then (content j.disk.inner) read (λ file r.
-                decodes ((is.up.entries ++ intent ∷ []) ++ Decide t ∷ []) (old.past.history ++ call ∷ []) (take old.known old.past.history ++ call ∷ []) have_decision
-                (sym (ap (λ (l : List Call). l ++ call ∷ []) known_old)) file (r.decided (omega (arith, last, at))));
-          }
-
-          -- down, with the state behind what it knows
-          sound_down : up ≡ false → IsBehind decls (record past { state = new_state }) (take old.known past.history) → IsSound content may_leave moment left_since decls open_at
-          sound_down down behind = record {
-            within = omega (arith, ap length more, length-append old.past.history (call ∷ []), is.up.all);
-            behind = behind;
-            legal = subst (λ (l : List Call). IsLegal decls l) (sym known_open) is.legal;
-            rests = rests_open;
-            up = λ on. absurd cc;
-          }
-
-          module _ (result : Result Served Memory) where
-            abbrev Undecided : Type 0
-            Undecided = CommitsTo content may_leave moment left_since faults decls old call devices result open_at
-
-            failing : is_err result ≡ true → Undecided
-            failing e = on result e
-              where
-                on : (r : Result Served Memory) → is_err r ≡ true → CommitsTo content may_leave moment left_since faults decls old call devices r open_at
-                on (Ok served) e = absurd cc
-                on (Err m) e = record { comes = tt; sound = tt; broken = λ given end h touched. absurd cc; memory = short; appends = λ given h. absurd cc; rests = rests_open; outlives = outlives_open }
-
-            breaking : (given : Option Answer) (end : Stop) → result ≡ Ok (Broken given end) → ComesTo content decls (world_of old) call (Broken given end) (world_of open_at)
-                → (devices ≡ devices_of decls.names (state_of decls (world_of old).known) (action_of call) → IsCauseOf content faults decls (world_of old) (Serve call) end (world_of open_at)) → Undecided
-            breaking given end e comes cause =
-                subst (λ (r : Result Served Memory). CommitsTo content may_leave moment left_since faults decls old call devices r open_at) (sym e)
-                (record {
-                  comes = comes;
-                  sound = λ on. absurd cc;
-                  broken = λ other last h touched. let q : end ≡ last = cc in subst (λ (x : Stop). IsCauseOf content faults decls (world_of old) (Serve call) x (world_of open_at)) q (cause touched);
-                  memory = tt;
-                  appends = λ other h. absurd cc;
-                  rests = rests_open;
-                  outlives = outlives_open;
-                })
-
-            stopping : (up ≡ false → StopsWithin 0 calls_to_decide (world_of old) (world_of open_at)) → IsReadAs content decls (world_of old) call (world_of open_at) → IfOk result (λ served. (served ≡ Stopped None) × (up ≡ false) × IsBehind decls (record past { state = new_state }) (take old.known past.history)) → Undecided
-            stopping stops_within read_as h = on result h
-              where
-                on : (r : Result Served Memory) → IfOk r (λ served. (served ≡ Stopped None) × (up ≡ false) × IsBehind decls (record past { state = new_state }) (take old.known past.history))
-                    → CommitsTo content may_leave moment left_since faults decls old call devices r open_at
-                on (Err m) h = record { comes = tt; sound = tt; broken = λ given end h touched. absurd cc; memory = short; appends = λ given h. absurd cc; rests = rests_open; outlives = outlives_open }
-                on (Ok served) h = record {
-                  comes = subst (λ (x : Served). ComesTo content decls (world_of old) call x (world_of open_at)) (sym h.0)
-                      (leaves_open, stops_within h.1, read_as);
-                  sound = λ on. sound_down h.1 h.2;
-                  broken = λ given end q touched. let e = h.0 in absurd cc;
-                  memory = tt;
-                  appends = λ given q. let e = h.0 in absurd cc;
-                  rests = rests_open;
-                  outlives = outlives_open;
-                }
-
-        module _ (f : AppendFault) (among : f ≡ fault.DiskFault → FailsAmong (Led leads) calls_to_decide old.journal.disk j.disk (λ done. IfSome (content j.disk.inner) (IsReadBehind done decls.text is.up.entries intent t)))
-            (fails : f ≡ fault.DiskFault → failed ≡ true) (is_full : (len : ℕ) → f ≡ fault.Full len → IsFull (content j.disk.inner) decls.text call devices len)
-            (result : Result Served Memory) (new : Controller D)
-            (memory : f ≡ fault.Memory → is_err result ≡ true)
-            (full : (len : ℕ) → f ≡ fault.Full len → result ≡ Ok (Broken None (stop.Full len)))
-            (broken : f ≡ fault.DiskFault → j.disk.stopped ≡ false → result ≡ Ok (Broken (Some answer.JournalFault) stop.JournalFault))
-            (stopped : f ≡ fault.DiskFault → j.disk.stopped ≡ true → IfOk result (λ served. (served ≡ Stopped None) × (new.up ≡ false) × IsBehind decls new.past (take old.known past.history)))
-            (rest : new ≡ record { journal = j; up = new.up; past = record past { state = new.past.state }; known = old.known }) where
-          on_disk : (o : Bool) → j.disk.stopped ≡ o → f ≡ fault.DiskFault → CommitsTo content may_leave moment left_since faults decls old call devices result (open_at new.up new.past.state)
-          on_disk true o e =
-              stopping new.up new.past.state result (stops_within new.up new.past.state (among e).done (among e).fewer (among e).failed o)
-              (read_as new.up new.past.state (among e).done (stopped_behind leads (among e).done old.journal.disk j.disk (among e).failed is.up.running o).0 (among e).left)
-              (IfOk-weaker result (λ served. (served ≡ Stopped None) × (new.up ≡ false) × IsBehind decls new.past (take old.known past.history))
-              (λ served. (served ≡ Stopped None) × (new.up ≡ false) × IsBehind decls (record past { state = new.past.state }) (take old.known past.history))
-              (λ served h. (h.0, h.1, record { state = h.2.state; complete = h.2.complete; bases = h.2.bases })) (stopped e o))
-          on_disk false o e =
-              breaking new.up new.past.state result (Some answer.JournalFault) stop.JournalFault (broken e o) (inr (leaves_open new.up new.past.state, refl, refl))
-              (λ touched. rose faults leads counts calls failed old.journal.disk j.disk led (fails e) o)
-
-          on_fault : (g : AppendFault) → f ≡ g → CommitsTo content may_leave moment left_since faults decls old call devices result (open_at new.up new.past.state)
-          on_fault fault.Memory e = failing new.up new.past.state result (memory e)
-          on_fault (fault.Full len) e =
-              breaking new.up new.past.state result None (stop.Full len) (full len e) (leaves_open new.up new.past.state, λ other. absurd cc) (λ touched. inl (call, refl, subst (λ (l : List ℕ). IsFull (content j.disk.inner) decls.text call l len) touched (is_full len e)))
-          on_fault fault.DiskFault e = on_disk j.disk.stopped refl e
-
-          pub undecided : CommitsTo content may_leave moment left_since faults decls old call devices result new
-          undecided = subst (λ (c : Controller D). CommitsTo content may_leave moment left_since faults decls old call devices result c) (sym rest) (on_fault f refl)
+            sound_by : (r : Result CallOutcome Memory) → IfOk r (λ served. served ≡ said_of stage outcome old.known)
+                → (outcome ≡ appended.Stopped → IsBehind decls new.past (take old.known past.history) → IsSound meaning decls (record { journal = j; up = up_behind outcome old.up; past = record past { state = new.past.state }; known = old.known }))
+                → (outcome ≡ appended.Stopped → IfOk r (λ served. IsBehind decls new.past (take old.known past.history)))
+                → IfOk r (λ served. goes_on served ≡ true → IsSound meaning decls (record { journal = j; up = up_behind outcome old.up; past = record past { state = new.past.state }; known = old.known }))
+            sound_by (Err memory) said sound state_of_new = tt
+            sound_by (Ok served) said sound state_of_new = λ on.
+                on_going (IsSound meaning decls (record { journal = j; up = up_behind outcome old.up; past = record past { state = new.past.state }; known = old.known }))
+                outcome (answer_by stage outcome old.known) (sym (ap goes_on said) ∙ on) (λ done. absurd (unfinished meaning decls.text stage (journal_view old.journal is.up.entries) (journal_view j (known_by stage outcome is.up.entries intent t)) intent t outcome unsettled so done)) (λ stopped. sound stopped (state_of_new stopped))

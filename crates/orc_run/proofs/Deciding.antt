@@ -5,18 +5,19 @@ use Rattle.std.specs.List.{fold}
 use Rattle.std.specs.Option.{option_or}
 use Rattle.std.proofs.lemmas.List.Elements.{All-head, All-tail}
 use Rattle.orc_call.specs.declared.call.Call.{Call}
-use Rattle.orc_journal.specs.Orders.{number_of, next_stage, stage_after, stage_of, follows}
-use Rattle.orc_journal.specs.Committed.{call_of, listed, history_of}
+use Rattle.orc_journal.specs.Entries.{number_of}
+use Rattle.orc_journal.specs.Orders.{next_stage, stage_after, stage_of, follows}
+use Rattle.orc_journal.specs.Committed.{call_of, as_calls, history_of}
 use Rattle.orc_journal.specs.declared.entry.Entry.{Entry}
 use Rattle.orc_journal.specs.declared.entry.Entry.TheVariants.{Intent, Decide, Settled}
 use Rattle.orc_journal.proofs.Orderings.{stage_of-push, is_ordered-push}
 use Rattle.orc_state.specs.Legal.{IsLegal}
-use Rattle.orc_run.specs.Transactions.{is_taken}
-use Rattle.orc_run.specs.Deciding.{HaveHistory}
+use Rattle.orc_run.specs.inside.Transactions.{is_taken}
+use Rattle.orc_run.specs.inside.Deciding.{HaveHistory}
 use Rattle.orc_state.specs.declared.declarations.Decls.{Decls}
 use Rattle.orc_run.specs.declared.numbers.Numbers.{Numbers}
 use Rattle.orc_run.proofs.Fronts.{history_of-append}
-use Rattle.orc_run.proofs.Newest.{call_of-append}
+use Rattle.orc_journal.proofs.Newest.{call_of-append}
 
 -- no entry names a number that is free
 pub unnamed_stage : (numbers : Numbers) (t : ℕ) (entries : List Entry) → is_taken numbers t ≡ false → All (λ entry. is_taken numbers (number_of entry) ≡ true) entries
@@ -73,7 +74,7 @@ module _ (t : ℕ) where
     decision_has call devices begun newest legal = record {
       ordered = is_ordered-push entries (Decide t) have.ordered (ap (λ s. is_some (next_stage s (Decide t))) begun);
       decided =
-          history_of-append entries (Decide t) ∙ ap (λ (o : Option Call). history_of entries ++ listed o) newest
+          history_of-append entries (Decide t) ∙ ap (λ (o : Option Call). history_of entries ++ as_calls o) newest
           ∙ ap (λ (l : List Call). l ++ call ∷ []) have.decided;
       legal = legal;
     }

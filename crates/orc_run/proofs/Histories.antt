@@ -5,9 +5,9 @@ use Rattle.orc_journal.specs.Committed.{history_of}
 use Rattle.orc_journal.proofs.Unique.{one_journal, gated_is_journal}
 use Rattle.orc_journal.proofs.Accepted.{not_empty}
 use Rattle.orc_state.specs.declared.declarations.Decls.{Decls}
-use Rattle.orc_run.specs.Worlds.{Decodes, Tells}
+use Rattle.orc_run.specs.Views.{Decodes, HasHistory}
 
-pub one_history : (decls : Decls) (file : List ℕ) (learned held : List Call) → Tells decls file learned → Decodes decls file held → learned ≡ held
+pub one_history : (decls : Decls) (file : List ℕ) (learned held : List Call) → HasHistory decls file learned → Decodes decls file held → learned ≡ held
 one_history decls file learned held tells decodes =
     let journal = gated_is_journal file decls.text decodes.entries decodes.gated in
     sym tells.decided

@@ -1,6 +1,5 @@
 mod Refusals
 mod OneWord
-mod Newest
 mod Pasts
 mod Equality
 mod AtOnce
@@ -16,7 +15,6 @@ mod Outcomes
 mod Servings
 mod Soundness
 mod Deciding
-mod Courses
-mod Commits
 mod Committing
 mod Answering
+mod Appending

@@ -1,11 +1,15 @@
 -- The past of entries, one entry more.
-use Rattle.std.proofs.Common.{◌≡◌, ℕ, ◌+◌, ◌<◌, true, List, [], ◌∷◌, ◌++◌, All, IsTrue, Some, length, take, get_or, refl, sym, ap, subst, ◌∙◌, append-nil}
+use Rattle.std.proofs.Common.{◌⊎◌, ⊎_elim, Bool, ◌||◌, eqb, false, ◌≡◌, ℕ, ◌+◌, ◌<◌, true, List, [], ◌∷◌, ◌++◌, All, IsTrue, Some, length, take, get_or, refl, sym, ap, subst, ◌∙◌, append-nil}
 use Rattle.std.specs.FinMap.{empty}
 use Rattle.std.proofs.lemmas.List.{length-map, take_more}
 use Rattle.std.proofs.lemmas.Option.{slice_get_read}
-use Rattle.std.proofs.lemmas.List.Elements.{All-nil, All-cons, All-append, All-weaker}
+use Rattle.std.proofs.lemmas.List.Elements.{All-head, All-tail, All-nil, All-cons, All-append, All-weaker}
+use Rattle.std.proofs.lemmas.List.Folds.{list_any-append}
+use Rattle.std.proofs.lemmas.Bool.{eq-eqb, eqb-true}
+use Rattle.std.specs.Prelude.{◌==◌}
+use Rattle.orc_run.specs.Commits.{is_named}
 use Rattle.orc_call.specs.declared.call.Call.{Call}
-use Rattle.orc_journal.specs.Orders.{number_of}
+use Rattle.orc_journal.specs.Entries.{number_of}
 use Rattle.orc_journal.specs.Committed.{commits, history_of}
 use Rattle.orc_journal.specs.declared.entry.Entry.{Entry}
 use Rattle.orc_journal.specs.declared.entry.Entry.TheVariants.{Intent, Decide, Abort, Settled}
@@ -13,15 +17,17 @@ use Rattle.orc_call.specs.declared.call.Action.{Action}
 use Rattle.orc_state.specs.States.{action_of, after, opening, put_all, IsComplete}
 use Rattle.orc_state.specs.Calls.{is_call}
 use Rattle.orc_state.specs.Legal.{IsLegal, IsDue}
-use Rattle.orc_state.specs.Declarations.{AreDecls}
-use Rattle.orc_run.specs.Pasts.{IsBehind, IsPast, IsIllegalAt}
-use Rattle.orc_run.specs.Transactions.{is_taken, IsFilled}
+use Rattle.orc_state.specs.inside.Declarations.{AreDecls}
+use Rattle.orc_run.specs.inside.Pasts.{IsBehind, IsPast}
+use Rattle.orc_run.specs.Opening.{IsIllegalAt}
+use Rattle.orc_run.specs.inside.Transactions.{is_taken, AreNamed, IsFilled}
 use Rattle.orc_state.specs.declared.declarations.Device.{Device}
 use Rattle.orc_state.specs.declared.declarations.Decls.{Decls}
 use Rattle.orc_run.specs.declared.numbers.Numbers.{Numbers}
 use Rattle.orc_run.specs.declared.past.Past.{Past}
 use Rattle.orc_state.specs.declared.state.State.{State}
-use Rattle.orc_state.proofs.Legality.{fold_from-append, legal_none, legal_more, legal_last}
+use Rattle.orc_state.proofs.Traces.{fold_from-append}
+use Rattle.orc_state.proofs.Legality.{legal_none, legal_more, legal_last}
 use Rattle.orc_run.proofs.Fronts.{history_of-append}
 
 -- the numbers of entries are taken, with one more
@@ -33,16 +39,45 @@ all_taken old new entries entry all others taken =
     (All-weaker (λ e. is_taken old (number_of e) ≡ true) (λ e. is_taken new (number_of e) ≡ true) (λ e. others (number_of e)) entries all)
     (All-cons (λ e. is_taken new (number_of e) ≡ true) entry [] taken (All-nil (λ e. is_taken new (number_of e) ≡ true)))
 
+-- and each taken number is that of an entry
+pub named_more : (old new : Numbers) (entries : List Entry) (entry : Entry) → AreNamed old entries
+    → ((u : ℕ) → is_taken new u ≡ true → (is_taken old u ≡ true) ⊎ (u ≡ number_of entry)) → AreNamed new (entries ++ entry ∷ [])
+named_more old new entries entry named only u taken =
+    list_any-append (λ e. number_of e == u) entries (entry ∷ [])
+    ∙ ⊎_elim (λ before. ap (λ b. b || is_named u (entry ∷ [])) (named u before))
+    (λ is. or_right (is_named u entries) (is_named u (entry ∷ [])) (here (eq-eqb (number_of entry) u (sym is))))
+    (only u taken)
+  where
+    or_right : (a b : Bool) → b ≡ true → (a || b) ≡ true
+    or_right true b is = refl
+    or_right false b is = is
+
+    here : eqb (number_of entry) u ≡ true → is_named u (entry ∷ []) ≡ true
+    here is = ap (λ b. b || false) is
+
+-- an entry whose number is free is not among them
+pub named_taken : (numbers : Numbers) (t : ℕ) (entries : List Entry) → All (λ e. is_taken numbers (number_of e) ≡ true) entries → is_named t entries ≡ true → is_taken numbers t ≡ true
+named_taken numbers t [] all named = absurd cc
+named_taken numbers t (e ∷ entries) all named =
+    on (eqb (number_of e) t) refl (All-head (λ x. is_taken numbers (number_of x) ≡ true) e entries all)
+    (λ rest. named_taken numbers t entries (All-tail (λ x. is_taken numbers (number_of x) ≡ true) e entries all) rest)
+  where
+    on : (b : Bool) → eqb (number_of e) t ≡ b → is_taken numbers (number_of e) ≡ true → (is_named t entries ≡ true → is_taken numbers t ≡ true) → is_taken numbers t ≡ true
+    on true is here rest = subst (λ (n : ℕ). is_taken numbers n ≡ true) (eqb-true (number_of e) t is) here
+    on false is here rest = rest (sym (ap (λ b. b || is_named t entries) is) ∙ named)
+
 -- an entry that commits nothing
 pub past_same : (decls : Decls) (old : Past) (numbers : Numbers) (before : List Entry) (entry : Entry) → IsPast decls old before → commits before entry ≡ []
     → is_taken numbers (number_of entry) ≡ true → ((u : ℕ) → is_taken old.numbers u ≡ true → is_taken numbers u ≡ true) → IsFilled numbers
+    → ((u : ℕ) → is_taken numbers u ≡ true → (is_taken old.numbers u ≡ true) ⊎ (u ≡ number_of entry))
     → IsPast decls (record { numbers = numbers; history = old.history; state = old.state }) (before ++ entry ∷ [])
-past_same decls old numbers before entry past none taken others filled =
+past_same decls old numbers before entry past none taken others filled only =
     let e : history_of before ≡ history_of (before ++ entry ∷ []) =
     sym (history_of-append before entry ∙ ap (λ (l : List Call). history_of before ++ l) none ∙ append-nil (history_of before)) in
     record {
       numbers = all_taken old.numbers numbers before entry past.numbers others taken;
       filled = filled;
+      named = named_more old.numbers numbers before entry past.named only;
       history = past.history ∙ e;
       legal = subst (λ (l : List Call). IsLegal decls l) e past.legal;
       behind = subst (λ (l : List Call). IsBehind decls (record { numbers = numbers; history = old.history; state = old.state }) l) e
@@ -52,15 +87,17 @@ past_same decls old numbers before entry past none taken others filled =
 -- an entry that commits a call
 pub past_more : (decls : Decls) (old new : Past) (before : List Entry) (entry : Entry) (call : Call) → IsPast decls old before → commits before entry ≡ call ∷ []
     → is_taken new.numbers (number_of entry) ≡ true → ((u : ℕ) → is_taken old.numbers u ≡ true → is_taken new.numbers u ≡ true) → IsFilled new.numbers
+    → ((u : ℕ) → is_taken new.numbers u ≡ true → (is_taken old.numbers u ≡ true) ⊎ (u ≡ number_of entry))
     → IsTrue (is_call decls.names call) → IsDue decls old.history call → new.history ≡ old.history ++ call ∷ [] → IsBehind decls new new.history
     → IsPast decls new (before ++ entry ∷ [])
-past_more decls old new before entry call past one taken others filled lawful due more behind =
+past_more decls old new before entry call past one taken others filled only lawful due more behind =
     let e : history_of before ++ call ∷ [] ≡ history_of (before ++ entry ∷ []) =
     sym (history_of-append before entry ∙ ap (λ (l : List Call). history_of before ++ l) one) in
     let h : new.history ≡ history_of (before ++ entry ∷ []) = more ∙ ap (λ (l : List Call). l ++ call ∷ []) past.history ∙ e in
     record {
       numbers = all_taken old.numbers new.numbers before entry past.numbers others taken;
       filled = filled;
+      named = named_more old.numbers new.numbers before entry past.named only;
       history = h;
       legal = subst (λ (l : List Call). IsLegal decls l) e
           (legal_more decls (history_of before) call past.legal lawful (subst (λ (l : List Call). IsDue decls l call) past.history due));
@@ -93,17 +130,18 @@ pub behind_more : (decls : Decls) (old new : Past) (call : Call) (names : List (
 behind_more decls old new call names action behind same is done complete bases = record {
   state =
       done ∙ ap (λ (ns : List (List ℕ)). after ns old.state action) same ∙ ap (λ (a : Action). after decls.names old.state a) is
-      ∙ ap (λ (s : State). after decls.names s (action_of call)) behind.state ∙ sym (fold_from-append decls.names (opening decls.devices) old.history call);
+      ∙ ap (λ (s : State). after decls.names s (action_of call)) behind.state ∙ sym (fold_from-append decls.names (opening decls.devices) old.history (call ∷ []));
   complete = complete;
   bases = ap length bases ∙ behind.bases;
 }
 
 -- before any entry
-pub past_none : (decls : Decls) (past : Past) → AreDecls decls → IsFilled past.numbers → past.history ≡ [] → past.state ≡ opening decls.devices → IsComplete past.state
+pub past_none : (decls : Decls) (past : Past) → AreDecls decls → IsFilled past.numbers → ((t : ℕ) → is_taken past.numbers t ≡ false) → past.history ≡ [] → past.state ≡ opening decls.devices → IsComplete past.state
     → IsPast decls past []
-past_none decls past are filled none state complete = record {
+past_none decls past are filled free none state complete = record {
   numbers = All-nil (λ e. is_taken past.numbers (number_of e) ≡ true);
   filled = filled;
+  named = λ t taken. let f = free t in absurd cc;
   history = none;
   legal = legal_none decls;
   behind = record {

@@ -8,7 +8,7 @@ use Rattle.std.specs.FinMap.{entries}
 use Rattle.orc_path.specs.Configurations.{Config}
 use Rattle.orc_path.specs.Steps.{PathStep}
 use Rattle.orc_path.specs.declared.item.Item.{Item}
-use Rattle.orc_state.specs.States.{clash, clash_among, clash_on, expansion, least, lives, misplaced, others, refusal, rivals}
+use Rattle.orc_state.specs.States.{clash, clash_among, clash_on, expansion, least, lives, existence_refusal, others, refusal, rivals}
 use Rattle.orc_print.specs.Printed.{is_answer_among}
 use Rattle.orc_call.specs.declared.call.Action.{Action}
 use Rattle.orc_call.specs.declared.call.Action.TheVariants.{Literal, Delete}
@@ -45,10 +45,10 @@ clash_on-device n live d (m ∷ ms) h =
 
 pub refusal-device : (names : List (List ℕ)) (s : State) (action : Action) → IsAmong (length names) (refusal names s action)
 refusal-device names s (Literal id writes) =
-    placed (length names) (misplaced s (Literal id writes)) (clash names s (Literal id writes))
+    placed (length names) (existence_refusal s (Literal id writes)) (clash names s (Literal id writes))
     (elim (lives s id) as (λ b. IsAmong (length names) (cond b (Some (Exists id)) None)) [ true ↦ refl | false ↦ tt ])
     (clash_on-device (length names) (others s.live id) 0 (expansion names writes) (omega (arith, length-map {A = List ℕ} {B = Config})))
 refusal-device names s (Delete id) =
-    placed (length names) (misplaced s (Delete id)) None
+    placed (length names) (existence_refusal s (Delete id)) None
     (elim (lives s id) as (λ b. IsAmong (length names) (cond b None (Some (Missing id)))) [ true ↦ tt | false ↦ refl ]) tt
 refusal-device names s other = tt

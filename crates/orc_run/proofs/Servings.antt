@@ -1,23 +1,28 @@
 -- What is printed of a call that was served, and where the run stands behind it.
-use Rattle.std.proofs.Common.{◌≡◌, ◌⊎◌, ℕ, true, List, [], ◌++◌, codes, length, Option, None, Some, inl, inr, ⊎_elim, refl, sym, ap, subst}
+use Rattle.std.proofs.Common.{◌≡◌, ◌⊎◌, ℕ, true, List, [], ◌++◌, codes, length, Option, None, Some, inl, inr, ⊎_elim, refl, sym, ap, subst, ◌∙◌}
 use Rattle.orc_call.specs.declared.call.Call.{Call}
 use Rattle.orc_call.specs.declared.answer.Answer.{Answer}
 use Rattle.orc_call.specs.declared.answer.Answer.TheVariants as answer
 use Rattle.orc_state.specs.States.{action_of}
 use Rattle.orc_state.specs.Legal.{AnswersAtOnce, IsDue, state_of}
 use Rattle.orc_print.specs.Printed.{answer_line}
-use Rattle.orc_run.specs.Worlds.{World, Rests, Outlives}
-use Rattle.orc_run.specs.Steps.{Serves, Breaks, Commits, LeavesOpen, IsCauseOf}
-use Rattle.orc_run.specs.Controllers.{world_of, GoesOn, IsSound, StepsTo, Wants}
-use Rattle.orc_run.specs.Serving.{answer_in, goes_on, line_of, served_text, ComesShort, ComesTo, IsAnswerAmong, IsCommitted, ServesTo}
+use Rattle.orc_run.specs.Views.{View, Rests, Outlives}
+use Rattle.orc_run.specs.Steps.{Serves, Breaks, EndsBecause}
+use Rattle.orc_run.specs.Commits.{Commits, answer_by, commit_end, commit_text, line_of}
+use Rattle.orc_append.specs.declared.outcome.Appended.{Appended}
+use Rattle.orc_append.specs.declared.outcome.Appended.TheVariants as appended
+use Rattle.orc_run.specs.declared.commit.Stage.{Stage}
+use Rattle.orc_run.specs.declared.commit.Stage.TheVariants.{Intent, Decide, Settled}
+use Rattle.orc_run.specs.inside.Controllers.{view_of, GoesOn, IsSound, StepsTo, Wants, StepResult}
+use Rattle.orc_run.specs.inside.Serving.{answer_in, goes_on, said_of, said_with, served_text, ComesShort, ComesTo, HasCome, IsAnswerAmong, ServesTo}
+use Rattle.orc_disk.specs.Meanings.{DiskMeaning}
 use Rattle.orc_state.specs.declared.declarations.Decls.{Decls}
 use Rattle.orc_bundle.specs.declared.bundle.ScriptStep.TheVariants as step
 use Rattle.orc_run.specs.declared.controller.Controller.{Controller}
-use Rattle.orc_run.specs.declared.controller.Outcome.{Outcome}
-use Rattle.orc_run.specs.declared.serving.Served.{Served}
-use Rattle.orc_run.specs.declared.serving.Served.TheVariants.{Answered, Stopped, Broken}
+use Rattle.orc_run.specs.declared.serving.CallOutcome.{CallOutcome}
+use Rattle.orc_run.specs.declared.serving.CallOutcome.TheVariants.{Answered, Stopped, Broken}
 use Rattle.orc_run.specs.declared.stop.Stop.{Stop}
-use Rattle.orc_run.specs.declared.stop.Stop.TheVariants as stop
+use Rattle.orc_run.specs.declared.stop.Stop.TheVariants as ending
 use Rattle.orc_run.proofs.Refusals.{refusal-device, IsAmong}
 
 -- ---- the device that an answer names
@@ -28,125 +33,132 @@ at_once_among decls history call _ (AnswersAtOnce.reused n entry here same other
 at_once_among decls history call _ (AnswersAtOnce.refused given new refused) =
     subst (λ (o : Option Answer). IsAmong (length decls.names) o) refused (refusal-device decls.names (state_of decls history) (action_of call))
 
-committed_among : {D : Type 0} (n : ℕ) (w : World D) (call : Call) (given : Answer) (new : World D) → IsCommitted w call given new → IsAnswerAmong n (Some given)
-committed_among n w call given new c = subst (λ (a : Answer). IsAnswerAmong n (Some a)) (sym c.answer) refl
+among_said : (n : ℕ) (outcome : Appended) (said : Option Answer) → IsAnswerAmong n said → IsAnswerAmong n (answer_in (said_with outcome said))
+among_said n appended.Done None among = tt
+among_said n appended.Done (Some given) among = among
+among_said n appended.Stopped said among = among
+among_said n appended.Failed said among = among
+among_said n (appended.Full len) said among = among
+among_said n appended.Memory said among = among
 
-came_among : {D : Type 0} (content : D → Option (List ℕ)) (decls : Decls) (n : ℕ) (w : World D) (call : Call) (served : Served) (new : World D) → ComesTo content decls w call served new → IsAnswerAmong n (answer_in served)
-came_among content decls n w call (Answered given) new comes = committed_among n w call given new comes.0
-came_among content decls n w call (Stopped None) new comes = tt
-came_among content decls n w call (Stopped (Some given)) new comes = committed_among n w call given new comes.0
-came_among content decls n w call (Broken None end) new comes = tt
-came_among content decls n w call (Broken (Some given) end) new comes =
-    ⊎_elim (λ c. committed_among n w call given new c) (λ c. subst (λ (a : Answer). IsAnswerAmong n (Some a)) (sym c.1) refl) comes
+among_unsettled : (n : ℕ) (outcome : Appended) (count : ℕ) → IsAnswerAmong n (answer_by Intent outcome count) × IsAnswerAmong n (answer_by Decide outcome count)
+among_unsettled n appended.Done count = (tt, tt)
+among_unsettled n appended.Stopped count = (tt, tt)
+among_unsettled n appended.Failed count = (refl, refl)
+among_unsettled n (appended.Full len) count = (tt, tt)
+among_unsettled n appended.Memory count = (tt, tt)
+
+among_by : (n : ℕ) (stage : Stage) (outcome : Appended) (count : ℕ) → IsAnswerAmong n (answer_by stage outcome count)
+among_by n Settled outcome count = refl
+among_by n Intent outcome count = (among_unsettled n outcome count).0
+among_by n Decide outcome count = (among_unsettled n outcome count).1
 
 -- the answer can be printed
-pub served_among : {D : Type 0} (content : D → Option (List ℕ)) (decls : Decls) (w : World D) (call : Call) (served : Served) (new : World D) → ServesTo content decls w call served new
+pub served_among : {D : Type 0} (meaning : DiskMeaning D) (decls : Decls) (w : View D) (call : Call) (served : CallOutcome) (new : View D) → ServesTo meaning decls w call served new
     → IsAnswerAmong (length decls.names) (answer_in served)
-served_among content decls w call _ _ (ServesTo.down down) = refl
-served_among content decls w call _ _ (ServesTo.at_once given up at_once) = at_once_among decls w.known call given at_once
-served_among content decls w call _ _ (ServesTo.came served new up due comes) = came_among content decls (length decls.names) w call served new comes
+served_among meaning decls w call _ _ (ServesTo.down down) = refl
+served_among meaning decls w call _ _ (ServesTo.at_once given up at_once) = at_once_among decls w.known call given at_once
+served_among meaning decls w call _ _ (ServesTo.came served new comes) =
+    let n = length decls.names in
+    let come = comes.come in
+    subst (λ (s : CallOutcome). IsAnswerAmong n (answer_in s)) (sym comes.said)
+    (among_said n come.outcome (answer_by come.stage come.outcome (length new.known)) (among_by n come.stage come.outcome (length new.known)))
 
--- ---- the run goes on
+-- ---- what is printed, and whether the run goes on
 
-committed_line : {D : Type 0} (decls : Decls) (w : World D) (call : Call) (given : Answer) (new : World D) → IsCommitted w call given new
-    → answer_line decls.names call.caller call.number (answer.Committed (length new.known)) ≡ answer_line decls.names call.caller call.number given
-committed_line decls w call given new c = ap (answer_line decls.names call.caller call.number) (sym c.answer)
+text_done : (names : List (List ℕ)) (call : Call) (said : Option Answer) → served_text names call (said_with appended.Done said) ≡ line_of names call said
+text_done names call None = refl
+text_done names call (Some given) = refl
 
-came_serves : {D : Type 0} (content : D → Option (List ℕ)) (decls : Decls) (w : World D) (call : Call) (served : Served) (new : World D) → w.up ≡ true → IsDue decls w.known call → ComesTo content decls w call served new
-    → goes_on served ≡ true → Serves content decls w call (served_text decls.names call served) new
-came_serves content decls w call (Answered given) new up due comes on =
-    subst (λ (text : List ℕ). Serves content decls w call text new) (committed_line decls w call given new comes.0) (Serves.committed new up due comes.0.commits comes.1 comes.2)
-came_serves content decls w call (Stopped None) new up due comes on = Serves.stopped new up due comes.0 comes.1 comes.2
-came_serves content decls w call (Stopped (Some given)) new up due comes on =
-    subst (λ (text : List ℕ). Serves content decls w call (text ++ codes "stopped\n") new) (committed_line decls w call given new comes.0)
-    (Serves.committed_and_stopped new up due comes.0.commits comes.1)
-came_serves content decls w call (Broken given end) new up due comes on = absurd cc
+text_is : (names : List (List ℕ)) (call : Call) (stage : Stage) (outcome : Appended) (count : ℕ) → served_text names call (said_of stage outcome count) ≡ commit_text names call stage outcome count
+text_is names call stage appended.Done count = text_done names call (answer_by stage appended.Done count)
+text_is names call stage appended.Stopped count = refl
+text_is names call stage appended.Failed count = refl
+text_is names call stage (appended.Full len) count = refl
+text_is names call stage appended.Memory count = refl
 
-pub serves : {D : Type 0} (content : D → Option (List ℕ)) (decls : Decls) (w : World D) (call : Call) (served : Served) (new : World D) → ServesTo content decls w call served new
-    → goes_on served ≡ true → Serves content decls w call (served_text decls.names call served) new
-serves content decls w call _ _ (ServesTo.down down) on = Serves.down down
-serves content decls w call _ _ (ServesTo.at_once given up at_once) on = Serves.at_once given up at_once
-serves content decls w call _ _ (ServesTo.came served new up due comes) on = came_serves content decls w call served new up due comes on
+on_is : (outcome : Appended) (said : Option Answer) → goes_on (said_with outcome said) ≡ true → commit_end outcome ≡ None
+on_is appended.Done said on = refl
+on_is appended.Stopped said on = refl
+on_is appended.Failed said on = absurd cc
+on_is (appended.Full len) said on = absurd cc
+on_is appended.Memory said on = absurd cc
 
--- ---- it ends
+module _ {D : Type 0} (meaning : DiskMeaning D) (decls : Decls) (w : View D) (call : Call) where
+  end_is : (stage : Stage) (outcome : Appended) (new : View D) → Commits meaning decls w call stage outcome new → (count : ℕ) (given : Option Answer) (end : Stop)
+      → Broken given end ≡ said_of stage outcome count → commit_end outcome ≡ Some end
+  end_is Intent appended.Done new commits count given end said = absurd (commits.appends.0 refl)
+  end_is Decide appended.Done new commits count given end said = absurd (commits.appends.0 refl)
+  end_is Settled appended.Done new commits count given end said = absurd cc
+  end_is stage appended.Stopped new commits count given end said = absurd cc
+  end_is stage appended.Failed new commits count given end said = let e : ending.JournalFault ≡ end = cc in ap Some e
+  end_is stage (appended.Full len) new commits count given end said = let e : ending.Full len ≡ end = cc in ap Some e
+  end_is stage appended.Memory new commits count given end said = let e : ending.Memory ≡ end = cc in ap Some e
 
--- where it ends, it breaks with what is printed
-abbrev pub BreaksWith : {D : Type 0} → Decls → World D → Call → Served → World D → Type 0
-BreaksWith decls w call (Answered given) new = Unit {0}
-BreaksWith decls w call (Stopped given) new = Unit {0}
-BreaksWith decls w call (Broken given end) new = Breaks decls w (step.Serve call) (line_of decls.names call given) end new
+  serves : (served : CallOutcome) (new : View D) → ServesTo meaning decls w call served new → goes_on served ≡ true → Serves meaning decls w call (served_text decls.names call served) new
+  serves _ _ (ServesTo.down down) on = Serves.down down
+  serves _ _ (ServesTo.at_once given up at_once) on = Serves.at_once given up at_once
+  serves _ _ (ServesTo.came served new comes) on =
+      let come = comes.come in
+      let count = length new.known in
+      subst (λ (text : List ℕ). Serves meaning decls w call text new) (sym (ap (served_text decls.names call) comes.said ∙ text_is decls.names call come.stage come.outcome count))
+      (Serves.commits come.stage come.outcome new come.running come.due come.commits (on_is come.outcome (answer_by come.stage come.outcome count) (sym (ap goes_on comes.said) ∙ on)))
 
-came_breaks : {D : Type 0} (content : D → Option (List ℕ)) (decls : Decls) (w : World D) (call : Call) (served : Served) (new : World D) → w.up ≡ true → IsDue decls w.known call → ComesTo content decls w call served new
-    → BreaksWith decls w call served new
-came_breaks content decls w call (Answered given) new up due comes = tt
-came_breaks content decls w call (Stopped given) new up due comes = tt
-came_breaks content decls w call (Broken None end) new up due comes = Breaks.unanswered call end new comes.1 up due comes.0
-came_breaks content decls w call (Broken (Some given) end) new up due comes =
-    ⊎_elim
-    (λ c. subst (λ (text : List ℕ). Breaks decls w (step.Serve call) text end new) (committed_line decls w call given new c) (Breaks.committed call end new up due c.commits))
-    (λ c. faulted c.0 c.1 c.2) comes
-  where
-    faulted : LeavesOpen w call new → given ≡ answer.JournalFault → end ≡ stop.JournalFault → Breaks decls w (step.Serve call) (answer_line decls.names call.caller call.number given) end new
-    faulted left fault ended =
-        subst (λ (a : Answer). Breaks decls w (step.Serve call) (answer_line decls.names call.caller call.number a) end new) (sym fault)
-        (subst (λ (e : Stop). Breaks decls w (step.Serve call) (answer_line decls.names call.caller call.number answer.JournalFault) e new) (sym ended) (Breaks.faulted call new up due left))
+  -- where it ends, it breaks with what is printed
+  breaks_with : (served : CallOutcome) (new : View D) → ServesTo meaning decls w call served new → (given : Option Answer) (end : Stop) → served ≡ Broken given end
+      → Breaks meaning decls w (step.Serve call) (served_text decls.names call served) end new
+  breaks_with _ _ (ServesTo.down down) given end is = absurd cc
+  breaks_with _ _ (ServesTo.at_once answer up at_once) given end is = absurd cc
+  breaks_with _ _ (ServesTo.came served new comes) given end is =
+      let come = comes.come in
+      let count = length new.known in
+      subst (λ (text : List ℕ). Breaks meaning decls w (step.Serve call) text end new) (sym (ap (served_text decls.names call) comes.said ∙ text_is decls.names call come.stage come.outcome count))
+      (Breaks.commits call come.stage come.outcome end new come.running come.due come.commits
+      (end_is come.stage come.outcome new come.commits count given end (sym is ∙ comes.said)))
 
-pub breaks_with : {D : Type 0} (content : D → Option (List ℕ)) (decls : Decls) (w : World D) (call : Call) (served : Served) (new : World D) → ServesTo content decls w call served new → BreaksWith decls w call served new
-breaks_with content decls w call _ _ (ServesTo.down down) = tt
-breaks_with content decls w call _ _ (ServesTo.at_once given up at_once) = tt
-breaks_with content decls w call _ _ (ServesTo.came served new up due comes) = came_breaks content decls w call served new up due comes
+  -- there is no memory for its answer
+  comes_short : (served : CallOutcome) (new : View D) → ServesTo meaning decls w call served new → ComesShort meaning decls w call new
+  comes_short _ _ (ServesTo.down down) = inl refl
+  comes_short _ _ (ServesTo.at_once given up at_once) = inl refl
+  comes_short _ _ (ServesTo.came served new comes) = inr comes.come
 
--- ---- there is no memory for its answer
-
-came_short : {D : Type 0} (content : D → Option (List ℕ)) (decls : Decls) (w : World D) (call : Call) (served : Served) (new : World D) → ComesTo content decls w call served new → LeavesOpen w call new ⊎ Commits w call new
-came_short content decls w call (Answered given) new comes = inr comes.0.commits
-came_short content decls w call (Stopped None) new comes = inl comes.0
-came_short content decls w call (Stopped (Some given)) new comes = inr comes.0.commits
-came_short content decls w call (Broken None end) new comes = inl comes.0
-came_short content decls w call (Broken (Some given) end) new comes = ⊎_elim (λ c. inr c.commits) (λ c. inl c.0) comes
-
-pub comes_short : {D : Type 0} (content : D → Option (List ℕ)) (decls : Decls) (w : World D) (call : Call) (served : Served) (new : World D) → ServesTo content decls w call served new → ComesShort decls w call new
-comes_short content decls w call _ _ (ServesTo.down down) = inl (record { known = refl; pending = refl })
-comes_short content decls w call _ _ (ServesTo.at_once given up at_once) = inl (record { known = refl; pending = refl })
-comes_short content decls w call _ _ (ServesTo.came served new up due comes) = inr (up, due, came_short content decls w call served new comes)
-
--- the run ends for want of memory, and nothing is printed
-pub breaks_short : {D : Type 0} (decls : Decls) (w : World D) (call : Call) (new : World D) → ComesShort decls w call new → Breaks decls w (step.Serve call) [] stop.Memory new
-breaks_short decls w call new short =
-    ⊎_elim (λ stays. Breaks.silent (step.Serve call) stop.Memory new (inl refl) stays)
-    (λ came. ⊎_elim (λ left. Breaks.unanswered call stop.Memory new (λ e. absurd cc) came.0 came.1 left) (λ commits. Breaks.unprinted call new came.0 came.1 commits) came.2) short
+  breaks_short : (new : View D) → ComesShort meaning decls w call new → Breaks meaning decls w (step.Serve call) [] ending.Memory new
+  breaks_short new short = ⊎_elim
+      (λ same. subst (λ (v : View D). Breaks meaning decls w (step.Serve call) [] ending.Memory v) (sym same) (Breaks.wanting (step.Serve call)))
+      (λ (come : HasCome meaning decls w call new). Breaks.unprinted call come.stage come.outcome new come.running come.due come.commits)
+      short
 
 -- ---- where the step led
 
-module _ {D : Type 0} (content : D → Option (List ℕ)) (may_leave : D → List ℕ → Type 0) (moment : D → ℕ) (left_since : D → ℕ → List ℕ → Type 0) (faults : D → ℕ) where
-  pub leads_short : (decls : Decls) (w : World D) (call : Call) (c : Controller D) (outcome : Outcome D) → Wants c outcome → ComesShort decls w call (world_of c)
-      → Rests content may_leave moment left_since decls (world_of c) → Outlives content may_leave moment left_since faults decls w (world_of c)
-      → StepsTo content may_leave moment left_since faults decls w (step.Serve call) outcome
+module _ {D : Type 0} (meaning : DiskMeaning D) where
+  pub leads_short : (decls : Decls) (w : View D) (call : Call) (c : Controller D) (outcome : StepResult D) → Wants c outcome → ComesShort meaning decls w call (view_of c)
+      → Rests meaning decls (view_of c) → Outlives meaning decls w (view_of c)
+      → StepsTo meaning decls w (step.Serve call) outcome
   leads_short decls w call c outcome wants short rests outlives =
-      subst (λ (o : Outcome D). StepsTo content may_leave moment left_since faults decls w (step.Serve call) o) (sym wants)
-      (world_of c, refl, breaks_short decls w call (world_of c) short, tt, outlives, rests)
+      subst (λ (o : StepResult D). StepsTo meaning decls w (step.Serve call) o) (sym wants)
+      (view_of c, refl, breaks_short meaning decls w call (view_of c) short, tt, outlives, rests, λ is. absurd cc)
 
-  led : (decls : Decls) (w : World D) (call : Call) (served : Served) (c : Controller D) (outcome : Outcome D) → GoesOn served c (served_text decls.names call served) outcome
-      → ServesTo content decls w call served (world_of c) → (goes_on served ≡ true → IsSound content may_leave moment left_since decls c)
-      → ((given : Option Answer) (end : Stop) → served ≡ Broken given end → IsCauseOf content faults decls w (step.Serve call) end (world_of c))
-      → Rests content may_leave moment left_since decls (world_of c) → Outlives content may_leave moment left_since faults decls w (world_of c)
-      → StepsTo content may_leave moment left_since faults decls w (step.Serve call) outcome
+  led : (decls : Decls) (w : View D) (call : Call) (served : CallOutcome) (c : Controller D) (outcome : StepResult D) → GoesOn served c (served_text decls.names call served) outcome
+      → ServesTo meaning decls w call served (view_of c) → (goes_on served ≡ true → IsSound meaning decls c)
+      → ((given : Option Answer) (end : Stop) → served ≡ Broken given end → EndsBecause meaning decls w (step.Serve call) end (view_of c))
+      → Rests meaning decls (view_of c) → Outlives meaning decls w (view_of c)
+      → StepsTo meaning decls w (step.Serve call) outcome
   led decls w call (Answered given) c outcome is to sound cause rests outlives =
-      subst (λ (o : Outcome D). StepsTo content may_leave moment left_since faults decls w (step.Serve call) o) (sym is)
-      (sound refl, serves content decls w call (Answered given) (world_of c) to refl, outlives)
+      subst (λ (o : StepResult D). StepsTo meaning decls w (step.Serve call) o) (sym is)
+      (sound refl, serves meaning decls w call (Answered given) (view_of c) to refl, outlives)
   led decls w call (Stopped given) c outcome is to sound cause rests outlives =
-      subst (λ (o : Outcome D). StepsTo content may_leave moment left_since faults decls w (step.Serve call) o) (sym is)
-      (sound refl, serves content decls w call (Stopped given) (world_of c) to refl, outlives)
+      subst (λ (o : StepResult D). StepsTo meaning decls w (step.Serve call) o) (sym is)
+      (sound refl, serves meaning decls w call (Stopped given) (view_of c) to refl, outlives)
   led decls w call (Broken given end) c outcome is to sound cause rests outlives =
-      subst (λ (o : Outcome D). StepsTo content may_leave moment left_since faults decls w (step.Serve call) o) (sym is)
-      (world_of c, refl, breaks_with content decls w call (Broken given end) (world_of c) to, cause given end refl, outlives, rests)
+      subst (λ (o : StepResult D). StepsTo meaning decls w (step.Serve call) o) (sym is)
+      (view_of c, refl, breaks_with meaning decls w call (Broken given end) (view_of c) to given end refl, cause given end refl, outlives, rests, λ is. absurd cc)
 
-  pub leads : (decls : Decls) (w : World D) (call : Call) (served : Served) (c : Controller D) (outcome : Outcome D)
+  pub leads : (decls : Decls) (w : View D) (call : Call) (served : CallOutcome) (c : Controller D) (outcome : StepResult D)
       → GoesOn served c (served_text decls.names call served) outcome ⊎ Wants c outcome
-      → ServesTo content decls w call served (world_of c) → (goes_on served ≡ true → IsSound content may_leave moment left_since decls c)
-      → ((given : Option Answer) (end : Stop) → served ≡ Broken given end → IsCauseOf content faults decls w (step.Serve call) end (world_of c))
-      → Rests content may_leave moment left_since decls (world_of c) → Outlives content may_leave moment left_since faults decls w (world_of c)
-      → StepsTo content may_leave moment left_since faults decls w (step.Serve call) outcome
+      → ServesTo meaning decls w call served (view_of c) → (goes_on served ≡ true → IsSound meaning decls c)
+      → ((given : Option Answer) (end : Stop) → served ≡ Broken given end → EndsBecause meaning decls w (step.Serve call) end (view_of c))
+      → Rests meaning decls (view_of c) → Outlives meaning decls w (view_of c)
+      → StepsTo meaning decls w (step.Serve call) outcome
   leads decls w call served c outcome is to sound cause rests outlives =
       ⊎_elim (λ goes. led decls w call served c outcome goes to sound cause rests outlives)
-      (λ wants. leads_short decls w call c outcome wants (comes_short content decls w call served (world_of c) to) rests outlives) is
+      (λ wants. leads_short decls w call c outcome wants (comes_short meaning decls w call served (view_of c) to) rests outlives) is

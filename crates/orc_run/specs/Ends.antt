@@ -9,63 +9,55 @@ use Rattle.orc_call.specs.declared.call.Call.{Call}
 use Rattle.orc_bundle.specs.Bundles.{Spells, decls_of}
 use Rattle.orc_state.specs.Legal.{IsLegal}
 use Rattle.orc_print.specs.Printed.{recovered_line}
-use Rattle.orc_run.specs.Worlds.{World, Decodes, Tells, Rests}
-use Rattle.orc_run.specs.Runs.{Runs, EndsAt}
-use Rattle.orc_run.specs.Controllers.{IsOpenCauseOf, MayBeOpening}
+use Rattle.orc_disk.specs.Meanings.{DiskMeaning}
+use Rattle.orc_run.specs.Views.{View, Decodes, HasHistory, Rests}
+use Rattle.orc_run.specs.Steps.{Does}
+use Rattle.orc_run.specs.Runs.{StepsDone, EndsAtStep}
+use Rattle.orc_run.specs.Opening.{IsOpenedAs, IsRefused, IsRefusedBecause, MayBeOpening}
+use Rattle.orc_bundle.specs.declared.bundle.TheConstants.{LARGEST_BUNDLE}
 use Rattle.orc_bundle.specs.declared.bundle.Bundle.{Bundle}
 use Rattle.orc_bundle.specs.declared.bundle.ScriptStep.{ScriptStep}
 use Rattle.orc_bundle.specs.declared.bundle.ScriptStep.TheVariants.{Serve}
 use Rattle.orc_state.specs.declared.declarations.Decls.{Decls}
 use Rattle.orc_run.specs.declared.stop.Done.{Done}
 use Rattle.orc_run.specs.declared.stop.Stop.{Stop}
-use Rattle.orc_run.specs.declared.stop.Stop.TheVariants as stop
+use Rattle.orc_run.specs.declared.stop.Stop.TheVariants as ending
 use Rattle.orc_run.specs.declared.stop.Rule.TheVariants as Rule
 
--- the most bytes that a bundle may have
-abbrev pub largest_bundle : ℕ
-largest_bundle = 16_777_216
+-- what stands outside a run: the bytes that its source has left, those that its sink holds, each where it tells them,
+-- and its disk
+pub record Outside (D : Type 0) : Type 0 where
+  pub left : Option (List ℕ)
+  pub held : Option (List ℕ)
+  pub disk : D
 
 -- the source gave the text of this bundle, and no more bytes than a bundle may have
-pub record Gives (left left' : Option (List ℕ)) (bundle : Bundle) : Type 0 where
+pub record GivesBundle (before after : Option (List ℕ)) (bundle : Bundle) : Type 0 where
   pub bytes : List ℕ
-  pub given : Consumes left left' bytes
-  pub small : length bytes ≤ largest_bundle
+  pub given : Consumes before after bytes
+  pub small : length bytes ≤ LARGEST_BUNDLE
   pub spelled : Spells bytes bundle
 
 -- the source was read to its end and gave bytes that are the text of no bundle, or it gave more than a bundle may have
-pub record GivesNone (left left' : Option (List ℕ)) : Type 0 where
+pub record GivesNone (before after : Option (List ℕ)) : Type 0 where
   pub bytes : List ℕ
-  pub given : Consumes left left' bytes
-  pub none : (largest_bundle < length bytes) ⊎ (IsAtEnd left' × ((bundle : Bundle) → Spells bytes bundle → ⊥))
-
--- a bundle whose text has no more bytes than a bundle may have
-abbrev pub IsSmall : Bundle → Type 0
-IsSmall bundle = (bytes : List ℕ) × Spells bytes bundle × (length bytes ≤ largest_bundle)
-
--- why a run ends whose bundle was read
-abbrev pub IsRunStop : Stop → Type 0
-IsRunStop stop.Usage = ⊥
-IsRunStop stop.ReadFault = ⊥
-IsRunStop (stop.Bundle line rule) = ⊥
-IsRunStop end = Unit {0}
-
--- why a run ends before its bundle is read
-abbrev pub IsInputStop : Stop → Type 0
-IsInputStop stop.Usage = Unit {0}
-IsInputStop stop.ReadFault = Unit {0}
-IsInputStop (stop.Bundle line rule) = Unit {0}
-IsInputStop stop.Memory = Unit {0}
-IsInputStop end = ⊥
+  pub given : Consumes before after bytes
+  pub none : (LARGEST_BUNDLE < length bytes) ⊎ (IsAtEnd after × ((bundle : Bundle) → Spells bytes bundle → ⊥))
 
 -- one history is a front of another
-abbrev pub Begins : List Call → List Call → Type 0
-Begins front history = (more : List Call) × (history ≡ front ++ more)
+abbrev pub IsPrefix : List Call → List Call → Type 0
+IsPrefix front history = (more : List Call) × (history ≡ front ++ more)
 
 -- some of these calls, in their order
-pub data AreSome : List Call → List Call → Type 0 where
-  none : AreSome [] []
-  skip : (some calls : List Call) (call : Call) → AreSome some calls → AreSome some (calls ++ call ∷ [])
-  take : (some calls : List Call) (call : Call) → AreSome some calls → AreSome (some ++ call ∷ []) (calls ++ call ∷ [])
+pub data IsSubsequence : List Call → List Call → Type 0 where
+  none : IsSubsequence [] []
+  skip : (some calls : List Call) (call : Call) → IsSubsequence some calls → IsSubsequence some (calls ++ call ∷ [])
+  take : (some calls : List Call) (call : Call) → IsSubsequence some calls
+      → IsSubsequence (some ++ call ∷ []) (calls ++ call ∷ [])
+
+-- the file is the journal of a legal history that begins with these calls
+abbrev pub HoldsFrom : Decls → List Call → List ℕ → Type 0
+HoldsFrom decls calls file = (history : List Call) × Decodes decls file history × IsPrefix calls history
 
 -- the calls that steps submit
 abbrev pub calls_in : List ScriptStep → List Call
@@ -73,96 +65,147 @@ calls_in [] = []
 calls_in (Serve call ∷ steps) = call ∷ calls_in steps
 calls_in (other ∷ steps) = calls_in steps
 
--- how the status of a run fits what a sink took and how the run ended
+-- How the status of a run fits what its sink took and how its script ended. Where all was done, the whole text was
+-- taken. Behind a fault of the sink a front of it was, and the script may have ended anyhow (`TookUpToLast` says which
+-- front). Behind another fault the script ended by that, and the whole text was taken.
 abbrev pub Wrote : Option (List ℕ) → Option (List ℕ) → List ℕ → Option Stop → Result Done Stop → Type 0
-Wrote held held' text end (Ok done) = (end ≡ None) × Appends held held' text
-Wrote held held' text end (Err stop.WriteFault) = TakesFront held held' text
-Wrote held held' text end (Err other) = (end ≡ Some other) × Appends held held' text
+Wrote before after text end (Ok done) = (end ≡ None) × Appends before after text
+Wrote before after text end (Err ending.WriteFault) = TakesFront before after text
+Wrote before after text end (Err other) = (end ≡ Some other) × Appends before after text
 
-module _ {D : Type 0} (content : D → Option (List ℕ)) (may_leave : D → List ℕ → Type 0) (moment : D → ℕ) (left_since : D → ℕ → List ℕ → Type 0) (faults : D → ℕ) where
-  -- The journal of the disk was opened: its history is known. On a disk that isn't empty this is said.
-  pub record Starts (decls : Decls) (disk : D) (start : World D) (greeting : List ℕ) : Type 0 where
+module _ {D : Type 0} (meaning : DiskMeaning D) where
+  -- The journal of the disk was opened: its history is known, that of the bytes that the disk gave. On a disk that
+  -- isn't empty this is said; of one that tells nothing only that nothing else is.
+  pub record Starts (decls : Decls) (disk : D) (start : View D) (greeting : List ℕ) : Type 0 where
     pub up : start.up ≡ true
     pub armed : start.armed ≡ 0
     pub pending : start.pending ≡ []
     pub legal : IsLegal decls start.known
-    pub history : IfSome (content disk) (λ file. Tells decls file start.known)
-    pub greets : IfSome (content disk) (λ file. ((file ≡ []) × (greeting ≡ [])) ⊎ ((file ≡ [] → ⊥) × (greeting ≡ recovered_line (length start.known))))
-    pub says : (greeting ≡ []) ⊎ (greeting ≡ recovered_line (length start.known))
-    pub opening : LeavesOnly moment left_since disk start.disk (MayBeOpening content may_leave decls disk)
-    pub told : is_some (content start.disk) ≡ is_some (content disk)
-    pub later : faults disk ≤ faults start.disk
-    pub rests : Rests content may_leave moment left_since decls start
+    pub history : IfSome (meaning.content disk) (λ file. HasHistory decls file start.known)
+    pub opened : IsOpenedAs meaning decls disk start.known start.disk
+    pub greeting_is : IfSome (meaning.content disk) (λ file.
+        ((file ≡ []) × (greeting ≡ [])) ⊎ ((file ≡ [] → ⊥) × (greeting ≡ recovered_line (length start.known))))
+    pub greeting_may_be : (greeting ≡ []) ⊎ (greeting ≡ recovered_line (length start.known))
+    pub opening : LeavesOnly meaning disk start.disk (MayBeOpening meaning decls disk)
+    pub still_tells : is_some (meaning.content start.disk) ≡ is_some (meaning.content disk)
+    pub later : meaning.faults disk ≤ meaning.faults start.disk
+    pub rests : Rests meaning decls start
 
   -- steps of a script were done one after another, and where there is an end, the next one ended the run
-  abbrev pub RunsTo : Decls → World D → List ScriptStep → List ScriptStep → List ℕ → Option Stop → World D → Type 0
-  RunsTo decls start done rest text None last = Runs content may_leave moment left_since faults decls start done text last
-  RunsTo decls start done rest text (Some end) last =
+  abbrev pub RunsUntil : Decls → View D → List ScriptStep → List ScriptStep → List ℕ → Option Stop → View D → Type 0
+  RunsUntil decls start done rest text None last = StepsDone meaning decls start done text last
+  RunsUntil decls start done rest text (Some end) last =
       (step : ScriptStep) × (more : List ScriptStep) × (rest ≡ step ∷ more)
-      × EndsAt content may_leave moment left_since faults decls start done step text end last
+      × EndsAtStep meaning decls start done step text end last
 
-  -- a run of a script from a world on
-  pub record RunsFrom (decls : Decls) (start : World D) (script : List ScriptStep) (disk : D) (text : List ℕ) (end : Option Stop) : Type 0 where
+  -- the last of the steps that were done, and what those before it printed
+  pub record LastDone (decls : Decls) (start : View D) (done : List ScriptStep) (text before last : List ℕ)
+      (view : View D) : Type 0 where
+    pub steps : List ScriptStep
+    pub step : ScriptStep
+    pub old : View D
+    pub parts : done ≡ steps ++ step ∷ []
+    pub runs : StepsDone meaning decls start steps before old
+    pub does : Does meaning decls old step last view
+    pub prints : text ≡ before ++ last
+
+  -- What a run printed last, and what before that: last comes the text of the step that ended the run, or of the last
+  -- step that was done, or the greeting, where there is no such step.
+  abbrev pub PrintsLast : (decls : Decls) (start : View D) (greeting : List ℕ) (done rest : List ScriptStep)
+      (text : List ℕ) (end : Option Stop) (view : View D) → RunsUntil decls start done rest text end view
+      → (before last : List ℕ) → Type 0
+  PrintsLast decls start greeting done rest text None view runs before last =
+      ((done ≡ []) × (before ≡ []) × (last ≡ greeting))
+      ⊎ ((said : List ℕ) × (before ≡ greeting ++ said) × LastDone decls start done text said last view)
+  PrintsLast decls start greeting done rest text (Some end) view runs before last =
+      (before ≡ greeting ++ runs.3.before) × (last ≡ runs.3.more)
+
+  -- the run of a script from a view on: the steps that were done, and how it ended
+  pub record ScriptRun (decls : Decls) (start : View D) (script : List ScriptStep) (disk : D) (text : List ℕ)
+      (end : Option Stop) : Type 0 where
     pub done : List ScriptStep
     pub rest : List ScriptStep
     pub parts : script ≡ done ++ rest
-    pub last : World D
-    pub runs : RunsTo decls start done rest text end last
+    pub last : View D
+    pub runs : RunsUntil decls start done rest text end last
     pub disk_is : last.disk ≡ disk
-    pub rests : Rests content may_leave moment left_since decls last
+    pub rests : Rests meaning decls last
+
+  -- What a sink took of which a write failed: all that was printed before the last text, and a front of that one. So
+  -- each text was written before the next step was done, and no step was done behind the failure.
+  pub record TookUpToLast (decls : Decls) (start : View D) (script : List ScriptStep) (disk : D)
+      (greeting text : List ℕ) (end : Option Stop) (run : ScriptRun decls start script disk text end)
+      (held now : Option (List ℕ)) : Type 0 where
+    pub before : List ℕ
+    pub last : List ℕ
+    pub prints : PrintsLast decls start greeting run.done run.rest text end run.last run.runs before last
+    pub between : Option (List ℕ)
+    pub took_before : Appends held between before
+    pub took_last : TakesFront between now last
 
   -- What a run leaves to those who called, where the disk tells what it holds. The disk holds a journal of one legal
-  -- history, so does each file that a crash now may leave, and so did a crash at each moment since the journal was opened.
-  -- The history at entry is a front of each. Every call that was acknowledged stands in what is known, which is a front of
-  -- the history that the disk holds and of what a crash leaves: the history at entry and then some of the script's calls,
-  -- in their order.
-  pub record KeepsAll (decls : Decls) (start last : World D) (script : List ScriptStep) : Type 0 where
-    pub journal : IfSome (content last.disk) (λ file. (history : List Call) × Decodes decls file history × Begins last.known history)
-    pub images : (file : List ℕ) → may_leave last.disk file → (history : List Call) × Decodes decls file history × Begins last.known history
-    pub past_images : (file : List ℕ) → left_since last.disk (moment start.disk) file → (history : List Call) × Decodes decls file history × Begins start.known history
-    pub added : (added : List Call) × (last.known ≡ start.known ++ added) × AreSome added (calls_in script)
+  -- history, so does each file that a crash now may leave, and so did a crash at each moment since the journal was
+  -- opened. The history at entry is a front of each. Every call that was acknowledged stands in what is known, which
+  -- is a front of the history that the disk holds and of what a crash leaves: the history at entry and then some of
+  -- the script's calls, in their order.
+  pub record KeepsAll (decls : Decls) (start last : View D) (script : List ScriptStep) : Type 0 where
+    pub journal : IfSome (meaning.content last.disk) (HoldsFrom decls last.known)
+    pub crash_now : (file : List ℕ) → meaning.may_leave last.disk file → HoldsFrom decls last.known file
+    pub crash_since : (file : List ℕ) → meaning.left_since last.disk (meaning.moment start.disk) file
+        → HoldsFrom decls start.known file
+    pub added : (added : List Call) × (last.known ≡ start.known ++ added) × IsSubsequence added (calls_in script)
 
-  -- The run of a bundle over a disk: what it printed, and how it ended.
-  pub record Ran (decls : Decls) (script : List ScriptStep) (disk disk' : D) (printed : List ℕ) (end : Option Stop) : Type 0 where
-    pub start : World D
+  -- the run of a script over a disk: it was opened, what was printed, and how it ended
+  pub record DiskRun (decls : Decls) (script : List ScriptStep) (before after : D) (printed : List ℕ)
+      (end : Option Stop) : Type 0 where
+    pub start : View D
     pub greeting : List ℕ
     pub text : List ℕ
-    pub starts : Starts decls disk start greeting
-    pub runs : RunsFrom decls start script disk' text end
+    pub starts : Starts decls before start greeting
+    pub runs : ScriptRun decls start script after text end
     pub prints : printed ≡ greeting ++ text
-    pub keeps : is_some (content disk) ≡ true → KeepsAll decls start runs.last script
+    pub keeps : is_some (meaning.content before) ≡ true → KeepsAll decls start runs.last script
 
   -- the script of a bundle was run over the disk, and the sink took what the run printed
-  pub record IsRun (held held' : Option (List ℕ)) (bundle : Bundle) (disk disk' : D) (status : Result Done Stop) : Type 0 where
+  pub record BundleRun (bundle : Bundle) (before after : Outside D) (status : Result Done Stop) : Type 0 where
     pub printed : List ℕ
     pub end : Option Stop
-    pub ran : Ran (decls_of bundle) bundle.steps disk disk' printed end
-    pub wrote : Wrote held held' printed end status
+    pub ran : DiskRun (decls_of bundle) bundle.steps before.disk after.disk printed end
+    pub wrote : Wrote before.held after.held printed end status
     pub whole : is_ok status ≡ true → ran.runs.rest ≡ []
+    pub unwritten : status ≡ Err ending.WriteFault
+        → TookUpToLast (decls_of bundle) ran.start bundle.steps after.disk ran.greeting ran.text end ran.runs
+        before.held after.held
 
-  -- the journal was not opened, for this cause, and the sink took nothing
-  pub record IsUnopened (held held' : Option (List ℕ)) (bundle : Bundle) (disk disk' : D) (end : Stop) : Type 0 where
-    pub cause : IsOpenCauseOf content may_leave faults (decls_of bundle) disk disk' end
-    pub opening : LeavesOnly moment left_since disk disk' (MayBeOpening content may_leave (decls_of bundle) disk)
-    pub same : held' ≡ held
+  -- The journal was not opened, for this cause, which is in the bytes that the disk gave, and the sink took nothing.
+  -- Unless the disk failed it is as it was, or holds the journal with its gate. Where memory was wanting before that,
+  -- nothing was done.
+  pub record IsUnopened (bundle : Bundle) (before after : Outside D) (end : Stop) : Type 0 where
+    pub cause : IsRefusedBecause meaning (decls_of bundle) before.disk after.disk end
+    pub refused : ((end ≡ ending.Memory) × (after.disk ≡ before.disk))
+        ⊎ IsRefused meaning (decls_of bundle) before.disk after.disk end
+    pub opening : LeavesOnly meaning before.disk after.disk (MayBeOpening meaning (decls_of bundle) before.disk)
+    pub same : after.held ≡ before.held
 
   -- how the run of a bundle ended, by its status
-  abbrev pub EndsOver : Option (List ℕ) → Option (List ℕ) → Bundle → D → D → Result Done Stop → Type 0
-  EndsOver held held' bundle disk disk' (Ok done) = IsRun held held' bundle disk disk' (Ok done)
-  EndsOver held held' bundle disk disk' (Err stop.WriteFault) = IsRun held held' bundle disk disk' (Err stop.WriteFault)
-  EndsOver held held' bundle disk disk' (Err end) = IsUnopened held held' bundle disk disk' end ⊎ IsRun held held' bundle disk disk' (Err end)
+  abbrev pub EndsOver : Bundle → Outside D → Outside D → Result Done Stop → Type 0
+  EndsOver bundle before after (Ok done) = BundleRun bundle before after (Ok done)
+  EndsOver bundle before after (Err ending.WriteFault) = BundleRun bundle before after (Err ending.WriteFault)
+  EndsOver bundle before after (Err end) = IsUnopened bundle before after end ⊎ BundleRun bundle before after (Err end)
 
   -- the source was read to its end and gave a bundle, whose run ended so
-  pub record EndsRead (left left' held held' : Option (List ℕ)) (disk disk' : D) (status : Result Done Stop) : Type 0 where
+  pub record WholeRun (before after : Outside D) (status : Result Done Stop) : Type 0 where
     pub bundle : Bundle
-    pub gives : Gives left left' bundle
-    pub at_end : IsAtEnd left'
-    pub ends : EndsOver held held' bundle disk disk' status
+    pub gives : GivesBundle before.left after.left bundle
+    pub at_end : IsAtEnd after.left
+    pub ends : EndsOver bundle before after status
 
   -- how a run ended, by its status
-  abbrev pub EndsBy : Option (List ℕ) → Option (List ℕ) → Option (List ℕ) → Option (List ℕ) → D → D → Result Done Stop → Type 0
-  EndsBy left left' held held' disk disk' (Err stop.Usage) = Unit {0}
-  EndsBy left left' held held' disk disk' (Err stop.ReadFault) = Unit {0}
-  EndsBy left left' held held' disk disk' (Err (stop.Bundle line rule)) = GivesNone left left' × (line ≡ 0) × (rule ≡ Rule.Line)
-  EndsBy left left' held held' disk disk' (Err stop.Memory) = ((held' ≡ held) × (disk' ≡ disk)) ⊎ EndsRead left left' held held' disk disk' (Err stop.Memory)
-  EndsBy left left' held held' disk disk' status = EndsRead left left' held held' disk disk' status
+  abbrev pub EndsBy : Outside D → Outside D → Result Done Stop → Type 0
+  EndsBy before after (Err ending.Usage) = Unit {0}
+  EndsBy before after (Err ending.ReadFault) = Unit {0}
+  EndsBy before after (Err (ending.Bundle line rule)) =
+      GivesNone before.left after.left × (line ≡ 0) × (rule ≡ Rule.Line)
+  EndsBy before after (Err ending.Memory) =
+      ((after.held ≡ before.held) × (after.disk ≡ before.disk)) ⊎ WholeRun before after (Err ending.Memory)
+  EndsBy before after status = WholeRun before after status

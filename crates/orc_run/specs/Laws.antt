@@ -1,9 +1,32 @@
 -- What users rely on of files that hold journals.
-use Rattle.std.specs.Prelude.{◌≡◌, ℕ, List}
+use Rattle.std.specs.Prelude.{◌≡◌, ℕ, true, false, List, ◌∷◌, codes}
 use Rattle.orc_call.specs.declared.call.Call.{Call}
+use Rattle.orc_call.specs.declared.call.TheConstants.{MOST_ACTIONS}
+use Rattle.orc_journal.specs.Entries.{entry_bytes, entry_kind}
+use Rattle.orc_journal.specs.Journals.{magic, gated, is_closed}
+use Rattle.orc_journal.specs.declared.entry.Entry.{Entry}
+use Rattle.orc_journal.specs.declared.entry.Entry.TheVariants.{Intent, Decide, Abort, Settled}
+use Rattle.orc_bundle.specs.declared.bundle.TheConstants.{LARGEST_BUNDLE}
+use Rattle.orc_run.specs.declared.opening.TheConstants.{LARGEST_JOURNAL}
 use Rattle.orc_state.specs.declared.declarations.Decls.{Decls}
-use Rattle.orc_run.specs.Worlds.{Decodes, Tells}
+use Rattle.orc_run.specs.Views.{Decodes, HasHistory}
 
--- A file tells one history. So a recovery learns the very history that the clauses on stops and crashes say is in the file.
+-- A file tells one history. So a recovery learns the very history that the clauses on stops and crashes say is in the
+-- file.
 abbrev pub FileTellsOneHistory : Type 0
-FileTellsOneHistory = (decls : Decls) (file : List ℕ) (learned held : List Call) → Tells decls file learned → Decodes decls file held → learned ≡ held
+FileTellsOneHistory = (decls : Decls) (file : List ℕ) (learned held : List Call) → HasHistory decls file learned
+    → Decodes decls file held → learned ≡ held
+
+-- The limits and the bytes of the format are these numbers, whatever the code calls them.
+pub record HasTheseNumbers : Type 0 where
+  pub bundle : LARGEST_BUNDLE ≡ 16_777_216
+  pub journal : LARGEST_JOURNAL ≡ 268_435_456
+  pub actions : MOST_ACTIONS ≡ 64
+  pub first_bytes : magic ≡ codes "ORCJRNL1"
+  pub gate : (entry : Entry) → gated entry ≡ 1 ∷ entry_bytes entry
+  pub open_gate : is_closed 1 ≡ false
+  pub closed_gate : is_closed 0 ≡ true
+  pub intent : (t : ℕ) (call : Call) (devices : List ℕ) → entry_kind (Intent t call devices) ≡ 1
+  pub decide : (t : ℕ) → entry_kind (Decide t) ≡ 2
+  pub abort : (t : ℕ) → entry_kind (Abort t) ≡ 3
+  pub settled : (t : ℕ) → entry_kind (Settled t) ≡ 4

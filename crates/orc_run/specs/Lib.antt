@@ -1,13 +1,10 @@
-pub mod Transactions
 pub mod Touched
-pub mod Pasts
-pub mod Worlds
+pub mod Views
+pub mod Opening
+pub mod Commits
 pub mod Steps
 pub mod Runs
-pub mod Serving
-pub mod Controllers
-pub mod Deciding
 pub mod Ends
-pub mod Halts
 pub mod Statuses
 pub mod Laws
+pub mod inside

@@ -1,26 +1,32 @@
 -- Runs of a script: its steps one after another.
-use Rattle.std.specs.Prelude.{◌≡◌, ℕ, List, [], ◌∷◌, ◌++◌, Option}
-use Rattle.orc_run.specs.Worlds.{World, Outlives}
-use Rattle.orc_run.specs.Steps.{Does, Breaks, IsCauseOf}
+use Rattle.std.specs.Prelude.{◌≡◌, ℕ, List, [], ◌∷◌, ◌++◌}
+use Rattle.orc_disk.specs.Meanings.{DiskMeaning}
+use Rattle.orc_run.specs.Views.{View, Outlives}
+use Rattle.orc_run.specs.Steps.{Does, Breaks, EndsBecause, FailsToRecover}
 use Rattle.orc_state.specs.declared.declarations.Decls.{Decls}
 use Rattle.orc_bundle.specs.declared.bundle.ScriptStep.{ScriptStep}
+use Rattle.orc_bundle.specs.declared.bundle.ScriptStep.TheVariants.{Recover}
 use Rattle.orc_run.specs.declared.stop.Stop.{Stop}
 
-module _ {D : Type 0} (content : D → Option (List ℕ)) (may_leave : D → List ℕ → Type 0) (moment : D → ℕ) (left_since : D → ℕ → List ℕ → Type 0) (faults : D → ℕ) where
-  -- these steps were done, one after another, from the first world on; they printed this, and this is the world behind them
-  pub data Runs (decls : Decls) (first : World D) : List ScriptStep → List ℕ → World D → Type 0 where
-    begun : Runs decls first [] [] first
-    one_more : (steps : List ScriptStep) (text : List ℕ) (w : World D) (s : ScriptStep) (more : List ℕ) (new : World D)
-        → Runs decls first steps text w → Does content decls w s more new → Outlives content may_leave moment left_since faults decls w new
-        → Runs decls first (steps ++ s ∷ []) (text ++ more) new
+module _ {D : Type 0} (meaning : DiskMeaning D) where
+  -- these steps of a script were done, one after another, from the first view on; they printed this, and this is the
+  -- view behind them
+  pub data StepsDone (decls : Decls) (first : View D) : List ScriptStep → List ℕ → View D → Type 0 where
+    begun : StepsDone decls first [] [] first
+    one_more : (steps : List ScriptStep) (text : List ℕ) (old : View D) (step : ScriptStep) (more : List ℕ)
+        (new : View D)
+        → StepsDone decls first steps text old → Does meaning decls old step more new → Outlives meaning decls old new
+        → StepsDone decls first (steps ++ step ∷ []) (text ++ more) new
 
   -- the run ended at a step behind these
-  pub record EndsAt (decls : Decls) (first : World D) (steps : List ScriptStep) (s : ScriptStep) (text : List ℕ) (end : Stop) (last : World D) : Type 0 where
-    pub world : World D
+  pub record EndsAtStep (decls : Decls) (first : View D) (steps : List ScriptStep) (step : ScriptStep)
+      (text : List ℕ) (end : Stop) (last : View D) : Type 0 where
+    pub view : View D
     pub before : List ℕ
     pub more : List ℕ
-    pub runs : Runs decls first steps before world
-    pub breaks : Breaks decls world s more end last
-    pub outlives : Outlives content may_leave moment left_since faults decls world last
-    pub cause : IsCauseOf content faults decls world s end last
+    pub runs : StepsDone decls first steps before view
+    pub breaks : Breaks meaning decls view step more end last
+    pub outlives : Outlives meaning decls view last
+    pub cause : EndsBecause meaning decls view step end last
+    pub recovery : step ≡ Recover → FailsToRecover meaning decls view end last
     pub prints : text ≡ before ++ more

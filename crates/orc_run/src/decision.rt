@@ -1,25 +1,17 @@
-//! The decision of a call: its intent and what commits it, and the state behind what was decided.
-ghost use Rattle.std.specs.Prelude.{◌≡◌, ◌≤◌, ◌<◌, ◌++◌, ◌∷◌, [], ℕ, List, true, false, None, length, IfOk, OnOk, OnErr, IsErrOf, IfSome, IsTrue, is_some};
+//! The intent of a call that is to be committed, and the state behind what was decided.
+ghost use Rattle.std.specs.Prelude.{◌≡◌, ◌⊎◌, ◌≤◌, ◌<◌, ◌++◌, ◌∷◌, [], ℕ, true, false, None, length, IfOk, OnOk, OnErr, IsTrue};
 ghost use Rattle.orc_call.specs.Encoding.{IsCall};
-ghost use Rattle.orc_call.specs.declared.call.Call.{Call};
-ghost use Rattle.orc_disk.specs.Course.{FailsAmong};
-ghost use Rattle.orc_disk.specs.Moments.{LeavesOnly};
-ghost use Rattle.orc_journal.specs.Entries.{AreDevices, IsEntry};
-ghost use Rattle.orc_journal.specs.Opened.{Holds, IsReady};
-ghost use Rattle.orc_journal.specs.declared.entry.Entry.{Entry};
+ghost use Rattle.orc_journal.specs.Entries.{AreDevices};
 ghost use Rattle.orc_state.specs.States.{IsComplete, action_of, after, refusal};
 ghost use Rattle.orc_state.specs.Calls.{is_call};
 ghost use Rattle.orc_state.specs.Legal.{IsLegal, state_of};
-ghost use Rattle.orc_state.specs.Declarations.{AreDecls};
-ghost use Rattle.orc_run.specs.Transactions.{is_taken, IsFilled};
-ghost use Rattle.orc_run.specs.Steps.{calls_to_decide, IsEntryOf, IsFull, largest_journal};
-ghost use Rattle.orc_run.specs.Deciding.{Course, IsIntentOf, IsReadBehind, IsUpToDecision};
-ghost use Rattle.orc_state.specs.declared.declarations.Decls.{Decls};
+ghost use Rattle.orc_state.specs.inside.Declarations.{AreDecls};
+ghost use Rattle.orc_run.specs.inside.Transactions.{is_taken, IsFilled};
+ghost use Rattle.orc_run.specs.inside.Deciding.{IsIntentOf};
 
 use crate::past::Past;
 use orc_call::Call;
-use orc_disk::Disk;
-use orc_journal::{AppendFault, Entry, Journal};
+use orc_journal::Entry;
 use orc_state::{Decls, State, action_of};
 use orc_text::{Memory, Row};
 use std::alloc::Global;
@@ -40,6 +32,9 @@ pub(crate) fn begin(
     ensures least { IfOk result (λ begun. (u : ℕ) → 1 ≤ u → u < begun.0 → is_taken past.old.numbers u ≡ true) }
     ensures taken { IfOk result (λ begun. is_taken past.new.numbers begun.0 ≡ true) }
     ensures others { OnOk result ((u : ℕ) → is_taken past.old.numbers u ≡ true → is_taken past.new.numbers u ≡ true) }
+    ensures only { IfOk result (λ begun. (u : ℕ) → is_taken past.new.numbers u ≡ true
+        → (is_taken past.old.numbers u ≡ true) ⊎ (u ≡ begun.0)) }
+    ensures positive { IfOk result (λ begun. 1 ≤ begun.0) }
     ensures filled { OnOk result (IsFilled past.new.numbers) }
     ensures pending { OnOk result (past.new.history ≡ past.old.history ++ call.now ∷ []) }
     ensures history { OnErr result (past.new.history ≡ past.old.history) }
@@ -53,30 +48,6 @@ pub(crate) fn begin(
     };
     past.history.push(call.copy(alloc)?)?;
     Ok((t, intent))
-}
-
-/// Appends the intent of a transaction and its decision.
-pub(crate) fn decide<D: Disk>(
-    alloc: Global,
-    journal: &mut Journal<D>,
-    intent: &Entry,
-    t: u64,
-) -> Result<(), AppendFault>
-    requires ready { IsReady D.content D.may_leave journal.old }
-    requires intent { IsEntry intent.now }
-    ensures done { OnOk result ((decls : List ℕ) (entries : List Entry) → Holds D.content D.may_leave journal.old decls entries → Holds D.content D.may_leave journal.new decls ((entries ++ intent.now ∷ []) ++ Entry.Decide t ∷ [])) }
-    ensures limit { journal.new.limit ≡ journal.old.limit }
-    ensures full { (len : ℕ) → IsErrOf result (AppendFault.Full len) → (call : Call) (devices : List ℕ) → IsEntryOf call devices intent.now → (decls : Decls) (entries : List Entry) → Holds D.content D.may_leave journal.old decls.text entries → journal.old.limit ≡ largest_journal → IsFull (D.content journal.new.disk) decls.text call devices len }
-    ensures tells { is_some (D.content journal.new.disk) ≡ is_some (D.content journal.old.disk) }
-    ensures any_moment { (decls : List ℕ) (entries : List Entry) → Holds D.content D.may_leave journal.old decls entries → LeavesOnly D.moment D.left_since journal.old.disk journal.new.disk (IsUpToDecision decls entries intent.now t) }
-    ensures left { (decls : List ℕ) (entries : List Entry) → Holds D.content D.may_leave journal.old decls entries → IfSome (D.content journal.new.disk) (IsUpToDecision decls entries intent.now t) }
-    ensures course { Course D.leads calls_to_decide result journal.old.disk journal.new.disk }
-    ensures failed { IsErrOf result AppendFault.DiskFault → FailsAmong D.leads calls_to_decide journal.old.disk journal.new.disk (λ done. (decls : List ℕ) (entries : List Entry) → Holds D.content D.may_leave journal.old decls entries → IfSome (D.content journal.new.disk) (IsReadBehind done decls entries intent.now t)) }
-{
-    match journal.append(alloc, intent) {
-        Ok(()) => journal.append(alloc, &Entry::Decide { t }),
-        Err(fault) => Err(fault),
-    }
 }
 
 /// The state behind a history.

@@ -2,6 +2,7 @@
 //! it prints is written as it is done.
 #![tactic(auto)]
 
+mod commit;
 mod controller;
 mod decision;
 mod devices;
@@ -15,11 +16,9 @@ mod run;
 mod serving;
 mod step;
 mod stop;
-#[cfg(test)]
-mod tests;
 mod top;
 mod words;
 
-pub use laws::file_tells_one_history;
+pub use laws::{file_tells_one_history, has_these_numbers};
 pub use stop::{Done, Ended, Rule, Stop, status};
 pub use top::orchestrate;

@@ -1,6 +1,6 @@
 //! The numbers of transactions.
-ghost use Rattle.std.specs.Prelude.{◌≡◌, ◌≤◌, ◌<◌, ◌-◌, ◌^◌, ℕ, true, false, IfOk, OnOk, OnErr};
-ghost use Rattle.orc_run.specs.Transactions.{is_taken, IsFilled};
+ghost use Rattle.std.specs.Prelude.{◌≡◌, ◌⊎◌, ◌≤◌, ◌<◌, ◌-◌, ◌^◌, ℕ, true, false, IfOk, OnOk, OnErr};
+ghost use Rattle.orc_run.specs.inside.Transactions.{is_taken, IsFilled};
 
 use orc_text::Memory;
 use std::alloc::Global;
@@ -31,6 +31,7 @@ impl Numbers {
         requires { IsFilled self.old }
         ensures taken { OnOk result (is_taken self.new t ≡ true) }
         ensures others { OnOk result ((u : ℕ) → is_taken self.old u ≡ true → is_taken self.new u ≡ true) }
+        ensures only { OnOk result ((u : ℕ) → is_taken self.new u ≡ true → (is_taken self.old u ≡ true) ⊎ (u ≡ t)) }
         ensures filled { OnOk result (IsFilled self.new) }
     {
         self.used.insert(t)?;
@@ -46,6 +47,8 @@ impl Numbers {
         ensures positive { IfOk result (λ t. 1 ≤ t) }
         ensures taken { IfOk result (λ t. is_taken self.new t ≡ true) }
         ensures others { OnOk result ((u : ℕ) → is_taken self.old u ≡ true → is_taken self.new u ≡ true) }
+        ensures only { IfOk result (λ t. (u : ℕ) → is_taken self.new u ≡ true
+            → (is_taken self.old u ≡ true) ⊎ (u ≡ t)) }
         ensures filled { OnOk result (IsFilled self.new) }
     {
         let t = self.least()?;

@@ -1,20 +1,19 @@
 //! What the entries of a journal say of the past: the history, and the state behind it.
 ghost use Rattle.std.specs.Prelude.{◌≡◌, ◌++◌, ◌∷◌, [], ◌≢◌, ℕ, true, false, Ok, None, IfOk, IfSome, IsErrOf, IsTrue, MatchOption};
-ghost use Rattle.std.specs.Option.{option_copied};
 ghost use Rattle.orc_call.specs.declared.call.Call.{Call};
 ghost use Rattle.orc_state.specs.declared.declarations.Decls.{Decls};
-ghost use Rattle.orc_journal.specs.Orders.{number_of};
+ghost use Rattle.orc_journal.specs.Committed.{history_of};
 ghost use Rattle.orc_journal.specs.declared.entry.Entry.{Entry};
-ghost use Rattle.orc_journal.specs.Committed.{call_in, call_of, commits, history_of, listed};
 ghost use Rattle.orc_state.specs.Calls.{is_call};
 ghost use Rattle.orc_state.specs.Legal.{AnswersAtOnce, IsDue, IsLegal, IsNew};
-ghost use Rattle.orc_state.specs.Declarations.{AreDecls};
-ghost use Rattle.orc_run.specs.Pasts.{IsBehind, IsPast, IsIllegalAt};
+ghost use Rattle.orc_state.specs.inside.Declarations.{AreDecls};
+ghost use Rattle.orc_run.specs.inside.Pasts.{IsBehind, IsPast};
+ghost use Rattle.orc_run.specs.Opening.{IsIllegalAt};
 
 use crate::history::place_of;
 use crate::numbers::Numbers;
 use orc_call::{Answer, Call};
-use orc_journal::Entry;
+use orc_journal::{Entry, committed_by};
 use orc_state::{Decls, State, action_of, is_call};
 use orc_text::{Memory, Row};
 use std::alloc::Global;
@@ -48,59 +47,13 @@ impl From<Memory> for PastFault {
     }
 }
 
-/// The call of the intent of a transaction among entries; of two the later one counts. It looks
-/// from the end, since a Decide stands close behind its intent.
-fn intent_of(entries: &[Entry], t: u64) -> Option<&Call>
-    ensures { option_copied result ≡ call_of t entries.now }
-{
-    let mut at = entries.len();
-    while at > 0 {
-        at -= 1;
-        if let Some(call) = call_in(&entries[at], t) {
-            return Some(call);
-        }
-    }
-    None
-}
-
-// The call of an entry, where it is an intent of the transaction.
-fn call_in(entry: &Entry, t: u64) -> Option<&Call>
-    ensures { option_copied result ≡ call_in t entry.now }
-{
-    match entry {
-        Entry::Intent { t: u, call, .. } if *u == t => Some(call),
-        _ => None,
-    }
-}
-
-// The call that an entry commits behind those before it.
-fn committed_by<'a>(before: &'a [Entry], entry: &Entry) -> Option<&'a Call>
-    ensures { listed (option_copied result) ≡ commits before.now entry.now }
-{
-    match entry {
-        Entry::Decide { t } => intent_of(before, *t),
-        _ => None,
-    }
-}
-
-// The transaction that an entry names.
-fn number_of(entry: &Entry) -> u64
-    ensures { result ≡ number_of entry.now }
-{
-    match entry {
-        Entry::Intent { t, .. } => *t,
-        Entry::Decide { t } => *t,
-        Entry::Abort { t } => *t,
-        Entry::Settled { t } => *t,
-    }
-}
-
 impl Past {
     /// The past of entries, which stand in their order.
     pub(crate) fn read(alloc: Global, decls: &Decls, entries: &[Entry]) -> Result<Past, PastFault>
         requires decls { AreDecls decls.now }
         ensures past { IfOk result (λ past. IsPast decls.now past entries.now) }
-        ensures illegal { (place : ℕ) → IsErrOf result (PastFault.Illegal place) → IsIllegalAt decls.now entries.now place }
+        ensures illegal { (place : ℕ) → IsErrOf result (PastFault.Illegal place)
+            → IsIllegalAt decls.now entries.now place }
     {
         let mut past = Past {
             numbers: Numbers::new(alloc),
@@ -126,9 +79,10 @@ impl Past {
         requires decls { AreDecls decls.now }
         requires past { IsPast decls.now self.old before.now }
         ensures taken { result ≡ Ok true → IsPast decls.now self.new (before.now ++ entry.now ∷ []) }
-        ensures illegal { result ≡ Ok false → ((t : ℕ) × (entry.now ≡ Entry.Decide t)) × (IsLegal decls.now (history_of (before.now ++ entry.now ∷ [])) → ⊥) }
+        ensures illegal { result ≡ Ok false → ((t : ℕ) × (entry.now ≡ Entry.Decide t))
+            × (IsLegal decls.now (history_of (before.now ++ entry.now ∷ [])) → ⊥) }
     {
-        self.numbers.take(number_of(entry))?;
+        self.numbers.take(entry.number())?;
         match committed_by(before, entry) {
             Some(call) => self.commit(alloc, decls, call),
             None => Ok(true),
@@ -139,16 +93,18 @@ impl Past {
     fn commit(&mut self, alloc: Global, decls: &Decls, call: &Call) -> Result<bool, Memory>
         requires decls { AreDecls decls.now }
         requires behind { IsBehind decls.now self.old self.old.history }
-        ensures legal { result ≡ Ok true → IsTrue (is_call decls.now.names call.now) × IsDue decls.now self.old.history call.now }
+        ensures legal { result ≡ Ok true → IsTrue (is_call decls.now.names call.now)
+            × IsDue decls.now self.old.history call.now }
         ensures history { result ≡ Ok true → self.new.history ≡ self.old.history ++ call.now ∷ [] }
         ensures behind { result ≡ Ok true → IsBehind decls.now self.new self.new.history }
-        ensures illegal { result ≡ Ok false → IsTrue (is_call decls.now.names call.now) → IsDue decls.now self.old.history call.now → ⊥ }
+        ensures illegal { result ≡ Ok false → IsTrue (is_call decls.now.names call.now)
+            → IsDue decls.now self.old.history call.now → ⊥ }
         ensures numbers { self.new.numbers ≡ self.old.numbers }
     {
         if !is_call(decls.names.as_slice(), call) {
             return Ok(false);
         }
-        if self.answer(alloc, decls, call)?.is_some() {
+        if self.answer_or_apply(alloc, decls, call)?.is_some() {
             return Ok(false);
         }
         self.history.push(call.copy(alloc)?)?;
@@ -157,7 +113,7 @@ impl Past {
 
     /// The answer that a call gets at once behind the history. Where there is none, the state does
     /// its action.
-    pub(crate) fn answer(
+    pub(crate) fn answer_or_apply(
         &mut self,
         alloc: Global,
         decls: &Decls,
@@ -181,7 +137,8 @@ impl Past {
 
     // The answer to a call whose caller and number the history has.
     fn repeated(&self, call: &Call) -> Option<Answer>
-        ensures { MatchOption result (IsNew self.now.history call.now) (λ answer. (decls : Decls) → AnswersAtOnce decls self.now.history call.now answer) }
+        ensures { MatchOption result (IsNew self.now.history call.now)
+            (λ answer. (decls : Decls) → AnswersAtOnce decls self.now.history call.now answer) }
     {
         let history = self.history.as_slice();
         let place = place_of(history, call)?;

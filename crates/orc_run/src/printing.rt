@@ -1,9 +1,10 @@
 //! What a call and a recovery print.
 ghost use Rattle.std.specs.Prelude.{◌≡◌, length, IfOk};
 ghost use Rattle.orc_print.specs.Printed.{recovered_line};
-ghost use Rattle.orc_run.specs.Serving.{answer_in, IsAnswerAmong, line_of, served_text};
+ghost use Rattle.orc_run.specs.Commits.{line_of};
+ghost use Rattle.orc_run.specs.inside.Serving.{answer_in, IsAnswerAmong, served_text};
 
-use crate::serving::Served;
+use crate::serving::CallOutcome;
 use orc_call::{Answer, Call};
 use orc_print::{answer, recovered, stopped};
 use orc_text::{Memory, Row, Text};
@@ -15,25 +16,25 @@ pub(crate) fn served_text(
     alloc: Global,
     names: &[Text],
     call: &Call,
-    served: &Served,
+    served: &CallOutcome,
 ) -> Result<Row<u8>, Memory>
     requires { IsAnswerAmong (length names.now) (answer_in served.now) }
     ensures { IfOk result (λ text. text ≡ served_text names.now call.now served.now) }
 {
     match served {
-        Served::Answered(given) => Ok(Row::from_vec(answer(
+        CallOutcome::Answered(given) => Ok(Row::from_vec(answer(
             alloc,
             &call.caller,
             call.number,
             given,
             names,
         )?)),
-        Served::Stopped(given) => {
+        CallOutcome::Stopped(given) => {
             let mut out = answer_line(alloc, names, call, given)?;
             out.extend_from_slice(stopped(alloc)?.as_slice())?;
             Ok(Row::from_vec(out))
         }
-        Served::Broken(given, _) => Ok(Row::from_vec(answer_line(alloc, names, call, given)?)),
+        CallOutcome::Broken(given, _) => Ok(Row::from_vec(answer_line(alloc, names, call, given)?)),
     }
 }
 

@@ -10,11 +10,12 @@ use Rattle.std.specs.Cmp.Lexicographic.{bytes_decides}
 use Rattle.std.specs.FinMap.{find, get, entries, get-entries, get-empty}
 use Rattle.std.proofs.lemmas.List.Elements.{All-contains, All-contains_itself, All-filter, All-nil, All-cons, Contains-append_cases, Contains-push_cases}
 use Rattle.orc_path.specs.Steps.{PathStep}
-use Rattle.orc_path.specs.Order.{path_cmp, path_cmp_exact}
+use Rattle.orc_path.specs.Order.{path_cmp}
+use Rattle.orc_path.proofs.PathOrder.{path_cmp_exact}
 use Rattle.orc_path.specs.Configurations.{Config}
 use Rattle.orc_path.specs.declared.item.Item.{Item}
 use Rattle.orc_path.specs.declared.item.Item.TheVariants.{Entry, Leaf}
-use Rattle.orc_state.specs.States.{action_of, is_text, config_of, part, has_id, opening, others, after, expansion, differs, rivals, least, clash_among, clash_on, clash, misplaced, refusal}
+use Rattle.orc_state.specs.States.{action_of, is_same_text, config_of, part, has_id, opening, others, after, expansion, differs, rivals, least, clash_among, clash_on, clash, existence_refusal, refusal}
 use Rattle.orc_state.specs.Histories.{fold_from, IsUnrefused}
 use Rattle.orc_state.specs.Laws.{Agree, AllAgree, ServicesAgree}
 use Rattle.orc_call.specs.declared.answer.Answer.{Answer}
@@ -26,21 +27,21 @@ use Rattle.orc_state.specs.declared.state.Service.{Service}
 use Rattle.orc_state.specs.declared.state.State.{State}
 
 -- items that don't differ are equal
-same_items : (x y : Item) → differs x (Some y) ≡ false → x ≡ y
+pub same_items : (x y : Item) → differs x (Some y) ≡ false → x ≡ y
 same_items Entry Entry h = refl
 same_items Entry (Leaf u) h = cc
 same_items (Leaf t) Entry h = cc
-same_items (Leaf t) (Leaf u) h = ap Leaf ((bytes_decides t u).0 (turned (is_text t u) h))
+same_items (Leaf t) (Leaf u) h = ap Leaf ((bytes_decides t u).0 (turned (is_same_text t u) h))
   where
     turned : (b : Bool) → not b ≡ false → b ≡ true
     turned true e = refl
     turned false e = cc
 
-least_none : (ids : List (List ℕ)) → least ids ≡ None → ids ≡ []
+pub least_none : (ids : List (List ℕ)) → least ids ≡ None → ids ≡ []
 least_none [] h = refl
 least_none (id ∷ ids) h = cc
 
-map_nil : {A B : Type 0} (f : A → B) (xs : List A) → map f xs ≡ [] → xs ≡ []
+pub map_nil : {A B : Type 0} (f : A → B) (xs : List A) → map f xs ≡ [] → xs ≡ []
 map_nil f [] h = refl
 map_nil f (x ∷ xs) h = cc
 
@@ -56,7 +57,7 @@ some : {A : Type 0} {a b : A} → Some a ≡ Some b → a ≡ b
 some q = cc
 
 -- where no clash is found among items, none of them differs from what a living service writes
-no_clash_among : (live : List Service) (d : ℕ) (es : List (List PathStep × Item)) (p : List PathStep) (x : Item) (s : Service)
+pub no_clash_among : (live : List Service) (d : ℕ) (es : List (List PathStep × Item)) (p : List PathStep) (x : Item) (s : Service)
     → clash_among live d es ≡ None → find path_cmp p es ≡ Some x → Contains live s → differs x (get (part s d) p) ≡ false
 no_clash_among live d [] p x s h f c = cc
 no_clash_among live d (e ∷ es) p x s h f c =
@@ -89,7 +90,7 @@ no_clash_among live d (e ∷ es) p x s h f c =
         let found : Some (Clash d e.0 id) ≡ None = sym (ap (λ o. option_map_or (λ id. Some (Clash d e.0 id)) o (clash_among live d es)) is) ∙ h in cc
 
 -- the same for the items of a device
-no_clash_on : (live : List Service) (k : ℕ) (ms : List Config) (d : ℕ) (p : List PathStep) (x : Item) (s : Service)
+pub no_clash_on : (live : List Service) (k : ℕ) (ms : List Config) (d : ℕ) (p : List PathStep) (x : Item) (s : Service)
     → clash_on live k ms ≡ None → get (config_of ms d) p ≡ Some x → Contains live s → differs x (get (part s (k + d)) p) ≡ false
 no_clash_on live k [] d p x s h f c = let none : None ≡ Some x = sym (get-empty path_cmp p) ∙ f in cc
 no_clash_on live k (m ∷ ms) d p x s h f c = on (λ e later g. no_clash_on live (suc k) ms e p x s later g c) (clash_among live k (entries m)) refl d f
@@ -125,17 +126,17 @@ others_live live id a c =
     All-contains (Contains live) (others live id) a (All-filter (λ x. not (has_id id x)) (Contains live) live (All-contains_itself live)) c
 
 unrefused_clash : (names : List (List ℕ)) (s : State) (action : Action) → refusal names s action ≡ None → clash names s action ≡ None
-unrefused_clash names s action h = on (misplaced s action) refl
+unrefused_clash names s action h = on (existence_refusal s action) refl
   where
-    on : (o : Option Answer) → misplaced s action ≡ o → clash names s action ≡ None
+    on : (o : Option Answer) → existence_refusal s action ≡ o → clash names s action ≡ None
     on None is = sym (ap (λ (o : Option Answer). elim o [ None ↦ clash names s action | Some answer ↦ Some answer ]) is) ∙ h
     on (Some answer) is =
         let found : Some answer ≡ None = sym (ap (λ (o : Option Answer). elim o [ None ↦ clash names s action | Some answer ↦ Some answer ]) is) ∙ h in cc
 
-pub none_in_nil : (a : Service) → Contains [] a → ⊥
+pub none_in_nil : {X : Type 0} (a : X) → Contains [] a → ⊥
 none_in_nil a c = omega (arith, c.1)
 
-pub only : (s a : Service) → Contains (s ∷ []) a → s ≡ a
+pub only : {X : Type 0} (s a : X) → Contains (s ∷ []) a → s ≡ a
 only s a c = elim (Contains-push_cases [] s a c) [ inl none ↦ absurd (none_in_nil a none) | inr is ↦ is ]
 
 -- an action that is not refused leaves services that agree

@@ -5,9 +5,9 @@ use Rattle.std.specs.Option.{option_map_or}
 use Rattle.std.specs.FinMap.{get}
 use Rattle.orc_path.specs.Steps.{PathStep}
 use Rattle.orc_path.specs.declared.item.Item.{Item}
-use Rattle.orc_call.specs.declared.answer.Answer.{Answer}
 use Rattle.orc_call.specs.declared.answer.Answer.TheVariants.{Clash}
-use Rattle.orc_state.specs.States.{clash_among, differs, differs_among, least, part, rivals}
+use Rattle.orc_state.specs.States.{clash_among, differs, least, part, rivals}
+use Rattle.orc_state.specs.inside.Clashes.{differs_among}
 use Rattle.orc_state.specs.declared.state.Service.{Service}
 
 or_first : (a b : Bool) → (a || b) ≡ false → a ≡ false

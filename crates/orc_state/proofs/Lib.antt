@@ -5,4 +5,6 @@ pub mod Trees
 pub mod Fits
 pub mod Services
 pub mod Legality
+pub mod Removals
 mod Clashes
+mod LeastClash

@@ -7,9 +7,9 @@ use Rattle.std.specs.FinMap.{get}
 use Rattle.std.proofs.lemmas.List.Elements.{Contains-append_left, Contains-append_right, Contains-append_cases, Contains-push}
 use Rattle.orc_path.specs.Steps.{PathStep}
 use Rattle.orc_path.specs.Configurations.{Config, overlay}
-use Rattle.orc_path.specs.ConfigurationLaws.{same_config, get-overlay}
+use Rattle.orc_path.proofs.ConfigurationLaws.{same_config, get-overlay}
 use Rattle.orc_path.specs.declared.item.Item.{Item}
-use Rattle.orc_state.specs.States.{action_of, part, over, opening, overlaid, config_of, after}
+use Rattle.orc_state.specs.States.{action_of, part, tree_due, opening, overlay_all, config_of, after}
 use Rattle.orc_state.specs.Histories.{fold_from}
 use Rattle.orc_state.specs.Laws.{AllAgree, IsOverlay, OverlayIsOne, OrderOfCreationIsFree}
 use Rattle.orc_call.specs.declared.call.Call.{Call}
@@ -18,18 +18,18 @@ use Rattle.orc_state.specs.declared.state.State.{State}
 use Rattle.orc_state.proofs.Agreement.{living_agree, only, none_in_nil}
 use Rattle.orc_state.proofs.Services.{after-bases}
 
-first_in : (a : Service) (rest : List Service) → Contains (a ∷ rest) a
+pub first_in : {X : Type 0} (a : X) (rest : List X) → Contains (a ∷ rest) a
 first_in a rest = Contains-append_left (a ∷ []) rest a (Contains-push [] a)
 
-later_in : (a b : Service) (rest : List Service) → Contains rest b → Contains (a ∷ rest) b
+pub later_in : {X : Type 0} (a b : X) (rest : List X) → Contains rest b → Contains (a ∷ rest) b
 later_in a b rest c = Contains-append_right (a ∷ []) rest b c
 
-in_cases : (a b : Service) (rest : List Service) → Contains (a ∷ rest) b → (a ≡ b) ⊎ Contains rest b
+pub in_cases : {X : Type 0} (a b : X) (rest : List X) → Contains (a ∷ rest) b → (a ≡ b) ⊎ Contains rest b
 in_cases a b rest c = elim (Contains-append_cases (a ∷ []) rest b c) [ inl one ↦ inl (only a b one) | inr later ↦ inr later ]
 
 -- the overlay of services, one after the other, on a base
 abbrev laid : List Service → ℕ → Config → Config
-laid live d base = overlaid (map (λ service. part service d) live) base
+laid live d base = overlay_all (map (λ service. part service d) live) base
 
 -- where none of them writes, the base stays
 laid_elsewhere : (live : List Service) (d : ℕ) (base : Config) (p : List PathStep)
@@ -99,7 +99,7 @@ pub overlay_one : OverlayIsOne
 overlay_one names devices history d h =
     let s = fold_from names (opening devices) history in
     let is = laid_is_overlay s.live d (config_of s.bases d) (living_agree names devices history h) in
-    (is, λ tree other. overlay_unique s.live d (config_of s.bases d) tree (over s d) other is)
+    (is, λ tree other. overlay_unique s.live d (config_of s.bases d) tree (tree_due s d) other is)
 
 bases_stay : (names : List (List ℕ)) (s : State) (calls : List Call) → (fold_from names s calls).bases ≡ s.bases
 bases_stay names s [] = refl
@@ -113,6 +113,6 @@ order_free names devices one other d h g there back =
     let is = laid_is_overlay s.live d (config_of s.bases d) (living_agree names devices one h) in
     let is' = subst (λ (b : List Config). IsOverlay t.live d (config_of b d) (laid t.live d (config_of b d))) bases
     (laid_is_overlay t.live d (config_of t.bases d) (living_agree names devices other g)) in
-    overlay_unique s.live d (config_of s.bases d) (over s d) (over t d) is
+    overlay_unique s.live d (config_of s.bases d) (tree_due s d) (tree_due t d) is
     (subst (λ (b : List Config). IsOverlay s.live d (config_of s.bases d) (laid t.live d (config_of b d))) (sym bases)
     (record { written = λ a p x c. is'.written a p x (there a c); others = λ p none. is'.others p (λ a c. none a (back a c)) }))

@@ -1,9 +1,10 @@
 -- The living services before and after an action.
-use Rattle.std.proofs.Common.{◌≡◌, ℕ, Bool, true, false, not, cond, List, [], ◌∷◌, ◌++◌, None, Some, length, refl, ap, ◌∙◌}
+use Rattle.std.proofs.Common.{◌≡◌, ℕ, Bool, true, false, not, cond, List, [], ◌∷◌, ◌++◌, None, Some, length, refl, sym, ap, ◌∙◌}
 use Rattle.std.specs.List.{list_any}
 use Rattle.std.specs.Prelude.{◌||◌}
 use Rattle.std.proofs.lemmas.List.Elements.{All-filter}
 use Rattle.orc_state.specs.States.{IsComplete, after, clash_on, expansion, has_id, lives, others, refusal}
+use Rattle.orc_path.specs.Configurations.{Config}
 use Rattle.orc_call.specs.declared.call.Action.{Action}
 use Rattle.orc_call.specs.declared.call.Action.TheVariants.{Literal, Delete}
 use Rattle.orc_call.specs.declared.answer.Answer.TheVariants.{Exists}
@@ -27,6 +28,14 @@ literal-refusal names s id writes h =
     let parts = expansion names writes in
     ap (λ b. elim (cond b (Some (Exists id)) None) [ None ↦ clash_on (others s.live id) 0 parts | Some answer ↦ Some answer ]) h
     ∙ ap (λ (live : List Service). clash_on live 0 parts) (others-absent s.live id h)
+
+-- the same of values that are the living services and what the new one writes
+pub literal-refusal-of : (names : List (List ℕ)) (s : State) (id : List ℕ) (writes : List DevicePut) (live : List Service) (parts : List Config)
+    → live ≡ s.live → parts ≡ expansion names writes → lives s id ≡ false
+    → clash_on live 0 parts ≡ refusal names s (Literal id writes)
+literal-refusal-of names s id writes live parts same written h =
+    ap (λ (l : List Service). clash_on l 0 parts) same ∙ ap (λ (ps : List Config). clash_on s.live 0 ps) written
+    ∙ sym (literal-refusal names s id writes h)
 
 -- and is added at the end
 pub literal-after : (names : List (List ℕ)) (s : State) (id : List ℕ) (writes : List DevicePut) → lives s id ≡ false

@@ -3,7 +3,7 @@ use Rattle.std.proofs.Common.{◌≡◌, ℕ, Bool, true, false, cond, not, List
 use Rattle.std.specs.List.{filter, list_any}
 use Rattle.std.proofs.lemmas.List.Elements.{filter-append, All-tail}
 use Rattle.std.specs.Cmp.Lexicographic.{bytes_decides}
-use Rattle.orc_state.specs.States.{action_of, is_text, has_id, lives, named, others, after, expansion}
+use Rattle.orc_state.specs.States.{action_of, is_same_text, has_id, lives, named, others, after, expansion}
 use Rattle.orc_state.specs.Histories.{fold_from}
 use Rattle.orc_state.specs.Laws.{NamesOther, DeletedWithoutTrace}
 use Rattle.orc_call.specs.declared.call.Call.{Call}
@@ -18,7 +18,7 @@ fold_from-append names s [] ys = refl
 fold_from-append names s (x ∷ xs) ys = fold_from-append names (after names s (action_of x)) xs ys
 
 -- the state without the service of a name
-abbrev without : List ℕ → State → State
+abbrev pub without : List ℕ → State → State
 without id s = record s { live = others s.live id }
 
 filter_head : (p q : Service → Bool) (x : Service) (xs : List Service) → filter p (filter q xs) ≡ filter q (filter p xs)
@@ -34,12 +34,12 @@ filter_head p q x xs h = filter_twice (p x) (q x) refl refl
     filter_twice false true e f = ap (λ t. cond t (x ∷ filter p (filter q xs)) (filter p (filter q xs))) e ∙ h
     filter_twice false false e f = h
 
-filter-filter : (p q : Service → Bool) (xs : List Service) → filter p (filter q xs) ≡ filter q (filter p xs)
+pub filter-filter : (p q : Service → Bool) (xs : List Service) → filter p (filter q xs) ≡ filter q (filter p xs)
 filter-filter p q [] = refl
 filter-filter p q (x ∷ xs) = filter_head p q x xs (filter-filter p q xs)
 
 -- to go without a service and to do an action on another one come to the same in either order
-after-without : (names : List (List ℕ)) (s : State) (action : Action) (id : List ℕ) → is_text (named action) id ≡ false
+pub after-without : (names : List (List ℕ)) (s : State) (action : Action) (id : List ℕ) → is_same_text (named action) id ≡ false
     → without id (after names s action) ≡ after names (without id s) action
 after-without names s (Literal own writes) id h =
     let service : Service = record { id = own; parts = expansion names writes } in
@@ -66,11 +66,11 @@ without_absent id (x ∷ xs) h =
     let later : list_any (has_id id) xs ≡ false = grind arith in
     ap (λ u. cond (not u) (x ∷ others xs id) (others xs id)) here ∙ ap (λ l. x ∷ l) (without_absent id xs later)
 
-is_text_itself : (id : List ℕ) → is_text id id ≡ true
+is_text_itself : (id : List ℕ) → is_same_text id id ≡ true
 is_text_itself id = (bytes_decides id id).1 refl
 
 -- a service that is made and goes again leaves the state as it was
-gone_again : (names : List (List ℕ)) (s : State) (id : List ℕ) (writes : List DevicePut) → lives s id ≡ false
+pub gone_again : (names : List (List ℕ)) (s : State) (id : List ℕ) (writes : List DevicePut) → lives s id ≡ false
     → without id (after names s (Literal id writes)) ≡ s
 gone_again names s id writes absent =
     let service : Service = record { id = id; parts = expansion names writes } in

@@ -1,15 +1,16 @@
 -- The trees of devices are configurations.
-use Rattle.std.proofs.Common.{◌≡◌, ℕ, zero, suc, Bool, true, false, ◌&&◌, List, [], ◌∷◌, map, All, refl, sym, subst, arith}
+use Rattle.std.proofs.Common.{◌≡◌, ℕ, zero, suc, Bool, true, false, List, [], ◌∷◌, map, All, refl, sym, subst, arith}
 use Rattle.std.specs.Prelude.{if◌then◌else◌}
 use Rattle.std.specs.List.{list_all}
 use Rattle.std.specs.Cmp.{first_so, second_so}
 use Rattle.std.specs.FinMap.{empty}
+use Rattle.std.proofs.lemmas.Bool.{and_from}
 use Rattle.std.proofs.lemmas.List.Elements.{All-nil, All-cons, All-tail, All-append, All-filter}
 use Rattle.orc_path.specs.Configurations.{Config, IsConfig, put_item}
-use Rattle.orc_path.specs.ConfigurationLaws.{IsConfig-empty, IsConfig-put_item, IsConfig-overlay}
-use Rattle.orc_state.specs.States.{action_of, is_text, config_of, part, put_all, puts_on, expansion, opening, overlaid, after}
+use Rattle.orc_path.proofs.ConfigurationLaws.{IsConfig-empty, IsConfig-put_item, IsConfig-overlay}
+use Rattle.orc_state.specs.States.{action_of, is_same_text, config_of, part, put_all, puts_on, expansion, opening, overlay_all, after}
 use Rattle.orc_state.specs.Histories.{fold_from}
-use Rattle.orc_state.specs.Calls.{is_put, is_item, is_write, is_device, is_action}
+use Rattle.orc_state.specs.Calls.{is_put, is_item_at, is_write, is_device, is_action}
 use Rattle.orc_state.specs.Laws.{TreeIsConfiguration}
 use Rattle.orc_state.proofs.Services.{after-bases}
 use Rattle.orc_call.specs.declared.call.Put.{Put}
@@ -21,10 +22,6 @@ use Rattle.orc_call.specs.declared.call.DevicePut.{DevicePut}
 use Rattle.orc_state.specs.declared.state.Service.{Service}
 use Rattle.orc_state.specs.declared.state.State.{State}
 
-both : (a b : Bool) → a ≡ true → b ≡ true → (a && b) ≡ true
-both true b p q = q
-both false b p q = p
-
 IsConfig-put_all : (puts : List Put) (m : Config) → list_all is_put puts ≡ true → IsConfig m → IsConfig (put_all puts m)
 IsConfig-put_all [] m h c = c
 IsConfig-put_all (p ∷ ps) m h c =
@@ -34,11 +31,11 @@ IsConfig-put_all (p ∷ ps) m h c =
 
 are_puts : (names : List (List ℕ)) (name : List ℕ) (writes : List DevicePut) → list_all (is_write names) writes ≡ true → list_all is_put (puts_on name writes) ≡ true
 are_puts names name [] h = refl
-are_puts names name (w ∷ ws) h = on (second_so _ _ (first_so _ _ h)) (are_puts names name ws (second_so _ _ h)) (is_text w.device name)
+are_puts names name (w ∷ ws) h = on (second_so _ _ (first_so _ _ h)) (are_puts names name ws (second_so _ _ h)) (is_same_text w.device name)
   where
-    on : is_item w.path w.item ≡ true → list_all is_put (puts_on name ws) ≡ true → (t : Bool)
+    on : is_item_at w.path w.item ≡ true → list_all is_put (puts_on name ws) ≡ true → (t : Bool)
         → list_all is_put (if t then record { path = w.path; item = w.item } ∷ puts_on name ws else puts_on name ws) ≡ true
-    on item rest true = both _ _ item rest
+    on item rest true = and_from _ _ item rest
     on item rest false = rest
 
 IsConfig-config_of : (configs : List Config) (d : ℕ) → All IsConfig configs → IsConfig (config_of configs d)
@@ -62,7 +59,7 @@ abbrev WritesConfigs : Service → Type 0
 WritesConfigs service = All IsConfig service.parts
 
 overlaid_config : (live : List Service) (d : ℕ) (base : Config) → All WritesConfigs live → IsConfig base
-    → IsConfig (overlaid (map (λ service. part service d) live) base)
+    → IsConfig (overlay_all (map (λ service. part service d) live) base)
 overlaid_config [] d base h c = c
 overlaid_config (a ∷ rest) d base h c =
     overlaid_config rest d _ (All-tail WritesConfigs a rest h)

@@ -7,10 +7,11 @@ use Rattle.orc_state.specs.declared.state.State.{State}
 
 -- the state after the calls of a history, from a state on
 abbrev pub fold_from : List (List ℕ) → State → List Call → State
-fold_from names s [] = s
-fold_from names s (call ∷ calls) = fold_from names (after names s (action_of call)) calls
+fold_from names state [] = state
+fold_from names state (call ∷ calls) = fold_from names (after names state (action_of call)) calls
 
 -- no call of the history is refused where it stands
 abbrev pub IsUnrefused : List (List ℕ) → State → List Call → Type 0
-IsUnrefused names s [] = Unit {0}
-IsUnrefused names s (call ∷ calls) = (refusal names s (action_of call) ≡ None) × IsUnrefused names (after names s (action_of call)) calls
+IsUnrefused names state [] = Unit {0}
+IsUnrefused names state (call ∷ calls) =
+    (refusal names state (action_of call) ≡ None) × IsUnrefused names (after names state (action_of call)) calls

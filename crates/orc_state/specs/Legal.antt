@@ -1,5 +1,5 @@
 -- Which histories are legal, and what a call gets behind one.
-use Rattle.std.specs.Prelude.{◌≡◌, ℕ, ◌+◌, List, [], ◌∷◌, ◌++◌, All, IsTrue, slice_get, Option}
+use Rattle.std.specs.Prelude.{◌≡◌, ℕ, ◌+◌, List, [], ◌∷◌, All, IsTrue, slice_get, Option}
 use Rattle.std.specs.declared.option.Option.TheVariants.{None, Some}
 use Rattle.orc_call.specs.declared.call.Call.{Call}
 use Rattle.orc_call.specs.declared.answer.Answer.{Answer}
@@ -12,23 +12,23 @@ use Rattle.orc_state.specs.declared.state.State.{State}
 
 -- one caller and number
 abbrev pub IsSame : Call → Call → Type 0
-IsSame a b = (a.caller ≡ b.caller) × (a.number ≡ b.number)
+IsSame call other = (call.caller ≡ other.caller) × (call.number ≡ other.number)
 
 -- no call of the history has the caller and number of this one
 abbrev pub IsNew : List Call → Call → Type 0
 IsNew history call = All (λ entry. IsSame entry call → ⊥) history
 
--- behind those before, no caller and number stand twice
-abbrev pub AreDistinct : List Call → List Call → Type 0
-AreDistinct before [] = Unit {0}
-AreDistinct before (call ∷ calls) = IsNew before call × AreDistinct (before ++ call ∷ []) calls
+-- no caller and number stand twice
+abbrev pub AreDistinct : List Call → Type 0
+AreDistinct [] = Unit {0}
+AreDistinct (call ∷ calls) = IsNew calls call × AreDistinct calls
 
 -- A history is legal: each call is one that a call block can give, none is refused where it stands, and no caller and
 -- number stand twice.
 pub record IsLegal (decls : Decls) (history : List Call) : Type 0 where
   pub lawful : All (λ call. IsTrue (is_call decls.names call)) history
   pub unrefused : IsUnrefused decls.names (opening decls.devices) history
-  pub distinct : AreDistinct [] history
+  pub distinct : AreDistinct history
 
 -- the state behind a history
 abbrev pub state_of : Decls → List Call → State
@@ -41,9 +41,10 @@ refusal_of decls history call = refusal decls.names (state_of decls history) (ac
 -- The answer that a call gets behind a history without a change. A call whose caller and number the history has: its
 -- entry again where the actions are equal, else that the number is taken. A new call: its refusal.
 pub data AnswersAtOnce (decls : Decls) (history : List Call) (call : Call) : Answer → Type 0 where
-  again : (n : ℕ) → slice_get history n ≡ Some call → AnswersAtOnce decls history call (Committed (n + 1))
-  reused : (n : ℕ) (entry : Call) → slice_get history n ≡ Some entry → IsSame entry call → (entry ≡ call → ⊥)
-      → AnswersAtOnce decls history call (Reused (n + 1))
+  again : (index : ℕ) → slice_get history index ≡ Some call → AnswersAtOnce decls history call (Committed (index + 1))
+  reused : (index : ℕ) (entry : Call)
+      → slice_get history index ≡ Some entry → IsSame entry call → (entry ≡ call → ⊥)
+      → AnswersAtOnce decls history call (Reused (index + 1))
   refused : (answer : Answer) → IsNew history call → refusal_of decls history call ≡ Some answer
       → AnswersAtOnce decls history call answer
 

@@ -1,6 +1,7 @@
 pub mod States
 pub mod Histories
 pub mod Calls
-pub mod Declarations
+pub mod Texts
 pub mod Legal
 pub mod Laws
+pub mod inside

@@ -17,69 +17,77 @@ use Rattle.orc_state.specs.declared.declarations.Device.{Device}
 use Rattle.orc_call.specs.declared.call.DevicePut.{DevicePut}
 use Rattle.orc_call.specs.declared.call.Call.{Call}
 use Rattle.orc_call.specs.declared.call.Action.{Action}
-use Rattle.orc_call.specs.declared.call.Action.TheVariants.{Literal, Delete}
+use Rattle.orc_call.specs.declared.call.Action.TheVariants.{Literal, Delete, Redeploy}
 use Rattle.orc_call.specs.declared.answer.Answer.{Answer}
 use Rattle.orc_call.specs.declared.answer.Answer.TheVariants.{Exists, Missing, Clash}
 use Rattle.orc_state.specs.declared.state.Service.{Service}
 use Rattle.orc_state.specs.declared.state.State.{State}
 
-abbrev pub is_text : List ℕ → List ℕ → Bool
-is_text = pointwise nat_eq
+-- whether two texts are equal
+abbrev pub is_same_text : List ℕ → List ℕ → Bool
+is_same_text = pointwise nat_eq
 
+-- a call without an action counts as one that does nothing: it is never refused, and the state stays
 abbrev pub first_action : List Action → Action
-first_action [] = Delete []
+first_action [] = Redeploy []
 first_action (action ∷ actions) = action
 
 -- the one action of a call: a call of a bundle has no other
 abbrev pub action_of : Call → Action
 action_of call = first_action call.actions
 
+-- devices
+
+-- the names of devices
 abbrev pub names_of : List Device → List (List ℕ)
 names_of devices = map (λ device. device.name) devices
 
+-- the name of the device of a number
+abbrev pub name_of : List (List ℕ) → ℕ → List ℕ
+name_of names device = option_map_or (λ name. name) (slice_get names device) []
+
 -- what the configurations of the devices hold for the device of a number
 abbrev pub config_of : List Config → ℕ → Config
-config_of configs d = option_map_or (λ m. m) (slice_get configs d) empty
+config_of configs device = option_map_or (λ config. config) (slice_get configs device) empty
 
 -- what a service writes on a device
 abbrev pub part : Service → ℕ → Config
-part s d = config_of s.parts d
+part service device = config_of service.parts device
+
+-- writes
 
 -- the items and the entries on their way; of two items at one path the later one counts
 abbrev pub put_all : List Put → Config → Config
-put_all [] m = m
-put_all (p ∷ ps) m = put_all ps (put_item m p.path p.item)
+put_all [] config = config
+put_all (put ∷ puts) config = put_all puts (put_item config put.path put.item)
 
 -- those writes that are on the device of this name
 abbrev pub puts_on : List ℕ → List DevicePut → List Put
 puts_on name [] = []
-puts_on name (w ∷ ws) = if is_text w.device name then record { path = w.path; item = w.item } ∷ puts_on name ws else puts_on name ws
+puts_on name (write ∷ writes) =
+    if is_same_text write.device name
+    then record { path = write.path; item = write.item } ∷ puts_on name writes
+    else puts_on name writes
 
 -- what a literal service of these writes writes on each device
 abbrev pub expansion : List (List ℕ) → List DevicePut → List Config
 expansion names writes = map (λ name. put_all (puts_on name writes) empty) names
 
-abbrev pub has_id : List ℕ → Service → Bool
-has_id id s = is_text s.id id
-
-abbrev pub lives : State → List ℕ → Bool
-lives s id = list_any (has_id id) s.live
-
 -- each item fits its path
 abbrev pub fits_puts : List Put → Bool
-fits_puts puts = list_all (λ p. fits p.path p.item) puts
+fits_puts puts = list_all (λ put. fits put.path put.item) puts
 
 abbrev pub fits_devices : List Device → Bool
 fits_devices devices = list_all (λ device. fits_puts device.base) devices
 
 abbrev pub fits_writes : List DevicePut → Bool
-fits_writes writes = list_all (λ w. fits w.path w.item) writes
+fits_writes writes = list_all (λ write. fits write.path write.item) writes
 
--- Of the kinds of actions these two are built: another one is no action of a bundle's call; it is never refused, and leaves
--- the state as it is.
 abbrev pub fits_action : Action → Bool
 fits_action (Literal id writes) = fits_writes writes
 fits_action other = true
+
+-- the state
 
 -- the declared bases and no service
 abbrev pub opening : List Device → State
@@ -87,16 +95,28 @@ opening devices = record { bases = map (λ device. put_all device.base empty) de
 
 -- each living service has a part on each device that has a base
 abbrev pub IsComplete : State → Type 0
-IsComplete s = All (λ service. length service.parts ≡ length s.bases) s.live
+IsComplete state = All (λ service. length service.parts ≡ length state.bases) state.live
 
--- the base overlaid with the items that the services write, one after the other
-abbrev pub overlaid : List Config → Config → Config
-overlaid [] base = base
-overlaid (top ∷ tops) base = overlaid tops (overlay top base)
+-- a base overlaid with configurations, one after the other
+abbrev pub overlay_all : List Config → Config → Config
+overlay_all [] base = base
+overlay_all (top ∷ tops) base = overlay_all tops (overlay top base)
 
--- the tree that a device should have: its base overlaid with the items that living services write
-abbrev pub over : State → ℕ → Config
-over s d = overlaid (map (λ service. part service d) s.live) (config_of s.bases d)
+-- the tree that is due on a device: its base overlaid with the items that living services write
+abbrev pub tree_due : State → ℕ → Config
+tree_due state device = overlay_all (map (λ service. part service device) state.live) (config_of state.bases device)
+
+-- the service has this name
+abbrev pub has_id : List ℕ → Service → Bool
+has_id id service = is_same_text service.id id
+
+-- a service of this name lives
+abbrev pub lives : State → List ℕ → Bool
+lives state id = list_any (has_id id) state.live
+
+-- the living services but that of this name
+abbrev pub others : List Service → List ℕ → List Service
+others live id = filter (λ service. not (has_id id service)) live
 
 -- the service that an action names
 abbrev pub named : Action → List ℕ
@@ -104,15 +124,15 @@ named (Literal id writes) = id
 named (Delete id) = id
 named other = []
 
--- the living services but that of this name
-abbrev pub others : List Service → List ℕ → List Service
-others live id = filter (λ service. not (has_id id service)) live
-
--- the state after an action that is not refused: the service that it names goes, and the one that it makes comes
+-- The state after an action that is not refused: the service that it names goes, and the one that it makes comes. The
+-- other kinds are not built yet: they leave the state.
 abbrev pub after : List (List ℕ) → State → Action → State
-after names s (Literal id writes) = record s { live = others s.live id ++ record { id = id; parts = expansion names writes } ∷ [] }
-after names s (Delete id) = record s { live = others s.live id }
-after names s other = s
+after names state (Literal id writes) =
+    record state { live = others state.live id ++ record { id = id; parts = expansion names writes } ∷ [] }
+after names state (Delete id) = record state { live = others state.live id }
+after names state other = state
+
+-- refusals
 
 -- whether two items that stand at one path differ
 abbrev pub differs : Item → Option Item → Bool
@@ -120,15 +140,11 @@ differs item None = false
 differs Entry (Some Entry) = false
 differs Entry (Some (Leaf text)) = true
 differs (Leaf text) (Some Entry) = true
-differs (Leaf text) (Some (Leaf other)) = not (is_text text other)
-
--- whether a service writes another item at one of these paths of a device
-abbrev pub differs_among : List (List PathStep × Item) → ℕ → Service → Bool
-differs_among es d service = list_any (λ e. differs e.1 (get (part service d) e.0)) es
+differs (Leaf text) (Some (Leaf other)) = not (is_same_text text other)
 
 -- the services that write another item at this path of a device
 abbrev pub rivals : List Service → ℕ → List PathStep × Item → List Service
-rivals live d e = filter (λ service. differs e.1 (get (part service d) e.0)) live
+rivals live device row = filter (λ service. differs row.1 (get (part service device) row.0)) live
 
 -- the lesser of two names by their bytes
 abbrev pub lesser : List ℕ → List ℕ → List ℕ
@@ -141,26 +157,32 @@ least (id ∷ ids) = Some (fold lesser id ids)
 
 -- the least path of a device at which one of these items and a living service's differ, and the least such service
 abbrev pub clash_among : List Service → ℕ → List (List PathStep × Item) → Option Answer
-clash_among live d [] = None
-clash_among live d (e ∷ es) =
-    option_map_or (λ id. Some (Clash d e.0 id)) (least (map (λ service. service.id) (rivals live d e))) (clash_among live d es)
+clash_among live device [] = None
+clash_among live device (row ∷ rows) =
+    option_map_or (λ id. Some (Clash device row.0 id))
+    (least (map (λ service. service.id) (rivals live device row))) (clash_among live device rows)
 
--- the same on the devices of some numbers, the least first
+-- the same on the devices from a number on, the least first
 abbrev pub clash_on : List Service → ℕ → List Config → Option Answer
-clash_on live d [] = None
-clash_on live d (m ∷ ms) = elim (clash_among live d (entries m)) [ None ↦ clash_on live (suc d) ms | Some answer ↦ Some answer ]
+clash_on live device [] = None
+clash_on live device (config ∷ configs) =
+    elim (clash_among live device (entries config)) [
+      | None ↦ clash_on live (suc device) configs
+      | Some answer ↦ Some answer
+    ]
 
 -- the clash of the services that an action makes with the other living ones
 abbrev pub clash : List (List ℕ) → State → Action → Option Answer
-clash names s (Literal id writes) = clash_on (others s.live id) 0 (expansion names writes)
-clash names s other = None
+clash names state (Literal id writes) = clash_on (others state.live id) 0 (expansion names writes)
+clash names state other = None
 
 -- whether the action creates what lives, or deletes what does not
-abbrev pub misplaced : State → Action → Option Answer
-misplaced s (Literal id writes) = if lives s id then Some (Exists id) else None
-misplaced s (Delete id) = if lives s id then None else Some (Missing id)
-misplaced s other = None
+abbrev pub existence_refusal : State → Action → Option Answer
+existence_refusal state (Literal id writes) = if lives state id then Some (Exists id) else None
+existence_refusal state (Delete id) = if lives state id then None else Some (Missing id)
+existence_refusal state other = None
 
--- why an action is refused, if it is
+-- why an action is refused, if it is; the other kinds are not built yet, and are never refused
 abbrev pub refusal : List (List ℕ) → State → Action → Option Answer
-refusal names s action = elim (misplaced s action) [ None ↦ clash names s action | Some answer ↦ Some answer ]
+refusal names state action =
+    elim (existence_refusal state action) [ None ↦ clash names state action | Some answer ↦ Some answer ]

@@ -3,7 +3,8 @@ ghost use Rattle.std.specs.Prelude.{◌≡◌, ◌<◌, ◌^◌, IfOk, All, leng
 ghost use Rattle.std.specs.FinMap.{entries, get};
 ghost use Rattle.std.specs.List.{list_any};
 ghost use Rattle.std.specs.Option.{option_copied, option_map_or};
-ghost use Rattle.orc_state.specs.States.{clash_among, clash_on, differs, differs_among, least, lesser, rivals};
+ghost use Rattle.orc_state.specs.States.{clash_among, clash_on, differs, least, lesser, rivals};
+ghost use Rattle.orc_state.specs.inside.Clashes.{differs_among};
 
 use crate::Service;
 use orc_call::Answer;
@@ -41,13 +42,12 @@ fn clash_on_device(
     requires { All (λ service. device < length service.parts) live.now }
     ensures { IfOk result (λ found. found ≡ clash_among live.now device (entries part.now)) }
 {
-    let rows = part.walk(alloc)?;
     // Services that agree are looked at once each: the search by paths goes through all of them for
     // each path.
-    if !any_differs(live, device, &rows) {
+    if !any_differs(live, device, part) {
         return Ok(None);
     }
-    for row in &rows {
+    for row in part.rows() {
         if let Some(id) = least_rival(live, device, &row.0, &row.1) {
             return Ok(Some(Answer::Clash(device, row.0.copy(alloc)?, id.copy(alloc)?)));
         }
@@ -55,30 +55,36 @@ fn clash_on_device(
     Ok(None)
 }
 
-// Whether a living service writes another item at one of these paths.
-fn any_differs(live: &[Service], device: u32, rows: &[(Path, Item)]) -> bool
+// Whether a living service writes another item at a path of this part.
+fn any_differs(live: &[Service], device: u32, part: &Tree) -> bool
     requires { All (λ service. device < length service.parts) live.now }
-    ensures { result ≡ list_any (differs_among rows.now device) live.now }
+    ensures { result ≡ list_any (differs_among (entries part.now) device) live.now }
 {
     for service in live {
-        if differs_among(rows, service.part(device)) {
+        if differs_among(part, service.part(device)) {
             return true;
         }
     }
     false
 }
 
-// Whether another item stands at one of these paths.
-fn differs_among(rows: &[(Path, Item)], part: &Tree) -> bool
-    ensures { result ≡ list_any (λ e. differs e.1 (get part.now e.0)) rows.now }
+// Whether another item stands at a path of this part.
+fn differs_among(part: &Tree, other: &Tree) -> bool
+    ensures { result ≡ list_any (λ row. differs row.1 (get other.now row.0)) (entries part.now) }
 {
-    rows.iter().any(|row| differs(&row.1, part.get(&row.0)))
+    for row in part.rows() {
+        if differs(&row.1, other.get(&row.0)) {
+            return true;
+        }
+    }
+    false
 }
 
 // The least living service that writes another item at this path.
 fn least_rival<'a>(live: &'a [Service], device: u32, path: &Path, item: &Item) -> Option<&'a Text>
     requires { All (λ service. device < length service.parts) live.now }
-    ensures { option_copied result ≡ least (map (λ service. service.id) (rivals live.now device (path.now, item.now))) }
+    ensures { option_copied result
+        ≡ least (map (λ service. service.id) (rivals live.now device (path.now, item.now))) }
 {
     let mut found = None;
     for service in live {

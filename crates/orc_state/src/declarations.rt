@@ -1,4 +1,7 @@
 //! What a bundle declares.
+ghost use Rattle.std.specs.Prelude.{◌≡◌, ◌<◌, length};
+ghost use Rattle.orc_state.specs.States.{name_of};
+
 use orc_call::Put;
 use orc_text::{Row, Text};
 
@@ -16,4 +19,12 @@ pub struct Decls {
     pub text: Text,
     pub names: Row<Text>,
     pub devices: Row<Device>,
+}
+
+/// The name of the device of a number.
+pub fn device_name(names: &[Text], device: u32) -> &Text
+    requires { device < length names.now }
+    ensures { result.now ≡ name_of names.now device }
+{
+    &names[device as usize]
 }

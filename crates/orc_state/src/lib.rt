@@ -10,14 +10,12 @@ mod expansion;
 mod lawful;
 mod laws;
 mod state;
-#[cfg(test)]
-mod tests;
 
 pub use call::action_of;
-pub use declarations::{Decls, Device};
-pub use lawful::{is_call, is_plain, is_plain_path};
+pub use declarations::{Decls, Device, device_name};
+pub use lawful::{is_call, is_plain_path, is_plain_word};
 pub use laws::{
-    deleted_without_trace, order_of_creation_is_free, overlay_is_one, services_agree,
-    tree_is_configuration,
+    clash_is_least, deleted_without_trace, legal_without_trace, order_of_creation_is_free,
+    overlay_is_one, services_agree, tree_is_configuration, unrefused_without_trace,
 };
 pub use state::{Service, State};

@@ -1,6 +1,6 @@
 //! The state of the orchestrator.
 ghost use Rattle.std.specs.Prelude.{◌≡◌, ◌≢◌, ◌<◌, ◌^◌, false, IfOk, IsTrue, Ok, None, length};
-ghost use Rattle.orc_state.specs.States.{IsComplete, after, fits_action, fits_devices, fits_puts, fits_writes, lives, opening, others, over, part, put_all, refusal};
+ghost use Rattle.orc_state.specs.States.{IsComplete, after, fits_action, fits_devices, fits_puts, fits_writes, lives, opening, others, part, put_all, refusal, tree_due};
 ghost use Rattle.std.specs.FinMap.{empty};
 
 use crate::Device;
@@ -54,12 +54,11 @@ impl State {
         })
     }
 
-    /// The tree that a device should have: its base overlaid with the items that living services
-    /// write.
-    pub fn overlaid(&self, alloc: Global, device: u32) -> Result<Tree, Memory>
+    /// The tree that is due on a device: its base overlaid with the items that living services write.
+    pub fn tree_due(&self, alloc: Global, device: u32) -> Result<Tree, Memory>
         requires declared { device < length self.now.bases }
         requires complete { IsComplete self.now }
-        ensures { IfOk result (λ tree. tree ≡ over self.now device) }
+        ensures { IfOk result (λ tree. tree ≡ tree_due self.now device) }
     {
         let mut tree = self.bases.as_slice()[device as usize].copy(alloc)?;
         for service in self.live.as_slice() {

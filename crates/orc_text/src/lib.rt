@@ -5,12 +5,18 @@
 //! answer of a call that could not get memory.
 #![tactic(auto)]
 
+mod character;
+mod copied;
+mod counted;
 mod memory;
 mod row;
 #[cfg(test)]
 mod tests;
 mod text;
 
-pub use memory::{Copied, Memory};
+pub use character::is_noncharacter;
+pub use copied::Copied;
+pub use counted::{Counted, total_count};
+pub use memory::Memory;
 pub use row::Row;
 pub use text::Text;

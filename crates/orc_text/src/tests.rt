@@ -1,58 +1,48 @@
-//! Texts and rows with ample memory.
+//! What no bundle shows: copies of numbers, pairs and options, texts as keys of a map, and the
+//! noncharacters.
 use super::*;
-use std::cmp::Ordering;
+use std::collections::HashMap;
 use std::test::Fail;
 
 #[test]
-fn a_text_keeps_its_characters_and_their_order(rt: HostRuntime) -> Result<(), Fail> {
-    let mut text = Text::from_str(rt.alloc(), "mt")?;
-    assert_eq!(rt; text.push('ü'), Ok(()));
-    assert_eq!(rt; text.as_str(), "mtü");
-    let copy = text.copy(rt.alloc())?;
-    assert!(rt; copy == text);
-    let shorter = Text::from_string(String::from_str(rt.alloc(), "mt")?);
-    assert_eq!(rt; shorter.cmp(&text), Ordering::Less);
-    assert_eq!(rt; Text::new(rt.alloc()).as_str(), "");
-    Ok(())
-}
-
-#[test]
-fn a_row_keeps_its_items_and_their_order(rt: HostRuntime) -> Result<(), Fail> {
-    let mut row = Row::new(rt.alloc());
-    assert!(rt; row.is_empty());
-    assert_eq!(rt; row.push(Text::from_str(rt.alloc(), "b")?), Ok(()));
-    assert_eq!(rt; row.push(Text::from_str(rt.alloc(), "a")?), Ok(()));
-    assert_eq!(rt; row.len(), 2);
+fn a_row_of_pairs_and_options_is_copied(rt: HostRuntime) -> Result<(), Fail> {
+    let name = Text::from_str(rt.alloc(), "mtü")?;
+    let mut row: Row<(u32, Option<Text>)> = Row::new(rt.alloc());
+    row.push((1, None))?;
+    row.push((2, Some(name)))?;
     let copy = row.copy(rt.alloc())?;
     assert!(rt; copy == row);
-    let mut items = row.into_vec();
-    items.sort()?;
-    let sorted = Row::from_vec(items);
-    assert_eq!(rt; sorted.cmp(&copy), Ordering::Less);
-    assert_eq!(rt; sorted.as_slice().len(), 2);
     Ok(())
-}
-
-/// A statement that holds statements, as a row lets a type hold itself.
-#[derive(Debug, Drop)]
-struct Statement {
-    keyword: Text,
-    below: Row<Statement>,
 }
 
 #[test]
-fn a_row_stands_inside_a_type_that_holds_itself(rt: HostRuntime) -> Result<(), Fail> {
-    let leaf = Statement {
-        keyword: Text::from_str(rt.alloc(), "leaf")?,
-        below: Row::new(rt.alloc()),
-    };
-    let mut below = Row::new(rt.alloc());
-    assert_eq!(rt; below.push(leaf), Ok(()));
-    let list = Statement {
-        keyword: Text::from_str(rt.alloc(), "list")?,
-        below,
-    };
-    assert_eq!(rt; list.keyword.as_str(), "list");
-    assert_eq!(rt; list.below.len(), 1);
+fn a_text_is_found_by_an_equal_one(rt: HostRuntime) -> Result<(), Fail> {
+    let mut numbers = HashMap::new(rt.alloc());
+    let name = Text::from_str(rt.alloc(), "r1")?;
+    let equal = name.copy(rt.alloc())?;
+    numbers.insert(name, 7)?;
+    assert_eq!(rt; numbers.get(&equal), Some(&7));
     Ok(())
+}
+
+#[test]
+fn noncharacters_are_told_from_characters(rt: HostRuntime) {
+    for character in [
+        '\u{FDCF}',
+        '\u{FDF0}',
+        '\u{FFFD}',
+        '\u{1_0000}',
+        '\u{10_FFFD}',
+    ] {
+        assert!(rt; !is_noncharacter(character));
+    }
+    for character in [
+        '\u{FDD0}',
+        '\u{FDEF}',
+        '\u{FFFE}',
+        '\u{1_FFFF}',
+        '\u{10_FFFF}',
+    ] {
+        assert!(rt; is_noncharacter(character));
+    }
 }

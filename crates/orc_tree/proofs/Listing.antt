@@ -1,26 +1,27 @@
 -- The entries of a list, and where they stand among rows in path order.
-use Rattle.std.proofs.Common.{◌≡◌, ℕ, suc, ◌+◌, ◌<◌, ◌≤◌, Bool, true, false, ◌&&◌, cond, List, [], ◌∷◌, ◌++◌, length, take, drop, map, get_or, Some, refl, sym, ap, subst, ◌∙◌, arith, eqb, ⊎_elim, nat_eq, nat_lt, append-nil}
-use Rattle.std.specs.Bool.{one_answer}
+use Rattle.std.proofs.Common.{◌≡◌, ℕ, ◌+◌, ◌<◌, ◌≤◌, Bool, true, false, not, ◌&&◌, cond, List, [], ◌∷◌, ◌++◌, length, map, Some, refl, sym, ap, subst, ◌∙◌, arith, nat_eq, nat_lt}
 use Rattle.std.specs.Option.{option_map_or}
 use Rattle.std.specs.List.{slice_get, filter}
-use Rattle.std.specs.Ordering.{is_gt, ordering_then, ordering_reverse}
+use Rattle.std.specs.Ordering.{is_gt, is_lt, ordering_then, ordering_reverse}
 use Rattle.std.specs.declared.cmp.Ordering.{Ordering}
 use Rattle.std.specs.declared.cmp.Ordering.TheVariants.{Less, Equal, Greater}
 use Rattle.std.specs.Cmp.{tied_itself}
 use Rattle.std.specs.Cmp.Lexicographic.{pointwise, slice_cmp, bytes_decides, nat_list_cmp_total}
+use Rattle.std.specs.FinMap.Entries.{below_all}
 use Rattle.std.specs.FinMap.{is_sorted, nat_cmp-IsAntisymmetric, slice_cmp-IsAntisymmetric}
-use Rattle.std.proofs.lemmas.Bool.{false≢true, cases_eq, cases_lt, and_parts, and_from, eqb-true, eq-eqb, both_ways, cond-false}
-use Rattle.std.proofs.lemmas.List.{take-append-drop, take_more, length-take-le, map-append, get_or-drop, get_or-take, length-append, length-drop}
+use Rattle.std.proofs.lemmas.Bool.{not-true, false≢true, and_parts, and_from, both_ways}
+use Rattle.std.proofs.lemmas.List.{map-append, length-append}
 use Rattle.std.proofs.lemmas.List.Elements.{filter-append}
 use Rattle.orc_path.specs.Steps.{PathStep, has_keys, ends_in_keys}
-use Rattle.orc_path.specs.Order.{path_cmp, path_cmp_total, path_cmp_exact, step_cmp, step_cmp_total, text_cmp, step_eq, is_prefix}
+use Rattle.orc_path.specs.Order.{path_cmp, step_cmp, text_cmp, step_eq, is_prefix}
+use Rattle.orc_path.proofs.PathOrder.{path_cmp_exact, step_cmp_total}
 use Rattle.orc_path.specs.Configurations.{list_of, is_entry_of}
-use Rattle.orc_path.specs.ConfigurationLaws.{is_entry_of_decides, length-list_of}
+use Rattle.orc_path.proofs.ConfigurationLaws.{is_entry_of_decides, length-list_of}
 use Rattle.orc_path.specs.declared.item.Item.{Item}
-use Rattle.orc_tree.specs.Rows.{IsRowOf, IsPlaceOf}
-use Rattle.orc_tree.specs.Lists.{is_under, IsFirstFrom, IsUnderUpTo}
+use Rattle.orc_tree.specs.inside.Places.{above_all}
+use Rattle.orc_tree.specs.inside.Lists.{is_under, is_past, entries_of}
 use Rattle.orc_path.proofs.Equality.{step_eq_decides}
-use Rattle.orc_tree.proofs.InOrder.{is_true_T, in_order, turned_by}
+use Rattle.orc_tree.proofs.Pieces.{lt_is}
 use Rattle.orc_tree.proofs.Maps.{Rows}
 
 not_true : (b : Bool) → (b ≡ true → ⊥) → b ≡ false
@@ -89,27 +90,6 @@ under_list (s ∷ ss) last (t ∷ u ∷ us) e =
 pub entry_under : (front : List PathStep) (last : PathStep) (p : List PathStep) → is_entry_of (front ++ last ∷ []) p ≡ true → is_under front last.node p ≡ true
 entry_under front last p h = under_list front last p ((is_entry_of_decides (front ++ last ∷ []) p).0 h).1
 
--- what the test of the code says
-pub entry_tested : (front : List PathStep) (last : PathStep) (p : List PathStep) → last.keys ≡ []
-    → (ends_in_keys p && (eqb (length p) (length front + 1) && is_under front last.node p)) ≡ is_entry_of (front ++ last ∷ []) p
-entry_tested front last p k =
-    one_answer {P = (ends_in_keys p ≡ true) × (list_of p ≡ front ++ last ∷ [])} _ _ (
-      λ h. let a = and_parts (ends_in_keys p) (eqb (length p) (length front + 1) && is_under front last.node p) h in
-          let b = and_parts (eqb (length p) (length front + 1)) (is_under front last.node p) a.1 in
-          (a.0, list_under front last p k (eqb-true _ _ b.0) b.1),
-      λ h. and_from _ _ h.0 (and_from _ _ (eq-eqb _ _ (sym (length-list_of p) ∙ ap length h.1 ∙ length-append front (last ∷ []))) (under_list front last p h.1)),
-    ) (is_entry_of_decides (front ++ last ∷ []) p)
-
-pub passed : (a b c v : Bool) → v ≡ (a && b) → v ≡ true → c ≡ (a && (b && c))
-passed true true c v e h = refl
-passed true false c v e h = absurd (false≢true (sym e ∙ h))
-passed false b c v e h = absurd (false≢true (sym e ∙ h))
-
-pub failed : (a b c v : Bool) → v ≡ (a && b) → v ≡ false → v ≡ (a && (b && c))
-failed true true c v e h = absurd (false≢true (sym h ∙ e))
-failed true false c v e h = h
-failed false b c v e h = h
-
 -- a list's path ends without keys, and is not the root
 pub list_has_no_keys : (front : List PathStep) (last : PathStep) (p : List PathStep) → list_of p ≡ front ++ last ∷ [] → last.keys ≡ []
 list_has_no_keys front last [] e = absurd (no_push front last e)
@@ -128,7 +108,7 @@ no_entry-root (t ∷ ts) = not_true _ (λ h. omega (arith, ap length ((is_entry_
 
 -- Their places
 
-then_equal : (a b : Ordering) → a ≡ Equal → ordering_then a b ≡ b
+pub then_equal : (a b : Ordering) → a ≡ Equal → ordering_then a b ≡ b
 then_equal a b e = ap (λ o. ordering_then o b) e
 
 step_before_keys : (s : PathStep) → has_keys s ≡ true → step_cmp (record { node = s.node; keys = [] }) s ≡ Less
@@ -149,7 +129,7 @@ entry_behind list p h =
     let is = (is_entry_of_decides list p).0 h in
     ap (λ (q : List PathStep). path_cmp q p) (sym is.1) ∙ list_before p is.0
 
-then_up_to : (a b : Ordering) → is_gt (ordering_then a b) ≡ false → is_gt a ≡ false
+pub then_up_to : (a b : Ordering) → is_gt (ordering_then a b) ≡ false → is_gt a ≡ false
 then_up_to Less b h = refl
 then_up_to Equal b h = refl
 then_up_to Greater b h = h
@@ -163,7 +143,7 @@ same_text : (x y : List ℕ) → is_gt (text_cmp x y) ≡ false → is_gt (text_
 same_text x y h k =
     slice_cmp-IsAntisymmetric nat_cmp-IsAntisymmetric x y (both_up_to (text_cmp x y) h (sym (ap is_gt (nat_list_cmp_total.antisymm y x)) ∙ k))
 
-same_step : (s t : PathStep) → is_gt (step_cmp s t) ≡ false → is_gt (step_cmp t s) ≡ false → s ≡ t
+pub same_step : (s t : PathStep) → is_gt (step_cmp s t) ≡ false → is_gt (step_cmp t s) ≡ false → s ≡ t
 same_step s t h k =
     same_head s t [] [] (path_cmp_exact (s ∷ []) (t ∷ []) (then_equal _ _ (both_up_to (step_cmp s t) h (sym (ap is_gt (step_cmp_total.antisymm t s)) ∙ k))))
 
@@ -188,87 +168,43 @@ under_between (s ∷ ss) last (t ∷ ts) (u ∷ us) a b h =
     and_from _ _ ((step_eq_decides s t).1 same)
     (under_between ss last ts us (sym (ap is_gt (then_equal _ _ level)) ∙ a) (sym (ap is_gt (then_equal _ _ level_on)) ∙ b) parts.1)
 
--- A part of the rows that has all entries of the list
+-- The entries among rows
 
-filter_none : (f : List PathStep → Bool) (rows : Rows) → ((k : ℕ) (d : List PathStep × Item) → k < length rows → f (get_or rows k d).0 ≡ false)
-    → filter f (map (λ (row : List PathStep × Item). row.0) rows) ≡ []
-filter_none f [] h = refl
-filter_none f (row ∷ rows) h = cond-false _ _ _ (h 0 row (omega arith)) ∙ filter_none f rows (λ k d l. h (suc k) d (omega arith))
+pub entries_of-other : (list : List PathStep) (row : List PathStep × Item) (rows : Rows) → is_entry_of list row.0 ≡ false → entries_of list (row ∷ rows) ≡ entries_of list rows
+entries_of-other list row rows e = ap (λ b. cond b (row.0 ∷ entries_of list rows) (entries_of list rows)) e
 
-filter_parts : (f : List PathStep → Bool) (n : ℕ) (rows : Rows)
-    → filter f (map (λ (row : List PathStep × Item). row.0) rows)
-    ≡ filter f (map (λ (row : List PathStep × Item). row.0) (take n rows)) ++ filter f (map (λ (row : List PathStep × Item). row.0) (drop n rows))
-filter_parts f n rows =
-    ap (λ (r : Rows). filter f (map (λ (row : List PathStep × Item). row.0) r)) (sym (take-append-drop n rows))
-    ∙ ap (filter f) (map-append (λ (row : List PathStep × Item). row.0) (take n rows) (drop n rows))
-    ∙ filter-append f _ _
+pub entries_of-append : (list : List PathStep) (xs ys : Rows) → entries_of list (xs ++ ys) ≡ entries_of list xs ++ entries_of list ys
+entries_of-append list xs ys =
+    ap (filter (is_entry_of list)) (map-append (λ (row : List PathStep × Item). row.0) xs ys) ∙ filter-append (is_entry_of list) (map (λ (row : List PathStep × Item). row.0) xs) (map (λ (row : List PathStep × Item). row.0) ys)
 
-pub filter_more : (f : List PathStep → Bool) (rows : Rows) (i : ℕ) (row : List PathStep × Item) → i < length rows → row ≡ get_or rows i row
-    → filter f (map (λ (row : List PathStep × Item). row.0) (take (i + 1) rows))
-    ≡ filter f (map (λ (row : List PathStep × Item). row.0) (take i rows)) ++ cond (f row.0) (row.0 ∷ []) []
-filter_more f rows i row l is =
-    ap (λ (r : Rows). filter f (map (λ (row : List PathStep × Item). row.0) r)) (take_more rows i row l ∙ ap (λ (x : List PathStep × Item). take i rows ++ x ∷ []) (sym is))
-    ∙ ap (filter f) (map-append (λ (row : List PathStep × Item). row.0) (take i rows) (row ∷ []))
-    ∙ filter-append f _ (row.0 ∷ [])
+pub no_entries : (list : List PathStep) (rows : Rows) → ((p : List PathStep) → is_entry_of list p ≡ false) → entries_of list rows ≡ []
+no_entries list [] none = refl
+no_entries list (row ∷ rows) none = entries_of-other list row rows (none row.0) ∙ no_entries list rows none
 
-pub first_from-row : (q : List PathStep) (rows : Rows) (i : ℕ) → is_sorted path_cmp rows ≡ true → IsRowOf q rows i → IsFirstFrom q rows i
-first_from-row q rows i s is = record {
-  within = omega (arith, is.within);
-  before = λ k d low high. turned_by path_cmp path_cmp_total (get_or rows k d).0 q Less
-      (subst (λ (x : List PathStep). path_cmp (get_or rows k d).0 x ≡ Less) (is.here d) (in_order path_cmp path_cmp_total rows (is_true_T _ s) k i d high is.within));
-  rest = λ k d low high.
-      ⊎_elim
-      (λ less. ap is_gt (subst (λ (x : List PathStep). path_cmp x (get_or rows k d).0 ≡ Less) (is.here d) (in_order path_cmp path_cmp_total rows (is_true_T _ s) i k d less high)))
-      (λ more. let same : i ≡ k = omega arith in
-      ap is_gt (subst (λ (x : List PathStep). path_cmp q x ≡ Equal) (sym (is.here d) ∙ ap (λ n. (get_or rows n d).0) same) (tied_itself path_cmp_total q)))
-      (cases_lt i k);
-}
+-- none stands before the list's path
+pub no_entries-before : (list : List PathStep) (rows : Rows) → above_all list rows ≡ true → entries_of list rows ≡ []
+no_entries-before list [] h = refl
+no_entries-before list (row ∷ rows) h =
+    let parts = and_parts (is_gt (path_cmp list row.0)) (above_all list rows) h in
+    entries_of-other list row rows (not_true _ (λ e. false≢true (sym (ap is_gt (entry_behind list row.0 e)) ∙ parts.0))) ∙ no_entries-before list rows parts.1
 
-pub first_from-place : (q : List PathStep) (rows : Rows) (i : ℕ) → IsPlaceOf q rows i → IsFirstFrom q rows i
-first_from-place q rows i is = record { within = is.within; before = is.before; rest = λ k d low high. ap is_gt (is.behind k d low high) }
+no_entries-further : (front : List PathStep) (last : PathStep) (row : List PathStep × Item) (rows : Rows) → path_cmp (front ++ last ∷ []) row.0 ≡ Less → is_under front last.node row.0 ≡ false
+    → below_all path_cmp row.0 rows ≡ true → entries_of (front ++ last ∷ []) rows ≡ []
+no_entries-further front last row [] l u h = refl
+no_entries-further front last row (next ∷ rows) l u h =
+    let parts = and_parts (is_lt (path_cmp row.0 next.0)) (below_all path_cmp row.0 rows) h in
+    entries_of-other (front ++ last ∷ []) next rows
+    (not_true _ (λ e. both_ways (is_under front last.node row.0) u (under_between front last row.0 next.0 (ap is_gt l) (ap is_gt (lt_is _ parts.0)) (entry_under front last next.0 e))))
+    ∙ no_entries-further front last row rows l u parts.1
 
-pub entries_within : (front : List PathStep) (last : PathStep) (rows : Rows) (first len : ℕ) → is_sorted path_cmp rows ≡ true
-    → IsFirstFrom (front ++ last ∷ []) rows first → IsUnderUpTo front last.node (drop first rows) len
-    → filter (is_entry_of (front ++ last ∷ [])) (map (λ (row : List PathStep × Item). row.0) (take len (drop first rows)))
-    ≡ filter (is_entry_of (front ++ last ∷ [])) (map (λ (row : List PathStep × Item). row.0) rows)
-entries_within front last rows first len s from up =
-    sym (filter_parts (is_entry_of (front ++ last ∷ [])) first rows
-    ∙ ap (λ x. x ++ filter (is_entry_of (front ++ last ∷ [])) (map (λ (row : List PathStep × Item). row.0) (drop first rows))) (filter_none (is_entry_of (front ++ last ∷ [])) (take first rows) before)
-    ∙ filter_parts (is_entry_of (front ++ last ∷ [])) len (drop first rows)
-    ∙ ap (λ x. filter (is_entry_of (front ++ last ∷ [])) (map (λ (row : List PathStep × Item). row.0) (take len (drop first rows))) ++ x) (filter_none (is_entry_of (front ++ last ∷ [])) (drop len (drop first rows)) after)
-    ∙ append-nil _)
-  where
-    apart : (o : Ordering) → o ≡ Greater → o ≡ Less → ⊥
-    apart o g l = cc
-
-    before : (k : ℕ) (d : List PathStep × Item) → k < length (take first rows) → is_entry_of (front ++ last ∷ []) (get_or (take first rows) k d).0 ≡ false
-    before k d l =
-        let high : k < first = omega (arith, length-take-le first rows from.within) in
-        ap (λ (x : List PathStep × Item). is_entry_of (front ++ last ∷ []) x.0) (get_or-take first rows k d high)
-        ∙ not_true _ (λ h. apart (path_cmp (front ++ last ∷ []) (get_or rows k d).0) (from.before k d (omega arith) high) (entry_behind (front ++ last ∷ []) (get_or rows k d).0 h))
-
-    after : (k : ℕ) (d : List PathStep × Item) → k < length (drop len (drop first rows)) → is_entry_of (front ++ last ∷ []) (get_or (drop len (drop first rows)) k d).0 ≡ false
-    after k d l =
-        let n = length-drop len (drop first rows) in
-        let m = length-drop first rows in
-        let high : first + (len + k) < length rows = omega (arith, n, m) in
-        let r = (get_or rows (first + len) d).0 in
-        let q = (get_or rows (first + (len + k)) d).0 in
-        let stop : is_under front last.node r ≡ false =
-        ap (λ (x : List PathStep × Item). is_under front last.node x.0) (sym (get_or-drop first rows len d)) ∙ up.end (omega (arith, n, m)) d in
-        let up_to : is_gt (path_cmp r q) ≡ false =
-        ⊎_elim
-        (λ e. let same : first + len ≡ first + (len + k) = omega arith in
-        ap is_gt (subst (λ i. path_cmp r (get_or rows i d).0 ≡ Equal) same (tied_itself path_cmp_total r)))
-        (λ ne. let less : first + len < first + (len + k) = omega arith in
-        ap is_gt (in_order path_cmp path_cmp_total rows (is_true_T _ s) (first + len) (first + (len + k)) d less high))
-        (cases_eq k 0) in
-        ap (λ (x : List PathStep × Item). is_entry_of (front ++ last ∷ []) x.0) (get_or-drop len (drop first rows) k d ∙ get_or-drop first rows (len + k) d)
-        ∙ not_true _ (λ h. both_ways (is_under front last.node r) stop
-        (under_between front last r q (from.rest (first + len) d (omega arith) (omega (arith, n, m))) up_to (entry_under front last q h)))
-
-pub no_entries : (list : List PathStep) (rows : Rows) → ((p : List PathStep) → is_entry_of list p ≡ false) → filter (is_entry_of list) (map (λ (row : List PathStep × Item). row.0) rows) ≡ []
-no_entries list rows none = filter_none (is_entry_of list) rows (λ k d l. none (get_or rows k d).0)
+-- and none from a path on that is past the list
+pub no_entries-past : (front : List PathStep) (last : PathStep) (row : List PathStep × Item) (rows : Rows) → is_past front last.node (front ++ last ∷ []) row.0 ≡ true
+    → is_sorted path_cmp (row ∷ rows) ≡ true → entries_of (front ++ last ∷ []) (row ∷ rows) ≡ []
+no_entries-past front last row rows past s =
+    let parts = and_parts (is_lt (path_cmp (front ++ last ∷ []) row.0)) (not (is_under front last.node row.0)) past in
+    let apart : is_under front last.node row.0 ≡ false = not-true (is_under front last.node row.0) parts.1 in
+    entries_of-other (front ++ last ∷ []) row rows (not_true _ (λ e. both_ways (is_under front last.node row.0) apart (entry_under front last row.0 e)))
+    ∙ no_entries-further front last row rows (lt_is _ parts.0) apart (and_parts (below_all path_cmp row.0 rows) _ s).0
 
 pub nil_from_length : {X : Type 0} (xs : List X) → length xs ≡ 0 → xs ≡ []
 nil_from_length [] e = refl

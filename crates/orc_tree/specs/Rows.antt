@@ -1,25 +1,17 @@
--- The rows that a tree is kept in, and a path's place among them.
-use Rattle.std.specs.Prelude.{◌≡◌, ℕ, ◌<◌, ◌≤◌, List, length, IsTrue}
+-- A path's place among rows in path order, each a path with a value.
+use Rattle.std.specs.Prelude.{◌≡◌, ℕ, ◌<◌, ◌≤◌, List, length}
 use Rattle.std.specs.List.{AllWithin, HoldsAt}
-use Rattle.std.specs.FinMap.{is_sorted, from_sorted}
 use Rattle.std.specs.declared.cmp.Ordering.TheVariants.{Less, Greater}
 use Rattle.orc_path.specs.Steps.{PathStep}
 use Rattle.orc_path.specs.Order.{path_cmp}
-use Rattle.orc_path.specs.Configurations.{IsConfig}
-use Rattle.orc_path.specs.declared.item.Item.{Item}
 
--- the rows stand in path order, each path once, and their map is a configuration
-pub record AreRows (rows : List (List PathStep × Item)) : Type 0 where
-  pub sorted : IsTrue (is_sorted path_cmp rows)
-  pub config : IsConfig (from_sorted rows)
+-- the row there is the path's
+pub record IsRowOf {V : Type 0} (path : List PathStep) (rows : List (List PathStep × V)) (at : ℕ) : Type 0 where
+  pub within : at < length rows
+  pub here : HoldsAt (λ row. row.0 ≡ path) rows at
 
--- the row at i is the path's
-pub record IsRowOf (path : List PathStep) (rows : List (List PathStep × Item)) (i : ℕ) : Type 0 where
-  pub within : i < length rows
-  pub here : HoldsAt (λ row. row.0 ≡ path) rows i
-
--- the rows up to i come before the path, and those from i on behind it
-pub record IsPlaceOf (path : List PathStep) (rows : List (List PathStep × Item)) (i : ℕ) : Type 0 where
-  pub within : i ≤ length rows
-  pub before : AllWithin (λ row. path_cmp path row.0 ≡ Greater) rows 0 i
-  pub behind : AllWithin (λ row. path_cmp path row.0 ≡ Less) rows i (length rows)
+-- the rows up to there come before the path, and those from there on behind it
+pub record IsPlaceOf {V : Type 0} (path : List PathStep) (rows : List (List PathStep × V)) (at : ℕ) : Type 0 where
+  pub within : at ≤ length rows
+  pub before : AllWithin (λ row. path_cmp path row.0 ≡ Greater) rows 0 at
+  pub behind : AllWithin (λ row. path_cmp path row.0 ≡ Less) rows at (length rows)

@@ -1,18 +1,19 @@
 //! The entries of one list among rows in path order. These rows and those below them stand
 //! together.
-ghost use Rattle.std.specs.Prelude.{◌≡◌, ◌∷◌, ◌++◌, [], length, map, IfOk, IsTrue};
-ghost use Rattle.std.specs.List.{filter};
-ghost use Rattle.std.specs.FinMap.{is_sorted};
-ghost use Rattle.orc_path.specs.Order.{path_cmp};
-ghost use Rattle.orc_path.specs.Configurations.{is_entry_of};
-ghost use Rattle.orc_tree.specs.Lists.{is_under, IsFirstFrom, IsUnderUpTo};
+ghost use Rattle.std.specs.Prelude.{◌≡◌, ◌∷◌, ◌++◌, [], IfOk};
+ghost use Rattle.orc_tree.specs.Pages.{rows_of, AreSized};
+ghost use Rattle.orc_tree.specs.inside.Places.{AreInOrder};
+ghost use Rattle.orc_tree.specs.inside.Lists.{is_under, is_past, entries_of};
 
-use crate::place::place;
-use orc_path::{Item, Path, Step};
+use crate::lookup::page_for;
+use crate::page::Page;
+use crate::walk::Rows;
+use orc_path::{Path, Step};
 use orc_text::Memory;
 use std::alloc::Global;
+use std::sync::Arc;
 
-/// Whether a path goes on from these steps by one of the last one's name.
+// Whether a path goes on from these steps by one of the last one's name.
 fn is_under(front: &[Step], last: &Step, path: &[Step]) -> bool
     ensures { result ≡ is_under front.now last.now.node path.now }
 {
@@ -23,78 +24,61 @@ fn is_under(front: &[Step], last: &Step, path: &[Step]) -> bool
     path.starts_with(front) && step.node == last.node
 }
 
-/// Whether a path is an entry of the list of these steps, whose last one has no keys.
-fn is_entry(front: &[Step], last: &Step, path: &Path) -> bool
-    requires { length last.now.keys ≡ 0 }
-    ensures { result ≡ is_entry_of (front.now ++ last.now ∷ []) path.now }
+// Whether a path stands behind the list of these steps and behind all that is below it.
+fn is_past(front: &[Step], last: &Step, list: &Path, path: &Path) -> bool
+    ensures { result ≡ is_past front.now last.now.node list.now path.now }
 {
-    let steps = path.steps.as_slice();
-    path.ends_in_keys() && steps.len() == front.len() + 1 && is_under(front, last, steps)
-}
-
-/// The place of the first row that doesn't come before the path of these steps.
-fn first_from(rows: &[(Path, Item)], steps: &[Step]) -> usize
-    requires { IsTrue (is_sorted path_cmp rows.now) }
-    ensures { IsFirstFrom steps.now rows.now result }
-{
-    match place(rows, steps) {
-        Ok(at) => at,
-        Err(at) => at,
+    if !list.cmp(path).is_lt() {
+        return false;
     }
+    !is_under(front, last, path.steps.as_slice())
 }
 
-/// How many rows, from the first on, go on from these steps by one of the last one's name.
-fn len_under(rows: &[(Path, Item)], front: &[Step], last: &Step) -> usize
-    ensures { IsUnderUpTo front.now last.now.node rows.now result }
-{
-    for (i, row) in rows.iter().enumerate() {
-        let path = &row.0;
-        if !is_under(front, last, path.steps.as_slice()) {
-            return i;
-        }
-    }
-    rows.len()
-}
-
-/// Copies of the entries of the list of these steps, whose last one has no keys.
+// Copies of the entries of the list of these steps among pages.
 fn entries_among(
     alloc: Global,
-    rows: &[(Path, Item)],
+    pages: &[Arc<Page>],
     front: &[Step],
     last: &Step,
+    list: &Path,
 ) -> Result<Vec<Path>, Memory>
-    requires { length last.now.keys ≡ 0 }
-    ensures { IfOk result (λ found. found.items ≡ filter (is_entry_of (front.now ++ last.now ∷ [])) (map (λ row. row.0) rows.now)) }
+    requires sorted { AreInOrder pages.now }
+    requires parts { list.now ≡ front.now ++ last.now ∷ [] }
+    ensures { IfOk result (λ found. found.items ≡ entries_of list.now (rows_of pages.now)) }
 {
     let mut found = Vec::new(alloc);
-    for row in rows {
-        if is_entry(front, last, &row.0) {
+    for row in Rows::new(pages) {
+        if is_past(front, last, list, &row.0) {
+            return Ok(found);
+        }
+        if row.0.is_entry_of(list) {
             found.push(row.0.copy(alloc)?)?;
         }
     }
     Ok(found)
 }
 
-/// Copies of the entries of a list, in path order.
+// Copies of the entries of a list, in path order.
 pub(crate) fn list_entries(
     alloc: Global,
-    rows: &[(Path, Item)],
+    pages: &[Arc<Page>],
     list: &Path,
 ) -> Result<Vec<Path>, Memory>
-    requires { IsTrue (is_sorted path_cmp rows.now) }
-    ensures { IfOk result (λ found. found.items ≡ filter (is_entry_of list.now) (map (λ row. row.0) rows.now)) }
+    requires sorted { AreInOrder pages.now }
+    requires sized { AreSized pages.now }
+    ensures { IfOk result (λ found. found.items ≡ entries_of list.now (rows_of pages.now)) }
 {
     let steps = list.steps.as_slice();
-    match steps.split_last() {
-        Some((last, front)) => {
-            if last.keys.len() > 0 {
-                return Ok(Vec::new(alloc));
-            }
-            let first = first_from(rows, steps);
-            let behind = &rows[first..];
-            let len = len_under(behind, front, last);
-            entries_among(alloc, &behind[..len], front, last)
-        }
-        None => Ok(Vec::new(alloc)),
+    let (last, front) = match steps.split_last() {
+        Some(parts) => parts,
+        None => return Ok(Vec::new(alloc)),
+    };
+    if last.keys.len() > 0 {
+        return Ok(Vec::new(alloc));
     }
+    if pages.is_empty() {
+        return Ok(Vec::new(alloc));
+    }
+    let at = page_for(pages, steps);
+    entries_among(alloc, &pages[at..], front, last, list)
 }

@@ -1,39 +1,47 @@
 //! The tree and its operations.
-ghost use Rattle.std.specs.Prelude.{◌≡◌, IfOk, OnOk, OnErr, IsTrue, ◌↔◌};
+ghost use Rattle.std.specs.Prelude.{◌≡◌, IfOk, OnOk, OnErr, IsTrue, ◌↔◌, length};
 ghost use Rattle.std.specs.Option.{option_copied};
 ghost use Rattle.std.specs.FinMap.{empty, get, keys, entries};
 ghost use Rattle.std.specs.List.{filter};
+ghost use Rattle.orc_text.specs.Counts.{capped};
 ghost use Rattle.orc_path.specs.Items.{fits};
 ghost use Rattle.orc_path.specs.Configurations.{IsConfig, put_item, drop_item, overlay, is_entry_of};
+ghost use Rattle.orc_tree.specs.Pages.{rows_of, AreSized};
 
+use crate::listed::{new_list, pages_in, put_shared, remove_shared, share_list};
 use crate::lists::list_entries;
-use crate::place::place;
-use crate::rows::{drop_at, drop_below, enter_rows, lay_rows, put_row};
+use crate::lookup::find_item;
+use crate::overlay::lay_pages;
+use crate::page::{Page, PageList, count_rows, push_copies, share_pages};
+use crate::walk::{Rows, same_rows};
 use crate::ways::missing_ways;
 use orc_path::{Item, Path};
 use orc_text::{Copied, Memory};
 use std::alloc::Global;
 use std::marker::Model;
+use std::sync::Arc;
 
 /// A configuration: a finite map from paths to items in which every entry on the way to a path is
-/// present.
+/// present. Its rows stand in pages, which copies of the tree share until one of them changes.
 #[derive(Debug, Drop)]
 pub struct Tree {
-    rows: Vec<(Path, Item)>,
+    alloc: Global,
+    list: Option<Arc<PageList>>,
 }
 
 impl Model for Tree {
-    ghost use Rattle.std.specs.FinMap.{from_sorted};
-    ghost use Rattle.orc_path.specs.Configurations.{Config, config_code};
-    ghost use Rattle.orc_tree.specs.Rows.{AreRows};
+    ghost use Rattle.orc_path.specs.Codes.{config_code};
+    ghost use Rattle.orc_path.specs.Configurations.{Config};
+    ghost use Rattle.orc_tree.specs.Pages.{pages_map, listed};
+    ghost use Rattle.orc_tree.specs.inside.Places.{ArePages};
 
     ghost Value = { Config };
 
     ghost coded = { config_code };
 
-    ghost view = { λ tree. from_sorted tree.rows.items };
+    ghost view = { λ tree. pages_map (listed tree.list) };
 
-    ghost invariant = { λ tree. AreRows tree.rows.items };
+    ghost invariant = { λ tree. ArePages (listed tree.list) };
 }
 
 impl Tree {
@@ -41,9 +49,7 @@ impl Tree {
     pub fn new(alloc: Global) -> Tree
         ensures { result ≡ empty }
     {
-        Tree {
-            rows: Vec::new(alloc),
-        }
+        Tree { alloc, list: None }
     }
 
     /// The item at a path, if there is one. It takes no memory and costs a search.
@@ -51,52 +57,43 @@ impl Tree {
         ensures item { option_copied result ≡ get self.now path.now }
         ensures config { IsConfig self.now }
     {
-        match place(self.rows.as_slice(), path.steps.as_slice()) {
-            Ok(at) => Some(&self.rows[at].1),
-            Err(_) => None,
-        }
+        find_item(pages_in(&self.list), path.steps.as_slice())
     }
 
     /// Sets the item at a path, and adds the entries on its way that are missing. It costs a search
-    /// and a shift for the path and for each missing entry, and a search for each other entry on
-    /// the way. After want of memory the tree is as it was.
+    /// for each entry on the way and an edit of one page. After want of memory the tree is as it
+    /// was.
     pub fn set(&mut self, path: Path, item: Item) -> Result<(), Memory>
         requires fits { IsTrue (fits path item) }
         ensures ok { OnOk result (self.new ≡ put_item self.old path item) }
         ensures err { OnErr result (self.new ≡ self.old) }
         ensures config { IsConfig self.new }
     {
-        let missing = missing_ways(*self.rows.allocator(), self.rows.as_slice(), &path)?;
-        self.rows.reserve(missing.len() + 1)?;
-        enter_rows(&mut self.rows, missing);
-        put_row(&mut self.rows, path, item);
-        Ok(())
+        let missing = missing_ways(self.alloc, pages_in(&self.list), &path)?;
+        put_shared(&mut self.list, self.alloc, missing, path, item)
     }
 
-    /// Removes a path that ends in keys with all below it, or else that one leaf. It takes no
-    /// memory, and looks at each row once.
-    pub fn remove(&mut self, path: &Path)
-        ensures removed { self.new ≡ drop_item self.old path.now }
+    /// Removes a path that ends in keys with all below it, or else that one leaf. It costs a search
+    /// and an edit of the pages that it touches. After want of memory the tree is as it was.
+    pub fn remove(&mut self, path: &Path) -> Result<(), Memory>
+        ensures ok { OnOk result (self.new ≡ drop_item self.old path.now) }
+        ensures err { OnErr result (self.new ≡ self.old) }
         ensures config { IsConfig self.new }
     {
-        if path.ends_in_keys() {
-            drop_below(&mut self.rows, path);
-        } else {
-            drop_at(&mut self.rows, path);
-        }
+        remove_shared(&mut self.list, self.alloc, path)
     }
 
-    /// Sets each item of another tree, so that this one is overlaid with it. It costs a copy of
-    /// the other tree, and a search and at most a shift for each of its items. After want of memory
-    /// the tree is as it was.
+    /// Sets each item of another tree, so that this one is overlaid with it. It costs a list of the
+    /// pages, and for each of the other tree's items a copy, a search and an edit of one page.
+    /// After want of memory the tree is as it was.
     pub fn overlay_with(&mut self, top: &Tree) -> Result<(), Memory>
         ensures ok { OnOk result (self.new ≡ overlay top.now self.old) }
         ensures err { OnErr result (self.new ≡ self.old) }
         ensures config { IsConfig self.new }
     {
-        let rows = top.walk(*self.rows.allocator())?;
-        self.rows.reserve(rows.len())?;
-        lay_rows(&mut self.rows, rows);
+        let mut pages = share_pages(self.alloc, pages_in(&self.list))?;
+        lay_pages(&mut pages, pages_in(&top.list))?;
+        self.list = new_list(self.alloc, pages)?;
         Ok(())
     }
 
@@ -107,7 +104,40 @@ impl Tree {
         ensures keys { IfOk result (λ paths. paths.items ≡ filter (is_entry_of list.now) (keys self.now)) }
         ensures config { IsConfig self.now }
     {
-        list_entries(alloc, self.rows.as_slice(), list)
+        list_entries(alloc, pages_in(&self.list), list)
+    }
+
+    /// How many items there are, or the largest 64-bit number where there are more. It takes no
+    /// memory, and looks at each page once.
+    pub fn len(&self) -> u64
+        ensures { result ≡ capped (length (entries self.now)) }
+    {
+        count_rows(pages_in(&self.list))
+    }
+
+    /// Whether there is no item.
+    pub fn is_empty(&self) -> bool
+        ensures { IsTrue result ↔ (self.now ≡ empty) }
+    {
+        pages_in(&self.list).is_empty()
+    }
+
+    /// The pages: their rows, one after another, are the paths with their items, in path order. It
+    /// takes no memory.
+    pub fn pages(&self) -> &[Arc<Page>]
+        ensures rows { rows_of result.now ≡ entries self.now }
+        ensures sized { AreSized result.now }
+        ensures config { IsConfig self.now }
+    {
+        pages_in(&self.list)
+    }
+
+    /// The paths with their items, in path order, lent one after another. It takes no memory.
+    pub fn rows(&self) -> Rows<'_>
+        ensures rows { result ≡ entries self.now }
+        ensures config { IsConfig self.now }
+    {
+        Rows::new(pages_in(&self.list))
     }
 
     /// Copies of the paths with their items, in path order.
@@ -116,27 +146,27 @@ impl Tree {
         ensures config { IsConfig self.now }
     {
         let mut rows = Vec::new(alloc);
-        for row in self.rows.as_slice() {
-            rows.push((row.0.copy(alloc)?, row.1.copy(alloc)?))?;
+        for page in pages_in(&self.list) {
+            push_copies(alloc, &mut rows, page.rows.as_slice())?;
         }
         Ok(rows)
     }
 
-    /// An equal tree.
+    /// An equal tree, which holds the same list of pages. It costs a counter; the first change of one
+    /// of the two copies the list, and each change the page that it touches.
     pub fn copy(&self, alloc: Global) -> Result<Tree, Memory>
         ensures equal { IfOk result (λ tree. tree ≡ self.now) }
         ensures config { IsConfig self.now }
     {
-        Ok(Tree {
-            rows: self.walk(alloc)?,
-        })
+        let list = share_list(&self.list)?;
+        Ok(Tree { alloc, list })
     }
 
     /// Whether both trees have the same items at the same paths.
     pub fn equals(&self, other: &Tree) -> bool
         ensures { IsTrue result ↔ (self.now ≡ other.now) }
     {
-        self.rows.as_slice() == other.rows.as_slice()
+        same_rows(pages_in(&self.list), pages_in(&other.list))
     }
 }
 

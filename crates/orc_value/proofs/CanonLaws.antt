@@ -10,7 +10,7 @@ use Rattle.orc_value.specs.declared.kind.Kind.{Kind}
 use Rattle.orc_value.specs.declared.kind.Kind.TheVariants.{Int, Decimal, Str, Bool as Boolean, Enum, Empty}
 use Rattle.orc_value.specs.declared.fault.ValueFault.{ValueFault}
 use Rattle.orc_value.specs.Canon.{canon_of, gives_text, is_canonical, kept, string_rule, bool_rule, enum_rule, empty_rule, SameValue, Answers}
-use Rattle.orc_value.specs.Numerals.{admitted, written, signed}
+use Rattle.orc_value.specs.Numerals.{admitted, number_text, signed}
 use Rattle.orc_value.specs.Integers.{int_value, has_integer, int_text}
 use Rattle.orc_value.specs.Decimals.{is_fraction_digits, is_decimal, is_scalable, scaled, whole_of, fraction_of, decimal_value, is_decimal_value, decimal_text}
 use Rattle.orc_value.proofs.IntegerLaws.{has_integer-abs, admitted-yes, and_left}
@@ -21,11 +21,11 @@ abbrev IsTextOf : (ℤ → List ℕ) → (ℤ → Bool) → Option ℤ → List 
 IsTextOf text_of has o t = (z : ℤ) × (o ≡ Some z) × (has z ≡ true) × (t ≡ text_of z)
 
 choose : (text_of : ℤ → List ℕ) (has : ℤ → Bool) (z : ℤ) (t : List ℕ) (b : Bool) → has z ≡ b
-    → written text_of (cond b (Ok z) (Err 2)) ≡ Ok t → IsTextOf text_of has (Some z) t
+    → number_text text_of (cond b (Ok z) (Err 2)) ≡ Ok t → IsTextOf text_of has (Some z) t
 choose text_of has z t true e h = (z, refl, e, cc)
 choose text_of has z t false e h = cc
 
-pub number_of : (text_of : ℤ → List ℕ) (has : ℤ → Bool) (o : Option ℤ) (t : List ℕ) → written text_of (admitted has o) ≡ Ok t → IsTextOf text_of has o t
+pub number_of : (text_of : ℤ → List ℕ) (has : ℤ → Bool) (o : Option ℤ) (t : List ℕ) → number_text text_of (admitted has o) ≡ Ok t → IsTextOf text_of has o t
 number_of text_of has None t h = cc
 number_of text_of has (Some z) t h = choose text_of has z t (has z) refl h
 
@@ -35,19 +35,19 @@ ReadsBack value text_of has = (bs : List ℕ) (z : ℤ) → value bs ≡ Some z 
 
 module _ (value : List ℕ → Option ℤ) (text_of : ℤ → List ℕ) (has : ℤ → Bool) (back : ReadsBack value text_of has) where
   -- a canonical text denotes what its text did
-  pub value_kept : (bs t : List ℕ) → written text_of (admitted has (value bs)) ≡ Ok t → value t ≡ value bs
+  pub value_kept : (bs t : List ℕ) → number_text text_of (admitted has (value bs)) ≡ Ok t → value t ≡ value bs
   value_kept bs t h =
       let found = number_of text_of has (value bs) t h in
       ap value found.3 ∙ (back bs found.0 found.1 found.2 ∙ sym found.1)
 
-  pub again : (bs t : List ℕ) → written text_of (admitted has (value bs)) ≡ Ok t → written text_of (admitted has (value t)) ≡ Ok t
-  again bs t h = ap (λ (o : Option ℤ). written text_of (admitted has o)) (value_kept bs t h) ∙ h
+  pub again : (bs t : List ℕ) → number_text text_of (admitted has (value bs)) ≡ Ok t → number_text text_of (admitted has (value t)) ≡ Ok t
+  again bs t h = ap (λ (o : Option ℤ). number_text text_of (admitted has o)) (value_kept bs t h) ∙ h
 
-  pub same : (bs t other : List ℕ) → written text_of (admitted has (value bs)) ≡ Ok t
-      → (written text_of (admitted has (value other)) ≡ Ok t) ↔ (value other ≡ value bs)
+  pub same : (bs t other : List ℕ) → number_text text_of (admitted has (value bs)) ≡ Ok t
+      → (number_text text_of (admitted has (value other)) ≡ Ok t) ↔ (value other ≡ value bs)
   same bs t other h = (
     λ h'. sym (value_kept other t h') ∙ value_kept bs t h,
-    λ e. ap (λ (o : Option ℤ). written text_of (admitted has o)) e ∙ h,
+    λ e. ap (λ (o : Option ℤ). number_text text_of (admitted has o)) e ∙ h,
   )
 
 pub int_reads_back : (kind : IntKind) → ReadsBack int_value int_text (has_integer kind)
@@ -111,8 +111,8 @@ IfOk-from_Answers P verdict (Err e) h f = tt
 pub int_text_canonical : (kind : IntKind) (z : ℤ) (t : List ℕ) → has_integer kind z ≡ true → t ≡ int_text z → canon_of (Int kind) t ≡ Ok t
 int_text_canonical kind z t has e =
     let text : canon_of (Int kind) (int_text z) ≡ Ok (int_text z) =
-    ap (λ (o : Option ℤ). written int_text (admitted (has_integer kind) o)) (int_value-int_text z (has_integer-abs kind z has))
-    ∙ ap (written int_text) (admitted-yes (has_integer kind) (Some z) z refl has) in
+    ap (λ (o : Option ℤ). number_text int_text (admitted (has_integer kind) o)) (int_value-int_text z (has_integer-abs kind z has))
+    ∙ ap (number_text int_text) (admitted-yes (has_integer kind) (Some z) z refl has) in
     subst (λ (x : List ℕ). canon_of (Int kind) x ≡ Ok x) (sym e) text
 
 gives_text-Decides : (text : List ℕ) (verdict : Result (List ℕ) ℕ) → Decides (gives_text text verdict) (verdict ≡ Ok text)

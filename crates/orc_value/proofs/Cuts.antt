@@ -8,7 +8,7 @@ use Rattle.std.proofs.lemmas.Bool.Decides.{nat_tests}
 use Rattle.std.specs.Str.Parse.{starts_with_minus, without_leading_sign}
 use Rattle.orc_value.specs.Numerals.{all_digits, is_numeral, signed}
 use Rattle.orc_value.specs.Decimals.{is_point, whole_of, fraction_of, has_point, is_decimal, is_fraction_digits, scaled, is_scalable, decimal_value, is_decimal_value}
-use Rattle.orc_value.specs.Scaled.{are_zeros, units}
+use Rattle.orc_value.specs.inside.Scaled.{are_zeros, units}
 use Rattle.orc_value.proofs.IntegerLaws.{and_right}
 use Rattle.orc_value.proofs.Scales.{scaled-is, is_scalable-yes, is_scalable-no}
 

@@ -14,7 +14,7 @@ use Rattle.std.specs.Str.Parse.{digits_value, digits_value_after, starts_with_mi
 use Rattle.orc_value.specs.Numerals.{all_digits, is_numeral, signed, sign_text}
 use Rattle.orc_value.specs.Integers.{int_value, int_text}
 use Rattle.orc_value.specs.Decimals.{is_point, is_decimal, decimal_value, fraction_digits, fraction_text, places_text, decimal_text}
-use Rattle.orc_value.specs.Scaled.{are_zeros, units}
+use Rattle.orc_value.specs.inside.Scaled.{are_zeros, units}
 use Rattle.orc_value.proofs.IntegerLaws.{is_numeral-from, and_left, and_right}
 use Rattle.orc_value.proofs.Digits.{digit_value-is}
 use Rattle.orc_value.proofs.DecimalLaws.{ten_pow_pos, fraction-below_ten, fraction_digits-step}

@@ -12,7 +12,7 @@ use Rattle.std.specs.Char.{digit_value, is_ascii_digit}
 use Rattle.std.specs.Str.Parse.{digits_value, digits_value_after}
 use Rattle.orc_value.specs.Numerals.{all_digits}
 use Rattle.orc_value.specs.Decimals.{scaled, is_scalable}
-use Rattle.orc_value.specs.Scaled.{are_zeros, units}
+use Rattle.orc_value.specs.inside.Scaled.{are_zeros, units}
 use Rattle.orc_value.proofs.Digits.{digits_value_after-le, digit_value-is}
 use Rattle.orc_value.proofs.DecimalLaws.{ten_pow_pos}
 use Rattle.orc_value.proofs.IntegerLaws.{numerals, and_left, and_right, not_true}

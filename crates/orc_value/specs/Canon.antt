@@ -1,5 +1,5 @@
--- The canonical text of a value: RFC 7950 section 9. The rules that a text can break are 1 lexical, 2 range, 3 length,
--- 4 enumeration and 5 kind; where it breaks several, the least one counts.
+-- The canonical text of a value: RFC 7950 section 9. A text can break the rules LEXICAL, RANGE, LENGTH, ENUM and
+-- KIND, 1 to 5; where it breaks several, the least one counts.
 use Rattle.std.specs.Prelude.{ℕ, ◌≡◌, Bool, false, ◌&&◌, ◌||◌, List, [], length, Option, Some, None, Result, Ok, Err, nat_le, if◌then◌else◌, IsOk, nat_eq}
 use Rattle.std.specs.List.{list_any}
 use Rattle.std.specs.Str.{chars}
@@ -9,8 +9,9 @@ use Rattle.orc_value.specs.declared.kind.Kind.{Kind}
 use Rattle.orc_value.specs.declared.kind.Kind.TheVariants.{Int, Decimal, Str, Bool as Boolean, Enum, Empty}
 use Rattle.orc_value.specs.declared.fault.ValueFault.{ValueFault}
 use Rattle.orc_value.specs.declared.fault.ValueFault.TheVariants.{BadValue, Memory as NoMemory}
+use Rattle.orc_value.specs.declared.fault.TheConstants.{LEXICAL, LENGTH, ENUM}
 use Rattle.orc_value.specs.Characters.{is_value_text}
-use Rattle.orc_value.specs.Numerals.{admitted, written}
+use Rattle.orc_value.specs.Numerals.{admitted, number_text}
 use Rattle.orc_value.specs.Integers.{int_value, has_integer, int_text}
 use Rattle.orc_value.specs.Decimals.{decimal_value, is_decimal_value, decimal_text}
 
@@ -24,16 +25,20 @@ in_lengths lengths n = list_any (λ r. nat_le r.0 n && nat_le n r.1) lengths
 
 -- the rule that a text breaks, for the types whose values are their own canonical texts
 abbrev pub string_rule : List (ℕ × ℕ) → List ℕ → Option ℕ
-string_rule lengths text = if is_value_text text then (if in_lengths lengths (length (chars text)) then None else Some 3) else Some 1
+string_rule lengths text = if is_value_text text
+    then (if in_lengths lengths (length (chars text)) then None else Some LENGTH)
+    else Some LEXICAL
 
 abbrev pub bool_rule : List ℕ → Option ℕ
-bool_rule text = if same_text text true_text || same_text text false_text then None else Some 1
+bool_rule text = if same_text text true_text || same_text text false_text then None else Some LEXICAL
 
 abbrev pub enum_rule : List (List ℕ) → List ℕ → Option ℕ
-enum_rule names text = if is_value_text text then (if list_any (same_text text) names then None else Some 4) else Some 1
+enum_rule names text = if is_value_text text
+    then (if list_any (same_text text) names then None else Some ENUM)
+    else Some LEXICAL
 
 abbrev pub empty_rule : List ℕ → Option ℕ
-empty_rule text = if same_text text [] then None else Some 1
+empty_rule text = if same_text text [] then None else Some LEXICAL
 
 -- the text itself, or the rule that it breaks
 abbrev pub kept : Option ℕ → List ℕ → Result (List ℕ) ℕ
@@ -42,8 +47,8 @@ kept (Some rule) text = Err rule
 
 -- the canonical text, or the rule that is broken
 abbrev pub canon_of : Kind → List ℕ → Result (List ℕ) ℕ
-canon_of (Int kind) text = written int_text (admitted (has_integer kind) (int_value text))
-canon_of (Decimal n) text = written (decimal_text n) (admitted is_decimal_value (decimal_value n text))
+canon_of (Int kind) text = number_text int_text (admitted (has_integer kind) (int_value text))
+canon_of (Decimal n) text = number_text (decimal_text n) (admitted is_decimal_value (decimal_value n text))
 canon_of (Str lengths) text = kept (string_rule lengths text) text
 canon_of Boolean text = kept (bool_rule text) text
 canon_of (Enum names) text = kept (enum_rule names text) text

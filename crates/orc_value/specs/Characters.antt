@@ -1,11 +1,8 @@
 -- The characters of values.
-use Rattle.std.specs.Prelude.{ℕ, ◌%◌, ◌==◌, Bool, ◌&&◌, ◌||◌, not, List, nat_le}
+use Rattle.std.specs.Prelude.{ℕ, ◌==◌, Bool, ◌&&◌, ◌||◌, not, List, nat_le}
 use Rattle.std.specs.List.{list_all}
 use Rattle.std.specs.Str.{chars}
-
--- U+FDD0 to U+FDEF, and the last two code points of each plane
-abbrev pub is_noncharacter : ℕ → Bool
-is_noncharacter c = nat_le 0xFDD0 c && nat_le c 0xFDEF || nat_le 0xFFFE (c % 0x10000)
+use Rattle.orc_text.specs.Characters.{is_noncharacter}
 
 -- a character of a value: tab, line feed, carriage return, and the others from the space on that are no noncharacters
 abbrev pub is_value_character : ℕ → Bool

@@ -5,6 +5,7 @@ use Rattle.std.specs.Str.Parse.{starts_with_minus, without_leading_sign, digits_
 use Rattle.std.specs.Fmt.{decimal}
 use Rattle.orc_value.specs.Numerals.{is_numeral, signed, sign_text}
 
+-- the character `.`
 abbrev pub is_point : ℕ → Bool
 is_point c = c == 46
 
@@ -27,13 +28,13 @@ is_decimal text = is_numeral (whole_of text) && (is_numeral (fraction_of text) |
 abbrev pub is_fraction_digits : ℕ → Bool
 is_fraction_digits n = nat_le 1 n && nat_le n 18
 
--- The digits w and f round a point write the number of all these digits over ten to the power of how many f has.
--- It has n fraction digits where it is whole, once it is multiplied by ten to the power of n.
+-- Digits before a point and behind it write the number of all these digits over ten to the power of how many
+-- stand behind it. It has n fraction digits where it is whole, once it is multiplied by ten to the power of n.
 abbrev pub is_scalable : ℕ → List ℕ → List ℕ → Bool
-is_scalable n w f = digits_value 10 (w ++ f) * 10 ^ n % 10 ^ length f == 0
+is_scalable n whole fraction = digits_value 10 (whole ++ fraction) * 10 ^ n % 10 ^ length fraction == 0
 
 abbrev pub scaled : ℕ → List ℕ → List ℕ → ℕ
-scaled n w f = digits_value 10 (w ++ f) * 10 ^ n / 10 ^ length f
+scaled n whole fraction = digits_value 10 (whole ++ fraction) * 10 ^ n / 10 ^ length fraction
 
 -- the value that a text denotes at n fraction digits
 abbrev pub decimal_value : ℕ → List ℕ → Option ℤ

@@ -7,7 +7,8 @@ use Rattle.serde_json.specs.Data.{Items}
 use Rattle.orc_value.specs.declared.kind.Kind.{Kind}
 use Rattle.orc_value.specs.declared.kind.Kind.TheVariants.{Int, Decimal, Str, Bool as Boolean, Enum, Empty}
 use Rattle.orc_value.specs.declared.kind.IntKind.{IntKind}
-use Rattle.orc_value.specs.Numerals.{admitted, written}
+use Rattle.orc_value.specs.declared.fault.TheConstants.{KIND}
+use Rattle.orc_value.specs.Numerals.{admitted, number_text}
 use Rattle.orc_value.specs.Integers.{int_value, has_integer, int_text}
 use Rattle.orc_value.specs.Canon.{canon_of, same_text}
 
@@ -20,28 +21,30 @@ json_of Boolean text = boolean (same_text text true_text)
 json_of (Enum names) text = string text
 json_of Empty text = array (item null no_items)
 
--- a text where there is one, and else rule 5
+-- a text where there is one, and else the rule KIND
 abbrev pub canon_of_string : Kind → Option (List ℕ) → Result (List ℕ) ℕ
-canon_of_string kind None = Err 5
+canon_of_string kind None = Err KIND
 canon_of_string kind (Some text) = canon_of kind text
 
 -- a whole number where there is one
 abbrev pub canon_of_integer : IntKind → Option ℤ → Result (List ℕ) ℕ
-canon_of_integer kind None = Err 5
-canon_of_integer kind (Some z) = written int_text (admitted (has_integer kind) (Some z))
+canon_of_integer kind None = Err KIND
+canon_of_integer kind (Some z) = number_text int_text (admitted (has_integer kind) (Some z))
 
 abbrev pub canon_of_boolean : Option Bool → Result (List ℕ) ℕ
-canon_of_boolean None = Err 5
+canon_of_boolean None = Err KIND
 canon_of_boolean (Some b) = Ok (if b then true_text else false_text)
 
 -- `[null]`
 abbrev pub canon_of_items : Option Items → Result (List ℕ) ℕ
 canon_of_items (Some (item null no_items)) = Ok []
-canon_of_items _ = Err 5
+canon_of_items _ = Err KIND
 
 -- the canonical text of a JSON value, or the rule that is broken
 abbrev pub canon_of_json : Kind → Data → Result (List ℕ) ℕ
-canon_of_json (Int kind) json = if kind.quoted then canon_of_string (Int kind) (as_str json) else canon_of_integer kind (option_and_then as_integer (as_number json))
+canon_of_json (Int kind) json = if kind.quoted
+    then canon_of_string (Int kind) (as_str json)
+    else canon_of_integer kind (option_and_then as_integer (as_number json))
 canon_of_json (Decimal n) json = canon_of_string (Decimal n) (as_str json)
 canon_of_json (Str lengths) json = canon_of_string (Str lengths) (as_str json)
 canon_of_json Boolean json = canon_of_boolean (as_bool json)

@@ -2,6 +2,6 @@ pub mod Characters
 pub mod Numerals
 pub mod Integers
 pub mod Decimals
-pub mod Scaled
 pub mod Canon
 pub mod Json
+pub mod inside

@@ -38,7 +38,7 @@ pub fn is_canonical(kind: &Kind, text: &Text) -> bool
     is_own_text(kind, text.as_str())
 }
 
-/// Whether a text is its own canonical text.
+// Whether a text is its own canonical text.
 fn is_own_text(kind: &Kind, text: &str) -> bool
     ensures { IsTrue result ↔ (canon_of kind.now text.now ≡ Ok text.now) }
 {
@@ -76,7 +76,7 @@ fn canon_decimal(alloc: Global, places: u8, text: &str) -> Result<Text, ValueFau
     }
 }
 
-/// The text itself, or the rule that it breaks.
+// The text itself, or the rule that it breaks.
 fn keep(alloc: Global, rule: Option<u8>, text: &str) -> Result<Text, ValueFault>
     ensures { Answers (kept rule text.now) result }
 {
@@ -86,7 +86,7 @@ fn keep(alloc: Global, rule: Option<u8>, text: &str) -> Result<Text, ValueFault>
     }
 }
 
-/// Whether one of the ranges has the length.
+// Whether one of the ranges has the length.
 fn in_lengths(lengths: &[(u64, u64)], count: u64) -> bool
     ensures { result ≡ in_lengths lengths.now count }
 {
@@ -95,7 +95,7 @@ fn in_lengths(lengths: &[(u64, u64)], count: u64) -> bool
         .any(|range| range.0 <= count && count <= range.1)
 }
 
-/// The rule that a text breaks as a string.
+// The rule that a text breaks as a string.
 fn string_rule(lengths: &Row<(u64, u64)>, text: &str) -> Option<u8>
     ensures { result ≡ string_rule lengths.now text.now }
 {
@@ -108,7 +108,7 @@ fn string_rule(lengths: &Row<(u64, u64)>, text: &str) -> Option<u8>
     }
 }
 
-/// The rule that a text breaks as a boolean.
+// The rule that a text breaks as a boolean.
 fn bool_rule(text: &str) -> Option<u8>
     ensures { result ≡ bool_rule text.now }
 {
@@ -119,14 +119,14 @@ fn bool_rule(text: &str) -> Option<u8>
     }
 }
 
-/// Whether the text is one of the names.
+// Whether the text is one of the names.
 fn is_among(text: &str, names: &[Text]) -> bool
     ensures { result ≡ list_any (same_text text.now) names.now }
 {
     names.iter().any(|name| text == name.as_str())
 }
 
-/// The rule that a text breaks as one of the names.
+// The rule that a text breaks as one of the names.
 fn enum_rule(names: &Row<Text>, text: &str) -> Option<u8>
     ensures { result ≡ enum_rule names.now text.now }
 {
@@ -139,7 +139,7 @@ fn enum_rule(names: &Row<Text>, text: &str) -> Option<u8>
     }
 }
 
-/// The rule that a text breaks as the empty one.
+// The rule that a text breaks as the empty one.
 fn empty_rule(text: &str) -> Option<u8>
     ensures { result ≡ empty_rule text.now }
 {

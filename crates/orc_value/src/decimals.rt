@@ -4,7 +4,7 @@ ghost use Rattle.std.specs.List.{position, before_first, after_first};
 ghost use Rattle.std.specs.Str.Parse.{starts_with_minus};
 ghost use Rattle.orc_value.specs.Numerals.{admitted, all_digits, is_numeral, signed};
 ghost use Rattle.orc_value.specs.Decimals.{is_point, decimal_value, is_decimal_value, decimal_text, places_text, fraction_digits, fraction_text};
-ghost use Rattle.orc_value.specs.Scaled.{are_zeros, units};
+ghost use Rattle.orc_value.specs.inside.Scaled.{are_zeros, units};
 
 use crate::fault::{LEXICAL, RANGE};
 use crate::numerals::{is_decimal_of, is_numeral, push_decimal, push_digit, read_on, without_sign};
@@ -12,14 +12,14 @@ use crate::signs::{after_sign, magnitude, push_sign};
 use orc_text::{Memory, Text};
 use std::alloc::Global;
 
-/// The place of the first point.
+// The place of the first point.
 fn place_of_point(text: &[u8]) -> Option<usize>
     ensures { result ≡ position is_point text.now }
 {
     text.iter().position(|byte| *byte == b'.')
 }
 
-/// The parts before the first point and behind it.
+// The parts before the first point and behind it.
 fn split_at_point(text: &[u8]) -> Option<(&[u8], &[u8])>
     ensures point { is_some result ≡ is_some (position is_point text.now) }
     ensures parts { IfSome result (λ parts. (parts.0.now ≡ before_first is_point text.now)
@@ -31,8 +31,8 @@ fn split_at_point(text: &[u8]) -> Option<(&[u8], &[u8])>
     }
 }
 
-/// The digits before the point and behind it, where the text is digits with a point among them or
-/// none.
+// The digits before the point and behind it, where the text is digits with a point among them or
+// none.
 fn decimal_parts(text: &[u8]) -> Option<(&[u8], &[u8])>
     ensures parts { IfSome result (λ parts. (parts.0.now ≡ before_first is_point text.now)
         × (parts.1.now ≡ after_first is_point text.now)) }
@@ -55,7 +55,7 @@ fn decimal_parts(text: &[u8]) -> Option<(&[u8], &[u8])>
     }
 }
 
-/// Ten to the power of `exponent`.
+// Ten to the power of `exponent`.
 fn power_of_ten(exponent: u8) -> u64
     requires { exponent ≤ 18 }
     ensures value { result ≡ 10 ^ exponent }
@@ -64,7 +64,7 @@ fn power_of_ten(exponent: u8) -> u64
     10u64.pow(u32::from(exponent))
 }
 
-/// The digits up to this many places, and those behind them.
+// The digits up to this many places, and those behind them.
 fn split_at_place(places: u8, fraction: &[u8]) -> (&[u8], &[u8])
     ensures near { result.0.now ≡ take places fraction.now }
     ensures far { result.1.now ≡ drop places fraction.now }
@@ -72,15 +72,15 @@ fn split_at_place(places: u8, fraction: &[u8]) -> (&[u8], &[u8])
     fraction.split_at(fraction.len().min(usize::from(places)))
 }
 
-/// Whether all digits are 0.
+// Whether all digits are 0.
 fn are_zeros(digits: &[u8]) -> bool
     ensures { result ≡ are_zeros digits.now }
 {
     digits.iter().all(|digit| *digit == b'0')
 }
 
-/// The number of the digits round the point, times ten to the power of `places`, where it has 64
-/// bits.
+// The number of the digits round the point, times ten to the power of `places`, where it has 64
+// bits.
 fn scaled(places: u8, whole: &[u8], fraction: &[u8]) -> Option<u64>
     requires small { places ≤ 18 }
     requires short { length fraction.now ≤ places }
@@ -93,14 +93,14 @@ fn scaled(places: u8, whole: &[u8], fraction: &[u8]) -> Option<u64>
     number.checked_mul(power_of_ten(places - fraction.len() as u8))
 }
 
-/// Whether a `-` stands first.
+// Whether a `-` stands first.
 fn is_negative(text: &[u8]) -> bool
     ensures { result ≡ starts_with_minus text.now }
 {
     matches!(text, [b'-', ..])
 }
 
-/// The number of this magnitude.
+// The number of this magnitude.
 fn with_sign(negative: bool, number: u64) -> i128
     ensures { result ≡ signed negative number }
 {
@@ -111,7 +111,7 @@ fn with_sign(negative: bool, number: u64) -> i128
     }
 }
 
-/// The value, or the rule that it breaks.
+// The value, or the rule that it breaks.
 fn in_range(value: i128) -> Result<i128, u8>
     ensures { result ≡ admitted is_decimal_value (Some value) }
 {
@@ -122,7 +122,7 @@ fn in_range(value: i128) -> Result<i128, u8>
     }
 }
 
-/// The value that a text denotes at this many fraction digits, or the rule that it breaks.
+// The value that a text denotes at this many fraction digits, or the rule that it breaks.
 pub(crate) fn decimal(places: u8, text: &str) -> Result<i128, u8>
     ensures { result ≡ admitted is_decimal_value (decimal_value places text.now) }
 {
@@ -143,7 +143,7 @@ pub(crate) fn decimal(places: u8, text: &str) -> Result<i128, u8>
     }
 }
 
-/// Writes the digits of `rest` over ten to the power of `places`, up to the last that isn't 0.
+// Writes the digits of `rest` over ten to the power of `places`, up to the last that isn't 0.
 fn push_fraction(text: &mut Text, places: u8, rest: u64) -> Result<(), Memory>
     requires small { places ≤ 18 }
     requires below_one { rest < 10 ^ places }
@@ -157,7 +157,7 @@ fn push_fraction(text: &mut Text, places: u8, rest: u64) -> Result<(), Memory>
     push_fraction(text, places - 1, rest % unit)
 }
 
-/// Whether the text is those digits.
+// Whether the text is those digits.
 fn is_fraction(text: &[u8], places: u8, rest: u64) -> bool
     requires small { places ≤ 18 }
     requires below_one { rest < 10 ^ places }
@@ -174,7 +174,7 @@ fn is_fraction(text: &[u8], places: u8, rest: u64) -> bool
     }
 }
 
-/// The canonical text of a value.
+// The canonical text of a value.
 pub(crate) fn written_decimal(alloc: Global, places: u8, value: i128) -> Result<Text, Memory>
     requires small { places ≤ 18 }
     requires fits { IsTrue (is_decimal_value value) }
@@ -186,7 +186,7 @@ pub(crate) fn written_decimal(alloc: Global, places: u8, value: i128) -> Result<
     Ok(text)
 }
 
-/// Writes a number over ten to the power of `places`.
+// Writes a number over ten to the power of `places`.
 fn push_places(text: &mut Text, places: u8, number: u64) -> Result<(), Memory>
     requires { places ≤ 18 }
     ensures { OnOk result (text.new ≡ text.old ++ places_text places number) }
@@ -202,7 +202,7 @@ fn push_places(text: &mut Text, places: u8, number: u64) -> Result<(), Memory>
     }
 }
 
-/// Whether the text is the canonical text of a value.
+// Whether the text is the canonical text of a value.
 pub(crate) fn is_decimal_text(text: &[u8], places: u8, value: i128) -> bool
     requires small { places ≤ 18 }
     requires fits { IsTrue (is_decimal_value value) }
@@ -214,7 +214,7 @@ pub(crate) fn is_decimal_text(text: &[u8], places: u8, value: i128) -> bool
     }
 }
 
-/// Whether the text is a number over ten to the power of `places`.
+// Whether the text is a number over ten to the power of `places`.
 fn is_places(text: &[u8], places: u8, number: u64) -> bool
     requires { places ≤ 18 }
     ensures { IsTrue result ↔ (text.now ≡ places_text places number) }
@@ -228,7 +228,7 @@ fn is_places(text: &[u8], places: u8, number: u64) -> bool
     }
 }
 
-/// Whether the text is the digits of `rest` over ten to the power of `places`, one at least.
+// Whether the text is the digits of `rest` over ten to the power of `places`, one at least.
 fn is_fraction_text(text: &[u8], places: u8, rest: u64) -> bool
     requires small { places ≤ 18 }
     requires below_one { rest < 10 ^ places }

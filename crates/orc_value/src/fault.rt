@@ -1,19 +1,19 @@
 //! Why a text or a JSON value is no value of a type.
 use orc_text::Memory;
 
-/// The text has not the form of the type, or a character that no value has.
+// The text has not the form of the type, or a character that no value has.
 pub(crate) const LEXICAL: u8 = 1;
 
-/// The number is out of the type's ranges.
+// The number is out of the type's ranges.
 pub(crate) const RANGE: u8 = 2;
 
-/// The text is too short or too long.
+// The text is too short or too long.
 pub(crate) const LENGTH: u8 = 3;
 
-/// The text is none of the names.
+// The text is none of the names.
 pub(crate) const ENUM: u8 = 4;
 
-/// The JSON value is of another kind than the type's.
+// The JSON value is of another kind than the type's.
 pub(crate) const KIND: u8 = 5;
 
 /// A text or a JSON value that is no value of a type.

@@ -10,7 +10,7 @@ use crate::signs::{after_sign, magnitude, push_sign};
 use orc_text::{Memory, Text};
 use std::alloc::Global;
 
-/// Whether one of the ranges has the number.
+// Whether one of the ranges has the number.
 fn in_ranges(ranges: &[(i128, i128)], number: i128) -> bool
     ensures { result ≡ in_ranges ranges.now number }
 {
@@ -19,7 +19,7 @@ fn in_ranges(ranges: &[(i128, i128)], number: i128) -> bool
         .any(|range| range.0 <= number && number <= range.1)
 }
 
-/// Whether the type has the number.
+// Whether the type has the number.
 pub(crate) fn has_integer(kind: &IntKind, number: i128) -> bool
     ensures { result ≡ has_integer kind.now number }
 {
@@ -28,7 +28,7 @@ pub(crate) fn has_integer(kind: &IntKind, number: i128) -> bool
         && in_ranges(kind.ranges.as_slice(), number)
 }
 
-/// The number that a text denotes, or the rule that it breaks.
+// The number that a text denotes, or the rule that it breaks.
 pub(crate) fn integer(kind: &IntKind, text: &str) -> Result<i128, u8>
     ensures { result ≡ admitted (has_integer kind.now) (int_value text.now) }
 {
@@ -40,7 +40,7 @@ pub(crate) fn integer(kind: &IntKind, text: &str) -> Result<i128, u8>
     }
 }
 
-/// The canonical text of a number.
+// The canonical text of a number.
 pub(crate) fn written_integer(alloc: Global, number: i128) -> Result<Text, Memory>
     requires { IsTrue (is_64_bit number) }
     ensures { IfOk result (λ text. text ≡ int_text number) }
@@ -50,7 +50,7 @@ pub(crate) fn written_integer(alloc: Global, number: i128) -> Result<Text, Memor
     Ok(text)
 }
 
-/// Writes the canonical text of a number.
+// Writes the canonical text of a number.
 fn push_integer(text: &mut Text, number: i128) -> Result<(), Memory>
     requires { IsTrue (is_64_bit number) }
     ensures { OnOk result (text.new ≡ text.old ++ int_text number) }
@@ -59,7 +59,7 @@ fn push_integer(text: &mut Text, number: i128) -> Result<(), Memory>
     push_decimal(text, magnitude(number))
 }
 
-/// Whether the text is the canonical text of a number.
+// Whether the text is the canonical text of a number.
 pub(crate) fn is_integer_text(text: &[u8], number: i128) -> bool
     requires { IsTrue (is_64_bit number) }
     ensures { IsTrue result ↔ (text.now ≡ int_text number) }

@@ -53,14 +53,14 @@ pub fn from_json(alloc: Global, kind: &Kind, value: &Value) -> Result<Text, Valu
     }
 }
 
-/// The string of a text.
+// The string of a text.
 fn to_string(alloc: Global, text: &Text) -> Result<Value, Memory>
     ensures { IfOk result (λ value. view value ≡ string text.now) }
 {
     Ok(Value::String(String::from_str(alloc, text.as_str())?))
 }
 
-/// The number that a canonical text denotes.
+// The number that a canonical text denotes.
 fn to_number(kind: &IntKind, text: &Text) -> Number
     requires { canon_of (Kind.Int kind.now) text.now ≡ Ok text.now }
     ensures { number_view result ≡ of_integer (unwrap_or (int_value text.now) (pos 0)) }
@@ -74,7 +74,7 @@ fn to_number(kind: &IntKind, text: &Text) -> Number
     }
 }
 
-/// `[null]`.
+// `[null]`.
 fn null_item(alloc: Global) -> Result<Value, Memory>
     ensures { IfOk result (λ value. view value ≡ array (item null no_items)) }
 {
@@ -83,7 +83,7 @@ fn null_item(alloc: Global) -> Result<Value, Memory>
     Ok(Value::Array(items))
 }
 
-/// The canonical text of a value that JSON has in a string.
+// The canonical text of a value that JSON has in a string.
 fn canon_string(alloc: Global, kind: &Kind, value: &Value) -> Result<Text, ValueFault>
     ensures answer { Answers (canon_of_string kind.now (as_str (view value.now))) result }
     ensures canonical { IfOk result (λ canonical. canon_of kind.now canonical ≡ Ok canonical) }
@@ -94,14 +94,14 @@ fn canon_string(alloc: Global, kind: &Kind, value: &Value) -> Result<Text, Value
     }
 }
 
-/// The whole number that JSON has.
+// The whole number that JSON has.
 fn whole_number(value: &Value) -> Option<i128>
     ensures { result ≡ option_and_then as_integer (as_number (view value.now)) }
 {
     value.as_number()?.as_i128()
 }
 
-/// The canonical text of an integer that JSON has as a number.
+// The canonical text of an integer that JSON has as a number.
 fn canon_integer(alloc: Global, kind: &IntKind, value: &Value) -> Result<Text, ValueFault>
     ensures answer { Answers
         (canon_of_integer kind.now (option_and_then as_integer (as_number (view value.now)))) result }
@@ -118,7 +118,7 @@ fn canon_integer(alloc: Global, kind: &IntKind, value: &Value) -> Result<Text, V
     }
 }
 
-/// The canonical text of a boolean that JSON has as such.
+// The canonical text of a boolean that JSON has as such.
 fn canon_boolean(alloc: Global, value: &Value) -> Result<Text, ValueFault>
     ensures answer { Answers (canon_of_boolean (as_bool (view value.now))) result }
     ensures canonical { IfOk result (λ canonical. canon_of Kind.Bool canonical ≡ Ok canonical) }
@@ -130,7 +130,7 @@ fn canon_boolean(alloc: Global, value: &Value) -> Result<Text, ValueFault>
     }
 }
 
-/// The empty text, where JSON has `[null]`.
+// The empty text, where JSON has `[null]`.
 fn canon_empty(alloc: Global, value: &Value) -> Result<Text, ValueFault>
     ensures answer { Answers (canon_of_items (as_array (view value.now))) result }
     ensures canonical { IfOk result (λ canonical. canon_of Kind.Empty canonical ≡ Ok canonical) }
@@ -142,7 +142,7 @@ fn canon_empty(alloc: Global, value: &Value) -> Result<Text, ValueFault>
     }
 }
 
-/// Whether JSON has `[null]`.
+// Whether JSON has `[null]`.
 fn is_null_item(value: &Value) -> bool
     ensures { result ≡ is_ok (canon_of_items (as_array (view value.now))) }
 {

@@ -52,10 +52,7 @@ impl Kind {
         match self {
             Kind::Int(kind) => Ok(Kind::Int(kind.copy(alloc)?)),
             Kind::Decimal(digits) => Ok(Kind::Decimal(*digits)),
-            Kind::Str(lengths) => {
-                let lengths = Vec::from_slice(alloc, lengths.as_slice())?;
-                Ok(Kind::Str(Row::from_vec(lengths)))
-            },
+            Kind::Str(lengths) => Ok(Kind::Str(lengths.copy(alloc)?)),
             Kind::Bool => Ok(Kind::Bool),
             Kind::Enum(names) => Ok(Kind::Enum(names.copy(alloc)?)),
             Kind::Empty => Ok(Kind::Empty),

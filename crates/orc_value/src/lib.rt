@@ -11,8 +11,6 @@ mod json;
 mod kind;
 mod numerals;
 mod signs;
-#[cfg(test)]
-mod tests;
 
 pub use canonical::{canon, is_canonical};
 pub use fault::ValueFault;

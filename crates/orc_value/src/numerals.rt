@@ -7,7 +7,7 @@ ghost use Rattle.orc_value.specs.Numerals.{is_numeral, all_digits};
 
 use orc_text::{Memory, Text};
 
-/// What stands behind a leading sign.
+// What stands behind a leading sign.
 pub(crate) fn without_sign(text: &[u8]) -> &[u8]
     ensures { result.now ≡ without_leading_sign text.now }
 {
@@ -17,21 +17,21 @@ pub(crate) fn without_sign(text: &[u8]) -> &[u8]
     }
 }
 
-/// Whether there are digits and nothing else.
+// Whether there are digits and nothing else.
 fn all_digits(text: &[u8]) -> bool
     ensures { result ≡ all_digits text.now }
 {
     text.iter().all(|byte| byte.is_ascii_digit())
 }
 
-/// Whether there is one digit or more, and nothing else.
+// Whether there is one digit or more, and nothing else.
 pub(crate) fn is_numeral(text: &[u8]) -> bool
     ensures { result ≡ is_numeral text.now }
 {
     !text.is_empty() && all_digits(text)
 }
 
-/// The number with a further digit, where it has 64 bits.
+// The number with a further digit, where it has 64 bits.
 fn with_digit(number: u64, digit: u8) -> Option<u64>
     requires { IsTrue (is_ascii_digit digit) }
     ensures { SomeIff result (number * 10 + (digit - 48) < 2 ^ 64) (number * 10 + (digit - 48)) }
@@ -39,7 +39,7 @@ fn with_digit(number: u64, digit: u8) -> Option<u64>
     number.checked_mul(10)?.checked_add(u64::from(digit - b'0'))
 }
 
-/// The number that the digits write behind those of `start`, where it has 64 bits.
+// The number that the digits write behind those of `start`, where it has 64 bits.
 pub(crate) fn read_on(start: u64, digits: &[u8]) -> Option<u64>
     requires { IsTrue (all_digits digits.now) }
     ensures { SomeIff result (digits_value_after 10 start digits.now < 2 ^ 64)
@@ -52,7 +52,7 @@ pub(crate) fn read_on(start: u64, digits: &[u8]) -> Option<u64>
     Some(number)
 }
 
-/// Writes one decimal digit.
+// Writes one decimal digit.
 pub(crate) fn push_digit(text: &mut Text, digit: u64) -> Result<(), Memory>
     requires { digit < 10 }
     ensures { OnOk result (text.new ≡ text.old ++ (48 + digit) ∷ []) }
@@ -60,7 +60,7 @@ pub(crate) fn push_digit(text: &mut Text, digit: u64) -> Result<(), Memory>
     text.push(char::from(b'0' + digit as u8))
 }
 
-/// Writes the decimal digits of a number.
+// Writes the decimal digits of a number.
 pub(crate) fn push_decimal(text: &mut Text, number: u64) -> Result<(), Memory>
     ensures { OnOk result (text.new ≡ text.old ++ decimal number) }
 {
@@ -71,7 +71,7 @@ pub(crate) fn push_decimal(text: &mut Text, number: u64) -> Result<(), Memory>
     push_digit(text, number % 10)
 }
 
-/// Whether the text is the decimal digits of a number.
+// Whether the text is the decimal digits of a number.
 pub(crate) fn is_decimal_of(text: &[u8], number: u64) -> bool
     ensures { IsTrue result ↔ (text.now ≡ decimal number) }
 {

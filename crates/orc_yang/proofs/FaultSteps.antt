@@ -12,12 +12,12 @@ use Rattle.orc_yang.specs.declared.character.Character.{Character}
 use Rattle.orc_yang.specs.declared.parser.Frame.{Frame}
 use Rattle.orc_yang.specs.Sorts.{sort_of}
 use Rattle.orc_yang.specs.Quoted.{is_escape}
-use Rattle.orc_yang.specs.Faults.{CanFollow, TakesComment, is_quote, is_double_quote, is_backslash, is_star, is_slash, Stops, IsPlace, FaultOf}
+use Rattle.orc_yang.specs.Faults.{CanFollow, TakesComment, is_quote, is_double_quote, is_backslash, is_star, is_slash, IsFirstMisfit, IsPlace}
 use Rattle.orc_yang.specs.Machine as machine
 use Rattle.orc_yang.specs.Machine.{Head, Spot, Between, Keyed, Worded, Strung, Joining, Work, Gap, Slashed, InLine, InBlock, BehindStar, InKeyword, BehindColon, InSecond, Lone, WordSlash, WordStar, InWord, InSingle, InDouble, BehindBackslash, State, Fed, run, feed, feed_work, fed}
 use Rattle.orc_yang.proofs.Viable.{pending}
 use Rattle.orc_yang.proofs.Faults.{character, Came, begins, stops_err, stops_doomed, can_follow, S, takes_keyed, takes_joining, takes_gap, takes_first, takes_second, escaping, not_escaping}
-use Rattle.orc_yang.proofs.Openings.{OpenSingle, OpenDouble, OpenComment, OpenSlash, Opened, Pends, pends_none, After, single_more, double_more, double_escaped, comment_more, comment_star, single_opens, double_opens, slash_opens, comment_opens, pends_more}
+use Rattle.orc_yang.proofs.Openings.{OpenSingle, OpenDouble, OpenComment, OpenSlash, Opened, Pends, pends_none, After, single_more, double_more, double_escaped, comment_more, comment_star, single_opens, double_opens, slash_opens, comment_opens, pends_more, Found}
 
 module _ (front : List ℕ) (c : ℕ) (after : List ℕ) (done : List Stmt) where
   abbrev at : ℕ
@@ -36,11 +36,11 @@ module _ (front : List ℕ) (c : ℕ) (after : List ℕ) (done : List Stmt) wher
     abbrev N : Work → Type 0
     N v = (h : Head) (a : List ℕ) (o column : ℕ) (raw : List ℕ) → v ≡ BehindBackslash h a o column raw None → ⊥
 
-    halts : (v : Work) (w : C v) (f : YangFault) → pending v ≡ None → F v w ≡ Err f → Stops (front ++ c ∷ after) front c
-    halts v w f q e = record { after = after; is = refl; begins = begins front (S done frames v) w q; stops = stops_err front (S done frames v) w c f e }
+    halts : (v : Work) (w : C v) (f : YangFault) → pending v ≡ None → F v w ≡ Err f → IsFirstMisfit (front ++ c ∷ after) front c
+    halts v w f q e = record { after = after; is = refl; opens = begins front (S done frames v) w q; misfits = stops_err front (S done frames v) w c f e }
 
     bad_fault : (v : Work) (w : C v) → pending v ≡ None → N v → F v w ≡ Err (BadToken at) → (sort_of c ≡ OpenBrace → CanFollow front 59 → ⊥) → (sort_of c ≡ Forbidden → CanFollow front 128 → ⊥)
-        → FaultOf (front ++ c ∷ after) (BadToken at)
+        → Found (front ++ c ∷ after) (BadToken at)
     bad_fault v w q n e b b' = (front, c, halts v w (BadToken at) q e, inl (refl, b'), not_escaping front done frames v q n w, b)
 
     last_place : sort_of c ≡ Forbidden → CanFollow front 128 → IsPlace front c (at + length (encode_utf8 c) - 1)
@@ -53,7 +53,7 @@ module _ (front : List ℕ) (c : ℕ) (after : List ℕ) (done : List Stmt) wher
     not_forbidden k n e q b = n (sym e ∙ q)
 
     cut_fault : (v : Work) (w : C v) → pending v ≡ None → N v → F v w ≡ Err (BadToken (at + length (encode_utf8 c) - 1)) → sort_of c ≡ Forbidden → CanFollow front 128
-        → FaultOf (front ++ c ∷ after) (BadToken (at + length (encode_utf8 c) - 1))
+        → Found (front ++ c ∷ after) (BadToken (at + length (encode_utf8 c) - 1))
     cut_fault v w q n e k b =
         (front, c, halts v w (BadToken (at + length (encode_utf8 c) - 1)) q e, last_place k b, not_escaping front done frames v q n w, not_brace Forbidden (λ z. cc) k)
 
@@ -123,29 +123,29 @@ module _ (front : List ℕ) (c : ℕ) (after : List ℕ) (done : List Stmt) wher
     slashed_work spot o w op OpenBrace e = bad_fault (Slashed spot o) w refl (λ h a o column raw i. cc) (f_is (Slashed spot o) w OpenBrace e) (λ q b. stops_err front _ w 59 _ refl b) (λ q b. stops_err front _ w 128 _ refl b)
     slashed_work spot o w op k e = bad_fault (Slashed spot o) w refl (λ h a o column raw i. cc) (f_is (Slashed spot o) w k e) (not_brace k (λ i. cc) e) (λ q b. stops_err front _ w 128 _ refl b)
 
-    line_work : (spot : Spot) (w : C (InLine spot)) (k : Sort) → sort_of c ≡ k → After front c after (machine.in_line k spot (S done frames (InLine spot)) (x (InLine spot) w))
+    line_work : (spot : Spot) (w : C (InLine spot)) (k : Sort) → sort_of c ≡ k → After front c after (machine.feed_line k spot (S done frames (InLine spot)) (x (InLine spot) w))
     line_work spot w LineFeed e = (tt, none)
     line_work spot w Forbidden e = cut_fault (InLine spot) w refl (λ h a o column raw i. cc) (f_is (InLine spot) w Forbidden e) e (can_follow front _ _ w 128 refl refl)
     line_work spot w _ e = (tt, none)
 
     -- a fault in a string or comment waits for its end
     spoils : (v : Work) (w : C v) (t : State) (f : YangFault) → pending v ≡ None → N v → F v w ≡ Ok t → pending t.work ≡ Some (BadToken (at + length (encode_utf8 c) - 1)) → sort_of c ≡ Forbidden → CanFollow front 128
-        → Some (BadToken (at + length (encode_utf8 c) - 1)) ≡ Some f → (rest : List ℕ) → FaultOf ((front ++ c ∷ []) ++ rest) f
+        → Some (BadToken (at + length (encode_utf8 c) - 1)) ≡ Some f → (rest : List ℕ) → Found ((front ++ c ∷ []) ++ rest) f
     spoils v w t f q n e p k b i rest =
         let g = BadToken (at + length (encode_utf8 c) - 1) in
         let j : g ≡ f = cc in
-        let P : YangFault → Type 0 = λ h. FaultOf ((front ++ c ∷ []) ++ rest) h in
+        let P : YangFault → Type 0 = λ h. Found ((front ++ c ∷ []) ++ rest) h in
         subst P j (
           front,
           c,
-          record { after = rest; is = append_assoc front (c ∷ []) rest; begins = begins front (S done frames v) w q; stops = stops_doomed front (S done frames v) t w c g e p },
+          record { after = rest; is = append_assoc front (c ∷ []) rest; opens = begins front (S done frames v) w q; misfits = stops_doomed front (S done frames v) t w c g e p },
           last_place k b,
           not_escaping front done frames v q n w,
           not_brace Forbidden (λ z. cc) k,
         )
 
     block_work : (spot : Spot) (o : ℕ) (p : Option YangFault) (w : C (InBlock spot o p)) → OpenComment false front o → Pends front p → (k : Sort) → sort_of c ≡ k
-        → After front c after (machine.in_block k spot o p (S done frames (InBlock spot o p)) (x (InBlock spot o p) w))
+        → After front c after (machine.feed_block k spot o p (S done frames (InBlock spot o p)) (x (InBlock spot o p) w))
     block_work spot o p w op ps Star e = (comment_more front c true (ap is_star e) op, pends_more front c p ps)
     block_work spot o None w op ps Forbidden e =
         (comment_more front c false (ap is_star e) op, λ f i rest. spoils (InBlock spot o None) w _ f refl (λ h a o column raw i. cc) (f_is (InBlock spot o None) w Forbidden e) refl e (can_follow front _ _ w 128 refl refl) i rest)
@@ -157,7 +157,7 @@ module _ (front : List ℕ) (c : ℕ) (after : List ℕ) (done : List Stmt) wher
     unspoilt (Some f) t ps o q = ps f refl (c ∷ after)
 
     star_work : (spot : Spot) (o : ℕ) (p : Option YangFault) (w : C (BehindStar spot o p)) → OpenComment true front o → Pends front p → (k : Sort) → sort_of c ≡ k
-        → After front c after (machine.behind_star k spot o p (S done frames (BehindStar spot o p)) (x (BehindStar spot o p) w))
+        → After front c after (machine.feed_star k spot o p (S done frames (BehindStar spot o p)) (x (BehindStar spot o p) w))
     star_work spot o p w op ps Slash e = unspoilt p (S done frames (Gap spot)) ps tt refl
     star_work spot o p w op ps Star e = (comment_star front c true (ap is_slash e) (ap is_star e) op, pends_more front c p ps)
     star_work spot o None w op ps Forbidden e =
@@ -174,25 +174,25 @@ module _ (front : List ℕ) (c : ℕ) (after : List ℕ) (done : List Stmt) wher
     end_key h v w q n t s b OpenBrace e fe = enters (nat_lt (length frames) 32) _ v w q refl tt fe s e
     end_key h v w q n t s b k e fe = bad_fault v w q n fe (not_brace k (λ i. cc) e) (λ q'. b)
 
-    keyword_work : (h : Head) (w : C (InKeyword h)) (k : Sort) → sort_of c ≡ k → After front c after (machine.in_keyword k h (S done frames (InKeyword h)) (x (InKeyword h) w))
+    keyword_work : (h : Head) (w : C (InKeyword h)) (k : Sort) → sort_of c ≡ k → After front c after (machine.feed_keyword k h (S done frames (InKeyword h)) (x (InKeyword h) w))
     keyword_work h w Start e = (tt, none)
     keyword_work h w Inner e = (tt, none)
     keyword_work h w Colon e = (tt, none)
     keyword_work h w k e = end_key h (InKeyword h) w refl (λ h a o column raw i. cc) (takes_first front done frames h w) (can_follow front _ _ w 59 refl refl) (λ b. stops_err front _ w 128 _ refl b) k e (f_is (InKeyword h) w k e)
 
-    second_work : (h : Head) (w : C (InSecond h)) (k : Sort) → sort_of c ≡ k → After front c after (machine.in_second k h (S done frames (InSecond h)) (x (InSecond h) w))
+    second_work : (h : Head) (w : C (InSecond h)) (k : Sort) → sort_of c ≡ k → After front c after (machine.feed_second k h (S done frames (InSecond h)) (x (InSecond h) w))
     second_work h w Start e = (tt, none)
     second_work h w Inner e = (tt, none)
     second_work h w k e = end_key h (InSecond h) w refl (λ h a o column raw i. cc) (takes_second front done frames h w) (can_follow front _ _ w 59 refl refl) (λ b. stops_err front _ w 128 _ refl b) k e (f_is (InSecond h) w k e)
 
-    colon_work : (h : Head) (w : C (BehindColon h)) (k : Sort) → sort_of c ≡ k → After front c after (machine.behind_colon k h (S done frames (BehindColon h)) (x (BehindColon h) w))
+    colon_work : (h : Head) (w : C (BehindColon h)) (k : Sort) → sort_of c ≡ k → After front c after (machine.feed_colon k h (S done frames (BehindColon h)) (x (BehindColon h) w))
     colon_work h w Start e = (tt, none)
     colon_work h w OpenBrace e = bad_fault (BehindColon h) w refl (λ h a o column raw i. cc) (f_is (BehindColon h) w OpenBrace e) (λ q b. stops_err front _ w 59 _ refl b) (λ q b. stops_err front _ w 128 _ refl b)
     colon_work h w k e = bad_fault (BehindColon h) w refl (λ h a o column raw i. cc) (f_is (BehindColon h) w k e) (not_brace k (λ i. cc) e) (λ q b. stops_err front _ w 128 _ refl b)
 
     -- in an unquoted string, whatever its last character was
     word_work : (h : Head) (a : List ℕ) (v : Work) (w : C v) → pending v ≡ None → N v → CanFollow front 59 → CanFollow front 128 → (k : Sort) → sort_of c ≡ k
-        → F v w ≡ machine.in_word k h a (S done frames v) (x v w) → After front c after (machine.in_word k h a (S done frames v) (x v w))
+        → F v w ≡ machine.feed_word k h a (S done frames v) (x v w) → After front c after (machine.feed_word k h a (S done frames v) (x v w))
     word_work h a v w q n s b LineFeed e fe = (tt, none)
     word_work h a v w q n s b Blank e fe = (tt, none)
     word_work h a v w q n s b Semicolon e fe = (tt, none)
@@ -210,7 +210,7 @@ module _ (front : List ℕ) (c : ℕ) (after : List ℕ) (done : List Stmt) wher
     lone_work h a o w op Star e = (comment_opens front c done frames e op, none)
     lone_work h a o w op k e = word_work h a (Lone h a o) w refl (λ h a o column raw i. cc) (can_follow front _ _ w 59 refl refl) (can_follow front _ _ w 128 refl refl) k e (f_is (Lone h a o) w k e)
 
-    bad_mark : (v : Work) (w : C v) → pending v ≡ None → N v → F v w ≡ Err (BadToken at) → (k : Sort) → (k ≡ OpenBrace → ⊥) → (k ≡ Forbidden → ⊥) → sort_of c ≡ k → FaultOf (front ++ c ∷ after) (BadToken at)
+    bad_mark : (v : Work) (w : C v) → pending v ≡ None → N v → F v w ≡ Err (BadToken at) → (k : Sort) → (k ≡ OpenBrace → ⊥) → (k ≡ Forbidden → ⊥) → sort_of c ≡ k → Found (front ++ c ∷ after) (BadToken at)
     bad_mark v w q n fe k z z' e = bad_fault v w q n fe (not_brace k z e) (not_forbidden k z' e)
 
     word_slash : (h : Head) (a : List ℕ) (w : C (WordSlash h a)) → (k : Sort) → sort_of c ≡ k → After front c after (machine.word_slash k h a (S done frames (WordSlash h a)) (x (WordSlash h a) w))
@@ -223,7 +223,7 @@ module _ (front : List ℕ) (c : ℕ) (after : List ℕ) (done : List Stmt) wher
     word_star h a w k e = word_work h a (WordStar h a) w refl (λ h a o column raw i. cc) (can_follow front _ _ w 59 refl refl) (can_follow front _ _ w 128 refl refl) k e (f_is (WordStar h a) w k e)
 
     single_work : (h : Head) (a : List ℕ) (o : ℕ) (p : Option YangFault) (w : C (InSingle h a o p)) → OpenSingle front o → Pends front p → (k : Sort) → sort_of c ≡ k
-        → After front c after (machine.in_single k h a o p (S done frames (InSingle h a o p)) (x (InSingle h a o p) w))
+        → After front c after (machine.feed_single k h a o p (S done frames (InSingle h a o p)) (x (InSingle h a o p) w))
     single_work h a o p w op ps SingleQuote e = unspoilt p (S done frames (Gap (Strung h a))) ps tt refl
     single_work h a o None w op ps Forbidden e =
         (single_more front c (ap is_quote e) op, λ f i rest. spoils (InSingle h a o None) w _ f refl (λ h a o column raw i. cc) (f_is (InSingle h a o None) w Forbidden e) refl e (can_follow front _ _ w 128 refl refl) i rest)
@@ -231,7 +231,7 @@ module _ (front : List ℕ) (c : ℕ) (after : List ℕ) (done : List Stmt) wher
     single_work h a o p w op ps _ e = (single_more front c (ap is_quote e) op, pends_more front c p ps)
 
     double_work : (h : Head) (a : List ℕ) (o column : ℕ) (raw : List ℕ) (p : Option YangFault) (w : C (InDouble h a o column raw p)) → OpenDouble false front o → Pends front p → (k : Sort) → sort_of c ≡ k
-        → After front c after (machine.in_double k h a o column raw p (S done frames (InDouble h a o column raw p)) (x (InDouble h a o column raw p) w))
+        → After front c after (machine.feed_double k h a o column raw p (S done frames (InDouble h a o column raw p)) (x (InDouble h a o column raw p) w))
     double_work h a o column raw p w op ps DoubleQuote e = unspoilt p (S done frames _) ps tt refl
     double_work h a o column raw p w op ps Backslash e = (double_more front c true (ap is_double_quote e) (ap is_backslash e) op, pends_more front c p ps)
     double_work h a o column raw None w op ps Forbidden e = (
@@ -249,19 +249,19 @@ module _ (front : List ℕ) (c : ℕ) (after : List ℕ) (done : List Stmt) wher
     escape_pends h a o column raw None w ps false e = λ f i rest.
         let g = BadEscape (at - 1) in
         let j : g ≡ f = cc in
-        let P : YangFault → Type 0 = λ h. FaultOf ((front ++ c ∷ []) ++ rest) h in
+        let P : YangFault → Type 0 = λ h. Found ((front ++ c ∷ []) ++ rest) h in
         let v = BehindBackslash h a o column raw None in
         let q : cond (is_escape c) None (Some g) ≡ Some g = ap (λ b. cond b None (Some g)) e in
         subst P j (
           front,
           c,
-          record { after = rest; is = append_assoc front (c ∷ []) rest; begins = begins front (S done frames v) w refl; stops = stops_doomed front (S done frames v) _ w c g refl q },
+          record { after = rest; is = append_assoc front (c ∷ []) rest; opens = begins front (S done frames v) w refl; misfits = stops_doomed front (S done frames v) _ w c g refl q },
           escaping front done frames h a o column raw w,
           refl,
         )
 
     backslash_work : (h : Head) (a : List ℕ) (o column : ℕ) (raw : List ℕ) (p : Option YangFault) (w : C (BehindBackslash h a o column raw p)) → OpenDouble true front o → Pends front p
-        → After front c after (machine.behind_backslash h a o column raw p (S done frames (BehindBackslash h a o column raw p)) (x (BehindBackslash h a o column raw p) w))
+        → After front c after (machine.feed_backslash h a o column raw p (S done frames (BehindBackslash h a o column raw p)) (x (BehindBackslash h a o column raw p) w))
     backslash_work h a o column raw p w op ps = (double_escaped front c op, escape_pends h a o column raw p w ps (is_escape c) refl)
 
   -- a closing brace

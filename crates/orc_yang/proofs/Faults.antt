@@ -10,7 +10,7 @@ use Rattle.orc_yang.specs.declared.statement.Stmt.{Stmt}
 use Rattle.orc_yang.specs.declared.character.Character.{Character}
 use Rattle.orc_yang.specs.declared.parser.Frame.{Frame}
 use Rattle.orc_yang.specs.Text.{placed, next_column}
-use Rattle.orc_yang.specs.Faults.{Begins, CanFollow, IsEscaping, TakesString, TakesComment}
+use Rattle.orc_yang.specs.Faults.{CanOpen, CanFollow, IsEscaping, TakesString, TakesComment}
 use Rattle.orc_yang.specs.Machine.{Head, Spot, Between, Keyed, Worded, Strung, Joining, Work, Gap, Slashed, InLine, InBlock, BehindStar, InKeyword, BehindColon, InSecond, Lone, WordSlash, WordStar, InWord, InSingle, InDouble, BehindBackslash, State, run, feed, feed_work, fed, start}
 use Rattle.orc_yang.proofs.Complete.{complete}
 use Rattle.orc_yang.proofs.Rests.{Rest}
@@ -44,17 +44,17 @@ came_more front s t w c e = record {
 
 -- what an accepted end says of the front
 pub begins_by : (front : List ℕ) (s : State) → Came front s → (cs more : List ℕ) (list : List Stmt) → all_scalars more ≡ true
-    → ((at column end : ℕ) → run (placed at column (cs ++ more)) s end ≡ Ok list) → Begins (front ++ cs)
+    → ((at column end : ℕ) → run (placed at column (cs ++ more)) s end ≡ Ok list) → CanOpen (front ++ cs)
 begins_by front s w cs more list q h =
     (more, list, q, sound 0 (ap (λ l. run (placed 0 1 l) start 0) (append_assoc front cs more) ∙ (w.goes (cs ++ more) 0 ∙ h (length (encode_utf8_all front)) w.column 0)))
 
 pub refused_by : (front : List ℕ) (s : State) → Came front s → (cs : List ℕ) → ((at column end : ℕ) (more : List ℕ) (list : List Stmt) → run (placed at column (cs ++ more)) s end ≡ Ok list → ⊥)
-    → Begins (front ++ cs) → ⊥
+    → CanOpen (front ++ cs) → ⊥
 refused_by front s w cs h b =
     h (length (encode_utf8_all front)) w.column 0 b.0 b.1
     (sym (w.goes (cs ++ b.0) 0) ∙ (ap (λ l. run (placed 0 1 l) start 0) (sym (append_assoc front cs b.0)) ∙ complete 0 b.3))
 
-pub begins : (front : List ℕ) (s : State) → Came front s → pending s.work ≡ None → Begins front
+pub begins : (front : List ℕ) (s : State) → Came front s → pending s.work ≡ None → CanOpen front
 begins front s w q =
     let a = accepts s q in
     (a.0, a.1, a.2, sound 0 (w.goes a.0 0 ∙ a.3 (length (encode_utf8_all front)) w.column 0))
@@ -122,7 +122,7 @@ module _ (front : List ℕ) (done : List Stmt) (frames : List Frame) where
       let w4 = came_more (((front ++ 47 ∷ []) ++ 42 ∷ []) ++ 42 ∷ []) _ (S done frames (Gap spot)) w3 47 refl in
       let b = begins ((((front ++ 47 ∷ []) ++ 42 ∷ []) ++ 42 ∷ []) ++ 47 ∷ []) _ w4 refl in
       let q : (((front ++ 47 ∷ []) ++ 42 ∷ []) ++ 42 ∷ []) ++ 47 ∷ [] ≡ front ++ 47 ∷ 42 ∷ 42 ∷ 47 ∷ [] = simp append_assoc in
-      (subst Begins q b, λ b'. stops_err (front ++ 47 ∷ []) _ w 125 _ (e' _) (ungrouped Begins (47 ∷ []) (125 ∷ []) b'))
+      (subst CanOpen q b, λ b'. stops_err (front ++ 47 ∷ []) _ w 125 _ (e' _) (ungrouped CanOpen (47 ∷ []) (125 ∷ []) b'))
 
   pub takes_gap : (spot : Spot) → Came front (S done frames (Gap spot)) → TakesComment front
   takes_gap Between w = takes_slashed (Slashed Between _) Between _ (came_more front _ _ w 47 refl) (λ x. refl) (λ x. refl)

@@ -178,7 +178,7 @@ module _ (done : List Stmt) (frames : List Frame) (list : List Stmt) where
   back_joining SingleQuote h a x xs e r = single_next h a x xs e r.1
   back_joining _ h a x xs e r = absurd r
 
-  pub back_gap : (spot : Spot) (k : Sort) (x : Character) (xs : List Character) → Is k x → RestFed list xs (machine.in_gap spot k (S (Gap spot)) x) → R (Gap spot) (x ∷ xs)
+  pub back_gap : (spot : Spot) (k : Sort) (x : Character) (xs : List Character) → Is k x → RestFed list xs (machine.feed_gap spot k (S (Gap spot)) x) → R (Gap spot) (x ∷ xs)
   back_gap Between k x xs e r = back_between k x xs e r
   back_gap (Keyed h) k x xs e r = back_keyed k h x xs e r
   back_gap (Worded h a) k x xs e r = back_worded k h a x xs e r

@@ -1,4 +1,3 @@
-mod Values
 mod GapWays
 mod Complete
 mod Rests
@@ -15,3 +14,4 @@ mod Unclosed
 mod OneFault
 mod Wanting
 mod Spelling
+mod Parsed

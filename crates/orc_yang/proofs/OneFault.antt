@@ -8,7 +8,7 @@ use Rattle.orc_yang.specs.declared.fault.YangFault.TheVariants.{NotUtf8, BadToke
 use Rattle.orc_yang.specs.declared.statement.Stmt.{Stmt}
 use Rattle.orc_yang.specs.declared.parser.Frame.{Frame}
 use Rattle.orc_yang.specs.Sorts.{sort_of}
-use Rattle.orc_yang.specs.Faults.{Begins, CanFollow, IsEscaping, Stops, IsPlace, FaultOf, IsFault}
+use Rattle.orc_yang.specs.Faults.{CanOpen, CanFollow, IsEscaping, IsFirstMisfit, IsPlace, FaultOf, IsFault}
 use Rattle.orc_yang.specs.Laws.{GoesFirst}
 use Rattle.orc_yang.specs.Machine.{Work, BehindBackslash}
 use Rattle.orc_yang.proofs.Viable.{pending}
@@ -16,7 +16,7 @@ use Rattle.orc_yang.proofs.Faults.{Came, begins, stops_doomed, not_escaping, S}
 use Rattle.orc_yang.proofs.Unclosed.{comes}
 
 -- what begins a beginning is one
-shrinks : (xs ys : List ℕ) → Begins (xs ++ ys) → Begins xs
+shrinks : (xs ys : List ℕ) → CanOpen (xs ++ ys) → CanOpen xs
 shrinks xs ys b = let s = comes xs ys b in begins xs s.state s.came s.clean
 
 -- the longest beginning of a text, and what follows it
@@ -52,8 +52,8 @@ one_place front c at other (inr (e, k, b)) (inl (e', n')) = absurd (n' k b)
 one_place front c at other (inr (e, k, b)) (inr (e', k', b')) = omega (arith, e, e')
 
 module _ (text : List ℕ) where
-  same_stop : (front other : List ℕ) (c d : ℕ) → Stops text front c → Stops text other d → (front ≡ other) × (c ≡ d)
-  same_stop front other c d s t = one_stop (λ l. Begins l) shrinks front other s.after t.after c d (sym s.is ∙ t.is) s.begins t.begins s.stops t.stops
+  same_stop : (front other : List ℕ) (c d : ℕ) → IsFirstMisfit text front c → IsFirstMisfit text other d → (front ≡ other) × (c ≡ d)
+  same_stop front other c d s t = one_stop (λ l. CanOpen l) shrinks front other s.after t.after c d (sym s.is ∙ t.is) s.opens t.opens s.misfits t.misfits
 
   token_token : (a b : ℕ) → FaultOf text (BadToken a) → FaultOf text (BadToken b) → BadToken a ≡ BadToken b
   token_token a b (f, c, s, p, n, z) (g, d, t, p', n', z') =
@@ -83,9 +83,9 @@ module _ (text : List ℕ) where
   block_block a b x y = ap OpenBlock (x.0 ∙ sym y.0)
 
   -- a text that begins one of statements stops nowhere
-  block_stops : {A : Type 0} (f : List ℕ) (c : ℕ) → Begins text → Stops text f c → A
+  block_stops : {A : Type 0} (f : List ℕ) (c : ℕ) → CanOpen text → IsFirstMisfit text f c → A
   block_stops f c b s =
-      absurd (s.stops (shrinks (f ++ c ∷ []) s.after (subst (λ l. Begins l) (s.is ∙ sym (append_assoc f (c ∷ []) s.after)) b)))
+      absurd (s.misfits (shrinks (f ++ c ∷ []) s.after (subst (λ l. CanOpen l) (s.is ∙ sym (append_assoc f (c ∷ []) s.after)) b)))
 
   same : (f g : YangFault) → FaultOf text f → FaultOf text g → f ≢ Memory → g ≢ Memory → ((at : ℕ) → f ≢ OpenString at) → ((at : ℕ) → g ≢ OpenString at) → f ≡ g
   same (NotUtf8 a) g x y nf ng of og = absurd x

@@ -3,6 +3,7 @@ use Rattle.std.proofs.Common.{◌≡◌, ℕ, ◌||◌, Bool, true, false, List,
 use Rattle.std.specs.Str.{encode_utf8_all}
 use Rattle.orc_yang.specs.declared.character.Sort.TheVariants.{DoubleQuote, SingleQuote, Slash, Star}
 use Rattle.orc_yang.specs.declared.fault.YangFault.{YangFault}
+use Rattle.orc_yang.specs.declared.fault.YangFault.TheVariants.{NotUtf8, BadToken, BadEscape, OpenString, OpenBlock, Depth, Memory}
 use Rattle.orc_yang.specs.declared.statement.Stmt.{Stmt}
 use Rattle.orc_yang.specs.declared.parser.Frame.{Frame}
 use Rattle.orc_yang.specs.Sorts.{sort_of}
@@ -64,9 +65,19 @@ Opened front (InDouble h a o column raw p) = OpenDouble false front o
 Opened front (BehindBackslash h a o column raw p) = OpenDouble true front o
 Opened front _ = Unit {0}
 
+-- the meaning of a fault that the machine finds, which is no want of memory
+abbrev pub Found : List ℕ → YangFault → Type 0
+Found text Memory = ⊥
+Found text (NotUtf8 at) = ⊥
+Found text (BadToken at) = FaultOf text (BadToken at)
+Found text (BadEscape at) = FaultOf text (BadEscape at)
+Found text (OpenString at) = FaultOf text (OpenString at)
+Found text (OpenBlock at) = FaultOf text (OpenBlock at)
+Found text (Depth at) = FaultOf text (Depth at)
+
 -- what waits for the end of a string or comment is the fault of each text that begins so
 abbrev pub Pends : List ℕ → Option YangFault → Type 0
-Pends front p = (f : YangFault) → p ≡ Some f → (rest : List ℕ) → FaultOf (front ++ rest) f
+Pends front p = (f : YangFault) → p ≡ Some f → (rest : List ℕ) → Found (front ++ rest) f
 
 pub pends_none : (front : List ℕ) → Pends front None
 pends_none front = λ f e rest. cc
@@ -74,7 +85,7 @@ pends_none front = λ f e rest. cc
 -- what a step makes
 abbrev pub After : List ℕ → ℕ → List ℕ → Fed → Type 0
 After front c after (Ok t) = Opened (front ++ c ∷ []) t.work × Pends (front ++ c ∷ []) (pending t.work)
-After front c after (Err f) = FaultOf (front ++ c ∷ after) f
+After front c after (Err f) = Found (front ++ c ∷ after) f
 
 module _ (front : List ℕ) (c : ℕ) where
   pub single_more : {o : ℕ} → is_quote (sort_of c) ≡ false → OpenSingle front o → OpenSingle (front ++ c ∷ []) o
@@ -168,4 +179,4 @@ module _ (front : List ℕ) (c : ℕ) (done : List Stmt) (frames : List Frame) w
 
 pub pends_more : (front : List ℕ) (c : ℕ) (p : Option YangFault) → Pends front p → Pends (front ++ c ∷ []) p
 pends_more front c p ps f q rest =
-    let P : List ℕ → Type 0 = λ l. FaultOf l f in subst P (sym (append_assoc front (c ∷ []) rest)) (ps f q (c ∷ rest))
+    let P : List ℕ → Type 0 = λ l. Found l f in subst P (sym (append_assoc front (c ∷ []) rest)) (ps f q (c ∷ rest))

@@ -3,6 +3,7 @@ use Rattle.std.proofs.Common.{◌≡◌, ℕ, ◌+◌, ◌-◌, ◌*◌, ◌<◌
 use Rattle.std.specs.Char.{encode_utf8}
 use Rattle.std.specs.Str.{chars, IsUtf8, encode_utf8_all}
 use Rattle.std.proofs.lemmas.Str.{chars-encodes}
+use Rattle.std.proofs.lemmas.List.{at_drop_more}
 use Rattle.std.proofs.Math.Seq.{drop-length}
 use Rattle.orc_yang.specs.declared.fault.YangFault.{YangFault}
 use Rattle.orc_yang.specs.declared.fault.YangFault.TheVariants.{NotUtf8, BadToken, BadEscape, OpenString, OpenBlock, Depth, Memory}
@@ -11,16 +12,19 @@ use Rattle.orc_yang.specs.declared.character.Character.{Character}
 use Rattle.orc_yang.specs.Text.{placed, next_column}
 use Rattle.orc_yang.specs.Machine.{State, Fed, run, feed, fed, finish}
 use Rattle.orc_yang.specs.Sorts.{sort_of}
-use Rattle.orc_yang.specs.View.{Fails}
-use Rattle.orc_yang.specs.Wanting.{MayTake, Wants}
-use Rattle.orc_yang.proofs.Values.{next_is}
+use Rattle.orc_yang.specs.Parsing.{FailsWith}
+use Rattle.orc_yang.specs.inside.Wanting.{MayTake, RunMayTake}
+
+-- what follows an index, from the item there on
+next_is : (xs : List ℕ) (i x : ℕ) → i < length xs → x ≡ get_or xs i x → drop i xs ≡ x ∷ drop (i + 1) xs
+next_is xs i x below is = at_drop_more (λ rest. rest) xs i x below ∙ ap (λ y. y ∷ drop (i + 1) xs) (sym is)
 
 -- the character at n, where a text has come to this place and column
 abbrev pub character : ℕ → ℕ → ℕ → ℕ → Character
 character at len column c = record { code = c; at = at; last = at + len - 1; column = column }
 
 -- a fault of a step is a fault of the whole
-pub fails_on : (fault : YangFault) (answer : Fed) (next : State → Result (List Stmt) YangFault) → Fails answer fault → Fails (fed answer next) fault
+pub fails_on : (fault : YangFault) (answer : Fed) (next : State → Result (List Stmt) YangFault) → FailsWith answer fault → FailsWith (fed answer next) fault
 fails_on Memory answer next h = tt
 fails_on (NotUtf8 at) answer next h = ap (λ a. fed a next) h
 fails_on (BadToken at) answer next h = ap (λ a. fed a next) h
@@ -51,20 +55,20 @@ module _ (cs : List ℕ) (n c at len column end : ℕ) (found : (n < length cs) 
       ap (λ r. run (placed (at + len) (next_column c column) (drop r cs)) t end) q
       ∙ (sym (one s ∙ ap (λ a. fed a (λ t. run (placed (at + len) (next_column c column) (drop (n + 1) cs)) t end)) e) ∙ h)
 
-  pub fault_turn : (s : State) (fault : YangFault) (whole : Result (List Stmt) YangFault) → run (placed at column (drop n cs)) s end ≡ whole → Fails (feed s (character at len column c)) fault → Fails whole fault
+  pub fault_turn : (s : State) (fault : YangFault) (whole : Result (List Stmt) YangFault) → run (placed at column (drop n cs)) s end ≡ whole → FailsWith (feed s (character at len column c)) fault → FailsWith whole fault
   fault_turn s fault whole h f =
-      let P : Result (List Stmt) YangFault → Type 0 = λ a. Fails a fault in
+      let P : Result (List Stmt) YangFault → Type 0 = λ a. FailsWith a fault in
       subst P (sym (one s) ∙ h) (fails_on fault _ (λ t. run (placed (at + len) (next_column c column) (drop (n + 1) cs)) t end) f)
 
   -- a step that wants memory, and one behind which it is wanted
-  pub wants_here : (s : State) → MayTake s.work s.frames (sort_of c) → Wants (placed at column (drop n cs)) s
-  wants_here s h = let P : List ℕ → Type 0 = λ r. Wants (placed at column r) s in subst P (sym here) (inl h)
+  pub wants_here : (s : State) → MayTake s.work s.frames (sort_of c) → RunMayTake (placed at column (drop n cs)) s
+  wants_here s h = let P : List ℕ → Type 0 = λ r. RunMayTake (placed at column r) s in subst P (sym here) (inl h)
 
-  pub wants_turn : (s t : State) (m : ℕ) → m ≡ n + 1 → feed s (character at len column c) ≡ Ok t → Wants (placed (at + len) (next_column c column) (drop m cs)) t → Wants (placed at column (drop n cs)) s
+  pub wants_turn : (s t : State) (m : ℕ) → m ≡ n + 1 → feed s (character at len column c) ≡ Ok t → RunMayTake (placed (at + len) (next_column c column) (drop m cs)) t → RunMayTake (placed at column (drop n cs)) s
   wants_turn s t m q e h =
-      let P : List ℕ → Type 0 = λ r. Wants (placed at column r) s in
-      let Q : ℕ → Type 0 = λ l. feed s (character at l column c) ≡ Ok t → Wants (placed (at + l) (next_column c column) (drop (n + 1) cs)) t → P (c ∷ drop (n + 1) cs) in
-      let R : ℕ → Type 0 = λ l. Wants (placed (at + len) (next_column c column) (drop l cs)) t in
+      let P : List ℕ → Type 0 = λ r. RunMayTake (placed at column r) s in
+      let Q : ℕ → Type 0 = λ l. feed s (character at l column c) ≡ Ok t → RunMayTake (placed (at + l) (next_column c column) (drop (n + 1) cs)) t → P (c ∷ drop (n + 1) cs) in
+      let R : ℕ → Type 0 = λ l. RunMayTake (placed (at + len) (next_column c column) (drop l cs)) t in
       let here_on : Q (length (encode_utf8 c)) = λ e' h'. inr (t, e', h') in
       subst P (sym here) (subst Q (sym is) here_on e (subst R q h))
 

@@ -30,7 +30,7 @@ module _ (done : List Stmt) (frames : List Frame) (list : List Stmt) where
   back_slashed Star spot o x xs e r = λ y e'. record { rest = r.1.rest; piece = Piece.block e' e r.1.comment; goes = r.1.goes }
   back_slashed _ spot o x xs e r = absurd r
 
-  pub back_line : (k : Sort) (spot : Spot) (x : Character) (xs : List Character) → Is k x → RestFed list xs (machine.in_line k spot (S (InLine spot)) x) → R (InLine spot) (x ∷ xs)
+  pub back_line : (k : Sort) (spot : Spot) (x : Character) (xs : List Character) → Is k x → RestFed list xs (machine.feed_line k spot (S (InLine spot)) x) → R (InLine spot) (x ∷ xs)
   back_line LineFeed spot x xs e r = record { rest = xs; line = Line.at_feed e; goes = r }
   back_line Forbidden spot x xs e r = absurd r
   back_line _ spot x xs e r = record { rest = r.rest; line = Line.more (ap grammar.in_line e) r.line; goes = r.goes }
@@ -40,7 +40,7 @@ module _ (done : List Stmt) (frames : List Frame) (list : List Stmt) where
   never (Some g) f e = cc
 
   pub back_block : (k : Sort) (spot : Spot) (o : ℕ) (p : Option YangFault) (x : Character) (xs : List Character) → Is k x
-      → RestFed list xs (machine.in_block k spot o p (S (InBlock spot o p)) x) → R (InBlock spot o p) (x ∷ xs)
+      → RestFed list xs (machine.feed_block k spot o p (S (InBlock spot o p)) x) → R (InBlock spot o p) (x ∷ xs)
   back_block Star spot o p x xs e r = (r.0, record { rest = r.1.rest; comment = Comment.star e r.1.comment; goes = r.1.goes })
   back_block Forbidden spot o p x xs e r = never p (BadToken x.last) r.0
   back_block _ spot o p x xs e r = (r.0, record { rest = r.1.rest; comment = Comment.more (ap grammar.in_comment e) r.1.comment; goes = r.1.goes })
@@ -50,7 +50,7 @@ module _ (done : List Stmt) (frames : List Frame) (list : List Stmt) where
   unspoilt (Some f) s xs r = absurd r
 
   pub back_star : (k : Sort) (spot : Spot) (o : ℕ) (p : Option YangFault) (x : Character) (xs : List Character) → Is k x
-      → RestFed list xs (machine.behind_star k spot o p (S (BehindStar spot o p)) x) → R (BehindStar spot o p) (x ∷ xs)
+      → RestFed list xs (machine.feed_star k spot o p (S (BehindStar spot o p)) x) → R (BehindStar spot o p) (x ∷ xs)
   back_star Slash spot o p x xs e r = let q = unspoilt p (S (Gap spot)) xs r in (q.0, record { rest = xs; comment = Comment.ends e; goes = q.1 })
   back_star Star spot o p x xs e r = (r.0, record { rest = r.1.rest; comment = Comment.star e r.1.comment; goes = r.1.goes })
   back_star Forbidden spot o p x xs e r = never p (BadToken x.last) r.0
@@ -89,7 +89,7 @@ module _ (done : List Stmt) (frames : List Frame) (list : List Stmt) where
   first_end : (h : Head) (xs : List Character) → KeyEnd done frames list h xs → KeyFirst done frames list h xs
   first_end h xs r = KeyFirst.plain Letters.none (key_ends h xs r)
 
-  pub back_first : (k : Sort) (h : Head) (x : Character) (xs : List Character) → Is k x → RestFed list xs (machine.in_keyword k h (S (InKeyword h)) x) → R (InKeyword h) (x ∷ xs)
+  pub back_first : (k : Sort) (h : Head) (x : Character) (xs : List Character) → Is k x → RestFed list xs (machine.feed_keyword k h (S (InKeyword h)) x) → R (InKeyword h) (x ∷ xs)
   back_first Start h x xs e r = first_more h x xs (ap grammar.in_identifier e) r
   back_first Inner h x xs e r = first_more h x xs (ap grammar.in_identifier e) r
   back_first Colon h x xs e r = first_colon h x xs e r
@@ -103,7 +103,7 @@ module _ (done : List Stmt) (frames : List Frame) (list : List Stmt) where
   second_end : (h : Head) (xs : List Character) → KeyEnd done frames list h xs → KeySecond done frames list h xs
   second_end h xs r = KeySecond.plain Letters.none (key_ends h xs r)
 
-  pub back_second : (k : Sort) (h : Head) (x : Character) (xs : List Character) → Is k x → RestFed list xs (machine.in_second k h (S (InSecond h)) x) → R (InSecond h) (x ∷ xs)
+  pub back_second : (k : Sort) (h : Head) (x : Character) (xs : List Character) → Is k x → RestFed list xs (machine.feed_second k h (S (InSecond h)) x) → R (InSecond h) (x ∷ xs)
   back_second Start h x xs e r = second_more h x xs (ap grammar.in_identifier e) r
   back_second Inner h x xs e r = second_more h x xs (ap grammar.in_identifier e) r
   back_second k h x xs e r = second_end h (x ∷ xs) (back_end k h x xs (InSecond h) e r)
@@ -113,7 +113,7 @@ module _ (done : List Stmt) (frames : List Frame) (list : List Stmt) where
       let u = encode_utf8 x.code in
       KeyColon.begun e d (rekeyed h.at ((h.keyword ++ u) ++ k) (h.keyword ++ (u ++ k)) ys (append_assoc h.keyword u k) r)
 
-  pub back_colon : (k : Sort) (h : Head) (x : Character) (xs : List Character) → Is k x → RestFed list xs (machine.behind_colon k h (S (BehindColon h)) x) → R (BehindColon h) (x ∷ xs)
+  pub back_colon : (k : Sort) (h : Head) (x : Character) (xs : List Character) → Is k x → RestFed list xs (machine.feed_colon k h (S (BehindColon h)) x) → R (BehindColon h) (x ∷ xs)
   back_colon Start h x xs e r = colon_begun h x xs e r
   back_colon _ h x xs e r = absurd r
 
@@ -135,7 +135,7 @@ module _ (done : List Stmt) (frames : List Frame) (list : List Stmt) where
   argued_white h a x xs e r = in_front done frames list (Worded h a) (Piece.white e) r
 
   pub back_word : (l : grammar.Last) (k : Sort) (h : Head) (a : List ℕ) (w : Work) (x : Character) (xs : List Character) → grammar.makes_no_mark l k ≡ true → Is k x
-      → RestFed list xs (machine.in_word k h a (S w) x) → InWordRest done frames list l h a (x ∷ xs)
+      → RestFed list xs (machine.feed_word k h a (S w) x) → InWordRest done frames list l h a (x ∷ xs)
   back_word l LineFeed h a w x xs q e r = word_end l h a x xs (ap grammar.ends_word e) (argued_white h a x xs (white_is done frames list LineFeed x e refl) r)
   back_word l Blank h a w x xs q e r = word_end l h a x xs (ap grammar.ends_word e) (argued_white h a x xs (white_is done frames list Blank x e refl) r)
   back_word l Semicolon h a w x xs q e r = word_end l h a x xs (ap grammar.ends_word e) (Argued.argued grammar.Gap.none (back_leaf done frames list h (Some a) w e r))
@@ -179,7 +179,7 @@ module _ (done : List Stmt) (frames : List Frame) (list : List Stmt) where
       SingleRest.single (Single.ends e) (subst A (sym (append-nil a)) r)
 
   pub back_single : (k : Sort) (h : Head) (a : List ℕ) (o : ℕ) (p : Option YangFault) (x : Character) (xs : List Character) → Is k x
-      → RestFed list xs (machine.in_single k h a o p (S (InSingle h a o p)) x) → R (InSingle h a o p) (x ∷ xs)
+      → RestFed list xs (machine.feed_single k h a o p (S (InSingle h a o p)) x) → R (InSingle h a o p) (x ∷ xs)
   back_single SingleQuote h a o p x xs e r = let q = unspoilt p (S (Gap (Strung h a))) xs r in (q.0, single_end h a x xs e q.1)
   back_single Forbidden h a o p x xs e r = never p (BadToken x.last) r.0
   back_single _ h a o p x xs e r = (r.0, single_more h a x xs (ap grammar.in_single e) r.1)
@@ -202,7 +202,7 @@ module _ (done : List Stmt) (frames : List Frame) (list : List Stmt) where
       DoubleRest.double (Double.escape e e' d) (revalued h a column ((raw ++ x.code ∷ []) ++ y.code ∷ r) (raw ++ x.code ∷ y.code ∷ r) zs (append_assoc raw (x.code ∷ []) (y.code ∷ r)) s)
 
   pub back_double : (k : Sort) (h : Head) (a : List ℕ) (o column : ℕ) (raw : List ℕ) (p : Option YangFault) (x : Character) (xs : List Character) → Is k x
-      → RestFed list xs (machine.in_double k h a o column raw p (S (InDouble h a o column raw p)) x) → R (InDouble h a o column raw p) (x ∷ xs)
+      → RestFed list xs (machine.feed_double k h a o column raw p (S (InDouble h a o column raw p)) x) → R (InDouble h a o column raw p) (x ∷ xs)
   back_double DoubleQuote h a o column raw p x xs e r = let q = unspoilt p (S (Gap (Strung h (a ++ string_value column raw)))) xs r in (q.0, double_end h a column raw x xs e q.1)
   back_double Backslash h a o column raw p x xs e r = (r.0, double_escape h a column raw x xs e r.1)
   back_double Forbidden h a o column raw p x xs e r = never p (BadToken x.last) r.0
@@ -218,6 +218,6 @@ module _ (done : List Stmt) (frames : List Frame) (list : List Stmt) where
   escapes false p f e = never p f e
 
   pub back_backslash : (h : Head) (a : List ℕ) (o column : ℕ) (raw : List ℕ) (p : Option YangFault) (x : Character) (xs : List Character)
-      → RestFed list xs (machine.behind_backslash h a o column raw p (S (BehindBackslash h a o column raw p)) x) → R (BehindBackslash h a o column raw p) (x ∷ xs)
+      → RestFed list xs (machine.feed_backslash h a o column raw p (S (BehindBackslash h a o column raw p)) x) → R (BehindBackslash h a o column raw p) (x ∷ xs)
   back_backslash h a o column raw p x xs r =
       let q = escapes (is_escape x.code) p (BadEscape (x.at - 1)) r.0 in (q.1, escape_more h a column raw x xs q.0 r.1)

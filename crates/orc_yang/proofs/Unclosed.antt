@@ -11,8 +11,8 @@ use Rattle.orc_yang.specs.declared.statement.Stmt.{Stmt}
 use Rattle.orc_yang.specs.declared.character.Character.{Character}
 use Rattle.orc_yang.specs.declared.parser.Frame.{Frame}
 use Rattle.orc_yang.specs.Sorts.{sort_of}
-use Rattle.orc_yang.specs.Text.{placed, next_column}
-use Rattle.orc_yang.specs.Faults.{Reads, Begins, CanFollow, TakesString, TakesComment, ends_single, ends_double, ends_comment, is_quote, is_double_quote, is_backslash, is_star, is_slash, IsUnclosed}
+use Rattle.orc_yang.specs.Text.{placed, next_column, ReadsAs}
+use Rattle.orc_yang.specs.Faults.{CanOpen, CanFollow, TakesString, TakesComment, ends_single, ends_double, ends_comment, is_quote, is_double_quote, is_backslash, is_star, is_slash, IsUnclosed}
 use Rattle.orc_yang.specs.Machine.{Head, Spot, Between, Keyed, Worded, Strung, Joining, Work, Gap, Slashed, InLine, InBlock, BehindStar, InKeyword, BehindColon, InSecond, Lone, WordSlash, WordStar, InWord, InSingle, InDouble, BehindBackslash, State, Fed, run, feed, feed_work, fed, start}
 use Rattle.orc_yang.proofs.Complete.{complete}
 use Rattle.orc_yang.proofs.Viable.{pending}
@@ -55,12 +55,12 @@ module _ (more : List ℕ) (list : List Stmt) where
       arrives_on c rest front s w (feed s (character (length (encode_utf8_all front)) w.column c)) refl e'
       (λ t v. subst P joined (arrives rest (front ++ c ∷ []) t v (ap (λ l. run (placed 0 1 (l ++ more)) start 0) joined ∙ e)))
 
-comes_by : (front more : List ℕ) (list : List Stmt) → Reads (front ++ more) list → Comes front
+comes_by : (front more : List ℕ) (list : List Stmt) → ReadsAs (front ++ more) list → Comes front
 comes_by front more list d = arrives more list front [] start came_nil (complete 0 d)
 
-pub comes : (front cs : List ℕ) → Begins (front ++ cs) → Comes front
+pub comes : (front cs : List ℕ) → CanOpen (front ++ cs) → Comes front
 comes front cs b =
-    let P : List ℕ → Type 0 = λ l. Reads l b.1 in
+    let P : List ℕ → Type 0 = λ l. ReadsAs l b.1 in
     comes_by front (cs ++ b.0) b.1 (subst P (append_assoc front cs b.0) b.3)
 
 module _ (front : List ℕ) (done : List Stmt) (frames : List Frame) where
@@ -109,9 +109,9 @@ module _ (front : List ℕ) (done : List Stmt) (frames : List Frame) where
   gap_spot (Joining h a) = record { spot = Joining h a; mid = λ x. Slashed (Joining h a) x.at; slash = λ x. refl; star = λ x y. refl }
 
   -- what can follow here, cut short
-  shorter : (cs ds : List ℕ) → ((b : Begins (front ++ (cs ++ ds))) → all_scalars (ds ++ b.0) ≡ true) → Begins (front ++ (cs ++ ds)) → Begins (front ++ cs)
+  shorter : (cs ds : List ℕ) → ((b : CanOpen (front ++ (cs ++ ds))) → all_scalars (ds ++ b.0) ≡ true) → CanOpen (front ++ (cs ++ ds)) → CanOpen (front ++ cs)
   shorter cs ds q b =
-      let P : List ℕ → Type 0 = λ l. Reads l b.1 in
+      let P : List ℕ → Type 0 = λ l. ReadsAs l b.1 in
       let e : (front ++ (cs ++ ds)) ++ b.0 ≡ (front ++ cs) ++ (ds ++ b.0) = simp append_assoc in
       (ds ++ b.0, b.1, q b, subst P e b.3)
 
@@ -119,16 +119,16 @@ module _ (front : List ℕ) (done : List Stmt) (frames : List Frame) where
   one t = shorter (47 ∷ []) (42 ∷ 42 ∷ 47 ∷ []) (λ b. b.2) t.0
 
   two : TakesComment front → CanFollow (front ++ 47 ∷ []) 42
-  two t = let P : List ℕ → Type 0 = λ l. Begins l in subst P (sym (append_assoc front (47 ∷ []) (42 ∷ []))) (shorter (47 ∷ 42 ∷ []) (42 ∷ 47 ∷ []) (λ b. b.2) t.0)
+  two t = let P : List ℕ → Type 0 = λ l. CanOpen l in subst P (sym (append_assoc front (47 ∷ []) (42 ∷ []))) (shorter (47 ∷ 42 ∷ []) (42 ∷ 47 ∷ []) (λ b. b.2) t.0)
 
   four : TakesComment front → CanFollow (((front ++ 47 ∷ []) ++ 42 ∷ []) ++ 42 ∷ []) 47
   four t =
       let q : front ++ 47 ∷ 42 ∷ 42 ∷ 47 ∷ [] ≡ (((front ++ 47 ∷ []) ++ 42 ∷ []) ++ 42 ∷ []) ++ 47 ∷ [] = simp append_assoc in
-      let P : List ℕ → Type 0 = λ l. Begins l in subst P q t.0
+      let P : List ℕ → Type 0 = λ l. CanOpen l in subst P q t.0
 
   -- a brace behind a slash
-  braced : (u : Work) (t : State) (w : Came (front ++ 47 ∷ []) (S done frames u)) → feed (S done frames u) (character (length (encode_utf8_all (front ++ 47 ∷ []))) w.column 125) ≡ Ok t → pending t.work ≡ None → Begins (front ++ 47 ∷ 125 ∷ [])
-  braced u t w e q = let P : List ℕ → Type 0 = λ l. Begins l in subst P (append_assoc front (47 ∷ []) (125 ∷ [])) (can_follow (front ++ 47 ∷ []) (S done frames u) t w 125 e q)
+  braced : (u : Work) (t : State) (w : Came (front ++ 47 ∷ []) (S done frames u)) → feed (S done frames u) (character (length (encode_utf8_all (front ++ 47 ∷ []))) w.column 125) ≡ Ok t → pending t.work ≡ None → CanOpen (front ++ 47 ∷ 125 ∷ [])
+  braced u t w e q = let P : List ℕ → Type 0 = λ l. CanOpen l in subst P (append_assoc front (47 ∷ []) (125 ∷ [])) (can_follow (front ++ 47 ∷ []) (S done frames u) t w 125 e q)
 
   -- behind a `*` of a comment, a slash ends the comment
   star_spot : (spot : Spot) (o : ℕ) → C (BehindStar spot o None) → TakesComment front → ⊥

@@ -11,7 +11,7 @@ use Rattle.orc_yang.specs.Grammar as grammar
 use Rattle.orc_yang.specs.Grammar.{Is, Line, Comment, Piece}
 use Rattle.orc_yang.specs.Machine as machine
 use Rattle.orc_yang.specs.Machine.{Spot, Between, Work, Gap, Slashed, InLine, InBlock, BehindStar, State, feed, feed_work, start}
-use Rattle.orc_yang.specs.Wanting.{MayTake, Wants}
+use Rattle.orc_yang.specs.inside.Wanting.{MayTake, RunMayTake}
 
 -- white space and comments, and then the first character of a keyword
 abbrev pub Ahead : List Character → Type 0
@@ -45,14 +45,14 @@ module _ (done : List Stmt) where
 
   -- a step that may take memory, or one that goes on
   abbrev Turn : Work → Sort → Character → List Character → Type 0
-  Turn w k x xs = MayTake w [] k ⊎ ((t : State) × (feed_work w k (S w) x ≡ Ok t) × Wants xs t)
+  Turn w k x xs = MayTake w [] k ⊎ ((t : State) × (feed_work w k (S w) x ≡ Ok t) × RunMayTake xs t)
 
-  turn : (w : Work) (k : Sort) (x : Character) (xs : List Character) → sort_of x.code ≡ k → Wants (x ∷ xs) (S w) → Turn w k x xs
+  turn : (w : Work) (k : Sort) (x : Character) (xs : List Character) → sort_of x.code ≡ k → RunMayTake (x ∷ xs) (S w) → Turn w k x xs
   turn w k x xs e h = let P : Sort → Type 0 = λ q. Turn w q x xs in subst P e h
 
-  module _ (x : Character) (xs : List Character) (next : (w : Work) → Wants xs (S w) → Stands w xs) where
-    on : (w : Work) (t : State) → machine.go (S w) w ≡ Ok t → Wants xs t → Stands w xs
-    on w t e h = let q : S w ≡ t = cc in next w (subst (λ s. Wants xs s) (sym q) h)
+  module _ (x : Character) (xs : List Character) (next : (w : Work) → RunMayTake xs (S w) → Stands w xs) where
+    on : (w : Work) (t : State) → machine.go (S w) w ≡ Ok t → RunMayTake xs t → Stands w xs
+    on w t e h = let q : S w ≡ t = cc in next w (subst (λ s. RunMayTake xs s) (sym q) h)
 
     at_gap : (k : Sort) → sort_of x.code ≡ k → Turn (Gap Between) k x xs → Ahead (x ∷ xs)
     at_gap k e (inl (inl q)) = (x, xs, grammar.Gap.none, e ∙ q)
@@ -110,10 +110,10 @@ module _ (done : List Stmt) where
     step (BehindStar Between o (Some f)) h = at_star o (Some f) (sort_of x.code) refl h
     step _ h = tt
 
-  stands : (xs : List Character) (w : Work) → Wants xs (S w) → Stands w xs
+  stands : (xs : List Character) (w : Work) → RunMayTake xs (S w) → Stands w xs
   stands [] w h = absurd h
   stands (x ∷ xs) w h = step x xs (λ v. stands xs v) w h
 
 -- where memory is wanted, white space and comments stand before a keyword
-pub keyword_ahead : (xs : List Character) → Wants xs start → Ahead xs
+pub keyword_ahead : (xs : List Character) → RunMayTake xs start → Ahead xs
 keyword_ahead xs h = stands [] xs (Gap Between) h

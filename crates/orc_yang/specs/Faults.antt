@@ -1,6 +1,6 @@
 -- What a fault means, apart from the program that finds it: which characters can follow what stands
 -- before them.
-use Rattle.std.specs.Prelude.{ℕ, ◌≡◌, ◌+◌, ◌-◌, ◌||◌, ◌⊎◌, Bool, true, false, length, List, [], ◌∷◌, ◌++◌, encode_utf8}
+use Rattle.std.specs.Prelude.{ℕ, ◌≡◌, ◌+◌, ◌-◌, ◌||◌, ◌⊎◌, Bool, true, false, length, List, [], ◌∷◌, ◌++◌, codes, encode_utf8}
 use Rattle.std.specs.Str.{encode_utf8_all, all_scalars, IsValidUpTo}
 use Rattle.orc_yang.specs.declared.character.Sort.{Sort}
 use Rattle.orc_yang.specs.declared.character.Sort.TheVariants.{OpenBrace, SingleQuote, DoubleQuote, Backslash, Star, Slash, Start, Forbidden}
@@ -9,32 +9,65 @@ use Rattle.orc_yang.specs.declared.fault.YangFault.TheVariants.{NotUtf8, BadToke
 use Rattle.orc_yang.specs.declared.statement.Stmt.{Stmt}
 use Rattle.orc_yang.specs.Sorts.{sort_of}
 use Rattle.orc_yang.specs.declared.character.Character.{Character}
-use Rattle.orc_yang.specs.Grammar.{Is, Gap, Statements}
-use Rattle.orc_yang.specs.Text.{placed}
+use Rattle.orc_yang.specs.Grammar.{Is, Gap}
+use Rattle.orc_yang.specs.Text.{placed, ReadsAs}
 
--- The characters spell these statements.
-abbrev pub Reads : List ℕ → List Stmt → Type 0
-Reads text list = Statements 0 (placed 0 1 text) list []
+-- The characters can open a text of statements.
+abbrev pub CanOpen : List ℕ → Type 0
+CanOpen front = (more : List ℕ) × (list : List Stmt) × (all_scalars more ≡ true) × ReadsAs (front ++ more) list
 
--- The characters can begin a text of statements.
-abbrev pub Begins : List ℕ → Type 0
-Begins front = (more : List ℕ) × (list : List Stmt) × (all_scalars more ≡ true) × Reads (front ++ more) list
+-- these characters can follow
+abbrev pub CanGoOn : List ℕ → List ℕ → Type 0
+CanGoOn front more = CanOpen (front ++ more)
 
+-- this character can follow
 abbrev pub CanFollow : List ℕ → ℕ → Type 0
-CanFollow front c = Begins (front ++ c ∷ [])
+CanFollow front c = CanOpen (front ++ c ∷ [])
+
+-- The characters by which the places in a text are told apart.
+abbrev pub double_quote : ℕ
+double_quote = 34
+
+abbrev pub single_quote : ℕ
+single_quote = 39
+
+abbrev pub semicolon : ℕ
+semicolon = 59
+
+abbrev pub letter_a : ℕ
+letter_a = 97
+
+abbrev pub letter_n : ℕ
+letter_n = 110
+
+abbrev pub closing_brace : ℕ
+closing_brace = 125
+
+-- the least character of two bytes
+abbrev pub two_bytes : ℕ
+two_bytes = 128
 
 -- Behind a backslash of a double-quoted string: `n` and `"` can follow, but `a` can't.
 abbrev pub IsEscaping : List ℕ → Type 0
-IsEscaping front = CanFollow front 110 × CanFollow front 34 × ¬ CanFollow front 97
+IsEscaping front = CanFollow front letter_n × CanFollow front double_quote × ¬ CanFollow front letter_a
 
 -- A string may begin here: either quote can follow, but a closing brace can't, as it can in a
 -- string or a comment.
 abbrev pub TakesString : List ℕ → Type 0
-TakesString front = CanFollow front 34 × CanFollow front 39 × ¬ CanFollow front 125
+TakesString front =
+    CanFollow front double_quote × CanFollow front single_quote × ¬ CanFollow front closing_brace
 
 -- A comment may begin here: `/**/` can follow, but `/}` can't, as it can in a string or a comment.
 abbrev pub TakesComment : List ℕ → Type 0
-TakesComment front = Begins (front ++ 47 ∷ 42 ∷ 42 ∷ 47 ∷ []) × ¬ Begins (front ++ 47 ∷ 125 ∷ [])
+TakesComment front = CanGoOn front (codes "/**/") × ¬ CanGoOn front (codes "/}")
+
+-- A statement may end here: a `;` can follow. Where a `{` can't, only the depth forbids it.
+abbrev pub TakesEnd : List ℕ → Type 0
+TakesEnd front = CanFollow front semicolon
+
+-- A forbidden character shares its first bytes with one that can follow: one of two bytes or more can.
+abbrev pub TakesLonger : List ℕ → Type 0
+TakesLonger front = CanFollow front two_bytes
 
 abbrev pub is_quote : Sort → Bool
 is_quote SingleQuote = true
@@ -75,38 +108,62 @@ ends_comment false [] = false
 ends_comment true (c ∷ cs) = is_slash (sort_of c) || ends_comment (is_star (sort_of c)) cs
 ends_comment false (c ∷ cs) = ends_comment (is_star (sort_of c)) cs
 
+-- A single-quoted string begins behind these characters, and has no end in those that follow.
+abbrev pub IsUnclosedSingle : List ℕ → List ℕ → Type 0
+IsUnclosedSingle front rest = (quote : ℕ) × (after : List ℕ) × (rest ≡ quote ∷ after) × (sort_of quote ≡ SingleQuote)
+    × TakesString front × (ends_single after ≡ false)
+
+-- So does a double-quoted one.
+abbrev pub IsUnclosedDouble : List ℕ → List ℕ → Type 0
+IsUnclosedDouble front rest = (quote : ℕ) × (after : List ℕ) × (rest ≡ quote ∷ after) × (sort_of quote ≡ DoubleQuote)
+    × TakesString front × (ends_double false after ≡ false)
+
+-- So does a comment in `/*` and `*/`.
+abbrev pub IsUnclosedComment : List ℕ → List ℕ → Type 0
+IsUnclosedComment front rest = (slash star : ℕ) × (after : List ℕ) × (rest ≡ slash ∷ star ∷ after)
+    × (sort_of slash ≡ Slash) × (sort_of star ≡ Star) × TakesComment front × (ends_comment false after ≡ false)
+
 -- A string or a comment begins behind these characters, and has no end in those that follow.
 abbrev pub IsUnclosed : List ℕ → List ℕ → Type 0
-IsUnclosed front rest = ((q : ℕ) × (after : List ℕ) × (rest ≡ q ∷ after) × (sort_of q ≡ SingleQuote) × TakesString front × (ends_single after ≡ false))
-    ⊎ (((q : ℕ) × (after : List ℕ) × (rest ≡ q ∷ after) × (sort_of q ≡ DoubleQuote) × TakesString front × (ends_double false after ≡ false))
-    ⊎ ((x y : ℕ) × (after : List ℕ) × (rest ≡ x ∷ y ∷ after) × (sort_of x ≡ Slash) × (sort_of y ≡ Star) × TakesComment front × (ends_comment false after ≡ false)))
+IsUnclosed front rest =
+    IsUnclosedSingle front rest ⊎ (IsUnclosedDouble front rest ⊎ IsUnclosedComment front rest)
 
 -- c is the first character of a text that can't follow what stands before it
-pub record Stops (text front : List ℕ) (c : ℕ) : Type 0 where
+pub record IsFirstMisfit (text front : List ℕ) (c : ℕ) : Type 0 where
   pub after : List ℕ
   pub is : text ≡ front ++ c ∷ after
-  pub begins : Begins front
-  pub stops : ¬ CanFollow front c
+  pub opens : CanOpen front
+  pub misfits : ¬ CanFollow front c
+
+-- how many bytes these characters have
+abbrev pub byte_count : List ℕ → ℕ
+byte_count text = length (encode_utf8_all text)
 
 -- The first byte that can't follow, of a character that can't: its first, but of a forbidden
 -- character its last where other characters of two bytes or more can follow, which share the bytes
 -- before.
 abbrev pub IsPlace : List ℕ → ℕ → ℕ → Type 0
-IsPlace front c at = ((at ≡ length (encode_utf8_all front)) × (sort_of c ≡ Forbidden → ¬ CanFollow front 128))
-    ⊎ ((at + 1 ≡ length (encode_utf8_all front) + length (encode_utf8 c)) × (sort_of c ≡ Forbidden) × CanFollow front 128)
+IsPlace front c at = ((at ≡ byte_count front) × (sort_of c ≡ Forbidden → ¬ TakesLonger front))
+    ⊎ ((at + 1 ≡ byte_count front + length (encode_utf8 c)) × (sort_of c ≡ Forbidden) × TakesLonger front)
 
 -- What a fault means for a text. Memory is wanted only where a statement is read: white space and
 -- comments stand before the first character of its keyword.
 abbrev pub FaultOf : List ℕ → YangFault → Type 0
 FaultOf text (NotUtf8 at) = ⊥
-FaultOf text (BadToken at) = (front : List ℕ) × (c : ℕ) × Stops text front c × IsPlace front c at × ¬ IsEscaping front × (sort_of c ≡ OpenBrace → ¬ CanFollow front 59)
-FaultOf text (BadEscape at) = (front : List ℕ) × (c : ℕ) × Stops text front c × IsEscaping front × (at ≡ length (encode_utf8_all front) - 1)
-FaultOf text (OpenString at) = (front rest : List ℕ) × (text ≡ front ++ rest) × (at ≡ length (encode_utf8_all front)) × IsUnclosed front rest
-FaultOf text (OpenBlock at) = (at ≡ length (encode_utf8_all text)) × Begins text × ((list : List Stmt) → Reads text list → ⊥)
-FaultOf text (Depth at) = (front : List ℕ) × (c : ℕ) × Stops text front c × (sort_of c ≡ OpenBrace) × CanFollow front 59 × (at ≡ length (encode_utf8_all front))
-FaultOf text Memory = (x : Character) × (rest : List Character) × Gap (placed 0 1 text) (x ∷ rest) × Is Start x
+FaultOf text (BadToken at) = (front : List ℕ) × (c : ℕ) × IsFirstMisfit text front c × IsPlace front c at
+    × ¬ IsEscaping front × (sort_of c ≡ OpenBrace → ¬ TakesEnd front)
+FaultOf text (BadEscape at) = (front : List ℕ) × (c : ℕ) × IsFirstMisfit text front c × IsEscaping front
+    × (at ≡ byte_count front - 1)
+FaultOf text (OpenString at) = (front rest : List ℕ) × (text ≡ front ++ rest) × (at ≡ byte_count front)
+    × IsUnclosed front rest
+FaultOf text (OpenBlock at) = (at ≡ byte_count text) × CanOpen text × ((list : List Stmt) → ReadsAs text list → ⊥)
+FaultOf text (Depth at) = (front : List ℕ) × (c : ℕ) × IsFirstMisfit text front c × (sort_of c ≡ OpenBrace)
+    × TakesEnd front × (at ≡ byte_count front)
+FaultOf text Memory =
+    (x : Character) × (rest : List Character) × Gap (placed 0 1 text) (x ∷ rest) × Is Start x
 
 -- what a fault means for bytes
 abbrev pub IsFault : List ℕ → YangFault → Type 0
 IsFault bytes (NotUtf8 at) = IsValidUpTo bytes at
-IsFault bytes fault = (text : List ℕ) × (all_scalars text ≡ true) × (encode_utf8_all text ≡ bytes) × FaultOf text fault
+IsFault bytes fault =
+    (text : List ℕ) × (all_scalars text ≡ true) × (encode_utf8_all text ≡ bytes) × FaultOf text fault

@@ -5,6 +5,7 @@ use Rattle.std.specs.Prelude.{ℕ, suc, Bool, true, false, ◌≡◌, nat_lt, Li
 use Rattle.orc_yang.specs.declared.character.Sort.{Sort}
 use Rattle.orc_yang.specs.declared.character.Sort.TheVariants.{LineFeed, Blank, Semicolon, OpenBrace, CloseBrace, DoubleQuote, SingleQuote, Slash, Star, Plus, Colon, Backslash, Start, Inner, Forbidden}
 use Rattle.orc_yang.specs.declared.statement.Stmt.{Stmt}
+use Rattle.orc_yang.specs.declared.statement.TheConstants.{MAX_DEPTH}
 use Rattle.orc_yang.specs.declared.character.Character.{Character}
 use Rattle.orc_yang.specs.Sorts.{sort_of}
 use Rattle.orc_yang.specs.Quoted.{string_value, is_escape}
@@ -110,7 +111,8 @@ pub data Comment : Bool → List Character → List Character → Type 0 where
 pub data Piece : List Character → List Character → Type 0 where
   white : {x : Character} {xs : List Character} → Of is_white x → Piece (x ∷ xs) xs
   line : {x y : Character} {xs ys : List Character} → Is Slash x → Is Slash y → Line xs ys → Piece (x ∷ y ∷ xs) ys
-  block : {x y : Character} {xs ys : List Character} → Is Slash x → Is Star y → Comment false xs ys → Piece (x ∷ y ∷ xs) ys
+  block : {x y : Character} {xs ys : List Character} → Is Slash x → Is Star y → Comment false xs ys
+      → Piece (x ∷ y ∷ xs) ys
 
 -- white space and comments, or nothing
 pub data Gap : List Character → List Character → Type 0 where
@@ -120,57 +122,75 @@ pub data Gap : List Character → List Character → Type 0 where
 -- the characters of an identifier behind its first (RFC 7950 section 6.2)
 pub data Letters : List Character → List ℕ → List Character → Type 0 where
   none : {xs : List Character} → Letters xs [] xs
-  more : {x : Character} {xs ys : List Character} {k : List ℕ} → Of in_identifier x → Letters xs k ys → Letters (x ∷ xs) (encode_utf8 x.code ++ k) ys
+  more : {x : Character} {xs ys : List Character} {k : List ℕ} → Of in_identifier x → Letters xs k ys
+      → Letters (x ∷ xs) (encode_utf8 x.code ++ k) ys
 
 -- an identifier, or a prefix, a colon and an identifier
 pub data Keyword : List Character → List ℕ → List Character → Type 0 where
-  plain : {x : Character} {xs ys : List Character} {k : List ℕ} → Is Start x → Letters xs k ys → Keyword (x ∷ xs) (encode_utf8 x.code ++ k) ys
-  prefixed : {x c y : Character} {xs ys zs : List Character} {p k : List ℕ} → Is Start x → Letters xs p (c ∷ y ∷ ys) → Is Colon c → Is Start y → Letters ys k zs
+  plain : {x : Character} {xs ys : List Character} {k : List ℕ} → Is Start x → Letters xs k ys
+      → Keyword (x ∷ xs) (encode_utf8 x.code ++ k) ys
+  prefixed : {x c y : Character} {xs ys zs : List Character} {p k : List ℕ} → Is Start x → Letters xs p (c ∷ y ∷ ys)
+      → Is Colon c → Is Start y → Letters ys k zs
       → Keyword (x ∷ xs) (encode_utf8 x.code ++ (p ++ (encode_utf8 c.code ++ (encode_utf8 y.code ++ k)))) zs
 
 -- the characters of an unquoted string behind this one
 pub data Word : Last → List Character → List ℕ → List Character → Type 0 where
   ends : {l : Last} {x : Character} {xs : List Character} → Of ends_word x → Word l (x ∷ xs) [] (x ∷ xs)
-  more : {l : Last} {x : Character} {xs ys : List Character} {w : List ℕ} → Of in_word x → Of (makes_no_mark l) x → Word (last_of (sort_of x.code)) xs w ys
+  more : {l : Last} {x : Character} {xs ys : List Character} {w : List ℕ} → Of in_word x → Of (makes_no_mark l) x
+      → Word (last_of (sort_of x.code)) xs w ys
       → Word l (x ∷ xs) (encode_utf8 x.code ++ w) ys
 
 -- an unquoted string, up to white space, `;` or `{`
 pub data Unquoted : List Character → List ℕ → List Character → Type 0 where
-  word : {x : Character} {xs ys : List Character} {w : List ℕ} → Of in_word x → Word (last_of (sort_of x.code)) xs w ys → Unquoted (x ∷ xs) (encode_utf8 x.code ++ w) ys
+  word : {x : Character} {xs ys : List Character} {w : List ℕ} → Of in_word x
+      → Word (last_of (sort_of x.code)) xs w ys → Unquoted (x ∷ xs) (encode_utf8 x.code ++ w) ys
 
 -- behind an opening single quote: to the closing one
 pub data Single : List Character → List ℕ → List Character → Type 0 where
   ends : {x : Character} {xs : List Character} → Is SingleQuote x → Single (x ∷ xs) [] xs
-  more : {x : Character} {xs ys : List Character} {t : List ℕ} → Of in_single x → Single xs t ys → Single (x ∷ xs) (encode_utf8 x.code ++ t) ys
+  more : {x : Character} {xs ys : List Character} {t : List ℕ} → Of in_single x → Single xs t ys
+      → Single (x ∷ xs) (encode_utf8 x.code ++ t) ys
 
 -- behind an opening double quote: the characters to the closing one
 pub data Double : List Character → List ℕ → List Character → Type 0 where
   ends : {x : Character} {xs : List Character} → Is DoubleQuote x → Double (x ∷ xs) [] xs
-  more : {x : Character} {xs ys : List Character} {r : List ℕ} → Of in_double x → Double xs r ys → Double (x ∷ xs) (x.code ∷ r) ys
-  escape : {x y : Character} {xs ys : List Character} {r : List ℕ} → Is Backslash x → is_escape y.code ≡ true → Double xs r ys → Double (x ∷ y ∷ xs) (x.code ∷ y.code ∷ r) ys
+  more : {x : Character} {xs ys : List Character} {r : List ℕ} → Of in_double x → Double xs r ys
+      → Double (x ∷ xs) (x.code ∷ r) ys
+  escape : {x y : Character} {xs ys : List Character} {r : List ℕ} → Is Backslash x → is_escape y.code ≡ true
+      → Double xs r ys → Double (x ∷ y ∷ xs) (x.code ∷ y.code ∷ r) ys
 
 -- a quoted string, and what it stands for
 pub data Quoted : List Character → List ℕ → List Character → Type 0 where
-  single : {x : Character} {xs ys : List Character} {t : List ℕ} → Is SingleQuote x → Single xs t ys → Quoted (x ∷ xs) t ys
-  double : {x : Character} {xs ys : List Character} {r : List ℕ} → Is DoubleQuote x → Double xs r ys → Quoted (x ∷ xs) (string_value x.column r) ys
+  single : {x : Character} {xs ys : List Character} {t : List ℕ} → Is SingleQuote x → Single xs t ys
+      → Quoted (x ∷ xs) t ys
+  double : {x : Character} {xs ys : List Character} {r : List ℕ} → Is DoubleQuote x → Double xs r ys
+      → Quoted (x ∷ xs) (string_value x.column r) ys
 
 -- quoted strings joined by `+`
 pub data Joined : List Character → List ℕ → List Character → Type 0 where
   one : {xs ys : List Character} {t : List ℕ} → Quoted xs t ys → Joined xs t ys
-  join : {p : Character} {xs ys zs us vs : List Character} {t ts : List ℕ} → Quoted xs t ys → Gap ys (p ∷ zs) → Is Plus p → Gap zs us → Joined us ts vs → Joined xs (t ++ ts) vs
+  join : {p : Character} {xs ys zs us vs : List Character} {t ts : List ℕ} → Quoted xs t ys → Gap ys (p ∷ zs)
+      → Is Plus p → Gap zs us → Joined us ts vs → Joined xs (t ++ ts) vs
 
 -- a keyword and an optional argument, up to `;` or `{`
 pub data Heading : List Character → List ℕ → Option (List ℕ) → List Character → Type 0 where
   bare : {xs ys zs : List Character} {k : List ℕ} → Keyword xs k ys → Gap ys zs → Heading xs k None zs
-  unquoted : {xs ys zs us vs ws : List Character} {k a : List ℕ} → Keyword xs k ys → Piece ys zs → Gap zs us → Unquoted us a vs → Gap vs ws → Heading xs k (Some a) ws
-  quoted : {xs ys zs us vs ws : List Character} {k a : List ℕ} → Keyword xs k ys → Piece ys zs → Gap zs us → Joined us a vs → Gap vs ws → Heading xs k (Some a) ws
+  unquoted : {xs ys zs us vs ws : List Character} {k a : List ℕ} → Keyword xs k ys → Piece ys zs → Gap zs us
+      → Unquoted us a vs → Gap vs ws → Heading xs k (Some a) ws
+  quoted : {xs ys zs us vs ws : List Character} {k a : List ℕ} → Keyword xs k ys → Piece ys zs → Gap zs us
+      → Joined us a vs → Gap vs ws → Heading xs k (Some a) ws
 
--- statements inside of n blocks, of which the limit is 32
+-- statements inside of n blocks, of which there are MAX_DEPTH at most
 pub data Statements : ℕ → List Character → List Stmt → List Character → Type 0 where
   none : {n : ℕ} {xs : List Character} → Statements n xs [] xs
-  gap : {n : ℕ} {xs ys zs : List Character} {list : List Stmt} → Piece xs ys → Statements n ys list zs → Statements n xs list zs
+  gap : {n : ℕ} {xs ys zs : List Character} {list : List Stmt} → Piece xs ys → Statements n ys list zs
+      → Statements n xs list zs
   leaf : {n : ℕ} {x e : Character} {xs ys zs : List Character} {k : List ℕ} {a : Option (List ℕ)} {list : List Stmt}
-      → Heading (x ∷ xs) k a (e ∷ ys) → Is Semicolon e → Statements n ys list zs → Statements n (x ∷ xs) (statement k a [] x.at ∷ list) zs
-  block : {n : ℕ} {x o c : Character} {xs ys zs us : List Character} {k : List ℕ} {a : Option (List ℕ)} {subs list : List Stmt}
-      → Heading (x ∷ xs) k a (o ∷ ys) → Is OpenBrace o → nat_lt n 32 ≡ true → Statements (suc n) ys subs (c ∷ zs) → Is CloseBrace c → Statements n zs list us
+      → Heading (x ∷ xs) k a (e ∷ ys) → Is Semicolon e → Statements n ys list zs
+      → Statements n (x ∷ xs) (statement k a [] x.at ∷ list) zs
+  block : {n : ℕ} {x o c : Character} {xs ys zs us : List Character} {k : List ℕ} {a : Option (List ℕ)}
+      {subs list : List Stmt}
+      → Heading (x ∷ xs) k a (o ∷ ys) → Is OpenBrace o → nat_lt n MAX_DEPTH ≡ true
+      → Statements (suc n) ys subs (c ∷ zs)
+      → Is CloseBrace c → Statements n zs list us
       → Statements n (x ∷ xs) (statement k a subs x.at ∷ list) us

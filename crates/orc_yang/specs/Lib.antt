@@ -4,7 +4,7 @@ pub mod Quoted
 pub mod Grammar
 pub mod Text
 pub mod Machine
-pub mod View
-pub mod Wanting
 pub mod Faults
+pub mod Parsing
 pub mod Laws
+pub mod inside

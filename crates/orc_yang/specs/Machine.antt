@@ -1,10 +1,12 @@
--- The reader of statements as a machine that takes one character at a time.
+-- The reader of statements as a machine that takes one character at a time. It computes `statements_of`, and nobody
+-- needs to believe it: the law `FollowsGrammar` says by the grammar and the meaning of faults what it gives.
 use Rattle.std.specs.Prelude.{ℕ, nat_lt, List, [], ◌∷◌, ◌++◌, ◌-◌, length, Option, Some, None, Result, Ok, Err, if◌then◌else◌, encode_utf8}
 use Rattle.orc_yang.specs.declared.character.Sort.{Sort}
 use Rattle.orc_yang.specs.declared.character.Sort.TheVariants.{LineFeed, Blank, Semicolon, OpenBrace, CloseBrace, DoubleQuote, SingleQuote, Slash, Star, Plus, Colon, Backslash, Start, Inner, Forbidden}
 use Rattle.orc_yang.specs.declared.fault.YangFault.{YangFault}
 use Rattle.orc_yang.specs.declared.fault.YangFault.TheVariants.{BadToken, BadEscape, OpenString, OpenBlock, Depth}
 use Rattle.orc_yang.specs.declared.statement.Stmt.{Stmt}
+use Rattle.orc_yang.specs.declared.statement.TheConstants.{MAX_DEPTH}
 use Rattle.orc_yang.specs.declared.character.Character.{Character}
 use Rattle.orc_yang.specs.declared.parser.Frame.{Frame}
 use Rattle.orc_yang.specs.Sorts.{sort_of}
@@ -67,14 +69,20 @@ spoilt None fault = Some fault
 spoilt (Some first) fault = Some first
 
 abbrev pub leaf : State → Head → Option (List ℕ) → Fed
-leaf s head argument = Ok (record { work = Gap Between; done = s.done ++ statement head.keyword argument [] head.at ∷ []; frames = s.frames })
+leaf s head argument = Ok (record {
+  work = Gap Between;
+  done = s.done ++ statement head.keyword argument [] head.at ∷ [];
+  frames = s.frames;
+})
 
 abbrev pub framed : State → Head → Option (List ℕ) → Frame
 framed s head argument = record { keyword = head.keyword; argument = argument; at = head.at; before = s.done }
 
 abbrev pub enter : State → Head → Option (List ℕ) → Character → Fed
 enter s head argument x =
-    if nat_lt (length s.frames) 32 then Ok (record { work = Gap Between; done = []; frames = framed s head argument ∷ s.frames }) else Err (Depth x.at)
+    if nat_lt (length s.frames) MAX_DEPTH
+    then Ok (record { work = Gap Between; done = []; frames = framed s head argument ∷ s.frames })
+    else Err (Depth x.at)
 
 abbrev pub ended : Frame → List Stmt → List Stmt
 ended f subs = f.before ++ statement f.keyword f.argument subs f.at ∷ []
@@ -129,38 +137,38 @@ joining DoubleQuote h a s x = go s (InDouble h a x.at x.column [] None)
 joining SingleQuote h a s x = go s (InSingle h a x.at None)
 joining _ h a s x = bad x
 
-abbrev pub in_gap : Spot → Sort → State → Character → Fed
-in_gap Between k s x = between k s x
-in_gap (Keyed h) k s x = keyed k h s x
-in_gap (Worded h a) k s x = worded k h a s x
-in_gap (Strung h a) k s x = strung k h a s x
-in_gap (Joining h a) k s x = joining k h a s x
+abbrev pub feed_gap : Spot → Sort → State → Character → Fed
+feed_gap Between k s x = between k s x
+feed_gap (Keyed h) k s x = keyed k h s x
+feed_gap (Worded h a) k s x = worded k h a s x
+feed_gap (Strung h a) k s x = strung k h a s x
+feed_gap (Joining h a) k s x = joining k h a s x
 
 abbrev pub slashed : Sort → Spot → ℕ → State → Character → Fed
 slashed Slash spot opened s x = go s (InLine spot)
 slashed Star spot opened s x = go s (InBlock spot opened None)
 slashed _ spot opened s x = bad x
 
-abbrev pub in_line : Sort → Spot → State → Character → Fed
-in_line LineFeed spot s x = go s (Gap spot)
-in_line Forbidden spot s x = cut x
-in_line _ spot s x = Ok s
+abbrev pub feed_line : Sort → Spot → State → Character → Fed
+feed_line LineFeed spot s x = go s (Gap spot)
+feed_line Forbidden spot s x = cut x
+feed_line _ spot s x = Ok s
 
 -- at the end of a string or comment a fault in it counts
 abbrev pub unspoilt : Option YangFault → Fed → Fed
 unspoilt None fed = fed
 unspoilt (Some fault) fed = Err fault
 
-abbrev pub in_block : Sort → Spot → ℕ → Option YangFault → State → Character → Fed
-in_block Star spot opened p s x = go s (BehindStar spot opened p)
-in_block Forbidden spot opened p s x = go s (InBlock spot opened (spoilt p (BadToken x.last)))
-in_block _ spot opened p s x = Ok s
+abbrev pub feed_block : Sort → Spot → ℕ → Option YangFault → State → Character → Fed
+feed_block Star spot opened p s x = go s (BehindStar spot opened p)
+feed_block Forbidden spot opened p s x = go s (InBlock spot opened (spoilt p (BadToken x.last)))
+feed_block _ spot opened p s x = Ok s
 
-abbrev pub behind_star : Sort → Spot → ℕ → Option YangFault → State → Character → Fed
-behind_star Slash spot opened p s x = unspoilt p (go s (Gap spot))
-behind_star Star spot opened p s x = Ok s
-behind_star Forbidden spot opened p s x = go s (InBlock spot opened (spoilt p (BadToken x.last)))
-behind_star _ spot opened p s x = go s (InBlock spot opened p)
+abbrev pub feed_star : Sort → Spot → ℕ → Option YangFault → State → Character → Fed
+feed_star Slash spot opened p s x = unspoilt p (go s (Gap spot))
+feed_star Star spot opened p s x = Ok s
+feed_star Forbidden spot opened p s x = go s (InBlock spot opened (spoilt p (BadToken x.last)))
+feed_star _ spot opened p s x = go s (InBlock spot opened p)
 
 abbrev pub grown : Head → Character → Head
 grown h x = record { keyword = h.keyword ++ encode_utf8 x.code; at = h.at }
@@ -173,79 +181,80 @@ end_keyword Semicolon h s x = leaf s h None
 end_keyword OpenBrace h s x = enter s h None x
 end_keyword _ h s x = bad x
 
-abbrev pub in_keyword : Sort → Head → State → Character → Fed
-in_keyword Start h s x = go s (InKeyword (grown h x))
-in_keyword Inner h s x = go s (InKeyword (grown h x))
-in_keyword Colon h s x = go s (BehindColon (grown h x))
-in_keyword k h s x = end_keyword k h s x
+abbrev pub feed_keyword : Sort → Head → State → Character → Fed
+feed_keyword Start h s x = go s (InKeyword (grown h x))
+feed_keyword Inner h s x = go s (InKeyword (grown h x))
+feed_keyword Colon h s x = go s (BehindColon (grown h x))
+feed_keyword k h s x = end_keyword k h s x
 
-abbrev pub behind_colon : Sort → Head → State → Character → Fed
-behind_colon Start h s x = go s (InSecond (grown h x))
-behind_colon _ h s x = bad x
+abbrev pub feed_colon : Sort → Head → State → Character → Fed
+feed_colon Start h s x = go s (InSecond (grown h x))
+feed_colon _ h s x = bad x
 
-abbrev pub in_second : Sort → Head → State → Character → Fed
-in_second Start h s x = go s (InSecond (grown h x))
-in_second Inner h s x = go s (InSecond (grown h x))
-in_second k h s x = end_keyword k h s x
+abbrev pub feed_second : Sort → Head → State → Character → Fed
+feed_second Start h s x = go s (InSecond (grown h x))
+feed_second Inner h s x = go s (InSecond (grown h x))
+feed_second k h s x = end_keyword k h s x
 
-abbrev pub in_word : Sort → Head → List ℕ → State → Character → Fed
-in_word LineFeed h a s x = go s (Gap (Worded h a))
-in_word Blank h a s x = go s (Gap (Worded h a))
-in_word Semicolon h a s x = leaf s h (Some a)
-in_word OpenBrace h a s x = enter s h (Some a) x
-in_word CloseBrace h a s x = bad x
-in_word DoubleQuote h a s x = bad x
-in_word SingleQuote h a s x = bad x
-in_word Forbidden h a s x = cut x
-in_word Slash h a s x = go s (WordSlash h (a ++ encode_utf8 x.code))
-in_word Star h a s x = go s (WordStar h (a ++ encode_utf8 x.code))
-in_word _ h a s x = go s (InWord h (a ++ encode_utf8 x.code))
+abbrev pub feed_word : Sort → Head → List ℕ → State → Character → Fed
+feed_word LineFeed h a s x = go s (Gap (Worded h a))
+feed_word Blank h a s x = go s (Gap (Worded h a))
+feed_word Semicolon h a s x = leaf s h (Some a)
+feed_word OpenBrace h a s x = enter s h (Some a) x
+feed_word CloseBrace h a s x = bad x
+feed_word DoubleQuote h a s x = bad x
+feed_word SingleQuote h a s x = bad x
+feed_word Forbidden h a s x = cut x
+feed_word Slash h a s x = go s (WordSlash h (a ++ encode_utf8 x.code))
+feed_word Star h a s x = go s (WordStar h (a ++ encode_utf8 x.code))
+feed_word _ h a s x = go s (InWord h (a ++ encode_utf8 x.code))
 
 abbrev pub lone : Sort → Head → List ℕ → ℕ → State → Character → Fed
 lone Slash h a opened s x = go s (InLine (Keyed h))
 lone Star h a opened s x = go s (InBlock (Keyed h) opened None)
-lone k h a opened s x = in_word k h a s x
+lone k h a opened s x = feed_word k h a s x
 
 abbrev pub word_slash : Sort → Head → List ℕ → State → Character → Fed
 word_slash Slash h a s x = bad x
 word_slash Star h a s x = bad x
-word_slash k h a s x = in_word k h a s x
+word_slash k h a s x = feed_word k h a s x
 
 abbrev pub word_star : Sort → Head → List ℕ → State → Character → Fed
 word_star Slash h a s x = bad x
-word_star k h a s x = in_word k h a s x
+word_star k h a s x = feed_word k h a s x
 
-abbrev pub in_single : Sort → Head → List ℕ → ℕ → Option YangFault → State → Character → Fed
-in_single SingleQuote h a opened p s x = unspoilt p (go s (Gap (Strung h a)))
-in_single Forbidden h a opened p s x = go s (InSingle h a opened (spoilt p (BadToken x.last)))
-in_single _ h a opened p s x = go s (InSingle h (a ++ encode_utf8 x.code) opened p)
+abbrev pub feed_single : Sort → Head → List ℕ → ℕ → Option YangFault → State → Character → Fed
+feed_single SingleQuote h a opened p s x = unspoilt p (go s (Gap (Strung h a)))
+feed_single Forbidden h a opened p s x = go s (InSingle h a opened (spoilt p (BadToken x.last)))
+feed_single _ h a opened p s x = go s (InSingle h (a ++ encode_utf8 x.code) opened p)
 
-abbrev pub in_double : Sort → Head → List ℕ → ℕ → ℕ → List ℕ → Option YangFault → State → Character → Fed
-in_double DoubleQuote h a opened column raw p s x = unspoilt p (go s (Gap (Strung h (a ++ string_value column raw))))
-in_double Backslash h a opened column raw p s x = go s (BehindBackslash h a opened column (raw ++ x.code ∷ []) p)
-in_double Forbidden h a opened column raw p s x = go s (InDouble h a opened column raw (spoilt p (BadToken x.last)))
-in_double _ h a opened column raw p s x = go s (InDouble h a opened column (raw ++ x.code ∷ []) p)
+abbrev pub feed_double : Sort → Head → List ℕ → ℕ → ℕ → List ℕ → Option YangFault → State → Character → Fed
+feed_double DoubleQuote h a opened column raw p s x = unspoilt p (go s (Gap (Strung h (a ++ string_value column raw))))
+feed_double Backslash h a opened column raw p s x = go s (BehindBackslash h a opened column (raw ++ x.code ∷ []) p)
+feed_double Forbidden h a opened column raw p s x = go s (InDouble h a opened column raw (spoilt p (BadToken x.last)))
+feed_double _ h a opened column raw p s x = go s (InDouble h a opened column (raw ++ x.code ∷ []) p)
 
-abbrev pub behind_backslash : Head → List ℕ → ℕ → ℕ → List ℕ → Option YangFault → State → Character → Fed
-behind_backslash h a opened column raw p s x =
-    go s (InDouble h a opened column (raw ++ x.code ∷ []) (if is_escape x.code then p else spoilt p (BadEscape (x.at - 1))))
+abbrev pub feed_backslash : Head → List ℕ → ℕ → ℕ → List ℕ → Option YangFault → State → Character → Fed
+feed_backslash h a opened column raw p s x =
+    go s (InDouble h a opened column (raw ++ x.code ∷ [])
+    (if is_escape x.code then p else spoilt p (BadEscape (x.at - 1))))
 
 abbrev pub feed_work : Work → Sort → State → Character → Fed
-feed_work (Gap spot) k s x = in_gap spot k s x
+feed_work (Gap spot) k s x = feed_gap spot k s x
 feed_work (Slashed spot opened) k s x = slashed k spot opened s x
-feed_work (InLine spot) k s x = in_line k spot s x
-feed_work (InBlock spot opened p) k s x = in_block k spot opened p s x
-feed_work (BehindStar spot opened p) k s x = behind_star k spot opened p s x
-feed_work (InKeyword h) k s x = in_keyword k h s x
-feed_work (BehindColon h) k s x = behind_colon k h s x
-feed_work (InSecond h) k s x = in_second k h s x
+feed_work (InLine spot) k s x = feed_line k spot s x
+feed_work (InBlock spot opened p) k s x = feed_block k spot opened p s x
+feed_work (BehindStar spot opened p) k s x = feed_star k spot opened p s x
+feed_work (InKeyword h) k s x = feed_keyword k h s x
+feed_work (BehindColon h) k s x = feed_colon k h s x
+feed_work (InSecond h) k s x = feed_second k h s x
 feed_work (Lone h a opened) k s x = lone k h a opened s x
 feed_work (WordSlash h a) k s x = word_slash k h a s x
 feed_work (WordStar h a) k s x = word_star k h a s x
-feed_work (InWord h a) k s x = in_word k h a s x
-feed_work (InSingle h a opened p) k s x = in_single k h a opened p s x
-feed_work (InDouble h a opened column raw p) k s x = in_double k h a opened column raw p s x
-feed_work (BehindBackslash h a opened column raw p) k s x = behind_backslash h a opened column raw p s x
+feed_work (InWord h a) k s x = feed_word k h a s x
+feed_work (InSingle h a opened p) k s x = feed_single k h a opened p s x
+feed_work (InDouble h a opened column raw p) k s x = feed_double k h a opened column raw p s x
+feed_work (BehindBackslash h a opened column raw p) k s x = feed_backslash h a opened column raw p s x
 
 -- what one character makes of a state
 abbrev pub feed : State → Character → Fed

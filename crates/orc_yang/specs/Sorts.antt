@@ -1,11 +1,12 @@
 -- What a character can be to the grammar (RFC 7950 sections 6.1.2, 6.2 and 14).
-use Rattle.std.specs.Prelude.{ℕ, Bool, ◌||◌, ◌&&◌, ◌==◌, ◌%◌, nat_lt, nat_le, if◌then◌else◌}
+use Rattle.std.specs.Prelude.{ℕ, Bool, ◌||◌, ◌&&◌, ◌==◌, nat_lt, nat_le, if◌then◌else◌}
+use Rattle.orc_text.specs.Characters.{is_noncharacter}
 use Rattle.orc_yang.specs.declared.character.Sort.{Sort}
 use Rattle.orc_yang.specs.declared.character.Sort.TheVariants.{LineFeed, Blank, Semicolon, OpenBrace, CloseBrace, DoubleQuote, SingleQuote, Slash, Star, Plus, Colon, Backslash, Start, Inner, Forbidden, Other}
 
--- a control character, or a noncharacter: U+FDD0 to U+FDEF and the last two of each plane
+-- a control character, or a noncharacter: forbidden (RFC 7950 section 14)
 abbrev pub other_sort : ℕ → Sort
-other_sort c = if nat_lt c 32 then Forbidden else (if nat_le 0xfdd0 c && nat_le c 0xfdef then Forbidden else (if nat_le 0xfffe (c % 0x1_0000) then Forbidden else Other))
+other_sort c = if nat_lt c 32 || is_noncharacter c then Forbidden else Other
 
 abbrev pub is_between : ℕ → ℕ → ℕ → Bool
 is_between low high c = nat_le low c && nat_le c high

@@ -2,6 +2,8 @@
 ghost use Rattle.std.specs.Prelude.{◌≡◌};
 ghost use Rattle.orc_yang.specs.Sorts.{sort_of, other_sort};
 
+use orc_text::is_noncharacter;
+
 /// A character as it stands in a text: the places of its first and last byte, and its column, counted
 /// from 1.
 #[derive(Clone, Copy, Debug)]
@@ -37,8 +39,8 @@ pub enum Sort {
     Other,
 }
 
-/// The sort of a character.
-pub fn sort_of(c: char) -> Sort
+// The sort of a character.
+pub(crate) fn sort_of(c: char) -> Sort
     ensures { result ≡ sort_of c }
 {
     match c {
@@ -56,16 +58,16 @@ pub fn sort_of(c: char) -> Sort
         '\\' => Sort::Backslash,
         'a'..='z' | 'A'..='Z' | '_' => Sort::Start,
         '0'..='9' | '-' | '.' => Sort::Inner,
-        _ => other_sort(c as u32),
+        _ => other_sort(c),
     }
 }
 
-/// The sort of a character that the grammar does not name: the control characters and the
-/// noncharacters are forbidden.
-fn other_sort(code: u32) -> Sort
-    ensures { result ≡ other_sort code }
+// The sort of a character that the grammar does not name: the control characters and the
+// noncharacters are forbidden.
+fn other_sort(c: char) -> Sort
+    ensures { result ≡ other_sort c }
 {
-    if code < 32 || (0xfdd0 <= code && code <= 0xfdef) || 0xfffe <= code % 0x1_0000 {
+    if c < ' ' || is_noncharacter(c) {
         Sort::Forbidden
     } else {
         Sort::Other

@@ -1,7 +1,7 @@
 //! What each character does in a comment (RFC 7950 section 6.1.1).
 ghost use Rattle.std.specs.Prelude.{◌≡◌, Some, IsErrOf};
-ghost use Rattle.orc_yang.specs.Machine.{go, slashed, in_line, in_block, behind_star, unspoilt, Gap, Slashed};
-ghost use Rattle.orc_yang.specs.View.{view, spot, Steps};
+ghost use Rattle.orc_yang.specs.Machine.{go, slashed, feed_line, feed_block, feed_star, unspoilt, Gap, Slashed};
+ghost use Rattle.orc_yang.specs.inside.View.{view, spot, Mirrors};
 
 use crate::YangFault;
 use crate::character::{Character, Sort};
@@ -9,9 +9,9 @@ use crate::parser::{Mode, Parser};
 use crate::steps::{bad, forbidden};
 
 impl Parser {
-    /// The first slash of a comment.
-    pub fn slash(&mut self, x: Character) -> Result<(), YangFault>
-        ensures step { Steps (go (view self.old) (Slashed (spot self.old) x.at)) (view self.new) result }
+    // The first slash of a comment.
+    pub(crate) fn slash(&mut self, x: Character) -> Result<(), YangFault>
+        ensures step { Mirrors (go (view self.old) (Slashed (spot self.old) x.at)) (view self.new) result }
         ensures memory { ¬ IsErrOf result YangFault.Memory }
     {
         self.mode = Mode::Slashed;
@@ -19,9 +19,9 @@ impl Parser {
         Ok(())
     }
 
-    /// Behind a slash that must begin a comment.
-    pub fn slashed(&mut self, sort: Sort, x: Character) -> Result<(), YangFault>
-        ensures step { Steps (slashed sort (spot self.old) self.old.opened (view self.old) x) (view self.new) result }
+    // Behind a slash that must begin a comment.
+    pub(crate) fn slashed(&mut self, sort: Sort, x: Character) -> Result<(), YangFault>
+        ensures step { Mirrors (slashed sort (spot self.old) self.old.opened (view self.old) x) (view self.new) result }
         ensures memory { ¬ IsErrOf result YangFault.Memory }
     {
         match sort {
@@ -38,9 +38,9 @@ impl Parser {
         }
     }
 
-    /// In a comment to the end of the line.
-    pub fn line(&mut self, sort: Sort, x: Character) -> Result<(), YangFault>
-        ensures step { Steps (in_line sort (spot self.old) (view self.old) x) (view self.new) result }
+    // In a comment to the end of the line.
+    pub(crate) fn line(&mut self, sort: Sort, x: Character) -> Result<(), YangFault>
+        ensures step { Mirrors (feed_line sort (spot self.old) (view self.old) x) (view self.new) result }
         ensures memory { ¬ IsErrOf result YangFault.Memory }
     {
         match sort {
@@ -53,9 +53,11 @@ impl Parser {
         }
     }
 
-    /// In a comment in `/*` and `*/`.
-    pub fn block(&mut self, sort: Sort, x: Character) -> Result<(), YangFault>
-        ensures step { Steps (in_block sort (spot self.old) self.old.opened self.old.pending (view self.old) x) (view self.new) result }
+    // In a comment in `/*` and `*/`.
+    pub(crate) fn block(&mut self, sort: Sort, x: Character) -> Result<(), YangFault>
+        ensures step { Mirrors
+            (feed_block sort (spot self.old) self.old.opened self.old.pending (view self.old) x)
+            (view self.new) result }
         ensures memory { ¬ IsErrOf result YangFault.Memory }
     {
         match sort {
@@ -72,9 +74,11 @@ impl Parser {
         }
     }
 
-    /// The same, behind a `*`.
-    pub fn block_star(&mut self, sort: Sort, x: Character) -> Result<(), YangFault>
-        ensures step { Steps (behind_star sort (spot self.old) self.old.opened self.old.pending (view self.old) x) (view self.new) result }
+    // The same, behind a `*`.
+    pub(crate) fn block_star(&mut self, sort: Sort, x: Character) -> Result<(), YangFault>
+        ensures step { Mirrors
+            (feed_star sort (spot self.old) self.old.opened self.old.pending (view self.old) x)
+            (view self.new) result }
         ensures memory { IsErrOf result YangFault.Memory → self.old.pending ≡ Some YangFault.Memory }
     {
         match sort {
@@ -92,9 +96,11 @@ impl Parser {
         }
     }
 
-    /// The end of a comment: a fault in it counts now.
-    pub fn end_comment(&mut self) -> Result<(), YangFault>
-        ensures step { Steps (unspoilt self.old.pending (go (view self.old) (Gap (spot self.old)))) (view self.new) result }
+    // The end of a comment: a fault in it counts now.
+    pub(crate) fn end_comment(&mut self) -> Result<(), YangFault>
+        ensures step { Mirrors
+            (unspoilt self.old.pending (go (view self.old) (Gap (spot self.old))))
+            (view self.new) result }
         ensures memory { IsErrOf result YangFault.Memory → self.old.pending ≡ Some YangFault.Memory }
     {
         match self.pending {

@@ -1,21 +1,22 @@
 //! What each character does in a keyword (RFC 7950 sections 6.1.2 and 6.2).
 ghost use Rattle.std.specs.Prelude.{◌++◌, encode_utf8};
-ghost use Rattle.orc_yang.specs.Machine.{go, in_keyword, behind_colon, in_second, end_keyword, InKeyword};
-ghost use Rattle.orc_yang.specs.View.{view, head_of, work_of, Steps};
+ghost use Rattle.orc_yang.specs.Machine.{go, feed_keyword, feed_colon, feed_second, end_keyword, InKeyword};
+ghost use Rattle.orc_yang.specs.inside.View.{view, head_of, work_of, Mirrors};
 
 use crate::YangFault;
 use crate::character::{Character, Sort};
 use crate::parser::{Mode, Parser, Spot};
-use crate::steps::bad;
-use orc_text::Text;
+use crate::steps::{bad, short_text};
 use std::alloc::Global;
 
 impl Parser {
-    /// The first character of a keyword.
-    pub fn begin_keyword(&mut self, alloc: Global, x: Character) -> Result<(), YangFault>
-        ensures { Steps (go (view self.old) (InKeyword (record { keyword = encode_utf8 x.code; at = x.at }))) (view self.new) result }
+    // The first character of a keyword.
+    pub(crate) fn begin_keyword(&mut self, alloc: Global, x: Character) -> Result<(), YangFault>
+        ensures { Mirrors
+            (go (view self.old) (InKeyword (record { keyword = encode_utf8 x.code; at = x.at })))
+            (view self.new) result }
     {
-        let mut keyword = Text::new(alloc);
+        let mut keyword = short_text(alloc)?;
         keyword.push(x.code)?;
         self.keyword = keyword;
         self.at = x.at;
@@ -23,9 +24,9 @@ impl Parser {
         Ok(())
     }
 
-    /// In a keyword, up to its colon.
-    pub fn first(&mut self, alloc: Global, sort: Sort, x: Character) -> Result<(), YangFault>
-        ensures { Steps (in_keyword sort (head_of self.old) (view self.old) x) (view self.new) result }
+    // In a keyword, up to its colon.
+    pub(crate) fn first(&mut self, alloc: Global, sort: Sort, x: Character) -> Result<(), YangFault>
+        ensures { Mirrors (feed_keyword sort (head_of self.old) (view self.old) x) (view self.new) result }
     {
         match sort {
             Sort::Start | Sort::Inner => self.more_keyword(x, Mode::First),
@@ -34,18 +35,20 @@ impl Parser {
         }
     }
 
-    /// One more character of a keyword.
-    pub fn more_keyword(&mut self, x: Character, mode: Mode) -> Result<(), YangFault>
-        ensures { Steps (go (view self.old) (work_of mode (record self.old { keyword = self.old.keyword ++ encode_utf8 x.code }))) (view self.new) result }
+    // One more character of a keyword.
+    pub(crate) fn more_keyword(&mut self, x: Character, mode: Mode) -> Result<(), YangFault>
+        ensures { Mirrors
+            (go (view self.old) (work_of mode (record self.old { keyword = self.old.keyword ++ encode_utf8 x.code })))
+            (view self.new) result }
     {
         self.keyword.push(x.code)?;
         self.mode = mode;
         Ok(())
     }
 
-    /// In a keyword, behind its colon.
-    pub fn colon(&mut self, sort: Sort, x: Character) -> Result<(), YangFault>
-        ensures { Steps (behind_colon sort (head_of self.old) (view self.old) x) (view self.new) result }
+    // In a keyword, behind its colon.
+    pub(crate) fn colon(&mut self, sort: Sort, x: Character) -> Result<(), YangFault>
+        ensures { Mirrors (feed_colon sort (head_of self.old) (view self.old) x) (view self.new) result }
     {
         match sort {
             Sort::Start => self.more_keyword(x, Mode::Second),
@@ -53,9 +56,14 @@ impl Parser {
         }
     }
 
-    /// In a keyword, behind its prefix.
-    pub fn second(&mut self, alloc: Global, sort: Sort, x: Character) -> Result<(), YangFault>
-        ensures { Steps (in_second sort (head_of self.old) (view self.old) x) (view self.new) result }
+    // In a keyword, behind its prefix.
+    pub(crate) fn second(
+        &mut self,
+        alloc: Global,
+        sort: Sort,
+        x: Character,
+    ) -> Result<(), YangFault>
+        ensures { Mirrors (feed_second sort (head_of self.old) (view self.old) x) (view self.new) result }
     {
         match sort {
             Sort::Start | Sort::Inner => self.more_keyword(x, Mode::Second),
@@ -63,9 +71,14 @@ impl Parser {
         }
     }
 
-    /// The first character behind a keyword.
-    pub fn end_keyword(&mut self, alloc: Global, sort: Sort, x: Character) -> Result<(), YangFault>
-        ensures { Steps (end_keyword sort (head_of self.old) (view self.old) x) (view self.new) result }
+    // The first character behind a keyword.
+    pub(crate) fn end_keyword(
+        &mut self,
+        alloc: Global,
+        sort: Sort,
+        x: Character,
+    ) -> Result<(), YangFault>
+        ensures { Mirrors (end_keyword sort (head_of self.old) (view self.old) x) (view self.new) result }
     {
         self.spot = Spot::Keyed;
         match sort {

@@ -10,18 +10,14 @@ mod comments;
 mod fault;
 mod keywords;
 mod laws;
-#[cfg(test)]
-mod module;
 mod parser;
 mod quoted;
 mod statement;
 mod statements;
 mod steps;
 mod strings;
-#[cfg(test)]
-mod tests;
 
 pub use fault::YangFault;
-pub use laws::has_one_fault;
+pub use laws::{has_one_fault, parsing_follows_the_grammar};
 pub use statement::Stmt;
 pub use statements::parse;

@@ -1,103 +1,102 @@
 //! The reader of statements: what it keeps between two characters, and the moves that it makes.
 ghost use Rattle.std.specs.Prelude.{◌≡◌, MatchResult, IsErrOf, [], length, reverse, ◌<◌};
 ghost use Rattle.orc_yang.specs.Machine.{leaf, enter, close, finish, Gap, Between, ended, spoilt};
-ghost use Rattle.orc_yang.specs.View.{view, head_of, Steps, Fails};
+ghost use Rattle.orc_yang.specs.inside.View.{view, head_of, Mirrors};
+ghost use Rattle.orc_yang.specs.Parsing.{FailsWith};
 
 use crate::character::Character;
+use crate::statement::MAX_DEPTH;
 use crate::{Stmt, YangFault};
 use orc_text::{Memory, Row, Text};
 use std::alloc::Global;
 use std::mem;
 
-/// The most blocks in one another.
-const MAX_DEPTH: usize = 32;
-
-/// Between which parts of a statement white space and comments stand.
+// Between which parts of a statement white space and comments stand.
 #[derive(Clone, Copy, Debug)]
-pub enum Spot {
-    /// Between two statements.
+pub(crate) enum Spot {
+    // Between two statements.
     Between,
-    /// Behind a keyword.
+    // Behind a keyword.
     Keyed,
-    /// Behind an unquoted argument.
+    // Behind an unquoted argument.
     Worded,
-    /// Behind a quoted string.
+    // Behind a quoted string.
     Strung,
-    /// Behind a plus.
+    // Behind a plus.
     Joining,
 }
 
-/// What the next character goes on with.
+// What the next character goes on with.
 #[derive(Clone, Copy, Debug)]
-pub enum Mode {
-    /// White space or what comes next.
+pub(crate) enum Mode {
+    // White space or what comes next.
     Gap,
-    /// The second character of a comment's opening mark.
+    // The second character of a comment's opening mark.
     Slashed,
-    /// A comment to the end of the line.
+    // A comment to the end of the line.
     Line,
-    /// A comment in `/*` and `*/`.
+    // A comment in `/*` and `*/`.
     Block,
-    /// The same, behind a `*` in it.
+    // The same, behind a `*` in it.
     BlockStar,
-    /// A keyword up to a colon.
+    // A keyword up to a colon.
     First,
-    /// A keyword, behind its colon.
+    // A keyword, behind its colon.
     Colon,
-    /// A keyword behind its prefix.
+    // A keyword behind its prefix.
     Second,
-    /// An unquoted string or a comment, behind the slash that begins either.
+    // An unquoted string or a comment, behind the slash that begins either.
     Lone,
-    /// An unquoted string, behind a slash in it.
+    // An unquoted string, behind a slash in it.
     WordSlash,
-    /// An unquoted string, behind a `*` in it.
+    // An unquoted string, behind a `*` in it.
     WordStar,
-    /// An unquoted string.
+    // An unquoted string.
     Word,
-    /// A single-quoted string.
+    // A single-quoted string.
     Single,
-    /// A double-quoted string.
+    // A double-quoted string.
     Double,
-    /// A double-quoted string, behind a backslash in it.
+    // A double-quoted string, behind a backslash in it.
     Escape,
 }
 
-/// A statement whose block is open, and the statements that stand before it in its own block.
+// A statement whose block is open, and the statements that stand before it in its own block.
 #[derive(Debug, Drop)]
-pub struct Frame {
+pub(crate) struct Frame {
     pub keyword: Text,
     pub argument: Option<Text>,
     pub at: u64,
     pub before: Row<Stmt>,
 }
 
-/// The reader between two characters.
+// The reader between two characters.
 #[derive(Debug, Drop)]
-pub struct Parser {
+pub(crate) struct Parser {
     pub mode: Mode,
     pub spot: Spot,
-    /// The keyword and its place, of the statement that is being read.
+    // The keyword and its place, of the statement that is being read.
     pub keyword: Text,
     pub at: u64,
-    /// The argument so far.
+    // The argument so far.
     pub argument: Text,
-    /// The place of the opening mark, of the string or comment that is being read.
+    // The place of the opening mark, of the string or comment that is being read.
     pub opened: u64,
-    /// The column of the opening quote.
+    // The column of the opening quote.
     pub column: u128,
-    /// The characters so far of a double-quoted string.
+    // The characters so far of a double-quoted string.
     pub raw: Row<char>,
-    /// The first fault in the string or comment, which counts once its end is found.
+    // The first fault in the string or comment, which counts once its end is found.
     pub pending: Option<YangFault>,
-    /// The statements so far of the innermost open block.
+    // The statements so far of the innermost open block.
     pub done: Row<Stmt>,
-    /// The open blocks, the innermost last.
+    // The open blocks, the innermost last.
     pub frames: Row<Frame>,
 }
 
 impl Parser {
-    /// The reader before the first character.
-    pub fn new(alloc: Global) -> Parser
+    // The reader before the first character.
+    pub(crate) fn new(alloc: Global) -> Parser
         ensures { view result ≡ record { work = Gap Between; done = []; frames = [] } }
     {
         Parser {
@@ -115,9 +114,9 @@ impl Parser {
         }
     }
 
-    /// Ends a statement without a block.
-    pub fn leaf(&mut self, alloc: Global, argument: Option<Text>) -> Result<(), YangFault>
-        ensures { Steps (leaf (view self.old) (head_of self.old) argument) (view self.new) result }
+    // Ends a statement without a block.
+    pub(crate) fn leaf(&mut self, alloc: Global, argument: Option<Text>) -> Result<(), YangFault>
+        ensures { Mirrors (leaf (view self.old) (head_of self.old) argument) (view self.new) result }
     {
         let keyword = mem::replace(&mut self.keyword, Text::new(alloc));
         self.done.push(Stmt {
@@ -131,14 +130,14 @@ impl Parser {
         Ok(())
     }
 
-    /// Opens the block of a statement.
-    pub fn enter(
+    // Opens the block of a statement.
+    pub(crate) fn enter(
         &mut self,
         alloc: Global,
         argument: Option<Text>,
         x: Character,
     ) -> Result<(), YangFault>
-        ensures { Steps (enter (view self.old) (head_of self.old) argument x) (view self.new) result }
+        ensures { Mirrors (enter (view self.old) (head_of self.old) argument x) (view self.new) result }
     {
         if self.frames.len() >= MAX_DEPTH {
             return Err(YangFault::Depth { at: x.at });
@@ -156,9 +155,9 @@ impl Parser {
         Ok(())
     }
 
-    /// Closes the innermost open block.
-    pub fn close(&mut self, alloc: Global, x: Character) -> Result<(), YangFault>
-        ensures step { Steps (close (reverse self.old.frames) (view self.old) x) (view self.new) result }
+    // Closes the innermost open block.
+    pub(crate) fn close(&mut self, alloc: Global, x: Character) -> Result<(), YangFault>
+        ensures step { Mirrors (close (reverse self.old.frames) (view self.old) x) (view self.new) result }
         ensures memory { IsErrOf result YangFault.Memory → 0 < length self.old.frames }
     {
         let mut frames = mem::replace(&mut self.frames, Row::new(alloc)).into_vec();
@@ -170,10 +169,14 @@ impl Parser {
         }
     }
 
-    /// Adds the statement whose block was closed.
+    // Adds the statement whose block was closed.
     fn end_block(&mut self, frame: Frame) -> Result<(), YangFault>
         ensures { MatchResult result
-            (λ _. view self.new ≡ record { work = Gap Between; done = ended frame self.old.done; frames = reverse self.old.frames })
+            (λ _. view self.new ≡ record {
+              work = Gap Between;
+              done = ended frame self.old.done;
+              frames = reverse self.old.frames;
+            })
             (λ e. e ≡ YangFault.Memory) }
     {
         let Frame {
@@ -182,7 +185,7 @@ impl Parser {
             at,
             before,
         } = frame;
-        let subs = mem::replace(&mut self.done, before);
+        let subs = fitted(mem::replace(&mut self.done, before));
         self.done.push(Stmt {
             keyword,
             argument,
@@ -194,9 +197,11 @@ impl Parser {
         Ok(())
     }
 
-    /// The statements, where the text ends here.
-    pub fn finish(self, end: u64) -> Result<Vec<Stmt>, YangFault>
-        ensures answer { MatchResult result (λ list. finish (view self) end ≡ Ok list.items) (Fails (finish (view self) end)) }
+    // The statements, where the text ends here.
+    pub(crate) fn finish(self, end: u64) -> Result<Vec<Stmt>, YangFault>
+        ensures answer { MatchResult result
+            (λ list. finish (view self) end ≡ Ok list.items)
+            (FailsWith (finish (view self) end)) }
         ensures memory { ¬ IsErrOf result YangFault.Memory }
     {
         let Parser {
@@ -224,22 +229,31 @@ impl Parser {
         }
     }
 
-    /// The argument that has been read.
-    pub fn take_argument(&mut self, alloc: Global) -> Text
+    // The argument that has been read.
+    pub(crate) fn take_argument(&mut self, alloc: Global) -> Text
         ensures taken { result ≡ self.old.argument }
         ensures left { self.new ≡ record self.old { argument = [] } }
     {
         mem::replace(&mut self.argument, Text::new(alloc))
     }
 
-    /// Keeps the first fault of a string or comment until its end is found.
-    pub fn spoil(&mut self, fault: YangFault)
+    // Keeps the first fault of a string or comment until its end is found.
+    pub(crate) fn spoil(&mut self, fault: YangFault)
         ensures { self.new ≡ record self.old { pending = spoilt self.old.pending fault } }
     {
         if self.pending.is_none() {
             self.pending = Some(fault);
         }
     }
+}
+
+// The row with no room to spare.
+fn fitted(row: Row<Stmt>) -> Row<Stmt>
+    ensures { result ≡ row }
+{
+    let mut items = row.into_vec();
+    items.shrink_to_fit();
+    Row::from_vec(items)
 }
 
 impl From<Memory> for YangFault {

@@ -1,57 +1,71 @@
 //! The value of a double-quoted string (RFC 7950 section 6.1.3).
 
-ghost use Rattle.std.specs.Prelude.{◌≡◌, ◌++◌, IfOk, OnOk, replicate, false};
-ghost use Rattle.std.specs.Str.{encode_utf8_all};
-ghost use Rattle.orc_yang.specs.Quoted.{string_value, is_space, without_trailing, begins_break, unindented, unescaped, escaped};
+ghost use Rattle.std.specs.Prelude.{◌≡◌, ◌∷◌, ◌++◌, List, ℕ, true, IfOk, OnOk, replicate};
+ghost use Rattle.orc_yang.specs.Quoted.{string_value, is_space, begins_break, ends_line, escaped};
+ghost use Rattle.orc_yang.specs.inside.Valuing.{spelled_with, lined_with, valued_with, KnowsBlanks};
 
 use orc_text::{Memory, Text};
 use std::alloc::Global;
 
-/// Adds the value of a double-quoted string to an argument: trailing blanks are dropped first, then
-/// the indentation up to the column of the opening quote, and escapes are read afterwards.
-#[tactic(auto, unfolding(crate::specs::Quoted::string_value))]
-pub fn add_value(
-    alloc: Global,
-    argument: &mut Text,
-    column: u128,
-    raw: &[char],
-) -> Result<(), Memory>
-    ensures { OnOk result (argument.new ≡ argument.old ++ string_value column raw.now) }
-{
-    let kept = without_trailing(alloc, raw)?;
-    let lines = without_indentation(alloc, column, kept.as_slice())?;
-    add_unescaped(argument, lines.as_slice())
+// A value as far as it is made.
+#[derive(Debug, Drop)]
+pub(crate) struct Value {
+    pub text: Text,
+    // How many columns of indentation are left to drop.
+    pub left: u128,
+    // Whether a backslash was taken whose escape comes.
+    pub escaped: bool,
+    // Whether a space or a tab was taken last.
+    pub blank: bool,
+    // Whether that one, and those behind it, stand before a line break.
+    pub trailing: bool,
 }
 
-/// Whether a character is a space or a tab.
+// The argument with the value of a double-quoted string behind it: trailing blanks are dropped first,
+// then the indentation up to the column of the opening quote, and escapes are read afterwards.
+#[tactic(auto, unfolding(crate::specs::Quoted::string_value))]
+pub(crate) fn with_value(
+    alloc: Global,
+    argument: Text,
+    column: u128,
+    raw: &[char],
+) -> Result<Text, Memory>
+    ensures { IfOk result (λ text. text ≡ argument ++ string_value column raw.now) }
+{
+    let mut value = Value {
+        text: with_room(alloc, argument, raw.len())?,
+        left: 0,
+        escaped: false,
+        blank: false,
+        trailing: false,
+    };
+    let mut rest = raw;
+    while let [c, more @ ..] = rest {
+        value.take(column, *c, more)?;
+        rest = more;
+    }
+    Ok(value.text)
+}
+
+// The text, with room for so many bytes where it is empty.
+fn with_room(alloc: Global, text: Text, room: usize) -> Result<Text, Memory>
+    ensures { IfOk result (λ roomy. roomy ≡ text) }
+{
+    if text.as_str().is_empty() {
+        Ok(Text::from_string(String::with_capacity(alloc, room)?))
+    } else {
+        Ok(text)
+    }
+}
+
+// Whether a character is a space or a tab.
 fn is_space(c: char) -> bool
     ensures { result ≡ is_space c }
 {
     c == ' ' || c == '\t'
 }
 
-/// The characters without the spaces and tabs that stand before a line break.
-fn without_trailing(alloc: Global, text: &[char]) -> Result<Vec<char>, Memory>
-    ensures { IfOk result (λ out. out.items ≡ without_trailing text.now) }
-{
-    let mut out = Vec::new(alloc);
-    let mut held = Vec::new(alloc);
-    for (i, c) in text.iter().enumerate() {
-        if is_space(*c) {
-            held.push(*c)?;
-        } else {
-            if !begins_break(*c, &text[i + 1..]) {
-                out.extend_from_slice(held.as_slice())?;
-            }
-            held.clear();
-            out.push(*c)?;
-        }
-    }
-    out.extend_from_slice(held.as_slice())?;
-    Ok(out)
-}
-
-/// Whether a character begins a line break, where these follow.
+// Whether a character begins a line break, where these follow.
 fn begins_break(c: char, rest: &[char]) -> bool
     ensures { result ≡ begins_break c rest.now }
 {
@@ -62,58 +76,21 @@ fn begins_break(c: char, rest: &[char]) -> bool
     }
 }
 
-/// The characters without the spaces and tabs behind a line break, up to a column.
-fn without_indentation(alloc: Global, column: u128, text: &[char]) -> Result<Vec<char>, Memory>
-    ensures { IfOk result (λ out. out.items ≡ unindented column 0 text.now) }
+// Whether spaces and tabs come, and then a line break.
+fn ends_line(text: &[char]) -> bool
+    ensures { result ≡ ends_line text.now }
 {
-    let mut out = Vec::new(alloc);
-    let mut left = 0;
-    for c in text {
-        if *c == '\n' {
-            out.push(*c)?;
-            left = column;
-        } else if *c == ' ' && left > 0 {
-            left -= 1;
-        } else if *c == '\t' && left > 0 {
-            add_spaces(&mut out, 8u128.saturating_sub(left))?;
-            left = left.saturating_sub(8);
-        } else {
-            out.push(*c)?;
-            left = 0;
+    let mut rest = text;
+    while let [c, more @ ..] = rest {
+        if !is_space(*c) {
+            return begins_break(*c, more);
         }
+        rest = more;
     }
-    Ok(out)
+    false
 }
 
-/// Adds spaces at the end.
-fn add_spaces(out: &mut Vec<char>, count: u128) -> Result<(), Memory>
-    ensures { OnOk result (out.new.items ≡ out.old.items ++ replicate count 32) }
-{
-    for _i in 0..count {
-        out.push(' ')?;
-    }
-    Ok(())
-}
-
-/// Adds the characters at the end, each escape as the character that it stands for.
-fn add_unescaped(argument: &mut Text, text: &[char]) -> Result<(), Memory>
-    ensures { OnOk result (argument.new ≡ argument.old ++ encode_utf8_all (unescaped false text.now)) }
-{
-    let mut escaped = false;
-    for c in text {
-        if escaped {
-            argument.push(escape(*c))?;
-            escaped = false;
-        } else if *c == '\\' {
-            escaped = true;
-        } else {
-            argument.push(*c)?;
-        }
-    }
-    Ok(())
-}
-
-/// The character that a backslash and this one stand for.
+// The character that a backslash and this one stand for.
 fn escape(c: char) -> char
     ensures { result ≡ escaped c }
 {
@@ -121,5 +98,95 @@ fn escape(c: char) -> char
         'n' => '\n',
         't' => '\t',
         other => other,
+    }
+}
+
+impl Value {
+    // Takes the next character, behind which these follow.
+    fn take(&mut self, column: u128, c: char, rest: &[char]) -> Result<(), Memory>
+        requires { KnowsBlanks self.old (c ∷ rest.now) }
+        ensures value { OnOk result
+            (valued_with column self.new rest.now ≡ valued_with column self.old (c ∷ rest.now)) }
+        ensures blanks { OnOk result (KnowsBlanks self.new rest.now) }
+    {
+        if !is_space(c) {
+            self.blank = false;
+            return self.keep(column, c);
+        }
+        self.trailing = self.is_trailing(rest);
+        self.blank = true;
+        if self.trailing {
+            Ok(())
+        } else {
+            self.keep(column, c)
+        }
+    }
+
+    // Whether a space or a tab that is taken, behind which these follow, stands before a line break.
+    fn is_trailing(&self, rest: &[char]) -> bool
+        requires { self.now.blank ≡ true → self.now.trailing ≡ ends_line rest.now }
+        ensures { result ≡ ends_line rest.now }
+    {
+        if self.blank {
+            self.trailing
+        } else {
+            ends_line(rest)
+        }
+    }
+
+    // Takes a character that no line break follows, apart from indentation.
+    fn keep(&mut self, column: u128, c: char) -> Result<(), Memory>
+        ensures value { OnOk result ((rest : List ℕ)
+            → lined_with column self.new rest ≡ lined_with column self.old (c ∷ rest)) }
+        ensures blank { OnOk result (self.new.blank ≡ self.old.blank) }
+        ensures trailing { OnOk result (self.new.trailing ≡ self.old.trailing) }
+    {
+        if c == '\n' {
+            self.left = column;
+            self.add(c)
+        } else if c == ' ' && self.left > 0 {
+            self.left -= 1;
+            Ok(())
+        } else if c == '\t' && self.left > 0 {
+            let spaces = 8u128.saturating_sub(self.left);
+            self.left = self.left.saturating_sub(8);
+            self.add_spaces(spaces)
+        } else {
+            self.left = 0;
+            self.add(c)
+        }
+    }
+
+    // Adds spaces.
+    fn add_spaces(&mut self, count: u128) -> Result<(), Memory>
+        ensures value { OnOk result ((rest : List ℕ)
+            → spelled_with self.new rest ≡ spelled_with self.old (replicate count 32 ++ rest)) }
+        ensures left { OnOk result (self.new.left ≡ self.old.left) }
+        ensures blank { OnOk result (self.new.blank ≡ self.old.blank) }
+        ensures trailing { OnOk result (self.new.trailing ≡ self.old.trailing) }
+    {
+        for _i in 0..count {
+            self.add(' ')?;
+        }
+        Ok(())
+    }
+
+    // Adds a character, or what it stands for behind a backslash.
+    fn add(&mut self, c: char) -> Result<(), Memory>
+        ensures value { OnOk result ((rest : List ℕ)
+            → spelled_with self.new rest ≡ spelled_with self.old (c ∷ rest)) }
+        ensures left { OnOk result (self.new.left ≡ self.old.left) }
+        ensures blank { OnOk result (self.new.blank ≡ self.old.blank) }
+        ensures trailing { OnOk result (self.new.trailing ≡ self.old.trailing) }
+    {
+        if self.escaped {
+            self.escaped = false;
+            self.text.push(escape(c))
+        } else if c == '\\' {
+            self.escaped = true;
+            Ok(())
+        } else {
+            self.text.push(c)
+        }
     }
 }

@@ -1,11 +1,11 @@
 //! From bytes to statements.
 ghost use Rattle.std.specs.Prelude.{◌≡◌, ◌<◌, ◌^◌, ◌++◌, ◌⊎◌, ℕ, true, length, MatchResult, IfOk, IfErr, IsErrOf, List};
 ghost use Rattle.std.specs.Str.{chars, all_scalars, encode_utf8_all};
-ghost use Rattle.orc_yang.specs.Text.{placed, next_column, Spells};
+ghost use Rattle.orc_yang.specs.Text.{placed, next_column, IsTextOf};
 ghost use Rattle.orc_yang.specs.Machine.{run, start};
-ghost use Rattle.orc_yang.specs.Faults.{IsFault, IsUnclosed};
-ghost use Rattle.orc_yang.specs.View.{Fails};
-ghost use Rattle.orc_yang.specs.Wanting.{Wants};
+ghost use Rattle.orc_yang.specs.Faults.{IsFault, IsUnclosed, byte_count};
+ghost use Rattle.orc_yang.specs.Parsing.{statements_of, FailsWith};
+ghost use Rattle.orc_yang.specs.inside.Wanting.{RunMayTake};
 ghost use Rattle.orc_yang.specs.declared.statement.Stmt.{Stmt};
 
 use crate::character::Character;
@@ -16,16 +16,23 @@ use std::str::from_utf8;
 
 /// The statements that the bytes spell.
 pub fn parse(alloc: Global, bytes: &[u8]) -> Result<Vec<Stmt>, YangFault>
+    // The one answer, unless memory runs out.
+    ensures answer { MatchResult result
+        (λ list. statements_of bytes.now ≡ Ok list.items)
+        (FailsWith (statements_of bytes.now)) }
     // What is read is spelled so.
-    ensures found { IfOk result (λ list. Spells bytes.now list.items) }
+    ensures found { IfOk result (λ list. IsTextOf bytes.now list.items) }
     // What is spelled so is read, unless memory runs out, and as no other list.
-    ensures only { (list : List Stmt) → Spells bytes.now list → MatchResult result (λ read. read.items ≡ list) (λ fault. fault ≡ YangFault.Memory) }
+    ensures only { (list : List Stmt) → IsTextOf bytes.now list
+        → MatchResult result (λ read. read.items ≡ list) (λ fault. fault ≡ YangFault.Memory) }
     // Where bytes that are not UTF-8 cease to be; else what the fault means for the characters.
     // Memory is wanted only of a text that comes to a keyword.
     ensures faults { IfErr result (IsFault bytes.now) }
     // A string or a comment without end is the fault, whatever stands in it, unless memory runs out.
-    ensures unclosed { (front rest : List ℕ) → all_scalars (front ++ rest) ≡ true → encode_utf8_all (front ++ rest) ≡ bytes.now → IsUnclosed front rest
-        → MatchResult result (λ _. ⊥) (λ fault. (fault ≡ YangFault.OpenString (length (encode_utf8_all front))) ⊎ (fault ≡ YangFault.Memory)) }
+    ensures unclosed { (front rest : List ℕ) → all_scalars (front ++ rest) ≡ true
+        → encode_utf8_all (front ++ rest) ≡ bytes.now → IsUnclosed front rest
+        → MatchResult result (λ _. ⊥)
+        (λ fault. (fault ≡ YangFault.OpenString (byte_count front)) ⊎ (fault ≡ YangFault.Memory)) }
 {
     match from_utf8(bytes) {
         Ok(text) => read(alloc, text),
@@ -35,12 +42,12 @@ pub fn parse(alloc: Global, bytes: &[u8]) -> Result<Vec<Stmt>, YangFault>
     }
 }
 
-/// The statements of a text.
+// The statements of a text.
 fn read(alloc: Global, text: &str) -> Result<Vec<Stmt>, YangFault>
     ensures answer { MatchResult result
         (λ list. run (placed 0 1 (chars text.now)) start (length text.now) ≡ Ok list.items)
-        (Fails (run (placed 0 1 (chars text.now)) start (length text.now))) }
-    ensures memory { IsErrOf result YangFault.Memory → Wants (placed 0 1 (chars text.now)) start }
+        (FailsWith (run (placed 0 1 (chars text.now)) start (length text.now))) }
+    ensures memory { IsErrOf result YangFault.Memory → RunMayTake (placed 0 1 (chars text.now)) start }
 {
     let end = text.len() as u64;
     let mut parser = Parser::new(alloc);
@@ -61,7 +68,7 @@ fn read(alloc: Global, text: &str) -> Result<Vec<Stmt>, YangFault>
     parser.finish(end)
 }
 
-/// The column behind a character: a line break begins a line, and a tab counts as eight columns.
+// The column behind a character: a line break begins a line, and a tab counts as eight columns.
 fn next_column(code: char, column: u128) -> u128
     requires { column < 2 ^ 100 }
     ensures { result ≡ next_column code column }

@@ -1,35 +1,46 @@
 //! One character at a time: what each does between the parts of a statement.
-ghost use Rattle.std.specs.Prelude.{◌≡◌, ◌<◌, ◌⊎◌, Some, Err, length, reverse, IsErrOf};
+ghost use Rattle.std.specs.Prelude.{◌≡◌, ◌<◌, ◌⊎◌, Some, Err, [], length, reverse, IfOk, IsErrOf};
 ghost use Rattle.orc_yang.specs.Sorts.{sort_of};
-ghost use Rattle.orc_yang.specs.Wanting.{MayTake};
-ghost use Rattle.orc_yang.specs.Machine.{feed, leaf, enter, between, keyed, worded, strung, joining, in_gap, Gap};
-ghost use Rattle.orc_yang.specs.View.{view, head_of, spot, Steps};
+ghost use Rattle.orc_yang.specs.inside.Wanting.{MayTake};
+ghost use Rattle.orc_yang.specs.Machine.{feed, leaf, enter, between, keyed, worded, strung, joining, feed_gap, Gap};
+ghost use Rattle.orc_yang.specs.inside.View.{view, head_of, spot, Mirrors};
 
 use crate::YangFault;
 use crate::character::{Character, Sort, sort_of};
 use crate::parser::{Mode, Parser, Spot};
-use orc_text::Text;
+use orc_text::{Memory, Text};
 use std::alloc::Global;
 
-/// A character that can't stand where it stands.
-pub fn bad(x: Character) -> Result<(), YangFault>
+// A character that can't stand where it stands.
+pub(crate) fn bad(x: Character) -> Result<(), YangFault>
     ensures { result ≡ Err (YangFault.BadToken x.at) }
 {
     Err(YangFault::BadToken { at: x.at })
 }
 
-/// A forbidden character where others stand: its last byte can't follow the bytes before it.
-pub fn forbidden(x: Character) -> YangFault
+// A forbidden character where others stand: its last byte can't follow the bytes before it.
+pub(crate) fn forbidden(x: Character) -> YangFault
     ensures { result ≡ YangFault.BadToken x.last }
 {
     YangFault::BadToken { at: x.last }
 }
 
+// How many bytes a keyword or an unquoted string may have before it takes memory once more.
+const SHORT: usize = 24;
+
+// The empty text, with room for a few characters.
+pub(crate) fn short_text(alloc: Global) -> Result<Text, Memory>
+    ensures { IfOk result (λ text. text ≡ []) }
+{
+    Ok(Text::from_string(String::with_capacity(alloc, SHORT)?))
+}
+
 impl Parser {
-    /// Takes the next character.
-    pub fn step(&mut self, alloc: Global, x: Character) -> Result<(), YangFault>
-        ensures step { Steps (feed (view self.old) x) (view self.new) result }
-        ensures memory { IsErrOf result YangFault.Memory → MayTake (view self.old).work (view self.old).frames (sort_of x.code) }
+    // Takes the next character.
+    pub(crate) fn step(&mut self, alloc: Global, x: Character) -> Result<(), YangFault>
+        ensures step { Mirrors (feed (view self.old) x) (view self.new) result }
+        ensures memory { IsErrOf result YangFault.Memory
+            → MayTake (view self.old).work (view self.old).frames (sort_of x.code) }
     {
         let sort = sort_of(x.code);
         match self.mode {
@@ -51,10 +62,11 @@ impl Parser {
         }
     }
 
-    /// White space, or what comes next.
-    pub fn gap(&mut self, alloc: Global, sort: Sort, x: Character) -> Result<(), YangFault>
-        ensures step { Steps (in_gap (spot self.old) sort (view self.old) x) (view self.new) result }
-        ensures memory { IsErrOf result YangFault.Memory → MayTake (Gap (spot self.old)) (reverse self.old.frames) sort }
+    // White space, or what comes next.
+    pub(crate) fn gap(&mut self, alloc: Global, sort: Sort, x: Character) -> Result<(), YangFault>
+        ensures step { Mirrors (feed_gap (spot self.old) sort (view self.old) x) (view self.new) result }
+        ensures memory { IsErrOf result YangFault.Memory
+            → MayTake (Gap (spot self.old)) (reverse self.old.frames) sort }
     {
         match self.spot {
             Spot::Between => self.between(alloc, sort, x),
@@ -65,10 +77,15 @@ impl Parser {
         }
     }
 
-    /// Between two statements.
-    pub fn between(&mut self, alloc: Global, sort: Sort, x: Character) -> Result<(), YangFault>
+    // Between two statements.
+    pub(crate) fn between(
+        &mut self,
+        alloc: Global,
+        sort: Sort,
+        x: Character,
+    ) -> Result<(), YangFault>
         requires { self.old.spot ≡ Spot.Between }
-        ensures step { Steps (between sort (view self.old) x) (view self.new) result }
+        ensures step { Mirrors (between sort (view self.old) x) (view self.new) result }
         ensures memory { IsErrOf result YangFault.Memory → (sort ≡ Sort.Start) ⊎ (0 < length self.old.frames) }
     {
         match sort {
@@ -80,9 +97,9 @@ impl Parser {
         }
     }
 
-    /// Behind a keyword.
-    pub fn keyed(&mut self, alloc: Global, sort: Sort, x: Character) -> Result<(), YangFault>
-        ensures { Steps (keyed sort (head_of self.old) (view self.old) x) (view self.new) result }
+    // Behind a keyword.
+    pub(crate) fn keyed(&mut self, alloc: Global, sort: Sort, x: Character) -> Result<(), YangFault>
+        ensures { Mirrors (keyed sort (head_of self.old) (view self.old) x) (view self.new) result }
     {
         match sort {
             Sort::LineFeed | Sort::Blank => Ok(()),
@@ -107,10 +124,15 @@ impl Parser {
         }
     }
 
-    /// Behind an unquoted argument.
-    pub fn worded(&mut self, alloc: Global, sort: Sort, x: Character) -> Result<(), YangFault>
+    // Behind an unquoted argument.
+    pub(crate) fn worded(
+        &mut self,
+        alloc: Global,
+        sort: Sort,
+        x: Character,
+    ) -> Result<(), YangFault>
         requires { self.old.spot ≡ Spot.Worded }
-        ensures { Steps (worded sort (head_of self.old) self.old.argument (view self.old) x) (view self.new) result }
+        ensures { Mirrors (worded sort (head_of self.old) self.old.argument (view self.old) x) (view self.new) result }
     {
         match sort {
             Sort::LineFeed | Sort::Blank => Ok(()),
@@ -121,10 +143,15 @@ impl Parser {
         }
     }
 
-    /// Behind a quoted string.
-    pub fn strung(&mut self, alloc: Global, sort: Sort, x: Character) -> Result<(), YangFault>
+    // Behind a quoted string.
+    pub(crate) fn strung(
+        &mut self,
+        alloc: Global,
+        sort: Sort,
+        x: Character,
+    ) -> Result<(), YangFault>
         requires { self.old.spot ≡ Spot.Strung }
-        ensures { Steps (strung sort (head_of self.old) self.old.argument (view self.old) x) (view self.new) result }
+        ensures { Mirrors (strung sort (head_of self.old) self.old.argument (view self.old) x) (view self.new) result }
     {
         match sort {
             Sort::LineFeed | Sort::Blank => Ok(()),
@@ -140,10 +167,15 @@ impl Parser {
         }
     }
 
-    /// Behind a plus.
-    pub fn joining(&mut self, alloc: Global, sort: Sort, x: Character) -> Result<(), YangFault>
+    // Behind a plus.
+    pub(crate) fn joining(
+        &mut self,
+        alloc: Global,
+        sort: Sort,
+        x: Character,
+    ) -> Result<(), YangFault>
         requires { self.old.spot ≡ Spot.Joining }
-        ensures { Steps (joining sort (head_of self.old) self.old.argument (view self.old) x) (view self.new) result }
+        ensures { Mirrors (joining sort (head_of self.old) self.old.argument (view self.old) x) (view self.new) result }
     {
         match sort {
             Sort::LineFeed | Sort::Blank => Ok(()),
@@ -154,17 +186,21 @@ impl Parser {
         }
     }
 
-    /// Ends a statement that has an argument and no block.
-    pub fn leaf_with_argument(&mut self, alloc: Global) -> Result<(), YangFault>
-        ensures { Steps (leaf (view self.old) (head_of self.old) (Some self.old.argument)) (view self.new) result }
+    // Ends a statement that has an argument and no block.
+    pub(crate) fn leaf_with_argument(&mut self, alloc: Global) -> Result<(), YangFault>
+        ensures { Mirrors (leaf (view self.old) (head_of self.old) (Some self.old.argument)) (view self.new) result }
     {
         let argument = self.take_argument(alloc);
         self.leaf(alloc, Some(argument))
     }
 
-    /// Opens the block of a statement that has an argument.
-    pub fn enter_with_argument(&mut self, alloc: Global, x: Character) -> Result<(), YangFault>
-        ensures { Steps (enter (view self.old) (head_of self.old) (Some self.old.argument) x) (view self.new) result }
+    // Opens the block of a statement that has an argument.
+    pub(crate) fn enter_with_argument(
+        &mut self,
+        alloc: Global,
+        x: Character,
+    ) -> Result<(), YangFault>
+        ensures { Mirrors (enter (view self.old) (head_of self.old) (Some self.old.argument) x) (view self.new) result }
     {
         let argument = self.take_argument(alloc);
         self.enter(alloc, Some(argument), x)

@@ -1,31 +1,41 @@
 //! What each character does in an unquoted or quoted string (RFC 7950 section 6.1.3).
-ghost use Rattle.std.specs.Prelude.{[], ◌++◌, ◌∷◌, None, encode_utf8};
+ghost use Rattle.std.specs.Prelude.{◌≡◌, [], ◌++◌, ◌∷◌, None, encode_utf8};
 ghost use Rattle.orc_yang.specs.Quoted.{string_value};
-ghost use Rattle.orc_yang.specs.Machine.{go, unspoilt, lone, word_slash, word_star, in_word, in_single, in_double, behind_backslash, Gap, InDouble, InSingle, Strung};
-ghost use Rattle.orc_yang.specs.View.{view, head_of, work_of, Steps};
+ghost use Rattle.orc_yang.specs.Machine.{go, unspoilt, lone, word_slash, word_star, feed_word, feed_single, feed_double, feed_backslash, Gap, InDouble, InSingle, Strung};
+ghost use Rattle.orc_yang.specs.inside.View.{view, head_of, work_of, Mirrors};
 
 use crate::character::{Character, Sort};
 use crate::parser::{Mode, Parser, Spot};
-use crate::steps::{bad, forbidden};
+use crate::steps::{bad, forbidden, short_text};
 use crate::{YangFault, quoted};
-use orc_text::{Row, Text};
+use orc_text::Row;
 use std::alloc::Global;
+use std::mem;
 
 impl Parser {
-    /// The first character of an unquoted string.
-    pub fn begin_word(&mut self, alloc: Global, x: Character, mode: Mode) -> Result<(), YangFault>
-        ensures { Steps (go (view self.old) (work_of mode (record self.old { argument = encode_utf8 x.code }))) (view self.new) result }
+    // The first character of an unquoted string.
+    pub(crate) fn begin_word(
+        &mut self,
+        alloc: Global,
+        x: Character,
+        mode: Mode,
+    ) -> Result<(), YangFault>
+        ensures { Mirrors
+            (go (view self.old) (work_of mode (record self.old { argument = encode_utf8 x.code })))
+            (view self.new) result }
     {
-        let mut argument = Text::new(alloc);
+        let mut argument = short_text(alloc)?;
         argument.push(x.code)?;
         self.argument = argument;
         self.mode = mode;
         Ok(())
     }
 
-    /// Behind a slash that begins an argument or a comment.
-    pub fn lone(&mut self, alloc: Global, sort: Sort, x: Character) -> Result<(), YangFault>
-        ensures { Steps (lone sort (head_of self.old) self.old.argument self.old.opened (view self.old) x) (view self.new) result }
+    // Behind a slash that begins an argument or a comment.
+    pub(crate) fn lone(&mut self, alloc: Global, sort: Sort, x: Character) -> Result<(), YangFault>
+        ensures { Mirrors
+            (lone sort (head_of self.old) self.old.argument self.old.opened (view self.old) x)
+            (view self.new) result }
     {
         match sort {
             Sort::Slash | Sort::Star => {
@@ -36,9 +46,16 @@ impl Parser {
         }
     }
 
-    /// In an unquoted string, behind a slash.
-    pub fn word_slash(&mut self, alloc: Global, sort: Sort, x: Character) -> Result<(), YangFault>
-        ensures { Steps (word_slash sort (head_of self.old) self.old.argument (view self.old) x) (view self.new) result }
+    // In an unquoted string, behind a slash.
+    pub(crate) fn word_slash(
+        &mut self,
+        alloc: Global,
+        sort: Sort,
+        x: Character,
+    ) -> Result<(), YangFault>
+        ensures { Mirrors
+            (word_slash sort (head_of self.old) self.old.argument (view self.old) x)
+            (view self.new) result }
     {
         match sort {
             Sort::Slash | Sort::Star => bad(x),
@@ -46,9 +63,16 @@ impl Parser {
         }
     }
 
-    /// In an unquoted string, behind a `*`.
-    pub fn word_star(&mut self, alloc: Global, sort: Sort, x: Character) -> Result<(), YangFault>
-        ensures { Steps (word_star sort (head_of self.old) self.old.argument (view self.old) x) (view self.new) result }
+    // In an unquoted string, behind a `*`.
+    pub(crate) fn word_star(
+        &mut self,
+        alloc: Global,
+        sort: Sort,
+        x: Character,
+    ) -> Result<(), YangFault>
+        ensures { Mirrors
+            (word_star sort (head_of self.old) self.old.argument (view self.old) x)
+            (view self.new) result }
     {
         match sort {
             Sort::Slash => bad(x),
@@ -56,9 +80,11 @@ impl Parser {
         }
     }
 
-    /// In an unquoted string.
-    pub fn word(&mut self, alloc: Global, sort: Sort, x: Character) -> Result<(), YangFault>
-        ensures { Steps (in_word sort (head_of self.old) self.old.argument (view self.old) x) (view self.new) result }
+    // In an unquoted string.
+    pub(crate) fn word(&mut self, alloc: Global, sort: Sort, x: Character) -> Result<(), YangFault>
+        ensures { Mirrors
+            (feed_word sort (head_of self.old) self.old.argument (view self.old) x)
+            (view self.new) result }
     {
         match sort {
             Sort::LineFeed | Sort::Blank => {
@@ -76,30 +102,37 @@ impl Parser {
         }
     }
 
-    /// One more character of an unquoted or single-quoted string.
-    pub fn more_argument(&mut self, x: Character, mode: Mode) -> Result<(), YangFault>
-        ensures { Steps (go (view self.old) (work_of mode (record self.old { argument = self.old.argument ++ encode_utf8 x.code }))) (view self.new) result }
+    // One more character of an unquoted or single-quoted string.
+    pub(crate) fn more_argument(&mut self, x: Character, mode: Mode) -> Result<(), YangFault>
+        ensures { Mirrors
+            (go (view self.old)
+            (work_of mode (record self.old { argument = self.old.argument ++ encode_utf8 x.code })))
+            (view self.new) result }
     {
         self.argument.push(x.code)?;
         self.mode = mode;
         Ok(())
     }
 
-    /// An opening double quote.
-    pub fn open_double(&mut self, alloc: Global, x: Character) -> Result<(), YangFault>
-        ensures { Steps (go (view self.old) (InDouble (head_of self.old) self.old.argument x.at x.column [] None)) (view self.new) result }
+    // An opening double quote.
+    pub(crate) fn open_double(&mut self, alloc: Global, x: Character) -> Result<(), YangFault>
+        ensures { Mirrors
+            (go (view self.old) (InDouble (head_of self.old) self.old.argument x.at x.column [] None))
+            (view self.new) result }
     {
         self.mode = Mode::Double;
         self.opened = x.at;
         self.column = x.column;
-        self.raw = Row::new(alloc);
+        self.raw = emptied(alloc, &mut self.raw);
         self.pending = None;
         Ok(())
     }
 
-    /// An opening single quote.
-    pub fn open_single(&mut self, x: Character) -> Result<(), YangFault>
-        ensures { Steps (go (view self.old) (InSingle (head_of self.old) self.old.argument x.at None)) (view self.new) result }
+    // An opening single quote.
+    pub(crate) fn open_single(&mut self, x: Character) -> Result<(), YangFault>
+        ensures { Mirrors
+            (go (view self.old) (InSingle (head_of self.old) self.old.argument x.at None))
+            (view self.new) result }
     {
         self.mode = Mode::Single;
         self.opened = x.at;
@@ -107,9 +140,11 @@ impl Parser {
         Ok(())
     }
 
-    /// In a single-quoted string.
-    pub fn single(&mut self, sort: Sort, x: Character) -> Result<(), YangFault>
-        ensures { Steps (in_single sort (head_of self.old) self.old.argument self.old.opened self.old.pending (view self.old) x) (view self.new) result }
+    // In a single-quoted string.
+    pub(crate) fn single(&mut self, sort: Sort, x: Character) -> Result<(), YangFault>
+        ensures { Mirrors
+            (feed_single sort (head_of self.old) self.old.argument self.old.opened self.old.pending (view self.old) x)
+            (view self.new) result }
     {
         match sort {
             Sort::SingleQuote => self.end_string(),
@@ -122,9 +157,11 @@ impl Parser {
         }
     }
 
-    /// The end of a string: a fault in it counts now.
-    pub fn end_string(&mut self) -> Result<(), YangFault>
-        ensures { Steps (unspoilt self.old.pending (go (view self.old) (Gap (Strung (head_of self.old) self.old.argument)))) (view self.new) result }
+    // The end of a string: a fault in it counts now.
+    pub(crate) fn end_string(&mut self) -> Result<(), YangFault>
+        ensures { Mirrors
+            (unspoilt self.old.pending (go (view self.old) (Gap (Strung (head_of self.old) self.old.argument))))
+            (view self.new) result }
     {
         match self.pending {
             Some(fault) => Err(fault),
@@ -136,9 +173,18 @@ impl Parser {
         }
     }
 
-    /// In a double-quoted string.
-    pub fn double(&mut self, alloc: Global, sort: Sort, x: Character) -> Result<(), YangFault>
-        ensures { Steps (in_double sort (head_of self.old) self.old.argument self.old.opened self.old.column self.old.raw self.old.pending (view self.old) x) (view self.new) result }
+    // In a double-quoted string.
+    pub(crate) fn double(
+        &mut self,
+        alloc: Global,
+        sort: Sort,
+        x: Character,
+    ) -> Result<(), YangFault>
+        ensures { Mirrors
+            (feed_double sort (head_of self.old) self.old.argument
+            self.old.opened self.old.column self.old.raw self.old.pending
+            (view self.old) x)
+            (view self.new) result }
     {
         match sort {
             Sort::DoubleQuote => self.end_double(alloc),
@@ -152,28 +198,39 @@ impl Parser {
         }
     }
 
-    /// The end of a double-quoted string.
-    pub fn end_double(&mut self, alloc: Global) -> Result<(), YangFault>
-        ensures { Steps (unspoilt self.old.pending (go (view self.old) (Gap (Strung (head_of self.old) (self.old.argument ++ string_value self.old.column self.old.raw))))) (view self.new) result }
+    // The end of a double-quoted string.
+    pub(crate) fn end_double(&mut self, alloc: Global) -> Result<(), YangFault>
+        ensures { Mirrors
+            (unspoilt self.old.pending (go (view self.old)
+            (Gap (Strung (head_of self.old)
+            (self.old.argument ++ string_value self.old.column self.old.raw)))))
+            (view self.new) result }
     {
         if self.pending.is_none() {
-            quoted::add_value(alloc, &mut self.argument, self.column, self.raw.as_slice())?;
+            let argument = self.take_argument(alloc);
+            self.argument = quoted::with_value(alloc, argument, self.column, self.raw.as_slice())?;
         }
         self.end_string()
     }
 
-    /// One more character of a double-quoted string.
-    pub fn more_raw(&mut self, x: Character, mode: Mode) -> Result<(), YangFault>
-        ensures { Steps (go (view self.old) (work_of mode (record self.old { raw = self.old.raw ++ x.code ∷ [] }))) (view self.new) result }
+    // One more character of a double-quoted string.
+    pub(crate) fn more_raw(&mut self, x: Character, mode: Mode) -> Result<(), YangFault>
+        ensures { Mirrors
+            (go (view self.old) (work_of mode (record self.old { raw = self.old.raw ++ x.code ∷ [] })))
+            (view self.new) result }
     {
         self.raw.push(x.code)?;
         self.mode = mode;
         Ok(())
     }
 
-    /// In a double-quoted string, behind a backslash.
-    pub fn escape(&mut self, x: Character) -> Result<(), YangFault>
-        ensures { Steps (behind_backslash (head_of self.old) self.old.argument self.old.opened self.old.column self.old.raw self.old.pending (view self.old) x) (view self.new) result }
+    // In a double-quoted string, behind a backslash.
+    pub(crate) fn escape(&mut self, x: Character) -> Result<(), YangFault>
+        ensures { Mirrors
+            (feed_backslash (head_of self.old) self.old.argument
+            self.old.opened self.old.column self.old.raw self.old.pending
+            (view self.old) x)
+            (view self.new) result }
     {
         match x.code {
             'n' | 't' | '"' | '\\' => {}
@@ -183,4 +240,13 @@ impl Parser {
         }
         self.more_raw(x, Mode::Double)
     }
+}
+
+// The row without its characters, whose memory it keeps.
+fn emptied(alloc: Global, row: &mut Row<char>) -> Row<char>
+    ensures { result ≡ [] }
+{
+    let mut items = mem::replace(row, Row::new(alloc)).into_vec();
+    items.clear();
+    Row::from_vec(items)
 }

@@ -1,6 +1,6 @@
 //! Items and where they stand.
 ghost use Rattle.std.specs.Prelude.{◌≡◌, ◌≢◌, ◌∷◌, List, ℕ, MatchOption};
-ghost use Rattle.orc_bundle.specs.Reading.{Reads, IsPathOf, IsPlainPathOf, IsEntryOf, IsLeafOf, IsPutOf};
+ghost use Rattle.orc_bundle.specs.inside.Reading.{Reads, IsPathOf, IsPlainPathOf, IsEntryOf, IsLeafOf, IsPutOf};
 
 use super::BundleFault;
 use super::words::{cut, read_value};
@@ -9,6 +9,7 @@ use orc_path::{Item, Path, PathFault};
 use orc_state::is_plain_path;
 use std::alloc::Global;
 
+// A path.
 fn parse_path(alloc: Global, word: &str) -> Result<Path, BundleFault>
     ensures { Reads (IsPathOf word.now) result }
 {
@@ -19,7 +20,7 @@ fn parse_path(alloc: Global, word: &str) -> Result<Path, BundleFault>
     }
 }
 
-/// A path whose keys are plain.
+// A path whose keys are plain.
 fn read_path(alloc: Global, word: &str) -> Result<Path, BundleFault>
     ensures { Reads (IsPlainPathOf word.now) result }
 {
@@ -30,6 +31,7 @@ fn read_path(alloc: Global, word: &str) -> Result<Path, BundleFault>
     Ok(path)
 }
 
+// An entry at a path.
 fn read_entry(alloc: Global, word: &str) -> Result<Put, BundleFault>
     ensures { Reads (IsEntryOf word.now) result }
 {
@@ -43,6 +45,7 @@ fn read_entry(alloc: Global, word: &str) -> Result<Put, BundleFault>
     })
 }
 
+// A leaf of this value at a path.
 fn read_leaf(alloc: Global, word: &str, value: &str) -> Result<Put, BundleFault>
     ensures { Reads (IsLeafOf word.now value.now) result }
 {
@@ -57,9 +60,10 @@ fn read_leaf(alloc: Global, word: &str, value: &str) -> Result<Put, BundleFault>
     })
 }
 
-/// What stands behind `=` and a space.
+// What stands behind `=` and a space.
 fn value_in(rest: &str) -> Option<&str>
-    ensures { MatchOption result ((value : List ℕ) → rest.now ≢ 61 ∷ 32 ∷ value) (λ value. rest.now ≡ 61 ∷ 32 ∷ value.now) }
+    ensures { MatchOption result ((value : List ℕ) → rest.now ≢ 61 ∷ 32 ∷ value)
+        (λ value. rest.now ≡ 61 ∷ 32 ∷ value.now) }
 {
     rest.strip_prefix('=')?.strip_prefix(' ')
 }

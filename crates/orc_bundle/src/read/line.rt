@@ -1,6 +1,6 @@
 //! The lines of a bundle.
 ghost use Rattle.std.specs.Prelude.{codes, IsErrOf};
-ghost use Rattle.orc_bundle.specs.Reading.{Reads, IsBare, IsBehind, IsDevicePutOf, IsLineOf};
+ghost use Rattle.orc_bundle.specs.inside.Reading.{Reads, IsBare, IsBehind, IsDevicePutOf, IsLineOf};
 
 use super::BundleFault;
 use super::item::read_put;
@@ -45,6 +45,7 @@ pub(super) enum Line {
     History,
 }
 
+// A line of the word `orc` with this behind it.
 fn read_header(rest: &str) -> Result<Line, BundleFault>
     ensures reads { Reads (IsBehind (codes "orc") rest.now) result }
     ensures memory { IsErrOf result BundleFault.Memory → ⊥ }
@@ -56,6 +57,7 @@ fn read_header(rest: &str) -> Result<Line, BundleFault>
     }
 }
 
+// A line of the word `device` with this behind it.
 fn read_device(alloc: Global, rest: &str) -> Result<Line, BundleFault>
     ensures { Reads (IsBehind (codes "device") rest.now) result }
 {
@@ -68,7 +70,7 @@ fn read_device(alloc: Global, rest: &str) -> Result<Line, BundleFault>
     Ok(Line::Device(read_name(alloc, name)?))
 }
 
-/// A device and an item.
+// A device and an item.
 fn read_device_put(alloc: Global, rest: &str) -> Result<DevicePut, BundleFault>
     ensures { Reads (IsDevicePutOf rest.now) result }
 {
@@ -80,18 +82,21 @@ fn read_device_put(alloc: Global, rest: &str) -> Result<DevicePut, BundleFault>
     Ok(DevicePut { device, path, item })
 }
 
+// A line of the word `base` with this behind it.
 fn read_base(alloc: Global, rest: &str) -> Result<Line, BundleFault>
     ensures { Reads (IsBehind (codes "base") rest.now) result }
 {
     Ok(Line::Base(read_device_put(alloc, rest)?))
 }
 
+// A line of the word `show` with this behind it.
 fn read_show(alloc: Global, rest: &str) -> Result<Line, BundleFault>
     ensures { Reads (IsBehind (codes "show") rest.now) result }
 {
     Ok(Line::Show(read_name(alloc, rest)?))
 }
 
+// A line of the word `call` with this behind it.
 fn read_call(alloc: Global, rest: &str) -> Result<Line, BundleFault>
     ensures { Reads (IsBehind (codes "call") rest.now) result }
 {
@@ -103,24 +108,28 @@ fn read_call(alloc: Global, rest: &str) -> Result<Line, BundleFault>
     Ok(Line::Call(caller, number))
 }
 
+// A line of the word `literal` with this behind it.
 fn read_literal(alloc: Global, rest: &str) -> Result<Line, BundleFault>
     ensures { Reads (IsBehind (codes "literal") rest.now) result }
 {
     Ok(Line::Literal(read_name(alloc, rest)?))
 }
 
+// A line of the word `write` with this behind it.
 fn read_write(alloc: Global, rest: &str) -> Result<Line, BundleFault>
     ensures { Reads (IsBehind (codes "write") rest.now) result }
 {
     Ok(Line::Write(read_device_put(alloc, rest)?))
 }
 
+// A line of the word `delete` with this behind it.
 fn read_delete(alloc: Global, rest: &str) -> Result<Line, BundleFault>
     ensures { Reads (IsBehind (codes "delete") rest.now) result }
 {
     Ok(Line::Delete(read_name(alloc, rest)?))
 }
 
+// A line of the word `stop` with this behind it.
 fn read_stop(rest: &str) -> Result<Line, BundleFault>
     ensures reads { Reads (IsBehind (codes "stop") rest.now) result }
     ensures memory { IsErrOf result BundleFault.Memory → ⊥ }
@@ -133,7 +142,7 @@ fn read_stop(rest: &str) -> Result<Line, BundleFault>
     Ok(Line::StopAt(count, bytes))
 }
 
-/// A line of this first word and this rest.
+// A line of this first word and this rest.
 fn read_behind(alloc: Global, word: &str, rest: &str) -> Result<Line, BundleFault>
     ensures { Reads (IsBehind word.now rest.now) result }
 {
@@ -151,7 +160,7 @@ fn read_behind(alloc: Global, word: &str, rest: &str) -> Result<Line, BundleFaul
     }
 }
 
-/// A line of this word alone.
+// A line of this word alone.
 fn read_bare(word: &str) -> Result<Line, BundleFault>
     ensures reads { Reads (IsBare word.now) result }
     ensures memory { IsErrOf result BundleFault.Memory → ⊥ }

@@ -1,6 +1,6 @@
 //! Places in a bundle: which line may stand where, and what is read with it.
 ghost use Rattle.std.specs.Prelude.{◌≡◌, ◌∷◌, [], IfOk, IsErrOf, Some};
-ghost use Rattle.orc_bundle.specs.Places.{Gives, behind_header, behind_device, behind_base, behind_step, behind_action, behind_write, behind_end, behind_settle, behind, whole, with_step};
+ghost use Rattle.orc_bundle.specs.inside.Places.{Gives, behind_header, behind_device, behind_base, behind_step, behind_action, behind_write, behind_end, behind_settle, behind, whole, with_step};
 
 use super::BundleFault;
 use super::line::Line;
@@ -39,6 +39,7 @@ pub(super) enum Place {
     Settle(Script, Call),
 }
 
+// The place of a line behind nothing.
 fn take_header(line: Line) -> Result<Place, BundleFault>
     ensures place { Gives result (behind_header line) }
     ensures memory { IsErrOf result BundleFault.Memory → ⊥ }
@@ -49,6 +50,7 @@ fn take_header(line: Line) -> Result<Place, BundleFault>
     }
 }
 
+// The place of a line behind the header.
 fn take_device(alloc: Global, line: Line) -> Result<Place, BundleFault>
     ensures place { Gives result (behind_device line) }
     ensures memory { IsErrOf result BundleFault.Memory → ⊥ }
@@ -62,6 +64,7 @@ fn take_device(alloc: Global, line: Line) -> Result<Place, BundleFault>
     }
 }
 
+// The place of a line behind a device and its base.
 fn take_base(alloc: Global, mut device: Device, line: Line) -> Result<Place, BundleFault>
     ensures { Gives result (behind_base device line) }
 {
@@ -87,7 +90,7 @@ fn take_base(alloc: Global, mut device: Device, line: Line) -> Result<Place, Bun
     }
 }
 
-/// The place behind one more step.
+// The place behind one more step.
 fn with_step(mut script: Script, step: ScriptStep) -> Result<Place, BundleFault>
     ensures { Gives result (Some (Place.Step (with_step script step))) }
 {
@@ -95,6 +98,7 @@ fn with_step(mut script: Script, step: ScriptStep) -> Result<Place, BundleFault>
     Ok(Place::Step(script))
 }
 
+// The place of a line behind the declarations and some steps.
 fn take_step(script: Script, line: Line) -> Result<Place, BundleFault>
     ensures { Gives result (behind_step script line) }
 {
@@ -103,6 +107,7 @@ fn take_step(script: Script, line: Line) -> Result<Place, BundleFault>
             if name != script.device.name {
                 return Err(BundleFault::Refused);
             }
+            // There is one device.
             with_step(script, ScriptStep::Show(0))
         }
         Line::Call(caller, number) => Ok(Place::Action(script, caller, number)),
@@ -114,7 +119,7 @@ fn take_step(script: Script, line: Line) -> Result<Place, BundleFault>
     }
 }
 
-/// A call of one action.
+// A call of one action.
 fn call_of(alloc: Global, caller: Text, number: u64, action: Action) -> Result<Call, Memory>
     ensures { IfOk result (λ call. call ≡ record { caller = caller; number = number; actions = action ∷ [] }) }
 {
@@ -127,6 +132,7 @@ fn call_of(alloc: Global, caller: Text, number: u64, action: Action) -> Result<C
     })
 }
 
+// The place of a line behind a call's first line.
 fn take_action(
     alloc: Global,
     script: Script,
@@ -146,6 +152,7 @@ fn take_action(
     }
 }
 
+// The place of a line behind a literal service and some writes.
 fn take_write(
     alloc: Global,
     script: Script,
@@ -173,6 +180,7 @@ fn take_write(
     }
 }
 
+// The place of a line behind a call's action.
 fn take_end(script: Script, call: Call, line: Line) -> Result<Place, BundleFault>
     ensures place { Gives result (behind_end script call line) }
     ensures memory { IsErrOf result BundleFault.Memory → ⊥ }
@@ -183,6 +191,7 @@ fn take_end(script: Script, call: Call, line: Line) -> Result<Place, BundleFault
     }
 }
 
+// The place of a line behind a call's end.
 fn take_settle(script: Script, call: Call, line: Line) -> Result<Place, BundleFault>
     ensures { Gives result (behind_settle script call line) }
 {

@@ -1,17 +1,18 @@
 //! The words of a line: names, values, numbers and paths.
 ghost use Rattle.std.specs.Prelude.{◌≡◌, ◌++◌, ◌∷◌, IsErrOf, IsTrue, MatchOption};
-ghost use Rattle.orc_bundle.specs.Lines.{lacks};
-ghost use Rattle.orc_bundle.specs.Reading.{Reads, IsNameOf, IsValueOf, IsNumberOf, is_padded};
+ghost use Rattle.orc_bundle.specs.inside.Lines.{lacks};
+ghost use Rattle.orc_bundle.specs.inside.Reading.{Reads, IsNameOf, IsValueOf, IsNumberOf, is_padded};
 
 use super::BundleFault;
 use orc_path::is_identifier;
-use orc_state::is_plain;
+use orc_state::is_plain_word;
 use orc_text::Text;
 use std::alloc::Global;
 
 /// The text in front of the first space and the text behind it.
 pub(super) fn cut(text: &str) -> Option<(&str, &str)>
-    ensures { MatchOption result (IsTrue (lacks 32 text.now)) (λ parts. (text.now ≡ parts.0.now ++ 32 ∷ parts.1.now) × IsTrue (lacks 32 parts.0.now)) }
+    ensures { MatchOption result (IsTrue (lacks 32 text.now))
+        (λ parts. (text.now ≡ parts.0.now ++ 32 ∷ parts.1.now) × IsTrue (lacks 32 parts.0.now)) }
 {
     text.split_once(' ')
 }
@@ -30,13 +31,13 @@ pub(super) fn read_name(alloc: Global, word: &str) -> Result<Text, BundleFault>
 pub(super) fn read_value(alloc: Global, word: &str) -> Result<Text, BundleFault>
     ensures { Reads (IsValueOf word.now) result }
 {
-    if !is_plain(word) {
+    if !is_plain_word(word) {
         return Err(BundleFault::Refused);
     }
     Ok(Text::from_str(alloc, word)?)
 }
 
-/// Whether a sign or a needless zero stands in front.
+// Whether a sign or a needless zero stands in front.
 fn is_padded(digits: &[u8]) -> bool
     ensures { result ≡ is_padded digits.now }
 {

@@ -1,5 +1,5 @@
 use Rattle.std.proofs.Common.{◌≡◌, take, true}
-use Rattle.orc_bundle.specs.Lines.{lacks}
+use Rattle.orc_bundle.specs.inside.Lines.{lacks}
 use Rattle.orc_bundle.proofs.read.cut_line.Given as goal
 
 abbrev pub invariant-loop-at : goal.invariant-loop-at

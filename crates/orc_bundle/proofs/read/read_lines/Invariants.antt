@@ -1,5 +1,5 @@
 use Rattle.std.proofs.Common.{length}
-use Rattle.orc_bundle.specs.Places.{IsReached}
+use Rattle.orc_bundle.specs.inside.Places.{IsReached}
 use Rattle.orc_bundle.proofs.read.read_lines.Given as goal
 
 abbrev pub invariant-lines : goal.invariant-lines

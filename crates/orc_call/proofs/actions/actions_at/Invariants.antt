@@ -1,5 +1,5 @@
 use Rattle.orc_call.specs.Encoding.{action_fields}
-use Rattle.orc_call.specs.Reading.{IsWhole, many}
+use Rattle.orc_call.specs.inside.Reading.{IsWhole, many}
 use Rattle.orc_call.proofs.actions.actions_at.Given as goal
 
 -- what is read so far

@@ -9,13 +9,13 @@ use Rattle.orc_call.proofs.decoding.call_at.Goals as goal
 pub returns-in_err-caller-clause-reads : goal.returns-in_err-caller-clause-reads
 returns-in_err-caller-clause-reads c =
     let e = c.in_err-caller.field-0.0 in
-    handed_on _ _ c.args.bytes.now _ e c.from_residual.ensures.1 (first_fails _ _ _ _ call_sequel c.args.bytes.now e c.in_err-caller.ensures.reads)
+    handed_on _ c.args.bytes.now _ e c.from_residual.ensures.1 (first_fails _ _ _ _ call_sequel c.args.bytes.now e c.in_err-caller.ensures.reads)
 
 pub returns-in_err-number-clause-reads : goal.returns-in_err-number-clause-reads
 returns-in_err-number-clause-reads c =
     let e = c.in_err-number.field-0.0 in
     let rest = c.in_ok-caller.rest.now in
-    handed_on _ _ c.args.bytes.now _ e c.from_residual-in_err-number.ensures.1
+    handed_on _ c.args.bytes.now _ e c.from_residual-in_err-number.ensures.1
     (later_fails _ _ _ _ call_sequel text_determined c.args.bytes.now c.in_ok-caller.caller rest e c.in_ok-caller.ensures.reads
     (first_fails _ _ _ _ numbered_sequel rest e c.in_err-number.ensures.reads))
 
@@ -23,7 +23,7 @@ pub returns-in_err-count-clause-reads : goal.returns-in_err-count-clause-reads
 returns-in_err-count-clause-reads c =
     let e = c.in_err-count.field-0.0 in
     let rest = c.in_ok-caller.rest.now in
-    handed_on _ _ c.args.bytes.now _ e c.from_residual-in_err-count.ensures.1
+    handed_on _ c.args.bytes.now _ e c.from_residual-in_err-count.ensures.1
     (later_fails _ _ _ _ call_sequel text_determined c.args.bytes.now c.in_ok-caller.caller rest e c.in_ok-caller.ensures.reads
     (later_fails _ _ _ _ numbered_sequel number_determined rest c.in_ok-number.number c.in_ok-number.rest.now e c.in_ok-number.ensures.reads
     (first_fails _ _ _ _ counted_actions_sequel c.in_ok-number.rest.now e c.in_err-count.ensures.reads)))
@@ -32,7 +32,7 @@ pub returns-in_err-actions-clause-reads : goal.returns-in_err-actions-clause-rea
 returns-in_err-actions-clause-reads c =
     let e = c.in_err-actions.field-0.0 in
     let rest = c.in_ok-caller.rest.now in
-    handed_on _ _ c.args.bytes.now _ e c.from_residual-in_err-actions.ensures.1
+    handed_on _ c.args.bytes.now _ e c.from_residual-in_err-actions.ensures.1
     (later_fails _ _ _ _ call_sequel text_determined c.args.bytes.now c.in_ok-caller.caller rest e c.in_ok-caller.ensures.reads
     (later_fails _ _ _ _ numbered_sequel number_determined rest c.in_ok-number.number c.in_ok-number.rest.now e c.in_ok-number.ensures.reads
     (later_fails _ _ _ _ counted_actions_sequel action_count_determined c.in_ok-number.rest.now c.in_ok-count.count c.in_ok-count.rest.now e c.in_ok-count.ensures.reads c.in_err-actions.ensures)))

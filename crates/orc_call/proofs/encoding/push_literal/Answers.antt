@@ -3,7 +3,7 @@ use Rattle.std.specs.Int.{w32, to_be_bytes}
 use Rattle.std.specs.List.{flat_map}
 use Rattle.std.proofs.lemmas.Result.{on_ok_weaker}
 use Rattle.orc_call.specs.Fields.{text_bytes}
-use Rattle.orc_call.specs.Writing.{device_put_bytes}
+use Rattle.orc_call.specs.Puts.{device_put_bytes}
 use Rattle.orc_call.proofs.Written.{device_puts_fit, spelled_device_puts, three_written}
 use Rattle.orc_call.proofs.encoding.push_literal.Goals as goal
 

@@ -1,8 +1,7 @@
 use Rattle.std.proofs.Common.{◌≡◌, Bool, false, [], IsTrue, ◌↔◌}
 use Rattle.std.specs.Option.{option_copied}
 use Rattle.orc_path.specs.Texts.{path_text}
-use Rattle.orc_call.specs.Fields.{a_path}
-use Rattle.orc_call.specs.Reading.{HasText}
+use Rattle.orc_call.specs.Fields.{a_path, HasText}
 use Rattle.orc_call.proofs.Grammars.{one_fails}
 use Rattle.orc_call.proofs.Singles.{one_text}
 use Rattle.orc_call.proofs.fields.path_at.Goals as goal

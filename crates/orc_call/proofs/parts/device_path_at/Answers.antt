@@ -6,10 +6,10 @@ use Rattle.orc_call.proofs.parts.device_path_at.Goals as goal
 pub returns-in_err-device : goal.returns-in_err-device
 returns-in_err-device c =
     let e = c.in_err-device.field-0.0 in
-    handed_on _ _ c.args.bytes.now _ e c.from_residual.ensures.1 (first_fails _ _ _ _ device_path_sequel c.args.bytes.now e c.in_err-device.ensures.reads)
+    handed_on _ c.args.bytes.now _ e c.from_residual.ensures.1 (first_fails _ _ _ _ device_path_sequel c.args.bytes.now e c.in_err-device.ensures.reads)
 
 pub returns-in_err-path : goal.returns-in_err-path
 returns-in_err-path c =
     let e = c.in_err-path.field-0.0 in
-    handed_on _ _ c.args.bytes.now _ e c.from_residual-in_err-path.ensures.1
+    handed_on _ c.args.bytes.now _ e c.from_residual-in_err-path.ensures.1
     (later_fails _ _ _ _ device_path_sequel text_determined c.args.bytes.now c.in_ok-device.device c.in_ok-device.rest.now e c.in_ok-device.ensures.reads c.in_err-path.ensures.reads)

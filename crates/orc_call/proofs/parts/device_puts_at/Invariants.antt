@@ -1,5 +1,5 @@
 use Rattle.orc_call.specs.Encoding.{device_put_fields}
-use Rattle.orc_call.specs.Reading.{IsWhole, many}
+use Rattle.orc_call.specs.inside.Reading.{IsWhole, many}
 use Rattle.orc_call.proofs.parts.device_puts_at.Given as goal
 
 -- what is read so far

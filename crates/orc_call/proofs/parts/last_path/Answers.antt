@@ -2,7 +2,7 @@ use Rattle.std.proofs.Common.{◌≡◌, ◌-◌, suc, List, [], ◌∷◌, leng
 use Rattle.std.specs.declared.option.Option.TheVariants.{None, Some}
 use Rattle.orc_path.specs.Steps.{PathStep}
 use Rattle.orc_call.specs.declared.call.Put.{Put}
-use Rattle.orc_call.specs.Reading.{last_path}
+use Rattle.orc_call.specs.inside.Reading.{last_path}
 use Rattle.orc_call.proofs.parts.last_path.Goals as goal
 
 -- the path of the put at the last place

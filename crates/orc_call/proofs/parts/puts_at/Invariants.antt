@@ -1,5 +1,5 @@
 use Rattle.std.specs.declared.option.Option.TheVariants.{None}
-use Rattle.orc_call.specs.Reading.{IsWhole, puts}
+use Rattle.orc_call.specs.inside.Reading.{IsWhole, puts}
 use Rattle.orc_call.proofs.parts.puts_at.Given as goal
 
 -- what is read so far

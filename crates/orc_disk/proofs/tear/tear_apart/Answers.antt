@@ -1,6 +1,6 @@
 use Rattle.std.proofs.Common.{arith}
 use Rattle.std.proofs.lemmas.List.{length-take}
-use Rattle.orc_disk.specs.Torn.{Torn-refl, Torn-within}
+use Rattle.orc_disk.proofs.Torn.{Torn-refl, Torn-within}
 use Rattle.orc_disk.proofs.Puts.{put_tears, append_tore, take_within}
 use Rattle.orc_disk.proofs.tear.tear_apart.Goals as goal
 

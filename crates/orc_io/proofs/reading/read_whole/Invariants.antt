@@ -5,11 +5,10 @@ use Rattle.orc_io.proofs.reading.read_whole.Given as goal
 -- what was read so far is what the source gave
 abbrev pub invariant-loop-buf : goal.invariant-loop-buf
 invariant-loop-buf g l =
-    let left = g.S.Source.left in
-    let faults = g.S.Source.faults in
+    let source = g.S.Source.source in
     record {
-      taken : Consumes (left l.fn.source) (left l.source) l.whole.items;
-      later : faults l.fn.source ≤ faults l.source;
+      taken : Consumes (source.left l.fn.source) (source.left l.source) l.whole.items;
+      later : source.faults l.fn.source ≤ source.faults l.source;
     }
 
 -- each turn takes a byte at least

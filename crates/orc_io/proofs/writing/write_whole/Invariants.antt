@@ -4,12 +4,11 @@ use Rattle.orc_io.proofs.writing.write_whole.Given as goal
 
 abbrev pub invariant-loop-at : goal.invariant-loop-at
 invariant-loop-at g l =
-    let held = g.K.Sink.held in
-    let faults = g.K.Sink.faults in
+    let sink = g.K.Sink.sink in
     record {
-      later : faults l.fn.sink ≤ faults l.sink;
+      later : sink.faults l.fn.sink ≤ sink.faults l.sink;
       within : l.at ≤ length l.bytes;
-      taken : Appends (held l.fn.sink) (held l.sink) (take l.at l.bytes);
+      taken : Appends (sink.held l.fn.sink) (sink.held l.sink) (take l.at l.bytes);
     }
 
 abbrev pub decreases-loop-at : goal.decreases-loop-at

@@ -1,6 +1,6 @@
 use Rattle.std.proofs.Common.{length, subst}
 use Rattle.std.specs.Int.{w32, to_be_bytes}
-use Rattle.orc_journal.specs.Reading.{BeginsOtherwise}
+use Rattle.orc_journal.specs.inside.Fronts.{BeginsOtherwise}
 use Rattle.orc_journal.proofs.Headers.{otherwise_more}
 use Rattle.orc_journal.proofs.header.behind_decls.Goals as goal
 

@@ -1,32 +1,57 @@
 -- The file has its ending gate, or it gets one.
 use Rattle.std.specs.Prelude.{length}
 use Rattle.std.proofs.Common.{arith}
-use Rattle.std.proofs.lemmas.Result.{on_ok_weaker}
-use Rattle.orc_disk.proofs.Courses.{Reaches_of}
-use Rattle.orc_disk.proofs.Moments.{weaker}
-use Rattle.orc_journal.specs.Opened.{IsOpening, IsTornFrom}
-use Rattle.orc_journal.proofs.Endings.{disk_gated, disk_put, disk_torn}
+use Rattle.std.proofs.lemmas.Result.{on_err_weaker}
+use Rattle.orc_disk.specs.Crashes.{LeavesAsRead}
+use Rattle.orc_disk.proofs.Courses.{FailsAmong-within}
+use Rattle.orc_journal.proofs.Endings.{disk_gated, disk_put, disk_torn, opened_gated}
+use Rattle.orc_journal.proofs.Leaving.{LeavesOpening-refl, LeavesOpening-torn}
+use Rattle.orc_journal.proofs.Outcomes.{on_ok_both, Hears_of}
 use Rattle.orc_journal.proofs.opening.close.Goals as goal
 
-pub returns-then-len-bytes-clause-gated : goal.returns-then-len-bytes-clause-gated
-returns-then-len-bytes-clause-gated g c decls entries journal len =
-    disk_gated (g.D.Disk.content c.args.disk.now) c.args.bytes.now decls entries c.requires.whole journal (omega (arith, len, c.if-len-bytes.true))
+pub returns-then-len-bytes-clause-stored : goal.returns-then-len-bytes-clause-stored
+returns-then-len-bytes-clause-stored g c decls entries journal len =
+    let content = g.D.Disk.disk.content c.args.disk.now in
+    let opens = disk_gated content c.args.bytes.now decls entries c.requires.whole journal (omega (arith, len, c.if-len-bytes.true)) in
+    record {
+      gated = opened_gated content decls c.args.bytes.now entries journal.writable opens;
+      becomes = opens;
+      durable = c.requires.durable;
+      counted = len;
+    }
 
-pub returns-clause-gated : goal.returns-clause-gated
-returns-clause-gated g c =
-    on_ok_weaker c.put_synced.result
-    (λ done decls entries journal len.
-    disk_put (g.D.Disk.content c.args.disk.now) c.args.bytes.now decls entries c.requires.whole journal (omega (arith, len, c.if-len-bytes.false)) (g.D.Disk.content c.put_synced.new.disk) done)
-    c.put_synced.ensures.done
+pub returns-then-len-bytes-clause-leaves : goal.returns-then-len-bytes-clause-leaves
+returns-then-len-bytes-clause-leaves g c decls entries journal len =
+    LeavesOpening-refl g.D.Disk.disk g.met.D.Disk.only_now decls c.args.disk.now
 
-pub returns-clause-any_moment : goal.returns-clause-any_moment
-returns-clause-any_moment g c decls entries journal len =
-    let disk = g.D.Disk in
+pub returns-clause-stored : goal.returns-clause-stored
+returns-clause-stored g c decls entries journal len =
+    let content = g.D.Disk.disk.content in
+    on_ok_both {Q = LeavesAsRead (content c.put_synced.new.disk) (g.D.Disk.disk.may_leave c.put_synced.new.disk)} c.put_synced.result
+    (λ done durable.
+    let opens = disk_put (content c.args.disk.now) c.args.bytes.now decls entries c.requires.whole journal (omega (arith, len, c.if-len-bytes.false))
+    (content c.put_synced.new.disk) done in
+    record {
+      gated = opened_gated (content c.put_synced.new.disk) decls c.args.bytes.now entries journal.writable opens;
+      becomes = opens;
+      durable = durable;
+      counted = len;
+    })
+    c.put_synced.ensures.done c.put_synced.ensures.durable
+
+pub returns-clause-leaves : goal.returns-clause-leaves
+returns-clause-leaves g c decls entries journal len =
+    let disk = g.D.Disk.disk in
     let old = c.args.disk.now in
     let bytes = c.args.bytes.now in
-    weaker disk.moment disk.left_since old c.put_synced.new.disk (IsTornFrom (disk.content old) (length bytes) 1) (IsOpening bytes decls)
-    (disk_torn (disk.content old) bytes decls entries c.requires.whole journal (omega (arith, len, c.if-len-bytes.false))) c.put_synced.ensures.any_moment
+    LeavesOpening-torn disk decls old c.put_synced.new.disk (length bytes) 1 c.put_synced.ensures.still_tells
+    (disk_torn (disk.content old) bytes decls entries c.requires.whole journal (omega (arith, len, c.if-len-bytes.false)) (disk.may_leave old) c.requires.durable)
+    c.put_synced.ensures.any_moment c.put_synced.ensures.left
 
 pub returns-clause-course : goal.returns-clause-course
 returns-clause-course g c =
-    Reaches_of g.D.Disk.leads c.put_synced.result 2 c.args.disk.now c.put_synced.new.disk c.put_synced.ensures.course c.put_synced.ensures.failed
+    let disk = g.D.Disk.disk in
+    let old = c.args.disk.now in
+    let new = c.put_synced.new.disk in
+    Hears_of disk c.put_synced.result 2 old new c.put_synced.ensures.course
+    (on_err_weaker c.put_synced.result (FailsAmong-within disk g.met.D.Disk.goes_on 2 old new _) c.put_synced.ensures.failed)

@@ -1,26 +1,45 @@
 -- Each piece leads on from those before it.
 use Rattle.std.specs.Prelude.{false}
-use Rattle.std.proofs.Common.{rules}
+use Rattle.std.proofs.Common.{rules, sym, subst}
 use Rattle.std.proofs.lemmas.Result.{err_from_is_err_and}
 use Rattle.orc_disk.proofs.Courses.{Reaches-trans}
-use Rattle.orc_journal.proofs.Changes.{ChangesNothing-trans}
+use Rattle.orc_journal.specs.inside.Steps.{HeardPiece, HeardFront}
+use Rattle.orc_journal.proofs.Changes.{Unchanged-refl, Unchanged-trans}
+use Rattle.orc_journal.proofs.Pieces.{heard_nothing, heard_more, heard_all}
 use Rattle.orc_journal.proofs.opening.read_all.Goals as goal
+
+pub pieces-init : goal.pieces-init
+pieces-init g c = record {
+  front = search rules;
+  reads = Unchanged-refl g.D.Disk.disk c.args.disk.now;
+  heard = subst (HeardFront g.D.Disk.disk c.args.disk.now c.args.disk.now) (sym c.new-bytes.ensures.items)
+      (heard_nothing g.D.Disk.disk g.met.D.Disk.stays c.args.disk.now);
+}
 
 pub returns-in_err-read_piece-clause-course : goal.returns-in_err-read_piece-clause-course
 returns-in_err-read_piece-clause-course g c =
     let p = err_from_is_err_and c.from_residual.result c.from_residual.ensures.1 in
     let last = c.in_err-read_piece.ensures.course in
-    rw (p.1, p.2) (last.0, Reaches-trans g.D.Disk.leads g.met.D.Disk.goes_on false last.0 c.args.disk.now c.pieces.disk c.read_piece.new.disk c.pieces.invariant.course last.1, last.2)
+    let heard = c.pieces.invariant.heard in
+    rw (p.1, p.2) (last.0, Reaches-trans g.D.Disk.disk g.met.D.Disk.goes_on false last.0 c.args.disk.now c.pieces.disk c.read_piece.new.disk (heard.reads, heard.course) last.1, last.2)
 
 pub pieces-preserved : goal.pieces-preserved
 pieces-preserved g c =
-    let disk = g.D.Disk in
+    let disk = g.D.Disk.disk in
     record {
       front = search rules;
-      reads = ChangesNothing-trans disk.content disk.may_leave disk.moment disk.left_since c.args.disk.now c.pieces.disk c.read_piece.new.disk c.pieces.invariant.reads c.in_ok-read_piece.ensures.reads;
-      course = Reaches-trans g.D.Disk.leads g.met.D.Disk.goes_on false false c.args.disk.now c.pieces.disk c.read_piece.new.disk c.pieces.invariant.course c.in_ok-read_piece.ensures.course;
+      reads = Unchanged-trans disk g.met.D.Disk.counts_now c.args.disk.now c.pieces.disk c.read_piece.new.disk c.pieces.invariant.reads c.in_ok-read_piece.ensures.unchanged;
+      heard = heard_more disk g.met.D.Disk.goes_on c.args.disk.now c.pieces.disk c.read_piece.new.disk c.pieces.bytes.items c.read_piece.new.bytes.items
+          c.pieces.invariant.heard _ c.in_ok-read_piece.ensures.heard;
     }
 
 pub returns-clause-course : goal.returns-clause-course
 returns-clause-course g c =
-    Reaches-trans g.D.Disk.leads g.met.D.Disk.goes_on false false c.args.disk.now c.pieces.disk c.read_piece.new.disk c.pieces.invariant.course c.in_ok-read_piece.ensures.course
+    let heard = c.pieces.invariant.heard in
+    Reaches-trans g.D.Disk.disk g.met.D.Disk.goes_on false false c.args.disk.now c.pieces.disk c.read_piece.new.disk (heard.reads, heard.course) c.in_ok-read_piece.ensures.course
+
+pub returns-clause-heard : goal.returns-clause-heard
+returns-clause-heard g c =
+    let disk = g.D.Disk.disk in
+    let piece = subst (HeardPiece disk c.pieces.disk c.read_piece.new.disk c.pieces.bytes.items c.read_piece.new.bytes.items) c.if-branch.false c.in_ok-read_piece.ensures.heard in
+    heard_all disk g.met.D.Disk.goes_on c.args.disk.now c.pieces.disk c.read_piece.new.disk c.pieces.bytes.items c.read_piece.new.bytes.items c.pieces.invariant.heard piece

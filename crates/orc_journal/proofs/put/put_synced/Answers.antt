@@ -1,50 +1,66 @@
--- A crash before each call and after it leaves the file that was read, torn by the write.
+-- A crash before each operation and after it leaves what one before them would have left, torn by the write.
 use Rattle.std.specs.Prelude.{◌≡◌, length}
 use Rattle.std.specs.Option.{option_map}
 use Rattle.std.proofs.Common.{◌∙◌, arith}
+use Rattle.std.proofs.lemmas.Option.{IfSome_then}
 use Rattle.orc_disk.specs.Files.{written}
-use Rattle.orc_disk.specs.Torn.{Torn-refl}
-use Rattle.orc_journal.specs.Opened.{IsTornFrom}
-use Rattle.orc_disk.proofs.Courses.{one_more-Ok, one_more-Err, one_more-FailsAmong, FailsAmong-first}
-use Rattle.orc_disk.proofs.Moments.{started, goes_on, torn_of_read}
-use Rattle.orc_journal.proofs.LeftBehind.{on_err_anyway}
+use Rattle.orc_disk.proofs.Torn.{Torn-refl}
+use Rattle.orc_disk.proofs.Courses.{one_more-Ok, one_more-FailsAmong, FailsAmong-first}
+use Rattle.orc_disk.proofs.Moments.{started, goes_on}
+use Rattle.orc_journal.specs.inside.Blocks.{IsTornFrom}
+use Rattle.orc_journal.proofs.Outcomes.{on_err_anyway}
 use Rattle.orc_journal.proofs.put.put_synced.Goals as goal
+
+pub returns-in_err-write_at-clause-any_moment : goal.returns-in_err-write_at-clause-any_moment
+returns-in_err-write_at-clause-any_moment g c =
+    let disk = g.D.Disk.disk in
+    let old = c.args.disk.now in
+    let P = IsTornFrom (disk.may_leave old) c.args.at (length c.args.bytes.now) in
+    let begun = started disk old P (λ file left. (file, g.met.D.Disk.only_now old file left, Torn-refl c.args.at (length c.args.bytes.now) file)) in
+    goes_on disk old old c.write_at.new.self P begun c.write_at.ensures.time c.write_at.ensures.crash
+
+pub returns-in_err-write_at-clause-left : goal.returns-in_err-write_at-clause-left
+returns-in_err-write_at-clause-left g c =
+    IfSome_then (g.D.Disk.disk.content c.write_at.new.self) (g.met.D.Disk.reads_as_image c.write_at.new.self) c.write_at.ensures.crash
 
 pub returns-clause-any_moment : goal.returns-clause-any_moment
 returns-clause-any_moment g c =
-    let disk = g.D.Disk in
+    let disk = g.D.Disk.disk in
     let old = c.args.disk.now in
     let mid = c.write_at.new.self in
     let new = c.sync.new.self in
-    let P = IsTornFrom (disk.content old) c.args.at (length c.args.bytes.now) in
-    let torn = torn_of_read (disk.content old) c.args.at (length c.args.bytes.now) (disk.may_leave old) (disk.may_leave mid) c.requires.durable c.in_ok-write_at.ensures.crash in
-    let begun = started disk.moment disk.left_since old P (λ file left. (file, c.requires.durable file (g.met.D.Disk.only_now old file left), Torn-refl c.args.at (length c.args.bytes.now) file)) in
-    let wrote = goes_on disk.moment disk.left_since disk.may_leave old old mid P begun c.in_ok-write_at.ensures.time torn in
-    goes_on disk.moment disk.left_since disk.may_leave old mid new P wrote c.sync.ensures.time (λ file left. torn file (c.sync.ensures.crash file left))
+    let P = IsTornFrom (disk.may_leave old) c.args.at (length c.args.bytes.now) in
+    let torn = c.in_ok-write_at.ensures.crash in
+    let begun = started disk old P (λ file left. (file, g.met.D.Disk.only_now old file left, Torn-refl c.args.at (length c.args.bytes.now) file)) in
+    let wrote = goes_on disk old old mid P begun c.in_ok-write_at.ensures.time torn in
+    goes_on disk old mid new P wrote c.sync.ensures.unchanged.time (λ file left. torn file (c.sync.ensures.unchanged.crash file left))
+
+pub returns-clause-left : goal.returns-clause-left
+returns-clause-left g c =
+    IfSome_then (g.D.Disk.disk.content c.sync.new.self) (g.met.D.Disk.reads_as_image c.sync.new.self)
+    (λ file left. c.in_ok-write_at.ensures.crash file (c.sync.ensures.unchanged.crash file left))
 
 pub returns-clause-course : goal.returns-clause-course
 returns-clause-course g c =
-    one_more-Ok g.D.Disk.leads g.met.D.Disk.goes_on c.sync.result 1 1 c.args.disk.now c.write_at.new.self c.sync.new.self c.in_ok-write_at.ensures.course c.sync.ensures.course
+    one_more-Ok g.D.Disk.disk g.met.D.Disk.goes_on c.sync.result 1 1 c.args.disk.now c.write_at.new.self c.sync.new.self
+    c.in_ok-write_at.ensures.performed.course c.sync.ensures.performed.course
 
-pub returns-clause-failed : goal.returns-clause-failed
-returns-clause-failed g c =
-    one_more-Err g.D.Disk.leads g.met.D.Disk.goes_on c.sync.result 1 1 c.args.disk.now c.write_at.new.self c.sync.new.self c.in_ok-write_at.ensures.course c.sync.ensures.course
-
-pub returns-in_err-write_at-clause-behind : goal.returns-in_err-write_at-clause-behind
-returns-in_err-write_at-clause-behind g c =
-    let content = g.D.Disk.content in
+pub returns-in_err-write_at-clause-failed : goal.returns-in_err-write_at-clause-failed
+returns-in_err-write_at-clause-failed g c =
+    let content = g.D.Disk.disk.content in
     let old = c.args.disk.now in
     let new = c.write_at.new.self in
     on_err_anyway c.from_residual.result
-    (FailsAmong-first g.D.Disk.leads 2 old new
+    (FailsAmong-first g.D.Disk.disk 2 old new
     (λ done. done ≡ 1 → content new ≡ option_map (written c.args.at c.args.bytes.now) (content old))
-    (omega arith) (g.met.D.Disk.stays old) c.in_err-write_at.ensures.course (λ one. absurd (omega (arith, one))))
+    (omega arith) (g.met.D.Disk.stays old) c.in_err-write_at.ensures.performed.course (λ one. absurd (omega (arith, one))))
 
-pub returns-clause-behind : goal.returns-clause-behind
-returns-clause-behind g c =
-    let content = g.D.Disk.content in
+pub returns-clause-failed : goal.returns-clause-failed
+returns-clause-failed g c =
+    let content = g.D.Disk.disk.content in
     let old = c.args.disk.now in
     let new = c.sync.new.self in
-    one_more-FailsAmong g.D.Disk.leads g.met.D.Disk.goes_on c.sync.result 1 old c.write_at.new.self new
+    one_more-FailsAmong g.D.Disk.disk g.met.D.Disk.goes_on c.sync.result 1 old c.write_at.new.self new
     (λ done. done ≡ 1 → content new ≡ option_map (written c.args.at c.args.bytes.now) (content old))
-    c.in_ok-write_at.ensures.course c.sync.ensures.course (λ one. c.sync.ensures.same ∙ c.in_ok-write_at.ensures.done)
+    c.in_ok-write_at.ensures.performed.course c.sync.ensures.performed.course
+    (λ one. c.sync.ensures.unchanged.same ∙ c.in_ok-write_at.ensures.done)

@@ -2,4 +2,4 @@ use Rattle.orc_journal.specs.Opened.{IsReady}
 use Rattle.orc_journal.proofs.tests.append_all.Given as goal
 
 abbrev pub invariant-loop-entry : goal.invariant-loop-entry
-invariant-loop-entry g l = IsReady g.D.Disk.content g.D.Disk.may_leave l.journal
+invariant-loop-entry g l = IsReady g.D.Disk.disk l.journal

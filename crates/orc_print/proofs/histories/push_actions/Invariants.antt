@@ -1,8 +1,8 @@
-use Rattle.std.proofs.Common.{◌≡◌, ◌++◌, take}
+use Rattle.std.proofs.Common.{◌≡◌, ◌++◌, codes, take}
 use Rattle.std.specs.String.{string_bytes}
 use Rattle.std.specs.List.{flat_map}
-use Rattle.orc_print.specs.Printed.{history_action}
+use Rattle.orc_state.specs.Texts.{action_lines}
 use Rattle.orc_print.proofs.histories.push_actions.Given as goal
 
 abbrev pub invariant-loop-action : goal.invariant-loop-action
-invariant-loop-action l = string_bytes l.out ≡ string_bytes l.initial.out ++ flat_map history_action (take l.action-index l.actions)
+invariant-loop-action l = string_bytes l.out ≡ string_bytes l.initial.out ++ flat_map (action_lines (codes "  ")) (take l.action-index l.actions)

@@ -1,8 +1,12 @@
-use Rattle.std.proofs.Common.{◌≡◌, ◌++◌, take}
+use Rattle.std.proofs.Common.{◌≡◌, ◌++◌}
 use Rattle.std.specs.String.{string_bytes}
 use Rattle.std.specs.List.{flat_map}
+use Rattle.std.specs.FinMap.{entries}
 use Rattle.orc_print.specs.Printed.{item_line}
 use Rattle.orc_print.proofs.tree.show.Given as goal
 
+-- the lines of the rows that are left give the whole
 abbrev pub invariant-loop-row : goal.invariant-loop-row
-invariant-loop-row l = string_bytes l.out ≡ string_bytes l.initial.out ++ flat_map item_line (take l.row-index l.row-items)
+invariant-loop-row l =
+    string_bytes l.out ++ flat_map item_line l.row-iterator
+    ≡ string_bytes l.initial.out ++ flat_map item_line (entries l.tree)

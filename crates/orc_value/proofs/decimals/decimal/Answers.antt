@@ -2,7 +2,7 @@ use Rattle.std.proofs.Common.{◌≡◌, ℕ, ℤ, List, rules, ◌<◌, ◌^◌
 use Rattle.std.specs.Str.Parse.{starts_with_minus}
 use Rattle.orc_value.specs.Numerals.{admitted, all_digits, signed}
 use Rattle.orc_value.specs.Decimals.{is_decimal_value}
-use Rattle.orc_value.specs.Scaled.{are_zeros, units}
+use Rattle.orc_value.specs.inside.Scaled.{are_zeros, units}
 use Rattle.orc_value.proofs.IntegerLaws.{admitted-no}
 use Rattle.orc_value.proofs.Scales.{all_digits-take}
 use Rattle.orc_value.proofs.Cuts.{is_cut, fraction-digits, decimal_value-some, decimal_value-none, is_decimal_value-large, not_below}

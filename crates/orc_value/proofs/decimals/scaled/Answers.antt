@@ -1,6 +1,6 @@
 use Rattle.std.proofs.Common.{◌≡◌, ℕ, ◌<◌, ◌^◌, ◌*◌, SomeIff, subst, sym, ap, ◌∙◌}
 use Rattle.std.specs.Str.Parse.{digits_value_after}
-use Rattle.orc_value.specs.Scaled.{units}
+use Rattle.orc_value.specs.inside.Scaled.{units}
 use Rattle.orc_value.proofs.Scales.{units-is, units-large, units-large_whole}
 use Rattle.orc_value.proofs.decimals.scaled.Goals as goal
 

@@ -7,7 +7,7 @@ use Rattle.std.proofs.lemmas.Result.{err_from_is_err_and}
 use Rattle.orc_yang.specs.declared.fault.YangFault.TheVariants.{Memory}
 use Rattle.orc_yang.specs.Text.{placed}
 use Rattle.orc_yang.specs.Machine.{run, start}
-use Rattle.orc_yang.specs.View.{view}
+use Rattle.orc_yang.specs.inside.View.{view}
 use Rattle.orc_yang.proofs.Reading.{place_turn, wanted, run_turn, fault_turn, wants_here, wants_turn, next_column-le, spelled, at_end}
 use Rattle.orc_yang.proofs.statements.read.Goals as goal
 

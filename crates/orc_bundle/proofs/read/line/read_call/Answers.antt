@@ -1,6 +1,6 @@
 use Rattle.std.proofs.Common.{codes}
 use Rattle.std.proofs.lemmas.Result.{err_from_is_err_and}
-use Rattle.orc_bundle.specs.Reading.{IsNameOf, IsNumberOf, IsBehind}
+use Rattle.orc_bundle.specs.inside.Reading.{IsNameOf, IsNumberOf, IsBehind}
 use Rattle.orc_bundle.proofs.Readers.{fails_along}
 use Rattle.orc_bundle.proofs.Lines.{call_parts, call_only}
 use Rattle.orc_bundle.proofs.read.line.read_call.Goals as goal

@@ -1,6 +1,6 @@
 use Rattle.std.proofs.Common.{codes, sym, ◌∙◌}
 use Rattle.std.proofs.lemmas.Result.{err_from_is_err_and}
-use Rattle.orc_bundle.specs.Reading.{IsNameOf, IsBehind}
+use Rattle.orc_bundle.specs.inside.Reading.{IsNameOf, IsBehind}
 use Rattle.orc_bundle.proofs.Readers.{fails_along}
 use Rattle.orc_bundle.proofs.Lines.{device_parts, device_other, device_only}
 use Rattle.orc_bundle.proofs.read.line.read_device.Goals as goal

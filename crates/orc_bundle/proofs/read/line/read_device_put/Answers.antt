@@ -1,5 +1,5 @@
 use Rattle.std.proofs.lemmas.Result.{err_from_is_err_and}
-use Rattle.orc_bundle.specs.Reading.{IsNameOf, IsPutOf, IsDevicePutOf}
+use Rattle.orc_bundle.specs.inside.Reading.{IsNameOf, IsPutOf, IsDevicePutOf}
 use Rattle.orc_call.specs.declared.call.Put.{Put}
 use Rattle.orc_bundle.proofs.Readers.{fails_along}
 use Rattle.orc_bundle.proofs.Lines.{device_put_parts, device_put_only}

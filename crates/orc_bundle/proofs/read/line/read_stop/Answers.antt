@@ -1,6 +1,6 @@
 use Rattle.std.proofs.Common.{codes}
 use Rattle.std.proofs.lemmas.Result.{err_from_is_err_and}
-use Rattle.orc_bundle.specs.Reading.{IsNumberOf, IsBehind}
+use Rattle.orc_bundle.specs.inside.Reading.{IsNumberOf, IsBehind}
 use Rattle.orc_bundle.proofs.Readers.{fails_along, spared_along}
 use Rattle.orc_bundle.proofs.Lines.{stop_parts, stop_only}
 use Rattle.orc_bundle.proofs.read.line.read_stop.Goals as goal

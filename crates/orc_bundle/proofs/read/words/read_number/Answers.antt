@@ -1,5 +1,5 @@
 use Rattle.std.proofs.Common.{sym, ◌∙◌, ap}
-use Rattle.orc_bundle.specs.Reading.{is_padded}
+use Rattle.orc_bundle.specs.inside.Reading.{is_padded}
 use Rattle.orc_bundle.proofs.Decimals.{padded_refused, number_read, number_refused}
 use Rattle.orc_bundle.proofs.read.words.read_number.Goals as goal
 

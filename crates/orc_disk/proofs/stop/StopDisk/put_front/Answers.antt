@@ -5,4 +5,4 @@ use Rattle.orc_disk.proofs.stop.StopDisk.put_front.Goals as goal
 
 pub returns-clause-crash : goal.returns-clause-crash
 returns-clause-crash g c =
-    TearsAt-inside g.D.Disk.may_leave _ _ _ _ _ _ c.self.view_is (omega (arith, length-take c.min-count.result c.args.bytes.now)) c.write_at.ensures.crash
+    TearsAt-inside g.D.Disk.disk _ _ _ _ _ _ c.self.view_is (omega (arith, length-take c.min-count.result c.args.bytes.now)) c.write_at.ensures.crash

@@ -1,4 +1,4 @@
-use Rattle.orc_path.specs.Order.{path_cmp_total}
+use Rattle.orc_path.proofs.PathOrder.{path_cmp_total}
 use Rattle.orc_path.proofs.path.Path.cmp.Goals as goal
 
 pub returns-clause-total : goal.returns-clause-total

@@ -1,5 +1,5 @@
 use Rattle.std.proofs.Common.{◌≡◌, take, Some}
-use Rattle.orc_path.specs.Reading.{at_start}
+use Rattle.orc_path.specs.inside.Reading.{at_start}
 use Rattle.orc_path.proofs.Runs.{feed_all}
 use Rattle.orc_path.proofs.path.Path.parse.Given as goal
 

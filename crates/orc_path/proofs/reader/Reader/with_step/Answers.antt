@@ -1,6 +1,6 @@
 use Rattle.std.proofs.Common.{◌≡◌, ◌∙◌, ◌++◌, ◌∷◌, [], true, List, ap, subst, sym}
 use Rattle.orc_path.specs.Steps.{PathStep, is_path}
-use Rattle.orc_path.specs.Reading.{present_step}
+use Rattle.orc_path.specs.inside.Reading.{present_step}
 use Rattle.orc_path.specs.declared.reader.Reader.{Reader}
 use Rattle.orc_path.proofs.Feeds.{is_path_more}
 use Rattle.orc_path.proofs.reader.Reader.with_step.Goals as goal

@@ -1,44 +1,80 @@
--- The call is decided and then settled, or a fault came before its decision.
-use Rattle.std.proofs.Common.{Err, refl, sym, ap, subst, arith}
-use Rattle.orc_disk.specs.Stops.{Led}
-use Rattle.orc_disk.proofs.Courses.{FailsAmong-weaker}
-use Rattle.orc_run.specs.Steps.{calls_to_decide, IsEntryOf}
-use Rattle.orc_run.proofs.Committing.{committed, undecided, is_decided}
+-- The call is decided, or its commit ended before that.
+use Rattle.orc_append.specs.Views.{IsOpen}
+use Rattle.orc_run.proofs.Committing.{settled, undecided}
 use Rattle.orc_run.proofs.controller.Controller.commit.Goals as goal
 
-pub returns-in-Ok : goal.returns-in-Ok
-returns-in-Ok g c =
-    let disk = g.D.Disk in
-    let law = g.met.D.Disk in
-    let decls = c.args.decls.now in
+pub returns-in-Settled-clause-comes : goal.returns-in-Settled-clause-comes
+returns-in-Settled-clause-comes g c =
     let is = c.requires.committing in
+    let decls = c.args.decls.now in
     let begun = c.in_ok-t.ensures in
-    let past = c.begin.new.past in
-    let course = c.in-Ok.ensures.course in
-    let decided = is_decided disk.content disk.may_leave decls c.args.call.now c.args.self.now is c.requires.call
-    c.in_ok-t.t c.args.devices c.in_ok-t.intent begun.intent begun.new past begun.taken begun.others begun.filled begun.pending begun.state c.decide.new.journal
-    (c.in-Ok.ensures.done decls.text is.up.entries is.up.holds) c.decide.ensures.limit in
-    let h = committed disk.content disk.may_leave decls c.args.call.now c.args.self.now is c.requires.call
-    c.in_ok-t.t c.args.devices c.in_ok-t.intent begun.intent begun.new past begun.taken begun.others begun.filled begun.pending begun.state c.decide.new.journal
-    disk.moment disk.left_since disk.faults disk.leads law.counts_now law.goes_on law.counts c.decide.ensures.tells
-    (c.decide.ensures.any_moment decls.text is.up.entries is.up.holds) (c.decide.ensures.left decls.text is.up.entries is.up.holds) course.calls course.failed course.led
-    c.settle.result c.settle.new.self (c.settle.ensures decls decided) course.whole.0 course.whole.1 begun.least c.in-Ok.ensures.done in
-    record { comes = h.comes; sound = h.sound; broken = h.broken; memory = h.memory; rests = h.rests; appends = h.appends; outlives = h.outlives }
+    let reached = c.append_commit-reached.result in
+    let j = c.append_commit-reached.new.journal in
+    let held : IsOpen g.D.Disk.disk c.args.self.now.journal decls.text is.up.entries = record { holds = is.up.holds; running = is.up.running } in
+    (settled g.D.Disk.disk g.met.D.Disk.only_now c.args.decls.now c.args.call.now c.args.self.now is c.requires.call
+    c.in_ok-t.t c.args.devices c.in_ok-t.intent begun.intent begun.new c.requires.touched begun.positive begun.least
+    reached.stage reached.outcome j (c.append_commit-reached.ensures.appends decls.text is.up.entries held)
+    c.begin.new.past begun.taken begun.others begun.only begun.filled begun.pending begun.state
+    (λ unstopped unfailed. c.append_commit-reached.ensures.open unstopped unfailed decls.text is.up.entries held)
+    c.in-Settled.is c.settle.result c.settle.new.self c.settle.ensures.said c.settle.ensures.state).comes
+
+pub returns-in-Settled-clause-sound : goal.returns-in-Settled-clause-sound
+returns-in-Settled-clause-sound g c =
+    let is = c.requires.committing in
+    let decls = c.args.decls.now in
+    let begun = c.in_ok-t.ensures in
+    let reached = c.append_commit-reached.result in
+    let j = c.append_commit-reached.new.journal in
+    let held : IsOpen g.D.Disk.disk c.args.self.now.journal decls.text is.up.entries = record { holds = is.up.holds; running = is.up.running } in
+    (settled g.D.Disk.disk g.met.D.Disk.only_now c.args.decls.now c.args.call.now c.args.self.now is c.requires.call
+    c.in_ok-t.t c.args.devices c.in_ok-t.intent begun.intent begun.new c.requires.touched begun.positive begun.least
+    reached.stage reached.outcome j (c.append_commit-reached.ensures.appends decls.text is.up.entries held)
+    c.begin.new.past begun.taken begun.others begun.only begun.filled begun.pending begun.state
+    (λ unstopped unfailed. c.append_commit-reached.ensures.open unstopped unfailed decls.text is.up.entries held)
+    c.in-Settled.is c.settle.result c.settle.new.self c.settle.ensures.said c.settle.ensures.state).sound
+
+pub returns-in-Settled-clause-rests : goal.returns-in-Settled-clause-rests
+returns-in-Settled-clause-rests g c =
+    let is = c.requires.committing in
+    let decls = c.args.decls.now in
+    let begun = c.in_ok-t.ensures in
+    let reached = c.append_commit-reached.result in
+    let j = c.append_commit-reached.new.journal in
+    let held : IsOpen g.D.Disk.disk c.args.self.now.journal decls.text is.up.entries = record { holds = is.up.holds; running = is.up.running } in
+    (settled g.D.Disk.disk g.met.D.Disk.only_now c.args.decls.now c.args.call.now c.args.self.now is c.requires.call
+    c.in_ok-t.t c.args.devices c.in_ok-t.intent begun.intent begun.new c.requires.touched begun.positive begun.least
+    reached.stage reached.outcome j (c.append_commit-reached.ensures.appends decls.text is.up.entries held)
+    c.begin.new.past begun.taken begun.others begun.only begun.filled begun.pending begun.state
+    (λ unstopped unfailed. c.append_commit-reached.ensures.open unstopped unfailed decls.text is.up.entries held)
+    c.in-Settled.is c.settle.result c.settle.new.self c.settle.ensures.said c.settle.ensures.state).rests
+
+pub returns-in-Settled-clause-outlives : goal.returns-in-Settled-clause-outlives
+returns-in-Settled-clause-outlives g c =
+    let is = c.requires.committing in
+    let decls = c.args.decls.now in
+    let begun = c.in_ok-t.ensures in
+    let reached = c.append_commit-reached.result in
+    let j = c.append_commit-reached.new.journal in
+    let held : IsOpen g.D.Disk.disk c.args.self.now.journal decls.text is.up.entries = record { holds = is.up.holds; running = is.up.running } in
+    (settled g.D.Disk.disk g.met.D.Disk.only_now c.args.decls.now c.args.call.now c.args.self.now is c.requires.call
+    c.in_ok-t.t c.args.devices c.in_ok-t.intent begun.intent begun.new c.requires.touched begun.positive begun.least
+    reached.stage reached.outcome j (c.append_commit-reached.ensures.appends decls.text is.up.entries held)
+    c.begin.new.past begun.taken begun.others begun.only begun.filled begun.pending begun.state
+    (λ unstopped unfailed. c.append_commit-reached.ensures.open unstopped unfailed decls.text is.up.entries held)
+    c.in-Settled.is c.settle.result c.settle.new.self c.settle.ensures.said c.settle.ensures.state).outlives
 
 pub returns : goal.returns
 returns g c =
-    let disk = g.D.Disk in
-    let law = g.met.D.Disk in
-    let decls = c.args.decls.now in
     let is = c.requires.committing in
+    let decls = c.args.decls.now in
     let begun = c.in_ok-t.ensures in
-    let past = c.begin.new.past in
-    let course = c.in-Err.ensures.course in
-    let h = undecided disk.content disk.may_leave decls c.args.call.now c.args.self.now is c.requires.call
-    c.in_ok-t.t c.args.devices c.in_ok-t.intent begun.intent begun.new past begun.taken begun.others begun.filled begun.pending begun.state c.decide.new.journal
-    disk.moment disk.left_since disk.faults disk.leads law.counts_now law.goes_on law.counts c.decide.ensures.tells
-    (c.decide.ensures.any_moment decls.text is.up.entries is.up.holds) (c.decide.ensures.left decls.text is.up.entries is.up.holds) course.calls course.failed course.led
-    c.in-Err.fault (λ e. FailsAmong-weaker (Led disk.leads) calls_to_decide calls_to_decide c.args.self.now.journal.disk c.decide.new.journal.disk _ _ (omega arith)
-    (λ done fewer left. left decls.text is.up.entries is.up.holds) (c.in-Err.ensures.failed (ap Err e))) (λ e. course.fault (ap Err e)) (λ len e. c.in-Err.ensures.full len (ap Err e) c.args.call.now c.args.devices (subst (IsEntryOf c.args.call.now c.args.devices) (sym begun.intent.is) (refl, refl)) decls is.up.entries is.up.holds is.up.limit)
-    c.fail.result c.fail.new.self c.fail.ensures.memory c.fail.ensures.full c.fail.ensures.broken c.fail.ensures.stopped c.fail.ensures.rest in
-    record { comes = h.comes; sound = h.sound; broken = h.broken; memory = h.memory; rests = h.rests; appends = h.appends; outlives = h.outlives }
+    let reached = c.append_commit-reached.result in
+    let j = c.append_commit-reached.new.journal in
+    let held : IsOpen g.D.Disk.disk c.args.self.now.journal decls.text is.up.entries = record { holds = is.up.holds; running = is.up.running } in
+    let h = undecided g.D.Disk.disk g.met.D.Disk.only_now c.args.decls.now c.args.call.now c.args.self.now is c.requires.call
+    c.in_ok-t.t c.args.devices c.in_ok-t.intent begun.intent begun.new c.requires.touched begun.positive begun.least
+    reached.stage reached.outcome j (c.append_commit-reached.ensures.appends decls.text is.up.entries held)
+    c.begin.new.past begun.taken begun.others begun.only begun.filled begun.pending begun.state
+    (λ unstopped unfailed. c.append_commit-reached.ensures.open unstopped unfailed decls.text is.up.entries held)
+    c.in_default.not-Settled c.fail.result c.fail.new.self c.fail.ensures.said c.fail.ensures.behind c.fail.ensures.rest in
+    record { comes = h.comes; sound = h.sound; broken = h.broken; memory = h.memory; rests = h.rests; outlives = h.outlives }

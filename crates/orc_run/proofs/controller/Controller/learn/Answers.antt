@@ -4,14 +4,14 @@ use Rattle.orc_journal.specs.declared.entry.Entry.TheVariants.{Decide}
 use Rattle.orc_run.proofs.Openings.{newly_sound, offset_of}
 use Rattle.orc_run.proofs.controller.Controller.learn.Goals as goal
 
-pub offset-at-requires-clause-place : goal.offset-at-requires-clause-place
-offset-at-requires-clause-place g c =
+pub offset-at-requires-clause-within : goal.offset-at-requires-clause-within
+offset-at-requires-clause-within g c =
     let illegal = c.in-Err-Illegal.ensures.illegal c.in-Err-Illegal.place (ap Err c.in-Err-Illegal.field-0-is) in
     slice_get_within c.args.entries.now c.in-Err-Illegal.place (Decide illegal.t) illegal.decide
 
 pub returns-in-Ok-clause-sound : goal.returns-in-Ok-clause-sound
 returns-in-Ok-clause-sound g c =
-    newly_sound g.D.Disk.content g.D.Disk.may_leave g.D.Disk.moment g.D.Disk.left_since c.args.decls.now
+    newly_sound g.D.Disk.disk c.args.decls.now
     (record { journal = c.args.journal; up = true; past = c.in-Ok.past; known = c.len.result }) c.args.entries.now c.in-Ok.ensures.past c.len.ensures
     c.requires.holds c.requires.ordered c.requires.limit c.requires.running
 

@@ -1,5 +1,5 @@
 use Rattle.std.proofs.Common.{◌≡◌, ◌≤◌, ◌<◌, ℕ, true}
-use Rattle.orc_run.specs.Transactions.{is_taken}
+use Rattle.orc_run.specs.inside.Transactions.{is_taken}
 use Rattle.orc_run.proofs.numbers.Numbers.least.Given as goal
 
 abbrev pub invariant-loop-t : goal.invariant-loop-t

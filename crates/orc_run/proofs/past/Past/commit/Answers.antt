@@ -4,4 +4,4 @@ use Rattle.orc_run.proofs.past.Past.commit.Goals as goal
 
 pub returns-then-is_some-clause-illegal : goal.returns-then-is_some-clause-illegal
 returns-then-is_some-clause-illegal c = λ ok lawful.
-    answered c.args.decls.now c.args.self.now.history c.args.call.now c.in_ok-answer.field-0 (sym c.if-is_some.true ∙ c.is_some.ensures) c.in_ok-answer.ensures.answer
+    answered c.args.decls.now c.args.self.now.history c.args.call.now c.in_ok-answer_or_apply.field-0 (sym c.if-is_some.true ∙ c.is_some.ensures) c.in_ok-answer_or_apply.ensures.answer

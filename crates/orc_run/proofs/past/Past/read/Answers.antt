@@ -1,6 +1,6 @@
 use Rattle.std.proofs.Common.{◌≡◌, IsTrue, List, Ok, take, refl, sym, ap, subst, ◌∙◌}
 use Rattle.orc_state.specs.States.{fits_devices, opening}
-use Rattle.orc_run.specs.Pasts.{IsIllegalAt}
+use Rattle.orc_run.specs.Opening.{IsIllegalAt}
 use Rattle.orc_state.specs.declared.declarations.Device.{Device}
 use Rattle.orc_run.specs.declared.past.Past.{Past}
 use Rattle.orc_state.proofs.Fits.{devices-fit}
@@ -22,7 +22,7 @@ returns-then-not-branch-clause-illegal c = λ place e.
 pub loop-place-init : goal.loop-place-init
 loop-place-init c =
     let past : Past = record { numbers = c.new.result; history = c.new-2.result; state = c.in_ok-open.field-0 } in
-    past_none c.args.decls.now past c.requires.decls c.new.ensures.filled c.new-2.ensures
+    past_none c.args.decls.now past c.requires.decls c.new.ensures.filled c.new.ensures.none c.new-2.ensures
     (c.in_ok-open.ensures.opening ∙ ap opening c.as_slice.ensures) c.in_ok-open.ensures.complete
 
 pub loop-place-preserved : goal.loop-place-preserved

@@ -1,5 +1,5 @@
 use Rattle.std.proofs.Common.{take}
-use Rattle.orc_run.specs.Pasts.{IsPast}
+use Rattle.orc_run.specs.inside.Pasts.{IsPast}
 use Rattle.orc_run.proofs.past.Past.read.Given as goal
 
 abbrev pub invariant-loop-place : goal.invariant-loop-place

@@ -1,26 +1,19 @@
 use Rattle.std.proofs.Common.{ℕ, List, [], ◌∷◌, ◌++◌, ap, sym, ◌∙◌}
 use Rattle.orc_path.specs.Configurations.{Config}
-use Rattle.orc_state.specs.States.{clash_on}
 use Rattle.orc_state.specs.declared.state.Service.{Service}
 use Rattle.orc_state.specs.declared.state.State.{State}
-use Rattle.orc_state.proofs.Services.{literal-refusal, literal-after}
+use Rattle.orc_state.proofs.Services.{literal-refusal-of, literal-after}
 use Rattle.orc_state.proofs.state.State.create.Goals as goal
 
 pub returns-in-Some-clause-clash : goal.returns-in-Some-clause-clash
 returns-in-Some-clause-clash c =
-    let s = c.args.self.now in
     sym c.in-Some.is ∙ c.in_ok-found.ensures
-    ∙ ap (λ (live : List Service). clash_on live 0 c.as_slice-2.result.now) c.as_slice.ensures
-    ∙ ap (λ (parts : List Config). clash_on s.live 0 parts) (c.as_slice-2.ensures ∙ c.in_ok-parts.ensures)
-    ∙ sym (literal-refusal c.args.names.now s c.args.id.now c.args.writes.now c.requires.new)
+    ∙ literal-refusal-of _ c.args.self.now _ _ _ _ c.as_slice.ensures (c.as_slice-2.ensures ∙ c.in_ok-parts.ensures) c.requires.new
 
 pub returns-in_ok-push-in-None-clause-clash : goal.returns-in_ok-push-in-None-clause-clash
 returns-in_ok-push-in-None-clause-clash c =
-    let s = c.args.self.now in
     sym c.in-None.is ∙ c.in_ok-found.ensures
-    ∙ ap (λ (live : List Service). clash_on live 0 c.as_slice-2.result.now) c.as_slice.ensures
-    ∙ ap (λ (parts : List Config). clash_on s.live 0 parts) (c.as_slice-2.ensures ∙ c.in_ok-parts.ensures)
-    ∙ sym (literal-refusal c.args.names.now s c.args.id.now c.args.writes.now c.requires.new)
+    ∙ literal-refusal-of _ c.args.self.now _ _ _ _ c.as_slice.ensures (c.as_slice-2.ensures ∙ c.in_ok-parts.ensures) c.requires.new
 
 pub returns-in_ok-push-in-None-clause-done : goal.returns-in_ok-push-in-None-clause-done
 returns-in_ok-push-in-None-clause-done c =

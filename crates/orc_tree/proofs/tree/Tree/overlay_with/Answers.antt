@@ -1,21 +1,30 @@
 use Rattle.std.proofs.Common.{ap, sym, subst, ◌∙◌}
-use Rattle.std.specs.FinMap.{entries}
-use Rattle.orc_path.specs.Configurations.{IsConfig, lay}
-use Rattle.orc_path.specs.ConfigurationLaws.{IsConfig-overlay}
-use Rattle.orc_tree.proofs.Maps.{Rows, map_of}
+use Rattle.std.specs.FinMap.{entries, is_sorted}
+use Rattle.orc_path.specs.Order.{path_cmp}
+use Rattle.orc_path.specs.Configurations.{Config, IsConfig, insert_all}
+use Rattle.orc_path.proofs.ConfigurationLaws.{IsConfig-overlay}
+use Rattle.orc_tree.specs.Pages.{rows_of, AreSized, listed}
+use Rattle.orc_tree.proofs.Maps.{Rows, map_of, entries-of_rows}
+use Rattle.orc_tree.proofs.Paged.{Pages}
 use Rattle.orc_tree.proofs.tree.Tree.overlay_with.Goals as goal
 
 pub returns-clause-ok : goal.returns-clause-ok
 returns-clause-ok c =
-    c.lay_rows.ensures.laid
-    ∙ ap (λ (es : Rows). lay es (map_of c.reserve.new.self.items)) c.in_ok-rows.ensures.entries
-    ∙ ap (λ (r : Rows). lay (entries c.args.top.now) (map_of r)) c.in_ok-reserve.ensures.items
-    ∙ ap (lay (entries c.args.top.now)) c.self.view_is
+    ap (λ (ps : Pages). map_of (rows_of ps)) c.in_ok-self-inside.ensures
+    ∙ c.in_ok-lay_pages.ensures.laid
+    ∙ ap (λ (es : Rows). insert_all es (map_of (rows_of c.in_ok-pages.pages.items)))
+    (ap rows_of c.pages_in-2.ensures ∙ sym (entries-of_rows (rows_of (listed c.top.inside.list)) c.top.invariant.sorted) ∙ ap (λ (m : Config). entries m) c.top.view_is)
+    ∙ ap (λ (r : Rows). insert_all (entries c.args.top.now) (map_of r)) (c.in_ok-pages.ensures.rows ∙ ap rows_of c.pages_in.ensures)
+    ∙ ap (insert_all (entries c.args.top.now)) c.self.view_is
 
 pub returns-clause-config : goal.returns-clause-config
 returns-clause-config c =
     subst IsConfig (sym (returns-clause-ok c))
-    (IsConfig-overlay c.args.top.now c.args.self.now c.in_ok-rows.ensures.config (subst IsConfig c.self.view_is c.self.invariant.config))
+    (IsConfig-overlay c.args.top.now c.args.self.now (subst IsConfig c.top.view_is c.top.invariant.config) (subst IsConfig c.self.view_is c.self.invariant.config))
 
-pub invariant_of-self-2 : goal.invariant_of-self-2
-invariant_of-self-2 c = record { sorted = c.lay_rows.ensures.sorted; config = returns-clause-config c }
+pub invariant_of-self : goal.invariant_of-self
+invariant_of-self c = record {
+  sorted = ap (λ (ps : Pages). is_sorted path_cmp (rows_of ps)) c.in_ok-self-inside.ensures ∙ c.in_ok-lay_pages.ensures.sorted;
+  config = returns-clause-config c;
+  sized = subst AreSized (sym c.in_ok-self-inside.ensures) c.lay_pages.ensures.sized;
+}

@@ -1,28 +1,36 @@
-use Rattle.std.proofs.Common.{◌≡◌, ap, sym, subst, ◌∙◌}
-use Rattle.std.specs.FinMap.{insert}
-use Rattle.orc_path.specs.Configurations.{Config, IsConfig, enter_all, ways}
-use Rattle.orc_path.specs.ConfigurationLaws.{IsConfig-put_item}
-use Rattle.orc_tree.proofs.Maps.{Rows, map_of, map_of-put}
+use Rattle.std.proofs.Common.{◌≡◌, ap, subst, ◌∙◌}
+use Rattle.std.specs.FinMap.{insert, put}
+use Rattle.std.proofs.lemmas.Result.{on_ok_weaker}
+use Rattle.orc_path.specs.Order.{path_cmp}
+use Rattle.orc_path.specs.Configurations.{Config, IsConfig, enter_all, ways, put_item}
+use Rattle.orc_path.proofs.ConfigurationLaws.{IsConfig-put_item}
+use Rattle.orc_tree.specs.Pages.{rows_of, listed}
+use Rattle.orc_tree.specs.inside.Puts.{put_entries}
+use Rattle.orc_tree.proofs.Maps.{map_of}
+use Rattle.orc_tree.proofs.Paged.{Pages}
+use Rattle.orc_tree.proofs.Edited.{map_of-put_all, sorted-put_all, ArePages-edited}
 use Rattle.orc_tree.proofs.tree.Tree.set.Goals as goal
+use Rattle.orc_tree.proofs.tree.Tree.set.Goals.{After-put_shared}
+
+set_is : (c : After-put_shared) → map_of (put path_cmp c.args.path c.args.item (put_entries c.in_ok-missing.missing.items (rows_of (listed c.self.inside.list)))) ≡ put_item c.args.self.now c.args.path c.args.item
+set_is c =
+    let q = c.args.path in
+    let missing = c.in_ok-missing.missing.items in
+    map_of-put_all q c.args.item missing (rows_of (listed c.self.inside.list)) c.self.invariant.sorted
+    ∙ ap (λ (m : Config). insert m q c.args.item)
+    (subst (λ (ps : Pages). enter_all missing (map_of (rows_of ps)) ≡ enter_all (ways q) (map_of (rows_of ps))) c.pages_in.ensures c.in_ok-missing.ensures.entered
+    ∙ ap (enter_all (ways q)) c.self.view_is)
 
 pub returns-clause-ok : goal.returns-clause-ok
-returns-clause-ok c =
-    let q = c.args.path in
-    let item = c.args.item in
-    let missing = c.in_ok-missing.missing.items in
-    let entered : map_of c.enter_rows.new.rows.items ≡ enter_all (ways q) c.args.self.now =
-    c.enter_rows.ensures.entered
-    ∙ ap (λ (r : Rows). enter_all missing (map_of r)) c.in_ok-reserve.ensures.items
-    ∙ subst (λ (r : Rows). enter_all missing (map_of r) ≡ enter_all (ways q) (map_of r)) c.as_slice.ensures.value c.in_ok-missing.ensures.entered
-    ∙ ap (enter_all (ways q)) c.self.view_is in
-    map_of-put c.enter_rows.new.rows.items c.put_row.new.rows.items q item c.enter_rows.ensures.sorted c.put_row.ensures.sorted c.put_row.ensures.put
-    ∙ ap (λ (m : Config). insert m q item) entered
+returns-clause-ok c = on_ok_weaker c.put_shared.result (λ is. ap map_of is ∙ set_is c) c.put_shared.ensures.ok
+
+pub invariant_of-self : goal.invariant_of-self
+invariant_of-self c =
+    ArePages-edited c.put_shared.result (listed c.self.inside.list) (listed c.put_shared.new.list) _ (put_item c.args.self.now c.args.path c.args.item) c.self.invariant c.put_shared.ensures.ok c.put_shared.ensures.err
+    (sorted-put_all c.args.path c.args.item c.in_ok-missing.missing.items (rows_of (listed c.self.inside.list)) c.self.invariant.sorted)
+    (set_is c)
+    (IsConfig-put_item c.args.self.now c.args.path c.args.item (subst IsConfig c.self.view_is c.self.invariant.config) c.in_ok-missing.ensures.path c.requires.fits)
+    c.put_shared.ensures.sized
 
 pub returns-clause-config : goal.returns-clause-config
-returns-clause-config c =
-    subst IsConfig (sym (returns-clause-ok c))
-    (IsConfig-put_item c.args.self.now c.args.path c.args.item (subst IsConfig c.self.view_is c.self.invariant.config) c.in_ok-missing.ensures.path c.requires.fits)
-
-pub invariant_of-self-2 : goal.invariant_of-self-2
-invariant_of-self-2 c =
-    record { sorted = c.put_row.ensures.sorted; config = returns-clause-config c }
+returns-clause-config c = (invariant_of-self c).config

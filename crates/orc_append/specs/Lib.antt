@@ -1,0 +1,4 @@
+pub mod Views
+pub mod Appends
+pub mod Rows
+pub mod Laws

@@ -1,0 +1,4 @@
+pub mod Encodable
+pub mod Lines
+pub mod Reading
+pub mod Places

@@ -1,0 +1,21 @@
+-- What a disk tells of itself.
+use Rattle.std.specs.Prelude.{ℕ, List, Option}
+use Rattle.orc_disk.specs.Rows.{Course}
+
+-- The words in which a disk tells of itself. Operations are its four kinds of calls.
+pub record DiskMeaning (D : Type 0) : Type 1 where
+  -- what a read gives, where the disk tells it
+  pub content : D → Option (List ℕ)
+  -- the images that a crash now may leave
+  pub may_leave : D → List ℕ → Type 0
+  -- the moment, a number that never falls
+  pub moment : D → ℕ
+  -- the images that a crash at some moment since that one may have left
+  pub left_since : D → ℕ → List ℕ → Type 0
+  -- how often the disk failed
+  pub faults : D → ℕ
+  -- how many writes and syncs it was asked for; at the largest 64-bit number the count stays
+  pub ops : D → ℕ
+  -- Operations led from one state to another, and the row of them did this. So a disk round another one tells of itself
+  -- what code that knows only the trait keeps.
+  pub leads : Course → D → D → Type 0

@@ -1,0 +1,31 @@
+-- What a real file tells of itself.
+use Rattle.std.specs.Prelude.{ℕ, None}
+use Rattle.orc_text.specs.Counts.{capped}
+use Rattle.orc_io.specs.Counts.{next_count}
+use Rattle.orc_disk.specs.Meanings.{DiskMeaning}
+use Rattle.orc_disk.specs.Course.{Tallied}
+
+-- how often it failed, and how many writes and syncs it was asked for, which is all that contracts see of it
+pub record RealFile : Type 0 where
+  pub faults : ℕ
+  pub ops : ℕ
+
+-- it tells these two
+abbrev pub file_disk : DiskMeaning RealFile
+file_disk = record {
+  content = λ _. None;
+  may_leave = λ _ _. ⊥;
+  moment = λ _. 0;
+  left_since = λ _ _ _. ⊥;
+  faults = λ file. file.faults;
+  ops = λ file. capped file.ops;
+  leads = λ course old new. Tallied course old.faults new.faults (capped old.ops) (capped new.ops);
+}
+
+-- it failed
+abbrev pub file_failed : RealFile → RealFile
+file_failed file = record file { faults = next_count file.faults }
+
+-- it was to be written or synced
+abbrev pub file_asked : RealFile → RealFile
+file_asked file = record file { ops = next_count file.ops }

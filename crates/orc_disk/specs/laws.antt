@@ -1,0 +1,4 @@
+pub mod Torn
+pub mod Course
+pub mod Stops
+pub mod History

@@ -1,0 +1,15 @@
+orc 1
+device r1 plain
+script
+call al 1
+literal a
+write r1 /if:port[e0]/mtu = 9000
+end
+settle
+show r1
+call al 2
+delete a
+end
+settle
+show r1
+history

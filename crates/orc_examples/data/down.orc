@@ -1,0 +1,23 @@
+orc 1
+device r1 plain
+script
+call al 1
+literal a
+write r1 /if:port[e0]/mtu = 9000
+end
+settle
+stop
+call al 4
+delete a
+end
+settle
+history
+stop 1 0
+stop
+show r1
+recover
+call al 4
+delete a
+end
+settle
+recover

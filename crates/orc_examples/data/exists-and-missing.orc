@@ -1,0 +1,17 @@
+orc 1
+device r1 plain
+script
+call al 1
+literal a
+write r1 /if:port[e0]/mtu = 9000
+end
+settle
+call al 2
+literal a
+end
+settle
+call al 3
+delete zz
+end
+settle
+show r1

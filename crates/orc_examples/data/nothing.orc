@@ -1,0 +1,3 @@
+orc 1
+device r1 plain
+script

@@ -1,0 +1,18 @@
+orc 1
+device r1 plain
+script
+call al 1
+literal a
+write r1 /if:port[e0]/mtu = 9000
+end
+settle
+call al 1
+delete a
+end
+settle
+call al 1
+literal a
+write r1 /if:port[e0]/mtu = 9000
+end
+settle
+show r1

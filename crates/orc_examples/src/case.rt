@@ -1,0 +1,268 @@
+//! A case: bundles, what they must print, and runs of them, a line each.
+//!
+//! - `# ..`, or an empty line: nothing
+//! - `text NAME`, and the lines `| ..` below: a bundle, or what a run prints; `$1`, `$2`, .. are the
+//!   words of the run
+//! - `bytes NAME`, and the lines `| ..` below: bytes, where `\xHH` is a byte, `\n` a line feed, and an
+//!   end of line nothing
+//! - `words ..`: the next run has these command words in place of `run`
+//! - `source fails N`, `sink fails N`: its source or sink fails at the N-th call
+//! - `disk fails KIND N`: its disk fails at the N-th `len`, `read`, `write` or `sync`
+//! - `disk holds NAME`, `disk room N`: its disk holds these bytes, or has this room
+//! - `run BUNDLE WORD .. -> PRINTED STATUS FAULT`: runs the bundle over a disk of its own; it must
+//!   print this text, or `nothing`, and end with this status and, where that isn't 0, this fault
+//! - `again BUNDLE ..`: the same over the disk that the run before left
+//! - `rows TEXT -> PRINTED STATUS FAULT`: runs each line of the text as a bundle, in which `|` ends a
+//!   line and `\xHH` is a byte, over an empty disk, which must stay empty
+//! - `left NAME`: the disk of the run before now holds these bytes
+
+use crate::block::{bytes_of, filled, spelled, text_of};
+use crate::run::{Ran, disk_of, run};
+use crate::settings::Settings;
+use orc_disk::MemDisk;
+use orc_run::{Done, Stop, status};
+use std::alloc::{AllocError, Global};
+use std::io;
+use std::mem::replace;
+
+// The choice of the image that each write outlives, which is what the disk holds.
+const CONTENT: u64 = 3;
+
+/// A case, and how far its runs came.
+#[derive(Drop)]
+pub(crate) struct Case<'a> {
+    alloc: Global,
+    text: &'a str,
+    disk: Option<MemDisk>,
+    runs: u64,
+}
+
+// What a line came to.
+#[derive(Drop)]
+enum Verdict {
+    // It does what it must, or says nothing.
+    Good,
+    // It is no line of a case.
+    Unread,
+    // Something else was so.
+    Differs(String),
+}
+
+impl<'a> Case<'a> {
+    /// The case of this text, of which nothing was run.
+    pub(crate) fn new(alloc: Global, text: &'a str) -> Case<'a> {
+        Case {
+            alloc,
+            text,
+            disk: None,
+            runs: 0,
+        }
+    }
+
+    /// How many runs there were.
+    pub(crate) fn runs(&self) -> u64 {
+        self.runs
+    }
+
+    /// Takes each line, prints those at which something else was so, and says whether there was none.
+    pub(crate) fn run_all<R: Print>(&mut self, rt: &R, name: &str) -> io::Result<bool> {
+        let mut good = true;
+        let mut number: u64 = 0;
+        let mut settings = Settings::new(self.alloc)?;
+        for line in self.text.lines() {
+            number = number.saturating_add(1);
+            match self.take(&mut settings, line)? {
+                Verdict::Good => {}
+                Verdict::Unread => {
+                    println!(rt; "{name}, line {number}: no line of a case")?;
+                    good = false;
+                }
+                Verdict::Differs(is) => {
+                    println!(rt; "{name}, line {number}: {is}")?;
+                    good = false;
+                }
+            }
+        }
+        Ok(good)
+    }
+
+    // Takes a line.
+    fn take(&mut self, settings: &mut Settings, line: &str) -> io::Result<Verdict> {
+        if is_of_a_block(line) {
+            return Ok(Verdict::Good);
+        }
+        if let Some(given) = line.strip_prefix("run ") {
+            let set = replace(settings, Settings::new(self.alloc)?);
+            let disk = disk_of(self.alloc, set.holds, set.room, set.disk_fails)?;
+            let sink_fails = set.sink_fails;
+            return self.run(given, set.words, set.source_fails, sink_fails, disk);
+        }
+        if let Some(given) = line.strip_prefix("again ") {
+            let set = replace(settings, Settings::new(self.alloc)?);
+            return match self.disk.take() {
+                Some(disk) => { self.run(given, set.words, set.source_fails, set.sink_fails, disk) }
+                None => Ok(Verdict::Unread),
+            };
+        }
+        if let Some(given) = line.strip_prefix("rows ") {
+            return self.run_rows(given);
+        }
+        if let Some(name) = line.strip_prefix("left ") {
+            return self.left(name);
+        }
+        match settings.take(self.alloc, self.text, line)? {
+            true => Ok(Verdict::Good),
+            false => Ok(Verdict::Unread),
+        }
+    }
+
+    // Runs a bundle as a line says, `BUNDLE WORD .. -> PRINTED STATUS FAULT`.
+    fn run(
+        &mut self,
+        line: &str,
+        command: Vec<String>,
+        source_fails: Vec<u64>,
+        sink_fails: Vec<u64>,
+        disk: MemDisk,
+    ) -> io::Result<Verdict> {
+        let alloc = self.alloc;
+        let Some((before, behind)) = line.split_once(" -> ") else {
+            return Ok(Verdict::Unread);
+        };
+        let Some((printed, ends)) = behind.split_once(" ") else {
+            return Ok(Verdict::Unread);
+        };
+        let Some(bundle) = self.text_in(before, first_word(before))? else {
+            return Ok(Verdict::Unread);
+        };
+        let Some(printed) = self.text_in(before, printed)? else {
+            return Ok(Verdict::Unread);
+        };
+        let bundle = bundle.into_bytes();
+        let ran = run(
+            alloc,
+            command.as_slice(),
+            bundle,
+            source_fails,
+            sink_fails,
+            disk,
+        )?;
+        self.judge(ran, printed.as_str(), ends)
+    }
+
+    // Compares what a run did with what it must do, and keeps its disk.
+    fn judge(&mut self, ran: Ran, printed: &str, ends: &str) -> io::Result<Verdict> {
+        let alloc = self.alloc;
+        self.runs = self.runs.saturating_add(1);
+        self.disk = Some(ran.disk);
+        let ended = ending(alloc, &ran.status)?;
+        if ended.as_str() == ends && ran.printed.as_slice() == printed.as_bytes() {
+            return Ok(Verdict::Good);
+        }
+        let is = spelled(alloc, ran.printed.as_slice())?;
+        Ok(Verdict::Differs(format!(in alloc; "{is}, status {ended}")?))
+    }
+
+    // Runs each row of a text as a bundle.
+    fn run_rows(&mut self, line: &str) -> io::Result<Verdict> {
+        let alloc = self.alloc;
+        let Some((rows, behind)) = line.split_once(" -> ") else {
+            return Ok(Verdict::Unread);
+        };
+        let Some((printed, ends)) = behind.split_once(" ") else {
+            return Ok(Verdict::Unread);
+        };
+        let Some(rows) = text_of(alloc, self.text, "text", rows)? else {
+            return Ok(Verdict::Unread);
+        };
+        let Some(printed) = self.text_in("", printed)? else {
+            return Ok(Verdict::Unread);
+        };
+        for row in rows.as_str().lines() {
+            match self.run_row(row, printed.as_str(), ends)? {
+                Verdict::Good => {}
+                _ => return Ok(Verdict::Differs(String::from_str(alloc, row)?)),
+            }
+        }
+        Ok(Verdict::Good)
+    }
+
+    // Runs the bundle of a row over an empty disk, which must stay empty.
+    fn run_row(&mut self, row: &str, printed: &str, ends: &str) -> io::Result<Verdict> {
+        let alloc = self.alloc;
+        let text = row.replace(alloc, "|", "\\n")?;
+        let Some(bundle) = bytes_of(alloc, text.as_str())? else {
+            return Ok(Verdict::Unread);
+        };
+        let set = Settings::new(alloc)?;
+        let disk = disk_of(alloc, set.holds, set.room, set.disk_fails)?;
+        let (words, none) = (set.words, set.source_fails);
+        let ran = run(alloc, words.as_slice(), bundle, none, set.sink_fails, disk)?;
+        match ran.disk.image(alloc, CONTENT) {
+            Ok(holds) if holds.is_empty() => self.judge(ran, printed, ends),
+            _ => Ok(Verdict::Unread),
+        }
+    }
+
+    // The text of a block, with the words behind the first of this line in their places.
+    fn text_in(&self, line: &str, name: &str) -> io::Result<Option<String>> {
+        if name == "nothing" {
+            return Ok(Some(String::new(self.alloc)));
+        }
+        let mut words = Vec::new(self.alloc);
+        for word in line.split_whitespace().skip(1) {
+            words.push(word)?;
+        }
+        match text_of(self.alloc, self.text, "text", name)? {
+            Some(text) => Ok(Some(filled(self.alloc, text.as_str(), words.as_slice())?)),
+            None => Ok(None),
+        }
+    }
+
+    // Compares what the disk of the run before now holds with the bytes of a block.
+    fn left(&self, name: &str) -> io::Result<Verdict> {
+        let alloc = self.alloc;
+        let Some(disk) = &self.disk else {
+            return Ok(Verdict::Unread);
+        };
+        let Some(text) = text_of(alloc, self.text, "bytes", name)? else {
+            return Ok(Verdict::Unread);
+        };
+        let Some(wanted) = bytes_of(alloc, text.as_str())? else {
+            return Ok(Verdict::Unread);
+        };
+        let Ok(holds) = disk.image(alloc, CONTENT) else {
+            return Ok(Verdict::Unread);
+        };
+        if holds.as_slice() == wanted.as_slice() {
+            return Ok(Verdict::Good);
+        }
+        Ok(Verdict::Differs(spelled(alloc, holds.as_slice())?))
+    }
+}
+
+// Whether the line stands in a block, begins one, or says nothing.
+fn is_of_a_block(line: &str) -> bool {
+    line.is_empty()
+        || line.starts_with("#")
+        || line.starts_with("|")
+        || line.starts_with("text ")
+        || line.starts_with("bytes ")
+}
+
+// The first word of a line.
+fn first_word(line: &str) -> &str {
+    match line.split_once(" ") {
+        Some((first, _)) => first,
+        None => line,
+    }
+}
+
+// How a run ended: its status and, where it isn't 0, the fault.
+fn ending(alloc: Global, ended: &Result<Done, Stop>) -> Result<String, AllocError> {
+    let code = status(ended);
+    match ended {
+        Ok(Done) => format!(in alloc; "{code}"),
+        Err(stop) => format!(in alloc; "{code} {stop}"),
+    }
+}

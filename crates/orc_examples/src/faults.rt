@@ -1,0 +1,20 @@
+//! The faults that no example of a folder can show: want of memory, and a journal of more than 268 million bytes.
+
+use orc_run::{Stop, file_tells_one_history, status};
+use std::io;
+
+/// Prints what they are called and the status of each, and says whether it is as it must be.
+pub(crate) fn faults<R: Print + AllocGlobal>(rt: &R) -> io::Result<bool> {
+    file_tells_one_history();
+    let mut good = true;
+    for (stop, code, name) in [
+        (Stop::Memory, 6, "Memory"),
+        (Stop::Full { len: 35 }, 8, "Full 35"),
+    ] {
+        let printed = stop.to_string(rt.alloc())?;
+        let code_is = status(&Err(stop));
+        println!(rt; "{printed}: status {code_is}")?;
+        good = good && printed.as_str() == name && code_is == code;
+    }
+    Ok(good)
+}

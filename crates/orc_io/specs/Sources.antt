@@ -1,0 +1,32 @@
+-- What contracts see of the sources of this crate, and what each tells of itself.
+use Rattle.std.specs.Prelude.{ℕ, List, drop, Option, Some}
+use Rattle.orc_io.specs.Counts.{next_count}
+use Rattle.orc_io.specs.Meanings.{SourceMeaning}
+
+-- a source over a reader: the bytes left, where the reader tells them, and how often it failed
+pub record ReaderSource : Type 0 where
+  pub left : Option (List ℕ)
+  pub faults : ℕ
+
+-- it tells what its reader tells
+abbrev pub reader_source : SourceMeaning ReaderSource
+reader_source = record { left = λ source. source.left; faults = λ source. source.faults }
+
+-- a source in memory: the bytes left, the calls that are to fail, how many calls came and how many failed
+pub record MemorySource : Type 0 where
+  pub left : List ℕ
+  pub fails : List ℕ
+  pub calls : ℕ
+  pub faults : ℕ
+
+-- it tells all
+abbrev pub memory_source : SourceMeaning MemorySource
+memory_source = record { left = λ source. Some source.left; faults = λ source. source.faults }
+
+-- the source after a call that failed
+abbrev pub read_failed : MemorySource → MemorySource
+read_failed source = record source { calls = next_count source.calls; faults = next_count source.faults }
+
+-- the source after a call that gave so many bytes
+abbrev pub read_gave : MemorySource → ℕ → MemorySource
+read_gave source count = record source { left = drop count source.left; calls = next_count source.calls }

@@ -1,6 +1,0 @@
-use Rattle.std.proofs.Common.{arith}
-use Rattle.orc_journal.proofs.Counts.{length_body}
-use Rattle.orc_journal.proofs.counting.body_count.Goals as goal
-
-pub returns : goal.returns
-returns c = omega (arith, length_body c.args.service.now c.args.body.now)

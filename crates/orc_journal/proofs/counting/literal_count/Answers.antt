@@ -1,6 +1,0 @@
-use Rattle.std.proofs.Common.{arith}
-use Rattle.orc_journal.proofs.Counts.{length_literal}
-use Rattle.orc_journal.proofs.counting.literal_count.Goals as goal
-
-pub returns : goal.returns
-returns c = omega (arith, length_literal c.args.name.now c.args.writes.now)

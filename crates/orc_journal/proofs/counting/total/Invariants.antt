@@ -1,7 +1,0 @@
--- The total so far.
-use Rattle.std.proofs.Common.{◌≡◌, length, take, flat_map}
-use Rattle.orc_journal.specs.Counts.{capped}
-use Rattle.orc_journal.proofs.counting.total.Given as goal
-
-abbrev pub invariant-loop-item : goal.invariant-loop-item
-invariant-loop-item g l = l.total ≡ capped (length (flat_map g.T.Counted.spelling (take l.item-index l.items)))

@@ -1,0 +1,129 @@
+-- What a commit appends to the journal, and what comes of it.
+use Rattle.std.specs.Prelude.{◌≡◌, ◌≢◌, ◌==◌, ℕ, ◌<◌, ◌≤◌, Bool, true, false, List, [], ◌∷◌, ◌++◌, codes, length, IsTrue, Option, IfSome}
+use Rattle.std.specs.declared.option.Option.TheVariants.{None, Some}
+use Rattle.std.specs.List.{list_any}
+use Rattle.orc_call.specs.declared.call.Call.{Call}
+use Rattle.orc_call.specs.declared.answer.Answer.{Answer}
+use Rattle.orc_call.specs.declared.answer.Answer.TheVariants.{Committed, JournalFault}
+use Rattle.orc_journal.specs.Entries.{number_of}
+use Rattle.orc_journal.specs.Orders.{is_ordered}
+use Rattle.orc_journal.specs.Journals.{IsGated}
+use Rattle.orc_journal.specs.Committed.{history_of}
+use Rattle.orc_journal.specs.declared.entry.Entry.{Entry}
+use Rattle.orc_journal.specs.declared.entry.Entry.TheVariants as entry
+use Rattle.orc_append.specs.Views.{JournalView}
+use Rattle.orc_append.specs.Appends.{Appends, known_behind}
+use Rattle.orc_append.specs.declared.outcome.Appended.{Appended}
+use Rattle.orc_append.specs.declared.outcome.Appended.TheVariants as appended
+use Rattle.orc_state.specs.States.{action_of}
+use Rattle.orc_state.specs.Legal.{state_of}
+use Rattle.orc_state.specs.declared.declarations.Decls.{Decls}
+use Rattle.orc_print.specs.Printed.{answer_line}
+use Rattle.orc_disk.specs.Meanings.{DiskMeaning}
+use Rattle.orc_run.specs.Touched.{devices_of}
+use Rattle.orc_run.specs.Views.{View}
+use Rattle.orc_run.specs.declared.opening.TheConstants.{LARGEST_JOURNAL}
+use Rattle.orc_run.specs.declared.commit.Stage.{Stage}
+use Rattle.orc_run.specs.declared.commit.Stage.TheVariants.{Intent, Decide, Settled}
+use Rattle.orc_run.specs.declared.stop.Stop.{Stop}
+use Rattle.orc_run.specs.declared.stop.Stop.TheVariants as ending
+
+-- one of these entries has this number
+abbrev pub is_named : ℕ → List Entry → Bool
+is_named t entries = list_any (λ entry. number_of entry == t) entries
+
+-- the entries that are known where the append of a commit at this stage came to this outcome
+abbrev pub known_by : Stage → Appended → List Entry → Entry → ℕ → List Entry
+known_by Intent outcome entries intent t = known_behind outcome entries intent
+known_by Decide outcome entries intent t = known_behind outcome (entries ++ intent ∷ []) (entry.Decide t)
+known_by Settled outcome entries intent t =
+    known_behind outcome ((entries ++ intent ∷ []) ++ entry.Decide t ∷ []) (entry.Settled t)
+
+module _ {D : Type 0} (meaning : DiskMeaning D) where
+  -- A commit appends the intent, the decision and the end, one behind the other, each as `Appends` says. It came to
+  -- this stage, whose append came to this outcome; those before it were done.
+  abbrev pub AppendsUpTo : List ℕ → Stage → JournalView D → Entry → ℕ → Appended → JournalView D → Type 0
+  AppendsUpTo decls Intent old intent t outcome new =
+      (outcome ≢ appended.Done) × Appends meaning decls old intent outcome new
+  AppendsUpTo decls Decide old intent t outcome new = (outcome ≢ appended.Done) × ((begun : JournalView D)
+      × Appends meaning decls old intent appended.Done begun
+      × Appends meaning decls begun (entry.Decide t) outcome new)
+  AppendsUpTo decls Settled old intent t outcome new = (begun decided : JournalView D)
+      × Appends meaning decls old intent appended.Done begun
+      × Appends meaning decls begun (entry.Decide t) appended.Done decided
+      × Appends meaning decls decided (entry.Settled t) outcome new
+
+  -- what can be told of the journal of a view, where these are its entries
+  abbrev pub journal_at : View D → List Entry → JournalView D
+  journal_at view entries = record {
+    disk = view.disk;
+    entries = entries;
+    armed = view.armed;
+    bytes = view.bytes;
+    limit = LARGEST_JOURNAL;
+  }
+
+  -- These are the entries of the journal, and the number is the least one from 1 on that none of them has.
+  pub record IsNext (decls : Decls) (view : View D) (entries : List Entry) (t : ℕ) : Type 0 where
+    pub journal : IfSome (meaning.content view.disk) (λ file. IsGated file decls.text entries)
+    pub ordered : IsTrue (is_ordered entries)
+    pub decided : history_of entries ≡ view.known
+    pub positive : 1 ≤ t
+    pub free : is_named t entries ≡ false
+    pub least : (u : ℕ) → 1 ≤ u → u < t → is_named u entries ≡ true
+
+-- what is known behind a commit that came to this stage, and what is pending
+abbrev pub known_then : Stage → List Call → Call → List Call
+known_then Intent known call = known
+known_then Decide known call = known
+known_then Settled known call = known ++ call ∷ []
+
+abbrev pub pending_then : Stage → Call → List Call
+pending_then Intent call = call ∷ []
+pending_then Decide call = call ∷ []
+pending_then Settled call = []
+
+-- the controller stays up, unless the armed stop came
+abbrev pub is_up_behind : Appended → Bool
+is_up_behind appended.Stopped = false
+is_up_behind outcome = true
+
+-- The commit of a call came to this stage, and the append there to this outcome: so the call is known, or pending.
+pub record Commits {D : Type 0} (meaning : DiskMeaning D) (decls : Decls) (old : View D) (call : Call) (stage : Stage)
+    (outcome : Appended) (new : View D) : Type 0 where
+  pub entries : List Entry
+  pub t : ℕ
+  pub next : IsNext meaning decls old entries t
+  pub appends :
+      (let intent = entry.Intent t call (devices_of decls.names (state_of decls old.known) (action_of call)) in
+      AppendsUpTo meaning decls.text stage (journal_at meaning old entries) intent t outcome
+      (journal_at meaning new (known_by stage outcome entries intent t)))
+  pub known : new.known ≡ known_then stage old.known call
+  pub pending : new.pending ≡ pending_then stage call
+  pub up : new.up ≡ is_up_behind outcome
+
+-- The answer of a call: where its decision was appended it is its entry, which is the last of so many, and else, where
+-- the disk failed, that.
+abbrev pub answer_by : Stage → Appended → ℕ → Option Answer
+answer_by Settled outcome count = Some (Committed count)
+answer_by stage appended.Failed count = Some JournalFault
+answer_by stage outcome count = None
+
+-- the line of an answer, where there is one
+abbrev pub line_of : List (List ℕ) → Call → Option Answer → List ℕ
+line_of names call None = []
+line_of names call (Some given) = answer_line names call.caller call.number given
+
+-- what a commit prints: the answer, and behind it that the armed stop came
+abbrev pub commit_text : List (List ℕ) → Call → Stage → Appended → ℕ → List ℕ
+commit_text names call stage appended.Stopped count =
+    line_of names call (answer_by stage appended.Stopped count) ++ codes "stopped\n"
+commit_text names call stage outcome count = line_of names call (answer_by stage outcome count)
+
+-- why the run ends behind it, if it does
+abbrev pub commit_end : Appended → Option Stop
+commit_end appended.Done = None
+commit_end appended.Stopped = None
+commit_end appended.Failed = Some ending.JournalFault
+commit_end (appended.Full len) = Some (ending.Full len)
+commit_end appended.Memory = Some ending.Memory

@@ -1,0 +1,115 @@
+-- The controller, and what its calls keep.
+use Rattle.orc_disk.specs.Stops.{inside}
+use Rattle.orc_run.specs.declared.opening.TheConstants.{LARGEST_JOURNAL}
+use Rattle.std.specs.Prelude.{◌≡◌, ℕ, ◌<◌, ◌≤◌, ◌^◌, true, false, List, [], length, take, drop, ◌∷◌, ◌++◌, All, IsTrue, Result, Ok, Err}
+use Rattle.orc_call.specs.declared.call.Call.{Call}
+use Rattle.orc_journal.specs.Entries.{number_of}
+use Rattle.orc_journal.specs.Orders.{is_ordered}
+use Rattle.orc_journal.specs.Committed.{history_of}
+use Rattle.orc_journal.specs.Opened.{Holds}
+use Rattle.orc_journal.specs.declared.entry.Entry.{Entry}
+use Rattle.orc_state.specs.Legal.{IsLegal, IsDue}
+use Rattle.orc_run.specs.inside.Pasts.{IsBehind}
+use Rattle.orc_run.specs.inside.Transactions.{is_taken, AreNamed, IsFilled}
+use Rattle.orc_run.specs.Views.{View, Rests, Outlives}
+use Rattle.orc_run.specs.Steps.{Does, Breaks, EndsBecause, FailsToRecover}
+use Rattle.orc_disk.specs.Meanings.{DiskMeaning}
+use Rattle.orc_state.specs.declared.declarations.Decls.{Decls}
+use Rattle.orc_bundle.specs.declared.bundle.ScriptStep.{ScriptStep}
+use Rattle.orc_bundle.specs.declared.bundle.ScriptStep.TheVariants.{Recover}
+use Rattle.orc_run.specs.declared.serving.CallOutcome.{CallOutcome}
+use Rattle.orc_run.specs.declared.serving.CallOutcome.TheVariants.{Answered, Stopped, Broken}
+use Rattle.orc_run.specs.declared.stop.Stop.{Stop}
+use Rattle.orc_run.specs.declared.stop.Stop.TheVariants as ending
+use Rattle.orc_run.specs.declared.controller.Controller.{Controller}
+use Rattle.orc_run.specs.declared.controller.LastStep.{LastStep}
+use Rattle.orc_state.specs.inside.Declarations.{AreDecls}
+use Rattle.orc_bundle.specs.Bundles.{is_step}
+use Rattle.orc_bundle.specs.inside.Encodable.{IsEncodable}
+use Rattle.std.specs.List.{list_all}
+
+-- what a user can tell of the controller
+abbrev pub view_of : {D : Type 0} → Controller D → View D
+view_of c = record {
+  disk = c.journal.disk.inner;
+  known = take c.known c.past.history;
+  pending = drop c.known c.past.history;
+  up = c.up;
+  armed = c.journal.disk.op;
+  bytes = c.journal.disk.bytes;
+}
+
+-- where a step led: the controller and what the step printed, or the end of the run
+abbrev pub StepResult : Type 0 → Type 0
+StepResult D = Result (Controller D × List ℕ) (LastStep D)
+
+-- the run ends at a step, with this disk and text
+abbrev pub ends_run : {D : Type 0} → D → List ℕ → Stop → StepResult D
+ends_run disk text end = Err (record { disk = disk; text = text; stop = end })
+
+-- a call was served: the controller goes on with this text, or the run ends
+abbrev pub GoesOn : {D : Type 0} → CallOutcome → Controller D → List ℕ → StepResult D → Type 0
+GoesOn (Answered given) c text result = result ≡ Ok (c, text)
+GoesOn (Stopped given) c text result = result ≡ Ok (c, text)
+GoesOn (Broken given end) c text result = result ≡ ends_run c.journal.disk.inner text end
+
+-- the run ends for want of memory
+abbrev pub Wants : {D : Type 0} → Controller D → StepResult D → Type 0
+Wants c result = result ≡ ends_run c.journal.disk.inner [] ending.Memory
+
+module _ {D : Type 0} (meaning : DiskMeaning D) where
+  -- it is up: its journal holds the history that it knows
+  pub record IsUp (decls : Decls) (c : Controller D) : Type 0 where
+    pub entries : List Entry
+    pub holds : Holds (inside meaning) c.journal decls.text entries
+    pub ordered : IsTrue (is_ordered entries)
+    pub decided : history_of entries ≡ c.past.history
+    pub numbers : All (λ entry. is_taken c.past.numbers (number_of entry) ≡ true) entries
+    pub filled : IsFilled c.past.numbers
+    pub named : AreNamed c.past.numbers entries
+    pub running : c.journal.disk.stopped ≡ false
+    pub limit : c.journal.limit ≡ LARGEST_JOURNAL
+    pub all : c.known ≡ length c.past.history
+
+  -- it is up, and the state has done the action of a call that is to be committed
+  pub record IsCommitting (decls : Decls) (call : Call) (c : Controller D) : Type 0 where
+    pub running : c.up ≡ true
+    pub up : IsUp decls c
+    pub legal : IsLegal decls c.past.history
+    pub due : IsDue decls c.past.history call
+    pub behind : IsBehind decls c.past (c.past.history ++ call ∷ [])
+
+  -- it knows a legal history, and the state behind it
+  pub record IsSound (decls : Decls) (c : Controller D) : Type 0 where
+    pub within : c.known ≤ length c.past.history
+    pub behind : IsBehind decls c.past (take c.known c.past.history)
+    pub legal : IsLegal decls (take c.known c.past.history)
+    pub rests : Rests meaning decls (view_of c)
+    pub up : c.up ≡ true → IsUp decls c
+
+  -- a step of a script under the declarations can be done
+  pub record CanDo (decls : Decls) (c : Controller D) (step : ScriptStep) : Type 0 where
+    pub declared : AreDecls decls
+    pub short : length decls.text < 2 ^ 32
+    pub sound : IsSound decls c
+    pub lawful : IsTrue (is_step decls.names step)
+    pub encodable : IsEncodable step
+
+  -- the steps of a script under the declarations can be done
+  pub record CanRun (decls : Decls) (c : Controller D) (steps : List ScriptStep) : Type 0 where
+    pub declared : AreDecls decls
+    pub short : length decls.text < 2 ^ 32
+    pub sound : IsSound decls c
+    pub lawful : IsTrue (list_all (is_step decls.names) steps)
+    pub encodable : All IsEncodable steps
+
+  -- where a step led
+  abbrev pub StepsTo : Decls → View D → ScriptStep → StepResult D → Type 0
+  StepsTo decls old step (Ok done) =
+      IsSound decls done.0 × Does meaning decls old step done.1 (view_of done.0)
+      × Outlives meaning decls old (view_of done.0)
+  StepsTo decls old step (Err end) =
+      (last : View D) × (last.disk ≡ end.disk) × Breaks meaning decls old step end.text end.stop last
+      × EndsBecause meaning decls old step end.stop last
+      × Outlives meaning decls old last × Rests meaning decls last
+      × (step ≡ Recover → FailsToRecover meaning decls old end.stop last)

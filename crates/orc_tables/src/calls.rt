@@ -1,0 +1,157 @@
+//! Calls: lines that make a call, an action a line, and then spell its encoding, a field a line.
+//!
+//! - `call CALLER NUMBER`: the call has no action yet, and no field of it is spelled
+//! - `create SERVICE | ITEM | ITEM`, `modify SERVICE | ITEM`, `redeploy SERVICE`, `delete NAME`,
+//!   `literal NAME | DEVICE ITEM`, `set ITEM`, `unset PATH`, `base DEVICE ITEM`,
+//!   `unbase DEVICE PATH`: it has this action more
+//! - `deletes N`: it has N actions more
+//! - `field BYTES | BYTES | BYTES`: the next field. Bytes that end before it or within it, and those
+//!   that have the others in its place, are refused with the offset at which it begins
+//! - `spelled N`: the fields are the encoding, of N bytes, and `again` holds
+//! - `again`: the call is encoded, counted, copied, and read back, whatever follows
+//! - `none`: the call has no encoding
+use crate::actions::action_of;
+use crate::undone::Undone;
+use crate::words::{first_word, hex_of};
+use orc_call::{Action, Call, CodecFault, decode, encode, encoded_len, is_encodable};
+use orc_text::{Row, Text};
+use std::alloc::Global;
+
+/// A call, and the fields that are spelled.
+#[derive(Drop)]
+pub(crate) struct Calls {
+    alloc: Global,
+    call: Call,
+    fields: Vec<u8>,
+}
+
+impl Calls {
+    /// A call without anything.
+    pub(crate) fn new(alloc: Global) -> Calls {
+        Calls {
+            alloc,
+            call: empty_call(alloc),
+            fields: Vec::new(alloc),
+        }
+    }
+
+    /// Does a line, and says whether it holds.
+    pub(crate) fn take(&mut self, line: &str) -> Result<bool, Undone> {
+        let (word, rest) = first_word(line);
+        if let Some(action) = action_of(self.alloc, word, rest)? {
+            self.call.actions.push(action)?;
+            return Ok(true);
+        }
+        match word {
+            "call" => self.begin(rest),
+            "deletes" => self.delete_many(rest),
+            "field" => self.spell(rest),
+            "spelled" => self.is_spelled(rest),
+            "again" => self.is_read_again(),
+            "none" => Ok(!is_encodable(&self.call)),
+            _ => Err(Undone),
+        }
+    }
+
+    // Begins a call, as `CALLER NUMBER`.
+    fn begin(&mut self, rest: &str) -> Result<bool, Undone> {
+        let (caller, number) = first_word(rest);
+        self.call = Call {
+            caller: Text::from_str(self.alloc, caller)?,
+            number: number.parse()?,
+            actions: Row::new(self.alloc),
+        };
+        self.fields = Vec::new(self.alloc);
+        Ok(true)
+    }
+
+    // Adds so many actions.
+    fn delete_many(&mut self, count: &str) -> Result<bool, Undone> {
+        let count: u64 = count.parse()?;
+        for _ in 0..count {
+            let action = Action::Delete(Text::from_str(self.alloc, "a")?);
+            self.call.actions.push(action)?;
+        }
+        Ok(true)
+    }
+
+    // Spells the next field, and says whether what is unlawful in its place is refused there.
+    fn spell(&mut self, rest: &str) -> Result<bool, Undone> {
+        let mut parts = rest.split(" | ");
+        let field = hex_of(self.alloc, parts.next().unwrap_or(""))?;
+        for part in parts {
+            let unlawful = hex_of(self.alloc, part)?;
+            if !self.is_refused_with(unlawful.as_slice())? {
+                return Ok(false);
+            }
+        }
+        if !self.is_refused_cut(field.as_slice())? {
+            return Ok(false);
+        }
+        self.fields.extend_from_slice(field.as_slice())?;
+        Ok(true)
+    }
+
+    // Whether the field is refused where it is cut, at each place.
+    fn is_refused_cut(&self, field: &[u8]) -> Result<bool, Undone> {
+        for len in 0..field.len() {
+            if !self.is_refused_with(&field[..len])? {
+                return Ok(false);
+            }
+        }
+        Ok(true)
+    }
+
+    // Whether the fields with these bytes behind them are refused where the fields end.
+    fn is_refused_with(&self, bytes: &[u8]) -> Result<bool, Undone> {
+        let mut all = Vec::from_slice(self.alloc, self.fields.as_slice())?;
+        all.extend_from_slice(bytes)?;
+        match decode(self.alloc, all.as_slice()) {
+            Err(CodecFault::Bad { at }) => Ok(at == self.fields.len() as u64),
+            _ => Ok(false),
+        }
+    }
+
+    // Whether the fields are the encoding of the call, of so many bytes.
+    fn is_spelled(&self, len: &str) -> Result<bool, Undone> {
+        if !is_encodable(&self.call) {
+            return Ok(false);
+        }
+        let encoded = encode(self.alloc, &self.call)?;
+        if encoded.as_slice() != self.fields.as_slice() || encoded.len() != len.parse()? {
+            return Ok(false);
+        }
+        self.is_read_again()
+    }
+
+    // Whether the encoding of the call is as long as counted, and is read back as a copy of it.
+    fn is_read_again(&self) -> Result<bool, Undone> {
+        if !is_encodable(&self.call) {
+            return Ok(false);
+        }
+        let mut bytes = encode(self.alloc, &self.call)?;
+        let len = bytes.len();
+        bytes.push(0xff)?;
+        let copy = self.call.copy(self.alloc)?;
+        match decode(self.alloc, bytes.as_slice()) {
+            Ok((call, read)) => {
+                Ok(
+                    call == copy
+                        && copy == self.call
+                        && read == len
+                        && encoded_len(&copy) == len as u64,
+                )
+            }
+            Err(_) => Ok(false),
+        }
+    }
+}
+
+// A call without caller, number or action.
+fn empty_call(alloc: Global) -> Call {
+    Call {
+        caller: Text::new(alloc),
+        number: 0,
+        actions: Row::new(alloc),
+    }
+}

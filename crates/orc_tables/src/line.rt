@@ -1,0 +1,46 @@
+//! A line of a table: a call, what it is given, and what must come, with `|` between them.
+use crate::statements::is_parsed;
+use crate::values::{is_canon, is_read, is_written};
+use orc_text::{Memory, Text};
+use std::alloc::Global;
+
+// Whether the call of a line answers what stands behind it.
+pub(crate) fn holds(alloc: Global, line: &str) -> bool {
+    let Some((call, rest)) = line.split_once('|') else {
+        return false;
+    };
+    let Some((given, expected)) = rest.rsplit_once('|') else {
+        return false;
+    };
+    match answers(alloc, call, given, expected) {
+        Ok(holds) => holds,
+        Err(Memory) => false,
+    }
+}
+
+// Whether a call answers so.
+fn answers(alloc: Global, call: &str, given: &str, expected: &str) -> Result<bool, Memory> {
+    match call {
+        "parse" => is_parsed(alloc, given, expected),
+        "canon" => is_canon(alloc, given, expected),
+        "from_json" => is_read(alloc, given, expected),
+        "to_json" => is_written(alloc, given, expected),
+        _ => Ok(false),
+    }
+}
+
+// The bytes of a text in which `%` and two digits stand for a byte.
+pub(crate) fn bytes_of(alloc: Global, text: &str) -> Result<Vec<u8>, Memory> {
+    let mut bytes = Vec::new(alloc);
+    percent_encoding::percent_decode(text.as_bytes()).append_to(&mut bytes)?;
+    Ok(bytes)
+}
+
+// The same as a text, where the bytes are one.
+pub(crate) fn text_of(alloc: Global, text: &str) -> Result<Option<Text>, Memory> {
+    let bytes = bytes_of(alloc, text)?;
+    match String::from_utf8(bytes) {
+        Ok(string) => Ok(Some(Text::from_string(string))),
+        Err(_) => Ok(None),
+    }
+}

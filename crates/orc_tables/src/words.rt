@@ -1,0 +1,76 @@
+//! The words of a line: items, numbers and lists.
+use crate::undone::Undone;
+use orc_call::{DevicePut, Put};
+use orc_path::{Item, Path};
+use orc_text::{Row, Text};
+use std::alloc::Global;
+
+/// The first word, and what stands behind the space.
+pub(crate) fn first_word(line: &str) -> (&str, &str) {
+    line.split_once(' ').unwrap_or((line, ""))
+}
+
+/// The item of `PATH`, an entry, or of `PATH = VALUE`, a leaf, whose `VALUE` may be left out.
+pub(crate) fn put_of(alloc: Global, text: &str) -> Result<Put, Undone> {
+    let (path, value) = match text.split_once(" =") {
+        Some((path, value)) => (path, Some(value)),
+        None => (text, None),
+    };
+    Ok(Put {
+        path: Path::parse(alloc, path)?,
+        item: item_of(alloc, value)?,
+    })
+}
+
+// A leaf, where there is a value, or else an entry.
+fn item_of(alloc: Global, value: Option<&str>) -> Result<Item, Undone> {
+    match value {
+        Some(value) => {
+            let text = value.strip_prefix(' ').unwrap_or(value);
+            Ok(Item::Leaf(Text::from_str(alloc, text)?))
+        }
+        None => Ok(Item::Entry),
+    }
+}
+
+/// The item of a device, as `DEVICE PATH`.
+pub(crate) fn device_put_of(alloc: Global, text: &str) -> Result<DevicePut, Undone> {
+    let (device, item) = first_word(text);
+    let Put { path, item } = put_of(alloc, item)?;
+    Ok(DevicePut {
+        device: Text::from_str(alloc, device)?,
+        path,
+        item,
+    })
+}
+
+/// The text in front of the first bar, and the items between the bars.
+pub(crate) fn body_of(alloc: Global, text: &str) -> Result<(Text, Row<Put>), Undone> {
+    let mut parts = text.split(" | ");
+    let name = Text::from_str(alloc, parts.next().unwrap_or(""))?;
+    let mut body = Row::new(alloc);
+    for part in parts {
+        body.push(put_of(alloc, part)?)?;
+    }
+    Ok((name, body))
+}
+
+/// The same with items of devices.
+pub(crate) fn writes_of(alloc: Global, text: &str) -> Result<(Text, Row<DevicePut>), Undone> {
+    let mut parts = text.split(" | ");
+    let name = Text::from_str(alloc, parts.next().unwrap_or(""))?;
+    let mut writes = Row::new(alloc);
+    for part in parts {
+        writes.push(device_put_of(alloc, part)?)?;
+    }
+    Ok((name, writes))
+}
+
+/// The bytes that are spelled in hexadecimal, two digits each, with spaces between.
+pub(crate) fn hex_of(alloc: Global, text: &str) -> Result<Vec<u8>, Undone> {
+    let mut bytes = Vec::new(alloc);
+    for digits in text.split_whitespace() {
+        bytes.push(u8::from_str_radix(digits, 16)?)?;
+    }
+    Ok(bytes)
+}

@@ -1,0 +1,16 @@
+use Rattle.std.proofs.Common.{ap, sym, subst, ◌∙◌, ◌≡◌, true}
+use Rattle.std.specs.FinMap.{find, is_sorted}
+use Rattle.orc_path.specs.Order.{path_cmp}
+use Rattle.orc_tree.proofs.Maps.{Rows}
+use Rattle.orc_tree.proofs.Paged.{sorted_page, find_in_page}
+use Rattle.orc_tree.proofs.lookup.find_item.Goals as goal
+
+pub item_in-requires : goal.item_in-requires
+item_in-requires c =
+    subst (λ (r : Rows). is_sorted path_cmp r ≡ true) (sym (c.as_slice.ensures ∙ ap (λ p. p.rows) c.deref.ensures))
+    (sorted_page c.args.pages.now c.page_for.result c.index-pages-page_for.result c.requires.sorted c.page_for.ensures.within c.index-pages-page_for.is)
+
+pub returns : goal.returns
+returns c =
+    c.item_in.ensures ∙ ap (find path_cmp c.args.steps.now) (c.as_slice.ensures ∙ ap (λ p. p.rows) c.deref.ensures)
+    ∙ sym (find_in_page c.args.steps.now c.args.pages.now c.page_for.result c.index-pages-page_for.result c.page_for.ensures c.index-pages-page_for.is)

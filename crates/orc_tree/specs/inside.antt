@@ -1,0 +1,4 @@
+pub mod Places
+pub mod Puts
+pub mod Removal
+pub mod Lists

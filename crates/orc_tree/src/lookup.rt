@@ -1,0 +1,66 @@
+//! The search for a path among pages.
+ghost use Rattle.std.specs.Prelude.{◌≡◌, ◌<◌, length, IsTrue};
+ghost use Rattle.std.specs.Option.{option_copied};
+ghost use Rattle.std.specs.FinMap.{find, is_sorted};
+ghost use Rattle.orc_path.specs.Order.{path_cmp};
+ghost use Rattle.orc_tree.specs.Pages.{rows_of, AreSized};
+ghost use Rattle.orc_tree.specs.inside.Places.{AreInOrder, IsPageFor, starts_behind};
+
+use crate::page::Page;
+use crate::sorted::{order, search};
+use orc_path::{Item, Path, Step};
+use std::sync::Arc;
+
+// Whether the first of some rows comes behind the path of these steps.
+fn starts_behind(rows: &[(Path, Item)], steps: &[Step]) -> bool
+    ensures { result ≡ starts_behind steps.now rows.now }
+{
+    match rows.first() {
+        Some(row) => order(steps, &row.0).is_lt(),
+        None => false,
+    }
+}
+
+// The page in which the row of the path of these steps stands, or else would. It halves the pages
+// with each comparison.
+pub(crate) fn page_for(pages: &[Arc<Page>], steps: &[Step]) -> usize
+    requires sorted { AreInOrder pages.now }
+    requires sized { AreSized pages.now }
+    requires some { 0 < length pages.now }
+    ensures { IsPageFor steps.now pages.now result }
+{
+    let mut low = 0;
+    let mut high = pages.len();
+    while low + 1 < high {
+        let middle = low + (high - low) / 2;
+        if starts_behind(pages[middle].rows.as_slice(), steps) {
+            high = middle;
+        } else {
+            low = middle;
+        }
+    }
+    low
+}
+
+// The item at the path of these steps among rows, if there is one.
+fn item_in<'a>(rows: &'a [(Path, Item)], steps: &[Step]) -> Option<&'a Item>
+    requires { IsTrue (is_sorted path_cmp rows.now) }
+    ensures { option_copied result ≡ find path_cmp steps.now rows.now }
+{
+    match search(rows, steps) {
+        Ok(at) => Some(&rows[at].1),
+        Err(_) => None,
+    }
+}
+
+// The item at the path of these steps among pages, if there is one. It takes no memory.
+pub(crate) fn find_item<'a>(pages: &'a [Arc<Page>], steps: &[Step]) -> Option<&'a Item>
+    requires sorted { AreInOrder pages.now }
+    requires sized { AreSized pages.now }
+    ensures { option_copied result ≡ find path_cmp steps.now (rows_of pages.now) }
+{
+    if pages.is_empty() {
+        return None;
+    }
+    item_in(pages[page_for(pages, steps)].rows.as_slice(), steps)
+}

@@ -1,0 +1,101 @@
+//! Pages: runs of rows in path order that trees share.
+ghost use Rattle.std.specs.Prelude.{◌≡◌, ◌++◌, IfOk, OnOk, length};
+ghost use Rattle.orc_text.specs.Counts.{capped};
+ghost use Rattle.orc_tree.specs.Pages.{page_rows, rows_of, AreSized};
+
+use orc_path::{Item, Path};
+use orc_text::{Copied, Memory, Row};
+use std::alloc::Global;
+use std::sync::Arc;
+
+/// The most rows of a page of a tree.
+pub const PAGE_ROWS: usize = 64;
+
+/// 1 to `PAGE_ROWS` rows of a tree in path order, each a path with its item.
+#[derive(Debug, Drop)]
+pub struct Page {
+    pub rows: Row<(Path, Item)>,
+}
+
+impl Page {
+    /// An equal page.
+    pub fn copy(&self, alloc: Global) -> Result<Page, Memory>
+        ensures { IfOk result (λ page. page ≡ self.now) }
+    {
+        Ok(Page {
+            rows: Row::from_vec(copy_rows(alloc, self.rows.as_slice())?),
+        })
+    }
+}
+
+impl Copied for Page {
+    fn copied(&self, alloc: Global) -> Result<Page, Memory> {
+        self.copy(alloc)
+    }
+}
+
+// The pages of a tree, which stand behind one owner that its copies share.
+#[derive(Debug, Drop)]
+pub(crate) struct PageList {
+    pub(crate) pages: Vec<Arc<Page>>,
+}
+
+// Adds copies of rows at the end.
+pub(crate) fn push_copies(
+    alloc: Global,
+    out: &mut Vec<(Path, Item)>,
+    rows: &[(Path, Item)],
+) -> Result<(), Memory>
+    ensures { OnOk result (out.new.items ≡ out.old.items ++ rows.now) }
+{
+    out.reserve(rows.len())?;
+    for row in rows {
+        out.push((row.0.copy(alloc)?, row.1.copy(alloc)?))?;
+    }
+    Ok(())
+}
+
+// Copies of rows.
+pub(crate) fn copy_rows(alloc: Global, rows: &[(Path, Item)]) -> Result<Vec<(Path, Item)>, Memory>
+    ensures { IfOk result (λ copies. copies.items ≡ rows.now) }
+{
+    let mut copies = Vec::new(alloc);
+    push_copies(alloc, &mut copies, rows)?;
+    Ok(copies)
+}
+
+// How many rows pages have, or the largest 64-bit number where they have more.
+pub(crate) fn count_rows(pages: &[Arc<Page>]) -> u64
+    ensures { result ≡ capped (length (rows_of pages.now)) }
+{
+    let mut count: u64 = 0;
+    for page in pages {
+        count = count.saturating_add(page.rows.len() as u64);
+    }
+    count
+}
+
+// Makes a page that has other holders a copy of its own, so that it may be changed. After want of
+// memory it is as it was.
+pub(crate) fn own(alloc: Global, page: &mut Arc<Page>) -> Result<(), Memory>
+    ensures { page_rows page.new ≡ page_rows page.old }
+{
+    if Arc::strong_count(page) != 1 {
+        *page = Arc::new(alloc, page.copy(alloc)?)?;
+    }
+    Ok(())
+}
+
+// Another list of the same pages.
+pub(crate) fn share_pages(alloc: Global, pages: &[Arc<Page>]) -> Result<Vec<Arc<Page>>, Memory>
+    requires { AreSized pages.now }
+    ensures rows { IfOk result (λ shared. rows_of shared.items ≡ rows_of pages.now) }
+    ensures sized { IfOk result (λ shared. AreSized shared.items) }
+{
+    let mut shared = Vec::new(alloc);
+    shared.reserve(pages.len())?;
+    for page in pages {
+        shared.push(Arc::try_clone(page)?)?;
+    }
+    Ok(shared)
+}

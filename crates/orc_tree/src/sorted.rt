@@ -1,0 +1,69 @@
+//! Rows in path order, each a path with a value: the search for a path, and a row put among them.
+ghost use Rattle.std.specs.Prelude.{◌≡◌, ◌+◌, ◌<◌, ◌≤◌, IfOk, IfErr, IsTrue, vec_len, vec_capacity};
+ghost use Rattle.std.specs.FinMap.{put, is_sorted};
+ghost use Rattle.orc_path.specs.Order.{path_cmp};
+ghost use Rattle.orc_tree.specs.Rows.{IsRowOf, IsPlaceOf};
+ghost use Rattle.orc_tree.specs.inside.Puts.{put_entries};
+
+use orc_path::{Item, Path, Step};
+use std::cmp::Ordering;
+
+// How the path of these steps stands to another one in the order of paths.
+pub(crate) fn order(steps: &[Step], path: &Path) -> Ordering
+    ensures { result ≡ path_cmp steps.now path.now }
+{
+    Ord::cmp(&steps, &path.steps.as_slice())
+}
+
+/// Where the row of the path of these steps stands among rows in path order, or else where it
+/// would. It takes no memory, and halves the rows with each comparison.
+pub fn search<V>(rows: &[(Path, V)], steps: &[Step]) -> Result<usize, usize>
+    requires { IsTrue (is_sorted path_cmp rows.now) }
+    ensures found { IfOk result (IsRowOf steps.now rows.now) }
+    ensures absent { IfErr result (IsPlaceOf steps.now rows.now) }
+{
+    let mut low = 0;
+    let mut high = rows.len();
+    while low < high {
+        let middle = low + (high - low) / 2;
+        match order(steps, &rows[middle].0) {
+            Ordering::Less => high = middle,
+            Ordering::Equal => return Ok(middle),
+            Ordering::Greater => low = middle + 1,
+        }
+    }
+    Err(low)
+}
+
+/// Puts a value at a path among rows in path order, in the place of the one that stands there. It
+/// takes no memory, since room for one row more was made before, and costs a search and a shift.
+pub fn put_row<V: Drop>(rows: &mut Vec<(Path, V)>, path: Path, value: V)
+    requires sorted { IsTrue (is_sorted path_cmp rows.old.items) }
+    requires room { vec_len rows.old < vec_capacity rows.old }
+    ensures put { rows.new.items ≡ put path_cmp path value rows.old.items }
+    ensures sorted { IsTrue (is_sorted path_cmp rows.new.items) }
+    ensures len { vec_len rows.new ≤ vec_len rows.old + 1 }
+    ensures capacity { vec_capacity rows.old ≤ vec_capacity rows.new }
+{
+    match search(rows.as_slice(), path.steps.as_slice()) {
+        Ok(at) => rows[at] = (path, value),
+        Err(at) => match rows.insert(at, (path, value)) {
+            Ok(()) => {}
+            Err(_) => unreachable!(),
+        },
+    }
+}
+
+// Puts an entry at each path, for which room was made.
+pub(crate) fn enter_rows(rows: &mut Vec<(Path, Item)>, ways: Vec<Path>)
+    requires sorted { IsTrue (is_sorted path_cmp rows.old.items) }
+    requires room { vec_len rows.old + vec_len ways ≤ vec_capacity rows.old }
+    ensures entered { rows.new.items ≡ put_entries ways.items rows.old.items }
+    ensures sorted { IsTrue (is_sorted path_cmp rows.new.items) }
+    ensures len { vec_len rows.new ≤ vec_len rows.old + vec_len ways }
+    ensures capacity { vec_capacity rows.old ≤ vec_capacity rows.new }
+{
+    for way in ways {
+        put_row(rows, way, Item::Entry);
+    }
+}
