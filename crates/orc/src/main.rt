@@ -1,9 +1,10 @@
-//! The program: it runs the bundle on standard input, and writes what the bundle prints to standard
-//! output.
+//! The program: it checks or runs the bundle on standard input, and writes what the bundle prints to
+//! standard output.
 #![tactic(auto)]
 
+use orc_bundle::explanation;
 use orc_disk::MemDisk;
-use orc_io::{StdSink, StdSource};
+use orc_io::{KeptSource, Source, StdSink, StdSource};
 use orc_run::{Done, Stop, orchestrate, status};
 use orc_text::Memory;
 use std::alloc::Global;
@@ -14,23 +15,35 @@ use std::{env, io};
 // The room of the journal, in bytes.
 const JOURNAL_ROOM: u64 = 67_108_864;
 
-// Ends with the status of the run. A fault is named on standard error.
+// Ends with the status of the run. A fault is named on standard error, and one of the bundle is
+// explained there too, in a line of its own.
 fn main(rt: HostRuntime) -> ExitCode {
-    let ended = run(&rt);
+    let mut source = KeptSource::new(rt.alloc(), StdSource::new(rt.reader()));
+    let ended = run(&rt, &mut source);
     if let Err(stop) = &ended {
         let _ = eprintln!(rt; "orc: {stop}");
+        explain(&rt, source.kept(), stop);
     }
     ExitCode::from(status(&ended))
 }
 
-// Runs the bundle on standard input, over a journal in memory.
-fn run<R: Env + Input + Print + AllocGlobal>(rt: &R) -> Result<Done, Stop> {
+// Checks or runs the bundle that a source gives, as the command words say, over a journal in memory.
+fn run<R: Env + Print + AllocGlobal, S: Source>(rt: &R, source: &mut S) -> Result<Done, Stop> {
     let words = words(rt)?;
     let disk = journal_disk(rt.alloc())?;
-    let mut source = StdSource::new(rt.reader());
     let mut sink = StdSink::new(io::writer(rt));
-    let ended = orchestrate(rt.alloc(), words.as_slice(), &mut source, &mut sink, disk);
+    let ended = orchestrate(rt.alloc(), words.as_slice(), source, &mut sink, disk);
     ended.status
+}
+
+// Explains a fault of the bundle of these bytes.
+fn explain<R: Eprint + AllocGlobal>(rt: &R, bytes: &[u8], stop: &Stop) {
+    let Stop::Bundle { line, rule } = stop else {
+        return;
+    };
+    if let Ok(words) = explanation(rt.alloc(), bytes, *line, *rule) {
+        let _ = eprintln!(rt; "{}", words.as_str());
+    }
 }
 
 // An empty disk in memory.

@@ -1,3 +1,4 @@
+pub mod Until
 pub mod Outcomes
 pub mod Rows
 pub mod Armed

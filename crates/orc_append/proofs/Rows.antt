@@ -1,5 +1,5 @@
 -- Entries that are appended in turn, and what a row of them adds up to.
-use Rattle.std.specs.Prelude.{◌≡◌, ℕ, ◌+◌, ◌-◌, ◌*◌, min, Bool, true, false, ◌||◌, List, [], ◌∷◌, ◌++◌, length}
+use Rattle.std.specs.Prelude.{◌≡◌, ℕ, ◌+◌, ◌-◌, ◌*◌, min, Bool, true, false, ◌||◌, List, [], ◌∷◌, ◌++◌, length, IfSome}
 use Rattle.std.proofs.Common.{arith, refl, sym, subst, ap, ◌∙◌, inl, inr, ⊎_elim, length-append}
 use Rattle.std.proofs.lemmas.List.{append_assoc, append-nil}
 use Rattle.orc_text.specs.Counts.{capped}
@@ -45,7 +45,7 @@ next_of decls entries added known entry file is either = ⊎_elim
     })
     either
 
--- so many operations went by and then so many more
+-- so many operations, and then so many more
 pub ComesNearer-trans : {D : Type 0} (m n : ℕ) (a b c : JournalView D) → ComesNearer m a b → ComesNearer n b c → ComesNearer (m + n) a c
 ComesNearer-trans m n a b c first second = record {
   later = ⊎_elim (λ none. inl none) (λ more. ⊎_elim (λ none. absurd (omega (arith, none, more, first.armed))) (λ later. inr (omega (arith, later, first.armed, more))) second.later) first.later;
@@ -78,6 +78,8 @@ AppendsEach-one disk decls a b entry is = record {
   limit = is.limit;
   nearer = is.nearer;
   did = is.did;
+  reads = is.reads;
+  durable = is.durable;
   any_moment = moments.weaker disk a.disk b.disk (IsBeforeOrAfter decls a.entries entry) (HasSomeOf decls a.entries (entry ∷ [])) (one_of decls a.entries entry) is.leaves.any_moment;
 }
 
@@ -90,8 +92,11 @@ module _ {D : Type 0} (disk : DiskMeaning D)
   pub AppendsEach-more : IsAppendedTo disk decls b entry c → AppendsEach disk decls a (added ++ entry ∷ []) c
   AppendsEach-more is =
       let count : ops_to_append * length added + ops_to_append ≡ ops_to_append * length (added ++ entry ∷ []) = omega (arith, length-append added (entry ∷ [])) in
+      let all : b.entries ++ entry ∷ [] ≡ a.entries ++ (added ++ entry ∷ []) = ap (λ (l : List Entry). l ++ entry ∷ []) each.known ∙ append_assoc a.entries added (entry ∷ []) in
       record {
-        known = is.known ∙ ap (λ (l : List Entry). l ++ entry ∷ []) each.known ∙ append_assoc a.entries added (entry ∷ []);
+        known = is.known ∙ all;
+        reads = subst (λ (l : List Entry). IfSome (disk.content c.disk) (λ file. IsGated file decls l)) all is.reads;
+        durable = is.durable;
         limit = is.limit ∙ each.limit;
         nearer = subst (λ (n : ℕ). ComesNearer n a c) count (ComesNearer-trans (ops_to_append * length added) ops_to_append a b c each.nearer is.nearer);
         did = subst (λ (n : ℕ). Did disk n false a.disk c.disk) count

@@ -1,6 +1,8 @@
 -- What one append does to a journal on a disk that an armed operation stops.
-use Rattle.std.specs.Prelude.{◌≡◌, ◌⊎◌, ℕ, ◌+◌, ◌-◌, ◌<◌, ◌≤◌, min, Bool, true, false, List, [], ◌∷◌, ◌++◌, IsTrue, IfSome, is_some}
+use Rattle.std.specs.Prelude.{◌≡◌, ◌⊎◌, ℕ, ◌+◌, ◌-◌, ◌<◌, ◌≤◌, min, Bool, true, false, List, [], ◌∷◌, ◌++◌, take, Option, IsTrue, IfSome, is_some}
+use Rattle.std.specs.Option.{option_map}
 use Rattle.orc_text.specs.Counts.{capped}
+use Rattle.orc_disk.specs.Files.{written}
 use Rattle.orc_disk.specs.Crashes.{LeavesAsRead}
 use Rattle.orc_disk.specs.Rows.{row}
 use Rattle.orc_disk.specs.Course.{Counted, FailsBehind}
@@ -8,7 +10,7 @@ use Rattle.orc_disk.specs.Meanings.{DiskMeaning}
 use Rattle.orc_disk.specs.Moments.{LeavesOnly}
 use Rattle.orc_journal.specs.Entries.{is_intent}
 use Rattle.orc_journal.specs.Journals.{IsGated, journal_length}
-use Rattle.orc_journal.specs.Appends.{IsBeforeOrAfter, IsLeftBehind, opens_gate}
+use Rattle.orc_journal.specs.Appends.{block_bytes, with_entry, IsBeforeOrAfter, IsLeftBehind, opens_gate}
 use Rattle.orc_journal.specs.declared.entry.Entry.{Entry}
 use Rattle.orc_append.specs.Views.{JournalView, length_with}
 use Rattle.orc_append.specs.declared.outcome.Appended.{Appended}
@@ -26,18 +28,40 @@ known_behind Failed entries entry = entries
 known_behind (Full len) entries entry = entries
 known_behind Memory entries entry = entries
 
+-- whether the journal is fresh behind an append that came to this outcome: the disk was empty as it was opened, and no
+-- entry was appended since
+abbrev pub fresh_behind : Appended → Bool → Bool
+fresh_behind Done fresh = false
+fresh_behind Stopped fresh = fresh
+fresh_behind Failed fresh = fresh
+fresh_behind (Full len) fresh = fresh
+fresh_behind Memory fresh = fresh
+
 -- so many writes and syncs were done: an armed stop is by so many nearer, and was none of them
 pub record ComesNearer {D : Type 0} (operations : ℕ) (old new : JournalView D) : Type 0 where
   pub later : (old.armed ≡ 0) ⊎ (operations < old.armed)
   pub armed : new.armed ≡ old.armed - operations
   pub bytes : new.bytes ≡ old.bytes
 
--- A file is what an append leaves that was stopped at this operation: the entries before, where the operation came
--- before the opening of the gate, and those and the new one where it came behind.
-pub record IsStoppedAt (operation : ℕ) (decls : List ℕ) (entries : List Entry) (entry : Entry) (file : List ℕ)
-    : Type 0 where
+-- A file is what an append leaves that was stopped at this operation, which still put so many bytes: the entries
+-- before, where the operation came before the opening of the gate, and those and the new one where it came behind.
+-- Where it was that write, the gate is opened exactly where a byte was put, unless the disk inside failed it.
+pub record IsStoppedAt (operation bytes : ℕ) (failed : Bool) (decls : List ℕ) (entries : List Entry) (entry : Entry)
+    (file : List ℕ) : Type 0 where
   pub before : operation < opens_gate → IsGated file decls entries
+  pub unopened : operation ≡ opens_gate → bytes ≡ 0 → IsGated file decls entries
+  pub opened : operation ≡ opens_gate → 0 < bytes → failed ≡ false → IsGated file decls (entries ++ entry ∷ [])
   pub after : opens_gate < operation → IsGated file decls (entries ++ entry ∷ [])
+
+-- What an append to a journal of this length made of what a disk holds, where it was stopped at this operation, which
+-- still put so many bytes, and the disk inside failed none. The write of the entry and its closed gate put its first
+-- bytes. Where the gate before it was opened the whole of it is there, and else all but that.
+pub record BecomesUntil (operation bytes len : ℕ) (entry : Entry) (old new : Option (List ℕ)) : Type 0 where
+  pub cut : operation ≡ 1 → new ≡ option_map (written len (take bytes (block_bytes entry))) old
+  pub closed : (operation ≡ 2) ⊎ ((operation ≡ opens_gate) × (bytes ≡ 0))
+      → new ≡ option_map (written len (block_bytes entry)) old
+  pub opened : ((operation ≡ opens_gate) × (1 ≤ bytes)) ⊎ (operation ≡ ops_to_append)
+      → new ≡ option_map (with_entry len entry) old
 
 module _ {D : Type 0} (disk : DiskMeaning D) where
   -- The disk did so many writes and syncs, and counted them and its faults. Where the truth value is true one of its
@@ -63,12 +87,15 @@ module _ {D : Type 0} (disk : DiskMeaning D) where
       pub fits : length_with decls old entry ≤ old.limit
       pub nearer : ComesNearer ops_to_append old new
       pub did : Did ops_to_append false old.disk new.disk
+      pub becomes : disk.content new.disk
+          ≡ option_map (with_entry (journal_length decls old.entries) entry) (disk.content old.disk)
       pub reads : IfSome (disk.content new.disk) (λ file. IsGated file decls (old.entries ++ entry ∷ []))
       pub durable : LeavesAsRead (disk.content new.disk) (disk.may_leave new.disk)
       pub leaves : LeavesOldOrNew old entry new
 
     -- The armed operation was one of the four. The disk did those before it, none of which failed, and that one too
-    -- where it still put a byte; where that one failed in the disk inside, the truth value is true.
+    -- where it still put a byte, and else is as it was before. Where that one failed in the disk inside, the truth
+    -- value is true.
     pub record StopsAppend (old : JournalView D) (entry : Entry) (new : JournalView D) : Type 0 where
       pub known : new.entries ≡ old.entries
       pub limit : new.limit ≡ old.limit
@@ -82,7 +109,12 @@ module _ {D : Type 0} (disk : DiskMeaning D) where
       pub ran : disk.leads (row (old.armed - 1) false) old.disk before
       pub last : disk.leads (row (min old.bytes 1) failed) before new.disk
       pub did : Did (old.armed - 1 + min old.bytes 1) failed old.disk new.disk
-      pub reads : IfSome (disk.content new.disk) (IsStoppedAt old.armed decls old.entries entry)
+      pub undone : old.bytes ≡ 0 → new.disk ≡ before
+      pub reached : failed ≡ true → 1 ≤ old.bytes
+      pub becomes : failed ≡ false
+          → BecomesUntil old.armed old.bytes (journal_length decls old.entries) entry
+          (disk.content old.disk) (disk.content new.disk)
+      pub reads : IfSome (disk.content new.disk) (IsStoppedAt old.armed old.bytes failed decls old.entries entry)
       pub leaves : LeavesOldOrNew old entry new
 
     -- So many of the four were done, fewer than all, and the next one failed. No armed stop came.

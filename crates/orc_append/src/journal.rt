@@ -7,7 +7,7 @@ ghost use Rattle.orc_journal.specs.Journals.{gated};
 ghost use Rattle.orc_journal.specs.Opening.{HasOpened, HasRefused};
 ghost use Rattle.orc_journal.specs.declared.entry.Entry.{Entry};
 ghost use Rattle.orc_append.specs.Views.{journal_view, unstopped, IsOpen, CanAppend};
-ghost use Rattle.orc_append.specs.Appends.{Appends, known_behind};
+ghost use Rattle.orc_append.specs.Appends.{Appends, fresh_behind, known_behind};
 
 use crate::Appended;
 use orc_disk::{Disk, StopDisk};
@@ -100,6 +100,7 @@ impl<D: Disk> StopJournal<D> {
         ensures open { result ≢ Appended.Stopped → result ≢ Appended.Failed
             → (decls : List ℕ) (entries : List Entry) → IsOpen D.disk self.old decls entries
             → IsOpen D.disk self.new decls (known_behind result entries entry.now) }
+        ensures fresh { self.new.fresh ≡ fresh_behind result self.old.fresh }
         ensures stopped { (self.new.disk.stopped ≡ true) ↔ (result ≡ Appended.Stopped) }
     {
         match self.journal.append(alloc, entry) {

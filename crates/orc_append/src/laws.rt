@@ -3,8 +3,8 @@ ghost use Rattle.orc_append.specs.Laws.{StopsWhereArmed, AddUp};
 
 use orc_disk::Disk;
 
-/// An append is stopped exactly where a stop is armed among its four operations and the disk fails
-/// none before it.
+/// An append is stopped exactly where a stop is armed among its four operations, the disk fails none
+/// before it, and the entry finds room and memory, without which no operation is done.
 pub fn stops_where_armed<D: Disk>()
     ensures { StopsWhereArmed D.disk }
 {}

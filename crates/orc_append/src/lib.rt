@@ -8,8 +8,6 @@
 mod journal;
 mod laws;
 mod outcome;
-#[cfg(test)]
-mod tests;
 
 pub use journal::StopJournal;
 pub use laws::{add_up, stops_where_armed};

@@ -1,38 +1,30 @@
--- Where a text is cut at the first byte of a kind.
-use Rattle.std.proofs.Common.{◌≡◌, ℕ, suc, ◌<◌, ◌≢◌, true, not, ◌==◌, List, [], ◌∷◌, ◌++◌, length, get_or, refl, ap₂, arith, eqb, Option, None, Some, MatchOption, IsTrue, eq-eqb, Bor}
-use Rattle.std.specs.Cmp.{first_so, second_so}
+-- Where a text is cut_at at the first byte of a kind.
+use Rattle.std.proofs.Common.{◌≡◌, ℕ, suc, ◌<◌, ◌≢◌, true, false, ◌==◌, List, [], ◌∷◌, ◌++◌, length, get_or, refl, ap, arith, Option, None, Some, MatchOption, eq-eqb, Bor}
+use Rattle.std.specs.Option.{option_map}
 use Rattle.std.proofs.lemmas.Str.Pattern.{IsSplitOnceResult, split_parts}
-use Rattle.orc_bundle.specs.inside.Lines.{lacks}
-use Rattle.std.proofs.lemmas.Bool.{and_from}
-use Rattle.orc_bundle.proofs.Bytes.{not_true}
+use Rattle.orc_bundle.specs.Words.{cut_at}
 
-lacks-from_reads : (c : ℕ) (bs : List ℕ) → ((i : ℕ) → i < length bs → get_or bs i 0 ≢ c) → lacks c bs ≡ true
-lacks-from_reads c [] h = refl
-lacks-from_reads c (b ∷ bs) h =
-    and_from _ _ (not_true _ (λ e. h 0 (omega arith) (grind arith))) (lacks-from_reads c bs (λ i lt. h (suc i) (omega arith)))
+neq_test : (a b : ℕ) → a ≢ b → (a == b) ≡ false
+neq_test a b h = grind arith
 
-not_itself : (c : ℕ) → not (c == c) ≡ true → ⊥
-not_itself c h = let same : eqb c c ≡ true = eq-eqb c c refl in cc
+-- a text without the byte isn't cut
+pub cut_none : (c : ℕ) (bs : List ℕ) → ((i : ℕ) → i < length bs → get_or bs i 0 ≢ c) → cut_at c bs ≡ None
+cut_none c [] h = refl
+cut_none c (b ∷ bs) h =
+    let first : (b == c) ≡ false = neq_test b c (h 0 (omega arith)) in
+    let more : cut_at c bs ≡ None = cut_none c bs (λ i lt. h (suc i) (omega arith)) in
+    rw first (ap (option_map (λ (parts : List ℕ × List ℕ). (b ∷ parts.0, parts.1))) more)
 
--- a text is cut at its first such byte in one way
-pub cut_once : (c : ℕ) (a x b y : List ℕ) → lacks c a ≡ true → lacks c b ≡ true → a ++ c ∷ x ≡ b ++ c ∷ y → (a ≡ b) × (x ≡ y)
-cut_once c [] x [] y ha hb e = let tails : x ≡ y = cc in (refl, tails)
-cut_once c [] x (b ∷ bs) y ha hb e =
-    let head : b ≡ c = cc in let bad : not (b == c) ≡ true = first_so _ _ hb in absurd (not_itself c (rw head at bad))
-cut_once c (a ∷ az) x [] y ha hb e =
-    let head : a ≡ c = cc in let bad : not (a == c) ≡ true = first_so _ _ ha in absurd (not_itself c (rw head at bad))
-cut_once c (a ∷ az) x (b ∷ bs) y ha hb e =
-    let heads : a ≡ b = cc in
-    let tails : az ++ c ∷ x ≡ bs ++ c ∷ y = cc in
-    let more : (az ≡ bs) × (x ≡ y) = cut_once c az x bs y (second_so (not (a == c)) (lacks c az) ha) (second_so (not (b == c)) (lacks c bs) hb) tails in
-    (ap₂ (λ (h : ℕ) (t : List ℕ). h ∷ t) heads more.0, more.1)
+pub cut_some : (c : ℕ) (a x : List ℕ) → ((i : ℕ) → i < length a → get_or a i 0 ≢ c) → cut_at c (a ++ c ∷ x) ≡ Some (a, x)
+cut_some c [] x h = let same : (c == c) ≡ true = eq-eqb c c refl in rw same refl
+cut_some c (b ∷ bs) x h =
+    let first : (b == c) ≡ false = neq_test b c (h 0 (omega arith)) in
+    let more : cut_at c (bs ++ c ∷ x) ≡ Some (bs, x) = cut_some c bs x (λ i lt. h (suc i) (omega arith)) in
+    rw first (ap (option_map (λ (parts : List ℕ × List ℕ). (b ∷ parts.0, parts.1))) more)
 
--- what has such a byte does not lack it
-pub has_cut : (c : ℕ) (a x : List ℕ) → lacks c (a ++ c ∷ x) ≡ true → ⊥
-has_cut c [] x h = not_itself c (first_so _ _ h)
-has_cut c (a ∷ az) x h = has_cut c az x (second_so _ _ h)
-
-pub cut_parts : (text : List ℕ) (r : Option (Bor (List ℕ) × Bor (List ℕ))) → IsSplitOnceResult 32 text r → MatchOption r (IsTrue (lacks 32 text)) (λ x. (text ≡ x.0.now ++ 32 ∷ x.1.now) × IsTrue (lacks 32 x.0.now))
-cut_parts text None h = lacks-from_reads 32 text (split_parts 32 text None h (omega arith))
-cut_parts text (Some x) h =
-    let p = split_parts 32 text (Some x) h (omega arith) in (p.0, lacks-from_reads 32 x.0.now p.1)
+pub cut_parts : (byte : ℕ) (text : List ℕ) (r : Option (Bor (List ℕ) × Bor (List ℕ))) → byte < 128 → IsSplitOnceResult byte text r
+    → MatchOption r (cut_at byte text ≡ None) (λ parts. cut_at byte text ≡ Some (parts.0.now, parts.1.now))
+cut_parts byte text None ascii h = cut_none byte text (split_parts byte text None h ascii)
+cut_parts byte text (Some x) ascii h =
+    let p = split_parts byte text (Some x) h ascii in
+    rw p.0 (cut_some byte x.0.now x.1.now p.1)

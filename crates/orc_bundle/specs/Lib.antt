@@ -1,3 +1,15 @@
+pub mod Rules
+pub mod Lines
+pub mod Words
+pub mod Keywords
+pub mod Names
+pub mod Items
+pub mod Modules
+pub mod Declarations
+pub mod Scripts
 pub mod Bundles
+pub mod Answers
+pub mod Explanations
+pub mod Written
 pub mod Laws
 pub mod inside

@@ -1,4 +1,3 @@
-pub mod Encodable
-pub mod Lines
-pub mod Reading
-pub mod Places
+pub mod Blocks
+pub mod Lawful
+pub mod Readers

@@ -1,6 +1,6 @@
-//! A bundle as read: the declared devices with their bases, and the steps of the script.
+//! A bundle as read: the declarations, and the steps of the script.
 use orc_call::Call;
-use orc_state::Device;
+use orc_state::Decls;
 use orc_text::Row;
 
 /// The most bytes of a bundle.
@@ -11,8 +11,10 @@ pub const LARGEST_BUNDLE: usize = 16_777_216;
 pub enum ScriptStep {
     /// Print the tree of a device.
     Show(u32),
-    /// Submit a call and settle it.
+    /// Submit a call.
     Serve(Call),
+    /// Bring all that is in flight to its end. Nothing is, behind a call.
+    Settle,
     /// Stop the controller.
     Stop,
     /// Arm a stop, in place of one that is armed: so many operations of the disk from now on, the
@@ -27,8 +29,8 @@ pub enum ScriptStep {
 }
 
 /// The declarations and the script.
-#[derive(Debug, Drop)]
+#[derive(Drop)]
 pub struct Bundle {
-    pub devices: Row<Device>,
+    pub decls: Decls,
     pub steps: Row<ScriptStep>,
 }

@@ -1,13 +1,28 @@
 //! The bundle: the text in which an operator declares devices with their bases and scripts the
-//! controller. It is read here, and nothing but the text of a bundle is taken.
+//! controller. Any bytes are read here, as the bundle that they are, or as the first line at fault
+//! and the first rule that it breaks.
 #![tactic(auto)]
 
 mod bundle;
-mod decls;
+mod call_block;
+mod declarations;
+mod explanations;
+mod fault;
+mod items;
+mod keyword;
 mod laws;
+mod lines;
+mod module;
+mod names;
 mod read;
+mod script;
+mod words;
 
 pub use bundle::{Bundle, LARGEST_BUNDLE, ScriptStep};
-pub use decls::declare;
-pub use laws::bytes_have_one_bundle;
-pub use read::{BundleFault, read_bundle};
+pub use explanations::explanation;
+pub use laws::{
+    bytes_have_one_meaning, skipped_lines_change_nothing, spelled_is_read, written_is_read,
+};
+pub use lines::LONGEST_LINE;
+pub use read::read_bundle;
+pub use script::{MOST_CALLERS, MOST_STEPS};

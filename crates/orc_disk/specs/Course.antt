@@ -1,5 +1,5 @@
 -- What a row of operations of a disk adds up to, and at which of them it failed.
-use Rattle.std.specs.Prelude.{◌≡◌, ℕ, ◌+◌, ◌<◌, ◌≤◌, Bool, true, false, List, Result, is_err}
+use Rattle.std.specs.Prelude.{◌≡◌, ℕ, ◌+◌, ◌<◌, ◌≤◌, Bool, true, false, List, ◌++◌, Result, is_err}
 use Rattle.orc_text.specs.Counts.{capped}
 use Rattle.orc_io.specs.Counts.{Rose, HasCause}
 use Rattle.orc_disk.specs.Rows.{Course, row, read_row}
@@ -10,10 +10,12 @@ pub record Counted (failed : Bool) (before now : ℕ) : Type 0 where
   pub later : before ≤ now
   pub rose : failed ≡ true → Rose before now
 
--- the counts of faults, and of writes and syncs, before a row of operations and behind it
-pub record Tallied (course : Course) (faults faults_now ops ops_now : ℕ) : Type 0 where
+-- the counts of faults, and of writes and syncs, before a row of operations and behind it, and what reads gave so far
+pub record Tallied (course : Course) (faults faults_now ops ops_now : ℕ) (heard heard_now : List (ℕ × List ℕ))
+    : Type 0 where
   pub faulted : Counted course.failed faults faults_now
   pub asked : ops_now ≡ capped (ops + course.operations)
+  pub gave : heard_now ≡ heard ++ course.gave
 
 module _ {D : Type 0} (disk : DiskMeaning D) where
   -- One operation with this result led there, no read that gave anything, and counts as so many writes and syncs, 0 or

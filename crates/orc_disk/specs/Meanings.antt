@@ -16,6 +16,11 @@ pub record DiskMeaning (D : Type 0) : Type 1 where
   pub faults : D → ℕ
   -- how many writes and syncs it was asked for; at the largest 64-bit number the count stays
   pub ops : D → ℕ
-  -- Operations led from one state to another, and the row of them did this. So a disk round another one tells of itself
-  -- what code that knows only the trait keeps.
+  -- what its reads gave so far, in order: each offset with the bytes
+  pub heard : D → List (ℕ × List ℕ)
+  -- A row of operations leads from one state to another, and this is its course. Code that knows only the trait says by
+  -- it what it did, and a disk round another one which of that reached the one inside.
   pub leads : Course → D → D → Type 0
+  -- A write of these bytes at this offset failed between two states: what is known of the bytes that it put. A sync
+  -- that failed counts as one of no bytes.
+  pub cut : ℕ → List ℕ → D → D → Type 0

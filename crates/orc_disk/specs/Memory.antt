@@ -1,5 +1,5 @@
 -- What contracts see of a disk in memory, and what it tells of itself.
-use Rattle.std.specs.Prelude.{ℕ, ◌+◌, List, length, Some, None}
+use Rattle.std.specs.Prelude.{◌≡◌, ℕ, ◌+◌, List, [], ◌∷◌, ◌++◌, length, Some, None}
 use Rattle.orc_text.specs.Counts.{capped}
 use Rattle.orc_io.specs.Counts.{next_count}
 use Rattle.orc_disk.specs.Meanings.{DiskMeaning}
@@ -9,7 +9,7 @@ use Rattle.orc_disk.specs.declared.disk.DiskOp.{DiskOp}
 use Rattle.orc_disk.specs.declared.history.TheConstants.{CHANGE_ROOM}
 
 -- its history, the operations that are to fail, each by its kind and its number among those of that kind, how many of
--- each kind came, and how many failed
+-- each kind came, how many failed, and what its reads gave
 pub record MemoryDisk : Type 0 where
   pub history : History
   pub fails : List (DiskOp × ℕ)
@@ -18,6 +18,7 @@ pub record MemoryDisk : Type 0 where
   pub writes : ℕ
   pub syncs : ℕ
   pub faults : ℕ
+  pub heard : List (ℕ × List ℕ)
 
 -- what a read gives
 abbrev pub disk_content : MemoryDisk → List ℕ
@@ -27,7 +28,7 @@ disk_content disk = content_of disk.history.start disk.history.changes
 abbrev pub memory_ops : MemoryDisk → ℕ
 memory_ops disk = capped (disk.writes + disk.syncs)
 
--- it tells all
+-- It tells all. A write that fails puts nothing.
 abbrev pub memory_disk : DiskMeaning MemoryDisk
 memory_disk = record {
   content = λ disk. Some (disk_content disk);
@@ -36,7 +37,10 @@ memory_disk = record {
   left_since = λ disk. WasImage disk.history.start disk.history.changes;
   faults = λ disk. disk.faults;
   ops = memory_ops;
-  leads = λ course old new. Tallied course old.faults new.faults (memory_ops old) (memory_ops new);
+  heard = λ disk. disk.heard;
+  leads = λ course old new.
+      Tallied course old.faults new.faults (memory_ops old) (memory_ops new) old.heard new.heard;
+  cut = λ at bytes old new. disk_content new ≡ disk_content old;
 }
 
 -- the disk after it was asked for its length
@@ -58,6 +62,10 @@ sync_came disk = record disk { syncs = next_count disk.syncs }
 -- the same where that operation failed
 abbrev pub op_failed : MemoryDisk → MemoryDisk
 op_failed disk = record disk { faults = next_count disk.faults }
+
+-- the same where it was a read, which gave these bytes at this offset
+abbrev pub read_done : MemoryDisk → ℕ → List ℕ → MemoryDisk
+read_done disk at bytes = record disk { heard = disk.heard ++ (at, bytes) ∷ [] }
 
 -- the same where it was a write, which was done
 abbrev pub write_done : MemoryDisk → ℕ → List ℕ → MemoryDisk

@@ -4,8 +4,8 @@ use Rattle.orc_disk.specs.Crashes.{LeavesNoMore}
 use Rattle.orc_disk.specs.Meanings.{DiskMeaning}
 
 module _ {D : Type 0} (disk : DiskMeaning D) where
-  -- One operation went by: a crash since an earlier moment may have left what it may have left before the operation, or
-  -- what it may leave now.
+  -- What one operation adds to the images of earlier moments: a crash since such a moment may have left what it may
+  -- have left before the operation, or what a crash may leave behind it.
   pub record Elapses (old new : D) : Type 0 where
     pub later : disk.moment old ≤ disk.moment new
     pub nothing_else : (since : ℕ) (file : List ℕ) → since ≤ disk.moment old
@@ -13,13 +13,13 @@ module _ {D : Type 0} (disk : DiskMeaning D) where
     pub keeps : (since : ℕ) (file : List ℕ) → since ≤ disk.moment old
         → disk.left_since old since file → disk.left_since new since file
 
-  -- An operation that changes no byte went by: a read gives the same, and a crash leaves no other file.
+  -- No byte was changed between two states: a read gives the same, and a crash leaves no other file.
   pub record Unchanged (old new : D) : Type 0 where
     pub same : disk.content new ≡ disk.content old
     pub crash : LeavesNoMore (disk.may_leave old) (disk.may_leave new)
     pub time : Elapses old new
 
-  -- Operations went by, and a crash at each moment since they began leaves a file that has P.
+  -- A crash at each moment from the first state to the second leaves a file that has P.
   pub record LeavesOnly (old new : D) (P : List ℕ → Type 0) : Type 0 where
     pub later : disk.moment old ≤ disk.moment new
     pub each : (file : List ℕ) → disk.left_since new (disk.moment old) file → P file

@@ -1,16 +1,18 @@
 -- What a real file tells of itself.
-use Rattle.std.specs.Prelude.{ℕ, None}
+use Rattle.std.specs.Prelude.{ℕ, List, [], ◌∷◌, ◌++◌, None}
 use Rattle.orc_text.specs.Counts.{capped}
 use Rattle.orc_io.specs.Counts.{next_count}
 use Rattle.orc_disk.specs.Meanings.{DiskMeaning}
 use Rattle.orc_disk.specs.Course.{Tallied}
 
--- how often it failed, and how many writes and syncs it was asked for, which is all that contracts see of it
+-- how often it failed, how many writes and syncs it was asked for, and what its reads gave, which is all that contracts
+-- see of it
 pub record RealFile : Type 0 where
   pub faults : ℕ
   pub ops : ℕ
+  pub heard : List (ℕ × List ℕ)
 
--- it tells these two
+-- It tells these. Of a write that fails nothing is known.
 abbrev pub file_disk : DiskMeaning RealFile
 file_disk = record {
   content = λ _. None;
@@ -19,8 +21,15 @@ file_disk = record {
   left_since = λ _ _ _. ⊥;
   faults = λ file. file.faults;
   ops = λ file. capped file.ops;
-  leads = λ course old new. Tallied course old.faults new.faults (capped old.ops) (capped new.ops);
+  heard = λ file. file.heard;
+  leads = λ course old new.
+      Tallied course old.faults new.faults (capped old.ops) (capped new.ops) old.heard new.heard;
+  cut = λ at bytes old new. Unit {0};
 }
+
+-- a read at this offset gave these bytes
+abbrev pub file_gave : RealFile → ℕ → List ℕ → RealFile
+file_gave file at bytes = record file { heard = file.heard ++ (at, bytes) ∷ [] }
 
 -- it failed
 abbrev pub file_failed : RealFile → RealFile

@@ -1,7 +1,9 @@
 -- A disk that stops another one.
-use Rattle.std.specs.Prelude.{◌≡◌, ◌≢◌, ◌⊎◌, ℕ, ◌+◌, ◌-◌, ◌<◌, ◌≤◌, min, Bool, true, false, Result, IsErr}
+use Rattle.std.specs.Prelude.{◌≡◌, ◌≢◌, ◌⊎◌, ℕ, ◌+◌, ◌-◌, ◌<◌, ◌≤◌, min, Bool, true, false, List, take, Result, IsErr}
+use Rattle.std.specs.Option.{option_map}
 use Rattle.orc_text.specs.Counts.{capped}
 use Rattle.orc_io.specs.Counts.{Rose, HasCause, next_count}
+use Rattle.orc_disk.specs.Files.{written}
 use Rattle.orc_disk.specs.Rows.{Course, row}
 use Rattle.orc_disk.specs.Meanings.{DiskMeaning}
 
@@ -57,6 +59,19 @@ pub record Reached {D : Type 0} (disk : DiskMeaning D) (P : Type 0) (old new : D
   pub done : failed ≡ false → P
   pub cause : failed ≡ true → Rose (disk.faults old) (disk.faults new)
 
+-- A write of these bytes at this offset failed in a disk that stops another one.
+pub record CutShort {D : Type 0} (disk : DiskMeaning D) (at : ℕ) (bytes : List ℕ) (old new : Stopping D) : Type 0 where
+  -- it was stopped, and the disk inside did nothing
+  pub idle : old.stopped ≡ true → new.inner ≡ old.inner
+  -- the armed write with no byte left did not reach the disk inside
+  pub undone : old.stopped ≡ false → old.op ≡ 1 → old.bytes ≡ 0 → new.inner ≡ old.inner
+  -- and with a byte left its first bytes were put
+  pub front : old.stopped ≡ false → old.op ≡ 1 → 0 < old.bytes → Reached disk
+      (disk.content new.inner ≡ option_map (written at (take old.bytes bytes)) (disk.content old.inner))
+      old.inner new.inner
+  -- another one failed in the disk inside
+  pub passed : old.stopped ≡ false → old.op ≢ 1 → disk.cut at bytes old.inner new.inner
+
 -- What a row of operations may make of a disk that stops another one.
 pub record Led {D : Type 0} (disk : DiskMeaning D) (course : Course) (old new : Stopping D) : Type 0 where
   -- the disk inside went its own way, by a row of its own, whose reads gave what was given
@@ -96,5 +111,7 @@ inside disk = record {
   left_since = λ stopping. disk.left_since stopping.inner;
   faults = all_faults disk;
   ops = λ stopping. capped stopping.ops;
+  heard = λ stopping. disk.heard stopping.inner;
   leads = Led disk;
+  cut = CutShort disk;
 }

@@ -1,5 +1,5 @@
 //! What a disk promises: its content, its failures and its crash images.
-ghost use Rattle.std.specs.Prelude.{◌≡◌, ◌≤◌, ◌+◌, ℕ, List, length, IfOk, OnOk, IfSome, true, false, is_some};
+ghost use Rattle.std.specs.Prelude.{◌≡◌, ◌≤◌, ◌+◌, ◌++◌, ℕ, List, length, IfOk, OnOk, OnErr, IfSome, true, false, [], is_some};
 ghost use Rattle.std.specs.Option.{ForSome, option_map};
 ghost use Rattle.std.specs.Io.{ReadsAtMost};
 ghost use Rattle.orc_text.specs.Counts.{capped};
@@ -28,7 +28,7 @@ pub enum DiskOp {
 /// gives.
 pub trait Disk: Drop {
     /// What the disk tells of itself: its content, the files that a crash may leave, how often it
-    /// failed, and where its operations led.
+    /// failed, what its reads gave, where its operations led, and what a write that failed put.
     ghost disk: { DiskMeaning Self };
 
     /// The length in bytes.
@@ -52,12 +52,14 @@ pub trait Disk: Drop {
         ensures still_tells { is_some (disk.content self.new) ≡ is_some (disk.content self.old) }
         ensures crash { TearsAt at (length bytes.now) (disk.may_leave self.old) (disk.may_leave self.new) }
         ensures time { Elapses disk self.old self.new }
+        ensures cut { OnErr result (disk.cut at bytes.now self.old self.new) }
         ensures performed { Performed disk 1 result self.old self.new };
 
     /// Makes what was written outlive crashes: from then on a crash leaves what a read gives.
     fn sync(&mut self) -> Result<(), Failed>
         ensures durable { OnOk result (LeavesAsRead (disk.content self.new) (disk.may_leave self.new)) }
         ensures unchanged { Unchanged disk self.old self.new }
+        ensures cut { OnErr result (disk.cut 0 [] self.old self.new) }
         ensures performed { Performed disk 1 result self.old self.new };
 
     /// How often the disk failed. At its last value the count stays.
@@ -96,4 +98,8 @@ pub trait Disk: Drop {
     /// The count of writes and syncs is that of the row more. At its last value it stays.
     ghost counts_ops: { (course : Course) (a b : Self)
         → disk.leads course a b → disk.ops b ≡ capped (disk.ops a + course.operations) };
+
+    /// What its reads gave in a row of operations stands behind what they gave before.
+    ghost tells_reads: { (course : Course) (a b : Self)
+        → disk.leads course a b → disk.heard b ≡ disk.heard a ++ course.gave };
 }

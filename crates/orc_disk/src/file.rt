@@ -1,25 +1,27 @@
 //! A real file as a disk, which tells nothing of its content.
-ghost use Rattle.std.specs.Prelude.{◌≡◌, Ok, MatchResult, IsErr, OnOk, OnErr};
+ghost use Rattle.std.specs.Prelude.{◌≡◌, Ok, MatchResult, IsErr, IfOk, OnOk, OnErr, [], take};
 ghost use Rattle.std.specs.Io.{ReadsAtMost};
 ghost use Rattle.orc_io.specs.Counts.{HasCause};
 ghost use Rattle.orc_disk.specs.Course.{Performed, PerformedRead};
-ghost use Rattle.orc_disk.specs.RealFiles.{file_disk, file_failed, file_asked};
+ghost use Rattle.orc_disk.specs.RealFiles.{file_disk, file_failed, file_asked, file_gave};
 ghost use Rattle.orc_disk.specs.laws.Course.{Tallied-refl, Tallied-trans};
 
 use crate::Disk;
+use crate::heard::Heard;
 use orc_io::Failed;
 use std::fs::File;
 use std::io;
 use std::marker::Model;
 use std::os::unix::fs::FileExt;
 
-/// A real file, which contracts see as its count of faults and its count of writes and syncs. Each
-/// error of the file is a fault, and nothing else is.
+/// A real file, which contracts see as its count of faults, its count of writes and syncs, and what
+/// its reads gave. Each error of the file is a fault, and nothing else is.
 #[derive(Drop)]
 pub struct FileDisk {
     file: File,
     faults: u64,
     ops: u64,
+    heard: Heard,
 }
 
 impl Model for FileDisk {
@@ -27,19 +29,20 @@ impl Model for FileDisk {
 
     ghost Value = { RealFile };
 
-    ghost view = { λ disk. record { faults = disk.faults; ops = disk.ops } };
+    ghost view = { λ disk. record { faults = disk.faults; ops = disk.ops; heard = disk.heard.reads } };
 }
 
 impl FileDisk {
     /// A disk over a file that was opened to be read and written, with no fault, which was asked for
     /// nothing yet.
     pub fn over(file: File) -> FileDisk
-        ensures { result ≡ record { faults = 0; ops = 0 } }
+        ensures { result ≡ record { faults = 0; ops = 0; heard = [] } }
     {
         FileDisk {
             file,
             faults: 0,
             ops: 0,
+            heard: Heard::new(),
         }
     }
 
@@ -67,6 +70,26 @@ impl FileDisk {
     {
         self.ops = self.ops.saturating_add(1);
     }
+
+    // Reads at an offset as many bytes as there are and fit, and answers how many.
+    fn fill(&mut self, at: u64, buf: &mut [u8]) -> Result<usize, Failed>
+        ensures bound { ReadsAtMost result buf.new }
+        ensures still { OnOk result (self.new ≡ self.old) }
+        ensures rose { OnErr result (self.new ≡ file_failed self.old) }
+        ensures cause { HasCause self.old.faults self.new.faults result }
+    {
+        let mut count = 0;
+        while count < buf.len() {
+            let outcome = self
+                .file
+                .read_at(&mut buf[count..], at.saturating_add(count as u64));
+            match self.counted(outcome)? {
+                0 => return Ok(count),
+                more => count += more,
+            }
+        }
+        Ok(count)
+    }
 }
 
 impl Disk for FileDisk {
@@ -86,23 +109,16 @@ impl Disk for FileDisk {
         ensures bound { ReadsAtMost result buf.new }
         ensures performed { PerformedRead file_disk at buf.new result self.old self.new }
 
-        ensures still { OnOk result (self.new ≡ self.old) }
+        ensures still { IfOk result (λ n. self.new ≡ file_gave self.old at (take n buf.new)) }
         ensures rose { OnErr result (self.new ≡ file_failed self.old) }
     {
-        let mut count = 0;
-        while count < buf.len() {
-            let outcome = self
-                .file
-                .read_at(&mut buf[count..], at.saturating_add(count as u64));
-            match self.counted(outcome)? {
-                0 => return Ok(count),
-                more => count += more,
-            }
-        }
+        let count = self.fill(at, buf)?;
+        self.heard.add(&at, &buf[..count]);
         Ok(count)
     }
 
     fn write_at(&mut self, at: u64, bytes: &[u8]) -> Result<(), Failed>
+        ensures cut { OnErr result (file_disk.cut at bytes.now self.old self.new) }
         ensures performed { Performed file_disk 1 result self.old self.new }
 
         ensures still { OnOk result (self.new ≡ file_asked self.old) }
@@ -138,11 +154,13 @@ impl Disk for FileDisk {
 
     ghost earlier = { λ _ _ _ _ _ left. left };
 
-    ghost stays = { λ file. Tallied-refl file.faults file.ops };
+    ghost stays = { λ file. Tallied-refl file.faults file.ops file.heard };
 
-    ghost goes_on = { λ first second a b c p q. Tallied-trans first second _ _ _ _ _ _ p q };
+    ghost goes_on = { λ first second a b c p q. Tallied-trans first second _ _ _ _ _ _ _ _ _ p q };
 
     ghost counts = { λ _ _ _ led. led.faulted };
 
     ghost counts_ops = { λ _ _ _ led. led.asked };
+
+    ghost tells_reads = { λ _ _ _ led. led.gave };
 }

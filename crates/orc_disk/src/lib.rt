@@ -4,17 +4,16 @@
 //! crash at some moment since an earlier one may have left. Operations are its four kinds of calls:
 //! its length, reads, writes and syncs. `MemDisk` is such a file in memory, which fails at chosen
 //! operations and shows crash images. `StopDisk` stops another disk inside a write or a sync.
-//! `FileDisk` is a real file, which tells nothing.
+//! `FileDisk` is a real file, which tells only what its reads gave.
 #![tactic(auto)]
 
 mod disk;
 mod file;
+mod heard;
 mod history;
 mod memory;
 mod stop;
 mod tear;
-#[cfg(test)]
-mod tests;
 
 pub use disk::{Disk, DiskOp};
 pub use file::FileDisk;

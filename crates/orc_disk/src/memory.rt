@@ -7,9 +7,10 @@ ghost use Rattle.orc_disk.specs.Crashes.{TearsAt, LeavesAsRead};
 ghost use Rattle.orc_disk.specs.Moments.{Elapses, Unchanged};
 ghost use Rattle.orc_disk.specs.Course.{Counted, Performed, PerformedRead};
 ghost use Rattle.orc_disk.specs.History.{content_of, synced_of, IsImage};
-ghost use Rattle.orc_disk.specs.Memory.{disk_content, memory_disk, len_came, read_came, write_came, sync_came, op_failed, write_done, sync_done};
+ghost use Rattle.orc_disk.specs.Memory.{disk_content, memory_disk, len_came, read_came, read_done, write_came, sync_came, op_failed, write_done, sync_done};
 ghost use Rattle.orc_disk.specs.declared.history.TheConstants.{CHANGE_ROOM};
 
+use crate::heard::Heard;
 use crate::history::{CHANGE_ROOM, Kept};
 use crate::{Disk, DiskOp};
 use orc_io::Failed;
@@ -30,6 +31,7 @@ pub struct MemDisk {
     writes: u64,
     syncs: u64,
     faults: u64,
+    heard: Heard,
 }
 
 impl Model for MemDisk {
@@ -45,6 +47,7 @@ impl Model for MemDisk {
       writes = disk.writes;
       syncs = disk.syncs;
       faults = disk.faults;
+      heard = disk.heard.reads;
     } };
 }
 
@@ -86,6 +89,7 @@ impl MemDisk {
           writes = 0;
           syncs = 0;
           faults = 0;
+          heard = [];
         }) }
     {
         Ok(MemDisk {
@@ -96,6 +100,7 @@ impl MemDisk {
             writes: 0,
             syncs: 0,
             faults: 0,
+            heard: Heard::new(),
         })
     }
 
@@ -154,14 +159,16 @@ impl Disk for MemDisk {
 
         ensures exact { IsErr result ↔ Contains self.old.fails (DiskOp.Read, next_count self.old.reads) }
         ensures buffer { IfOk result (λ n. buf.new ≡ take n (drop at (disk_content self.old)) ++ drop n buf.old) }
-        ensures ok { OnOk result (self.new ≡ read_came self.old) }
+        ensures ok { IfOk result (λ n. self.new ≡ read_done (read_came self.old) at (take n buf.new)) }
         ensures err { OnErr result (self.new ≡ op_failed (read_came self.old)) }
     {
         self.reads = self.reads.saturating_add(1);
         if is_listed(&self.fails, DiskOp::Read, self.reads) {
             return Err(self.fault());
         }
-        Ok(read_from(self.history.content(), at, buf))
+        let count = read_from(self.history.content(), at, buf);
+        self.heard.add(&at, &buf[..count]);
+        Ok(count)
     }
 
     fn write_at(&mut self, at: u64, bytes: &[u8]) -> Result<(), Failed>
@@ -170,6 +177,7 @@ impl Disk for MemDisk {
         ensures crash { TearsAt at (length bytes.now)
             (memory_disk.may_leave self.old) (memory_disk.may_leave self.new) }
         ensures time { Elapses memory_disk self.old self.new }
+        ensures cut { OnErr result (disk_content self.new ≡ disk_content self.old) }
         ensures performed { Performed memory_disk 1 result self.old self.new }
 
         ensures exact { IsErr result
@@ -190,6 +198,7 @@ impl Disk for MemDisk {
     fn sync(&mut self) -> Result<(), Failed>
         ensures durable { OnOk result (LeavesAsRead (memory_disk.content self.new) (memory_disk.may_leave self.new)) }
         ensures unchanged { Unchanged memory_disk self.old self.new }
+        ensures cut { OnErr result (disk_content self.new ≡ disk_content self.old) }
         ensures performed { Performed memory_disk 1 result self.old self.new }
 
         ensures exact { IsErr result
@@ -221,11 +230,13 @@ impl Disk for MemDisk {
 
     ghost earlier = { λ d t u c le was. WasImage-earlier d.history.start d.history.changes t u c le was };
 
-    ghost stays = { λ d. Tallied-refl d.faults (d.writes + d.syncs) };
+    ghost stays = { λ d. Tallied-refl d.faults (d.writes + d.syncs) d.heard };
 
-    ghost goes_on = { λ first second a b c p q. Tallied-trans first second _ _ _ _ _ _ p q };
+    ghost goes_on = { λ first second a b c p q. Tallied-trans first second _ _ _ _ _ _ _ _ _ p q };
 
     ghost counts = { λ _ _ _ led. led.faulted };
 
     ghost counts_ops = { λ _ _ _ led. led.asked };
+
+    ghost tells_reads = { λ _ _ _ led. led.gave };
 }

@@ -1,5 +1,5 @@
 //! A disk that stops another one inside a chosen write or sync.
-ghost use Rattle.std.specs.Prelude.{◌≡◌, ◌⊎◌, ◌-◌, ◌<◌, ◌≤◌, ◌↔◌, Bool, true, false, min, length, take, IfOk, OnOk, IfSome, IsTrue, IsErr, is_some};
+ghost use Rattle.std.specs.Prelude.{◌≡◌, ◌⊎◌, ◌-◌, ◌<◌, ◌≤◌, ◌↔◌, Bool, true, false, min, length, take, IfOk, OnOk, OnErr, IfSome, IsTrue, IsErr, is_some, []};
 ghost use Rattle.std.specs.Option.{ForSome, option_map};
 ghost use Rattle.std.specs.Io.{ReadsAtMost};
 ghost use Rattle.orc_disk.specs.Files.{written, ReadsFrom};
@@ -7,7 +7,7 @@ ghost use Rattle.orc_disk.specs.Rows.{row};
 ghost use Rattle.orc_disk.specs.Crashes.{TearsAt, LeavesAsRead};
 ghost use Rattle.orc_disk.specs.Moments.{Elapses, Unchanged};
 ghost use Rattle.orc_disk.specs.Course.{Counted, Performed, PerformedRead};
-ghost use Rattle.orc_disk.specs.Stops.{inside, asked, refused, stopped_at, Refuses, HandsOn, PassesOn, Reached};
+ghost use Rattle.orc_disk.specs.Stops.{inside, asked, refused, stopped_at, Refuses, HandsOn, PassesOn, Reached, CutShort};
 
 use crate::Disk;
 use orc_io::Failed;
@@ -158,7 +158,7 @@ impl<D: Disk> StopDisk<D> {
 }
 
 impl<D: Disk> Disk for StopDisk<D> {
-    ghost use Rattle.orc_disk.specs.laws.Stops.{Led-refl, Led-trans, Led-counts};
+    ghost use Rattle.orc_disk.specs.laws.Stops.{Led-refl, Led-trans, Led-counts, Led-tells};
 
     ghost disk = { inside D.disk };
 
@@ -200,19 +200,14 @@ impl<D: Disk> Disk for StopDisk<D> {
         ensures crash { TearsAt at (length bytes.now)
             (D.disk.may_leave self.old.inner) (D.disk.may_leave self.new.inner) }
         ensures time { Elapses (inside D.disk) self.old self.new }
+        // The armed write puts its first bytes where one is left, and else does not reach the disk inside.
+        ensures cut { OnErr result (CutShort D.disk at bytes.now self.old self.new) }
         ensures performed { Performed (inside D.disk) 1 result self.old self.new }
 
         ensures refused { Refuses result (asked self.old) self.new }
         ensures passed { PassesOn D.disk result self.old self.new }
         ensures armed { self.old.stopped ≡ false → self.old.op ≡ 1
             → IsErr result × (self.new ≡ stopped_at self.old self.new.inner) }
-        // The armed write puts its first bytes where one is left, and else does not reach the disk inside.
-        ensures undone { self.old.stopped ≡ false → self.old.op ≡ 1 → self.old.bytes ≡ 0
-            → self.new.inner ≡ self.old.inner }
-        ensures front { self.old.stopped ≡ false → self.old.op ≡ 1 → 0 < self.old.bytes → Reached D.disk
-            (D.disk.content self.new.inner
-            ≡ option_map (written at (take self.old.bytes bytes.now)) (D.disk.content self.old.inner))
-            self.old.inner self.new.inner }
     {
         self.ask();
         if self.stopped() {
@@ -228,6 +223,7 @@ impl<D: Disk> Disk for StopDisk<D> {
     fn sync(&mut self) -> Result<(), Failed>
         ensures durable { OnOk result (LeavesAsRead (D.disk.content self.new.inner) (D.disk.may_leave self.new.inner)) }
         ensures unchanged { Unchanged (inside D.disk) self.old self.new }
+        ensures cut { OnErr result (CutShort D.disk 0 [] self.old self.new) }
         ensures performed { Performed (inside D.disk) 1 result self.old self.new }
 
         ensures refused { Refuses result (asked self.old) self.new }
@@ -274,4 +270,6 @@ impl<D: Disk> Disk for StopDisk<D> {
     ghost counts = { Led-counts D.disk D.counts };
 
     ghost counts_ops = { λ _ _ _ led. led.ops };
+
+    ghost tells_reads = { Led-tells D.disk D.tells_reads };
 }

@@ -59,6 +59,41 @@ pub(crate) fn bytes_of(alloc: Global, text: &str) -> Result<Option<Vec<u8>>, All
     Ok(Some(bytes))
 }
 
+/// The text in which each `\N{TEXT}` is written out: N times TEXT, where `%` is the number of the time, from 1 on.
+pub(crate) fn repeated(alloc: Global, text: &str) -> Result<Option<String>, AllocError> {
+    let mut out = String::new(alloc);
+    for piece in text.split('}') {
+        let Some((before, body)) = piece.split_once('{') else {
+            out.push_str(piece)?;
+            continue;
+        };
+        let Some((front, times)) = before.rsplit_once('\\') else {
+            return Ok(None);
+        };
+        let Ok(times) = times.parse() else {
+            return Ok(None);
+        };
+        out.push_str(front)?;
+        push_times(&mut out, alloc, times, body)?;
+    }
+    Ok(Some(out))
+}
+
+// Adds a text so many times.
+fn push_times(out: &mut String, alloc: Global, times: u64, body: &str) -> Result<(), AllocError> {
+    if !body.contains('%') {
+        for _ in 0..times {
+            out.push_str(body)?;
+        }
+        return Ok(());
+    }
+    for time in 0..times {
+        let number = time.saturating_add(1).to_string(alloc)?;
+        out.push_str(body.replace(alloc, "%", number.as_str())?.as_str())?;
+    }
+    Ok(())
+}
+
 // The byte that stands behind a backslash, and what follows it.
 fn escaped(piece: &str) -> Option<(u8, &str)> {
     if let Some(rest) = piece.strip_prefix("n") {

@@ -3,8 +3,8 @@
 //! - `# ..`, or an empty line: nothing
 //! - `text NAME`, and the lines `| ..` below: a bundle, or what a run prints; `$1`, `$2`, .. are the
 //!   words of the run
-//! - `bytes NAME`, and the lines `| ..` below: bytes, where `\xHH` is a byte, `\n` a line feed, and an
-//!   end of line nothing
+//! - `bytes NAME`, and the lines `| ..` below: bytes, as of a bundle or a disk, where `\xHH` is a byte,
+//!   `\n` a line feed, and an end of line nothing
 //! - `words ..`: the next run has these command words in place of `run`
 //! - `source fails N`, `sink fails N`: its source or sink fails at the N-th call
 //! - `disk fails KIND N`: its disk fails at the N-th `len`, `read`, `write` or `sync`
@@ -12,15 +12,19 @@
 //! - `run BUNDLE WORD .. -> PRINTED STATUS FAULT`: runs the bundle over a disk of its own; it must
 //!   print this text, or `nothing`, and end with this status and, where that isn't 0, this fault
 //! - `again BUNDLE ..`: the same over the disk that the run before left
-//! - `rows TEXT -> PRINTED STATUS FAULT`: runs each line of the text as a bundle, in which `|` ends a
-//!   line and `\xHH` is a byte, over an empty disk, which must stay empty
+//! - `says WORDS`: so the fault of the run before, which is one of its bundle, is explained
+//! - `refused TEXT`: each line of the text is a row `LINE RULE BUNDLE`, as `row` says
+//! - `taken TEXT`: each is a row `DEVICES STEPS BUNDLE`
 //! - `left NAME`: the disk of the run before now holds these bytes
 
 use crate::block::{bytes_of, filled, spelled, text_of};
+use crate::row::{Rows, ending};
 use crate::run::{Ran, disk_of, run};
 use crate::settings::Settings;
+use orc_bundle::explanation;
 use orc_disk::MemDisk;
-use orc_run::{Done, Stop, status};
+use orc_run::Stop;
+use orc_text::{Memory, Text};
 use std::alloc::{AllocError, Global};
 use std::io;
 use std::mem::replace;
@@ -34,6 +38,7 @@ pub(crate) struct Case<'a> {
     alloc: Global,
     text: &'a str,
     disk: Option<MemDisk>,
+    said: Option<Text>,
     runs: u64,
 }
 
@@ -55,6 +60,7 @@ impl<'a> Case<'a> {
             alloc,
             text,
             disk: None,
+            said: None,
             runs: 0,
         }
     }
@@ -104,8 +110,14 @@ impl<'a> Case<'a> {
                 None => Ok(Verdict::Unread),
             };
         }
-        if let Some(given) = line.strip_prefix("rows ") {
-            return self.run_rows(given);
+        if let Some(words) = line.strip_prefix("says ") {
+            return self.says(words);
+        }
+        if let Some(rows) = line.strip_prefix("refused ") {
+            return self.run_rows(rows, Rows::Refused);
+        }
+        if let Some(rows) = line.strip_prefix("taken ") {
+            return self.run_rows(rows, Rows::Taken);
         }
         if let Some(name) = line.strip_prefix("left ") {
             return self.left(name);
@@ -132,21 +144,22 @@ impl<'a> Case<'a> {
         let Some((printed, ends)) = behind.split_once(" ") else {
             return Ok(Verdict::Unread);
         };
-        let Some(bundle) = self.text_in(before, first_word(before))? else {
+        let Some(bundle) = self.bundle_in(before)? else {
             return Ok(Verdict::Unread);
         };
         let Some(printed) = self.text_in(before, printed)? else {
             return Ok(Verdict::Unread);
         };
-        let bundle = bundle.into_bytes();
+        let read = Vec::from_slice(alloc, bundle.as_slice())?;
         let ran = run(
             alloc,
             command.as_slice(),
-            bundle,
+            read,
             source_fails,
             sink_fails,
             disk,
         )?;
+        self.said = said_of(alloc, bundle.as_slice(), &ran)?;
         self.judge(ran, printed.as_str(), ends)
     }
 
@@ -163,44 +176,41 @@ impl<'a> Case<'a> {
         Ok(Verdict::Differs(format!(in alloc; "{is}, status {ended}")?))
     }
 
-    // Runs each row of a text as a bundle.
-    fn run_rows(&mut self, line: &str) -> io::Result<Verdict> {
+    // Compares how the fault of the run before is explained.
+    fn says(&self, words: &str) -> io::Result<Verdict> {
+        match &self.said {
+            Some(said) if said.as_str() == words => Ok(Verdict::Good),
+            Some(said) => Ok(Verdict::Differs(String::from_str(self.alloc, said.as_str())?)),
+            None => Ok(Verdict::Unread),
+        }
+    }
+
+    // Holds each row of a text to what it says.
+    fn run_rows(&mut self, name: &str, rows: Rows) -> io::Result<Verdict> {
         let alloc = self.alloc;
-        let Some((rows, behind)) = line.split_once(" -> ") else {
+        let Some(text) = text_of(alloc, self.text, "text", name)? else {
             return Ok(Verdict::Unread);
         };
-        let Some((printed, ends)) = behind.split_once(" ") else {
-            return Ok(Verdict::Unread);
-        };
-        let Some(rows) = text_of(alloc, self.text, "text", rows)? else {
-            return Ok(Verdict::Unread);
-        };
-        let Some(printed) = self.text_in("", printed)? else {
-            return Ok(Verdict::Unread);
-        };
-        for row in rows.as_str().lines() {
-            match self.run_row(row, printed.as_str(), ends)? {
-                Verdict::Good => {}
-                _ => return Ok(Verdict::Differs(String::from_str(alloc, row)?)),
+        for row in text.as_str().lines() {
+            self.runs = self.runs.saturating_add(1);
+            match rows.hold(alloc, row)? {
+                Some(true) => {}
+                Some(false) => return Ok(Verdict::Differs(String::from_str(alloc, row)?)),
+                None => return Ok(Verdict::Unread),
             }
         }
         Ok(Verdict::Good)
     }
 
-    // Runs the bundle of a row over an empty disk, which must stay empty.
-    fn run_row(&mut self, row: &str, printed: &str, ends: &str) -> io::Result<Verdict> {
+    // The bytes of the bundle that the first word of a line names.
+    fn bundle_in(&self, line: &str) -> io::Result<Option<Vec<u8>>> {
         let alloc = self.alloc;
-        let text = row.replace(alloc, "|", "\\n")?;
-        let Some(bundle) = bytes_of(alloc, text.as_str())? else {
-            return Ok(Verdict::Unread);
-        };
-        let set = Settings::new(alloc)?;
-        let disk = disk_of(alloc, set.holds, set.room, set.disk_fails)?;
-        let (words, none) = (set.words, set.source_fails);
-        let ran = run(alloc, words.as_slice(), bundle, none, set.sink_fails, disk)?;
-        match ran.disk.image(alloc, CONTENT) {
-            Ok(holds) if holds.is_empty() => self.judge(ran, printed, ends),
-            _ => Ok(Verdict::Unread),
+        if let Some(text) = self.text_in(line, first_word(line))? {
+            return Ok(Some(text.into_bytes()));
+        }
+        match text_of(alloc, self.text, "bytes", first_word(line))? {
+            Some(text) => Ok(bytes_of(alloc, text.as_str())?),
+            None => Ok(None),
         }
     }
 
@@ -258,11 +268,13 @@ fn first_word(line: &str) -> &str {
     }
 }
 
-// How a run ended: its status and, where it isn't 0, the fault.
-fn ending(alloc: Global, ended: &Result<Done, Stop>) -> Result<String, AllocError> {
-    let code = status(ended);
-    match ended {
-        Ok(Done) => format!(in alloc; "{code}"),
-        Err(stop) => format!(in alloc; "{code} {stop}"),
+// How the fault of a run's bundle is explained, where it has one.
+fn said_of(alloc: Global, bundle: &[u8], ran: &Ran) -> Result<Option<Text>, AllocError> {
+    let Err(Stop::Bundle { line, rule }) = &ran.status else {
+        return Ok(None);
+    };
+    match explanation(alloc, bundle, *line, *rule) {
+        Ok(said) => Ok(Some(said)),
+        Err(Memory) => Err(AllocError),
     }
 }

@@ -9,6 +9,7 @@
 mod block;
 mod case;
 mod faults;
+mod row;
 mod run;
 mod settings;
 

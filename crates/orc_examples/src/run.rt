@@ -55,16 +55,21 @@ pub(crate) fn disk_of(
     }
 }
 
+/// Runs a bundle over an empty disk, as this command word says.
+pub(crate) fn run_alone(alloc: Global, word: &str, bundle: Vec<u8>) -> Result<Ran, AllocError> {
+    let mut words = Vec::new(alloc);
+    words.push(String::from_str(alloc, word)?)?;
+    let disk = disk_of(alloc, Vec::new(alloc), JOURNAL_ROOM, Vec::new(alloc))?;
+    let none = Vec::new(alloc);
+    run(alloc, words.as_slice(), bundle, none, Vec::new(alloc), disk)
+}
+
 /// Whether a bundle is run to its end over an empty disk and prints these bytes.
 pub(crate) fn run_to_end(
     alloc: Global,
     bundle: Vec<u8>,
     wanted: &[u8],
 ) -> Result<bool, AllocError> {
-    let mut words = Vec::new(alloc);
-    words.push(String::from_str(alloc, "run")?)?;
-    let disk = disk_of(alloc, Vec::new(alloc), JOURNAL_ROOM, Vec::new(alloc))?;
-    let none = Vec::new(alloc);
-    let ran = run(alloc, words.as_slice(), bundle, none, Vec::new(alloc), disk)?;
+    let ran = run_alone(alloc, "run", bundle)?;
     Ok(ran.status.is_ok() && ran.printed.as_slice() == wanted)
 }

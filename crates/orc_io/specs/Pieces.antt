@@ -1,5 +1,5 @@
 -- How much a source gave and how much a sink took, where they tell it.
-use Rattle.std.specs.Prelude.{ℕ, ◌<◌, List, length, take, Option}
+use Rattle.std.specs.Prelude.{ℕ, List, take, Option}
 use Rattle.std.specs.Io.KnownBytes.{Appends, Consumes}
 
 -- the sink took a front of the bytes and nothing else
@@ -9,7 +9,3 @@ TakesFront old new bytes = (count : ℕ) × Appends old new (take count bytes)
 -- the source gave some bytes, which stood first, and lost no others
 abbrev pub GivesFront : Option (List ℕ) → Option (List ℕ) → Type 0
 GivesFront old new = (front : List ℕ) × Consumes old new front
-
--- the source gave more bytes than the limit
-abbrev pub GivesMore : Option (List ℕ) → Option (List ℕ) → ℕ → Type 0
-GivesMore old new limit = (front : List ℕ) × Consumes old new front × (limit < length front)

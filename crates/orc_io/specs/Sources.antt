@@ -1,5 +1,5 @@
 -- What contracts see of the sources of this crate, and what each tells of itself.
-use Rattle.std.specs.Prelude.{ℕ, List, drop, Option, Some}
+use Rattle.std.specs.Prelude.{◌≡◌, ℕ, Bool, true, List, ◌++◌, drop, Option, Some, MatchBool}
 use Rattle.orc_io.specs.Counts.{next_count}
 use Rattle.orc_io.specs.Meanings.{SourceMeaning}
 
@@ -30,3 +30,20 @@ read_failed source = record source { calls = next_count source.calls; faults = n
 -- the source after a call that gave so many bytes
 abbrev pub read_gave : MemorySource → ℕ → MemorySource
 read_gave source count = record source { left = drop count source.left; calls = next_count source.calls }
+
+-- a source that keeps what it gave: the bytes left and the count of faults, as the source inside tells them, the bytes
+-- kept, and whether these are all that it gave, since memory was never wanting
+pub record KeepingSource : Type 0 where
+  pub left : Option (List ℕ)
+  pub faults : ℕ
+  pub kept : List ℕ
+  pub is_all : Bool
+
+-- it tells what the source inside tells
+abbrev pub keeping_source : SourceMeaning KeepingSource
+keeping_source = record { left = λ source. source.left; faults = λ source. source.faults }
+
+-- the bytes that were given are kept behind those kept before; from the first want of memory on nothing more is kept
+abbrev pub Keeps : KeepingSource → KeepingSource → List ℕ → Type 0
+Keeps old new given =
+    MatchBool new.is_all ((old.is_all ≡ true) × (new.kept ≡ old.kept ++ given)) (new.kept ≡ old.kept)

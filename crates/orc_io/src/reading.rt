@@ -1,8 +1,8 @@
 //! All that a source has, up to a limit.
-ghost use Rattle.std.specs.Prelude.{◌≤◌, ◌<◌, ◌^◌, IfOk, OnOk, OnErr, IsErrOf, vec_len};
+ghost use Rattle.std.specs.Prelude.{◌≤◌, ◌<◌, ◌+◌, ◌^◌, IfOk, OnErr, IsErrOf, vec_len};
 ghost use Rattle.std.specs.Io.KnownBytes.{IsAtEnd, Consumes};
 ghost use Rattle.orc_io.specs.Counts.{Rose};
-ghost use Rattle.orc_io.specs.Pieces.{GivesFront, GivesMore};
+ghost use Rattle.orc_io.specs.Pieces.{GivesFront};
 
 use crate::{Failed, Source};
 use std::alloc::Global;
@@ -15,14 +15,13 @@ const PIECE_LEN: usize = 4096;
 pub enum WholeFault {
     /// A call of the source failed.
     Failed,
-    /// The source gave more bytes than the limit.
-    TooLong,
     /// Memory could not be had.
     Memory,
 }
 
-/// Reads a source to its end. It stops once the source gave more than `limit` bytes, so that it
-/// returns also where a source never ends. After a refusal the bytes read are gone from the source.
+/// Reads a source to its end, or its first `limit + 1` bytes where it has more: it takes no byte
+/// behind these, and returns also where a source never ends. After a refusal the bytes read are gone
+/// from the source.
 pub fn read_whole<S: Source>(
     alloc: Global,
     source: &mut S,
@@ -30,19 +29,17 @@ pub fn read_whole<S: Source>(
 ) -> Result<Vec<u8>, WholeFault>
     requires { limit < 2 ^ 60 }
     ensures whole { IfOk result (λ v. Consumes (S.source.left source.old) (S.source.left source.new) v.items) }
-    ensures short { IfOk result (λ v. vec_len v ≤ limit) }
-    ensures end { OnOk result (IsAtEnd (S.source.left source.new)) }
-
+    ensures most { IfOk result (λ v. vec_len v ≤ limit + 1) }
+    ensures end { IfOk result (λ v. vec_len v ≤ limit → IsAtEnd (S.source.left source.new)) }
     ensures begun { OnErr result (GivesFront (S.source.left source.old) (S.source.left source.new)) }
-    ensures too_long { IsErrOf result WholeFault.TooLong
-        → GivesMore (S.source.left source.old) (S.source.left source.new) limit }
     ensures later { S.source.faults source.old ≤ S.source.faults source.new }
     ensures failed { IsErrOf result WholeFault.Failed → Rose (S.source.faults source.old) (S.source.faults source.new) }
 {
     let mut whole = Vec::new(alloc);
     let mut buf = [0u8; PIECE_LEN];
     while whole.len() <= limit {
-        match source.read_some(&mut buf) {
+        let wanted = (limit + 1 - whole.len()).min(PIECE_LEN);
+        match source.read_some(&mut buf[..wanted]) {
             Err(Failed) => return Err(WholeFault::Failed),
             Ok(0) => return Ok(whole),
             Ok(count) => {
@@ -52,5 +49,5 @@ pub fn read_whole<S: Source>(
             }
         }
     }
-    Err(WholeFault::TooLong)
+    Ok(whole)
 }

@@ -2,20 +2,21 @@
 use Rattle.std.specs.Prelude.{◌≡◌, ℕ, ◌+◌, ◌<◌, ◌≤◌, ◌^◌, true, false, List, [], ◌∷◌, ◌++◌, length, IfSome, is_some}
 use Rattle.std.specs.Option.{option_map}
 use Rattle.std.specs.Int.{w32, to_be_bytes}
-use Rattle.std.proofs.Common.{ap, arith, length-append}
+use Rattle.std.proofs.Common.{ap, refl, subst, ◌∙◌, arith, length-append}
 use Rattle.orc_io.specs.Counts.{Rose}
+use Rattle.orc_disk.specs.Files.{written}
 use Rattle.orc_disk.specs.Meanings.{DiskMeaning}
 use Rattle.orc_disk.specs.Moments.{LeavesOnly}
 use Rattle.orc_disk.specs.Crashes.{LeavesAsRead}
 use Rattle.orc_disk.specs.Rows.{row}
 use Rattle.orc_disk.specs.Course.{FailsAmong}
-use Rattle.orc_disk.proofs.Courses.{FailsAmong-weaker}
 use Rattle.orc_journal.specs.Entries.{entry_kind, payload, entry_bytes}
 use Rattle.orc_journal.specs.Opened.{OpenJournal, IsReady, WhereHolds}
 use Rattle.orc_journal.specs.Journals.{gated, journal_bytes, IsGated}
-use Rattle.orc_journal.specs.Appends.{block_bytes, with_entry, IsBeforeOrAfter, IsLeftBehind, LeavesBeforeOrAfter, HasAppended, HasFailed}
-use Rattle.orc_journal.specs.inside.Blocks.{IsBlock, PutsEntry, WherePuts}
+use Rattle.orc_journal.specs.Appends.{block_bytes, with_entry, IsBeforeOrAfter, LeavesBeforeOrAfter, HasAppended, HasFailed}
+use Rattle.orc_journal.specs.inside.Blocks.{IsBlock, PutsEntry, WherePuts, IsAppendedShort}
 use Rattle.orc_journal.specs.declared.entry.Entry.{Entry}
+use Rattle.orc_journal.proofs.Puts.{with_entry-done}
 use Rattle.orc_journal.proofs.TornFiles.{journal_push}
 
 length_entry : (entry : Entry) → length (entry_bytes entry) ≡ length (payload entry) + 5
@@ -48,16 +49,31 @@ module _ {D : Type 0} (disk : DiskMeaning D) (old new : OpenJournal D) (entry : 
 
   -- also where one of them failed
   pub has_failed : Rose (disk.faults old.disk) (disk.faults new.disk) → new ≡ record old { disk = new.disk; spent = true }
-      → FailsAmong disk 4 old.disk new.disk
-      (λ done. WherePuts (disk.content old.disk) old.len block (λ decls entries entry. IfSome (disk.content new.disk) (IsLeftBehind done decls entries entry)))
-      → HasFailed disk old new entry
+      → FailsAmong disk 4 old.disk new.disk (IsAppendedShort disk old.len block old.disk new.disk) → HasFailed disk old new entry
   has_failed rose spent fails = record {
     rose = rose;
     spent = spent;
-    course = FailsAmong-weaker disk 4 4 old.disk new.disk
-        (λ done. WherePuts (disk.content old.disk) old.len block (λ decls entries entry. IfSome (disk.content new.disk) (IsLeftBehind done decls entries entry)))
-        (λ done. WhereHolds disk old (λ decls entries. IfSome (disk.content new.disk) (IsLeftBehind done decls entries entry)))
-        (omega arith) (λ done fewer left decls entries holds. left decls entries entry (puts decls entries holds)) fails;
+    course = record {
+      done = fails.done;
+      fewer = fails.fewer;
+      failed = fails.failed;
+      known = λ decls entries holds. fails.known.left decls entries entry (puts decls entries holds);
+    };
+    cut = λ none. subst (λ (b : List ℕ). disk.cut old.len b old.disk new.disk) is.bytes (fails.known.cut none);
+    syncing = fails.known.syncing;
+    put = λ one. fails.known.put one ∙ ap (λ (b : List ℕ). option_map (written old.len b) (disk.content old.disk)) is.bytes;
+    opened = λ three. with_entry-done (disk.content old.disk) (option_map (written old.len block) (disk.content old.disk)) (disk.content new.disk) old.len block entry is.bytes refl
+        (fails.known.opened three);
+    opening = λ third.
+        let short = fails.known.opening third in
+        record {
+          before = short.before;
+          ran = short.ran;
+          put = short.put ∙ ap (λ (b : List ℕ). option_map (written old.len b) (disk.content old.disk)) is.bytes;
+          closed = λ decls entries holds. short.closed decls entries entry (puts decls entries holds);
+          opened = λ decls entries holds. short.opened decls entries entry (puts decls entries holds);
+          cut = short.cut;
+        };
   }
 
 -- it was put

@@ -91,7 +91,7 @@ gate_there bytes decls entries j le = on j.rest refl
 
 -- one that ends in its place
 module _ (bytes decls : List ℕ) (entries : List Entry) (j : IsJournal bytes decls entries) (short : length bytes < journal_length decls entries) where
-  gate_lacks : bytes ≡ journal_bytes decls entries
+  pub gate_lacks : bytes ≡ journal_bytes decls entries
   gate_lacks =
       let none : j.rest ≡ [] = nil_from_length j.rest (omega (arith, short, ap length j.bytes, length-append (journal_bytes decls entries) j.rest)) in
       j.bytes ∙ ap (λ (l : List ℕ). journal_bytes decls entries ++ l) none ∙ append-nil (journal_bytes decls entries)

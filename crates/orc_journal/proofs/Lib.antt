@@ -3,6 +3,7 @@ pub mod Changes
 mod Counts
 pub mod Endings
 pub mod Synced
+mod Operations
 mod Openings
 mod Pieces
 mod Loading
@@ -18,7 +19,7 @@ mod Verdicts
 mod Rules
 mod Appended
 mod LeftBehind
-mod Puts
+pub mod Puts
 mod TornFiles
 pub mod Newest
 mod Leaving

@@ -1,7 +1,7 @@
 -- What is known of a disk that was looked at, synced and read.
-use Rattle.std.specs.Prelude.{◌≡◌, ℕ, ◌<◌, ◌≤◌, false, List, [], ◌∷◌, length, take, Ok, IfSome}
+use Rattle.std.specs.Prelude.{◌≡◌, ℕ, ◌<◌, ◌≤◌, false, List, [], ◌∷◌, ◌++◌, length, take, Ok, IfSome}
 use Rattle.std.proofs.Common.{inl, inr, refl, sym, subst, arith}
-use Rattle.std.proofs.lemmas.List.{nil_from_length}
+use Rattle.std.proofs.lemmas.List.{nil_from_length, length-take-le}
 use Rattle.std.proofs.lemmas.Option.{IfSome_then}
 use Rattle.orc_disk.specs.Rows.{Course, joined, row, read_row}
 use Rattle.orc_disk.specs.Files.{ReadsFrom}
@@ -13,6 +13,7 @@ use Rattle.orc_io.specs.declared.traits.Failed.{Failed}
 use Rattle.orc_journal.specs.Hearing.{none, WasSynced}
 use Rattle.orc_journal.specs.inside.Steps.{HeardAll, HasLoaded}
 use Rattle.orc_journal.proofs.Changes.{Unchanged-trans}
+use Rattle.orc_journal.proofs.Operations.{does_more}
 
 module _ {D : Type 0} (disk : DiskMeaning D) where
   -- a look at the first byte gave none
@@ -28,26 +29,30 @@ module _ {D : Type 0} (disk : DiskMeaning D) where
         looked = inl (record { at_once = refl; empty = empty; looked = looked });
         heard = record { reads = []; pieces = none; course = looked; told = IfSome_then (disk.content old) empty (λ held is. sym is) };
         behind = row;
+        course = ((0, []) ∷ [], looked.1);
       }
 
   -- it gave one, and then the disk was synced
   pub was_synced : ((first second : Course) (a b c : D) → disk.leads first a b → disk.leads second b c → disk.leads (joined first second) a c)
       → ((at : D) (since : ℕ) (file : List ℕ) → since ≤ disk.moment at → disk.may_leave at file → disk.left_since at since file)
-      → (old mid synced : D) (buf : List ℕ) (count : ℕ) → disk.leads (read_row {E = Failed} 0 buf (Ok count)) old mid → disk.leads (row 1 false) mid synced
+      → (old mid synced : D) (buf : List ℕ) (count : ℕ) → length buf ≡ 1 → count ≤ length buf → (count ≡ 0 → ⊥) → disk.leads (read_row {E = Failed} 0 buf (Ok count)) old mid → disk.leads (row 1 false) mid synced
       → Unchanged disk old mid → Unchanged disk mid synced → LeavesAsRead (disk.content synced) (disk.may_leave synced) → WasSynced disk old synced
-  was_synced goes_on counts_now old mid synced buf count look sync first second durable = record {
+  was_synced goes_on counts_now old mid synced buf count room fits some look sync first second durable = record {
     first = take count buf;
+    one = omega (arith, length-take-le count buf fits, room, fits, some);
     looked = goes_on (read_row {E = Failed} 0 buf (Ok count)) (row 1 false) old mid synced look sync;
     unchanged = Unchanged-trans disk counts_now old mid synced first second;
     durable = durable;
   }
 
   -- and then it was read
-  pub loaded_all : (old synced new : D) (file : List ℕ) → WasSynced disk old synced → Unchanged disk synced new → HeardAll disk synced new file
+  pub loaded_all : ((first second : Course) (a b c : D) → disk.leads first a b → disk.leads second b c → disk.leads (joined first second) a c)
+      → (old synced new : D) (file : List ℕ) → WasSynced disk old synced → Unchanged disk synced new → HeardAll disk synced new file
       → IfSome (disk.content synced) (λ held. file ≡ held) → HasLoaded disk old new file
-  loaded_all old synced new file was row heard told = record {
+  loaded_all goes_on old synced new file was row heard told = record {
     synced = synced;
     looked = inr was;
-    heard = record { reads = heard.reads; pieces = heard.pieces; course = heard.course; told = told };
+    heard = record { reads = heard.reads; pieces = heard.pieces; course = (0, heard.course); told = told };
     behind = row;
+    course = does_more disk goes_on 1 0 old synced new ((0, was.first) ∷ [], was.looked) (heard.reads ++ (length file, []) ∷ [], heard.course);
   }

@@ -4,15 +4,13 @@ use Rattle.std.proofs.Common.{refl, sym, ap, subst, ◌∙◌}
 use Rattle.std.proofs.lemmas.List.{append-nil}
 use Rattle.orc_disk.specs.Rows.{Course, joined, row}
 use Rattle.orc_disk.specs.Meanings.{DiskMeaning}
-use Rattle.orc_disk.specs.Course.{Hears}
-use Rattle.orc_disk.proofs.Courses.{Hears-trans}
 use Rattle.orc_journal.specs.Hearing.{Gave, none, more}
-use Rattle.orc_journal.specs.inside.Steps.{HeardPiece, HeardFront, HeardAll}
+use Rattle.orc_journal.specs.inside.Steps.{HeardPiece, HeardFront, HeardAll, reading}
 
 module _ {D : Type 0} (disk : DiskMeaning D) where
   -- nothing yet
   pub heard_nothing : ((d : D) → disk.leads (row 0 false) d d) → (old : D) → HeardFront disk old old []
-  heard_nothing stays old = record { reads = []; pieces = none; course = (0, stays old) }
+  heard_nothing stays old = record { reads = []; pieces = none; course = stays old }
 
   module _ (goes_on : (first second : Course) (a b c : D) → disk.leads first a b → disk.leads second b c → disk.leads (joined first second) a c)
       (old mid new : D) (before after : List ℕ) (front : HeardFront disk old mid before) where
@@ -21,7 +19,7 @@ module _ {D : Type 0} (disk : DiskMeaning D) where
     heard_more again piece = record {
       reads = front.reads ++ (length before, piece.piece) ∷ [];
       pieces = subst (Gave (front.reads ++ (length before, piece.piece) ∷ [])) (sym piece.grows) (more front.reads before piece.piece front.pieces);
-      course = Hears-trans disk goes_on false false front.reads ((length before, piece.piece) ∷ []) old mid new front.course piece.course;
+      course = goes_on (reading front.reads) (reading ((length before, piece.piece) ∷ [])) old mid new front.course piece.course;
     }
 
     -- none more
@@ -29,10 +27,10 @@ module _ {D : Type 0} (disk : DiskMeaning D) where
     heard_all piece =
         let nothing : piece.piece ≡ [] = piece.last refl in
         let same : before ≡ after = sym (append-nil before) ∙ ap (λ (l : List ℕ). before ++ l) (sym nothing) ∙ sym piece.grows in
-        let last : Hears disk false ((length before, []) ∷ []) mid new =
-        subst (λ (l : List ℕ). Hears disk false ((length before, l) ∷ []) mid new) nothing piece.course in
+        let last : disk.leads (reading ((length before, []) ∷ [])) mid new =
+        subst (λ (l : List ℕ). disk.leads (reading ((length before, l) ∷ [])) mid new) nothing piece.course in
         subst (HeardAll disk old new) same (record {
           reads = front.reads;
           pieces = front.pieces;
-          course = Hears-trans disk goes_on false false front.reads ((length before, []) ∷ []) old mid new front.course last;
+          course = goes_on (reading front.reads) (reading ((length before, []) ∷ [])) old mid new front.course last;
         })

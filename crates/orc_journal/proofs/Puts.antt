@@ -32,6 +32,16 @@ with_entry-done old mid new at block entry is first second =
     twice None = refl
     twice (Some file) = refl
 
+-- with the entry behind its ending gate the file is still the journal of those before
+pub staged_closed : (decls : List ℕ) (entries : List Entry) (entry : Entry) (file : List ℕ) → IsStaged decls entries entry file → IsGated file decls entries
+staged_closed decls entries entry file is = record {
+  gate = is.gate;
+  rest = entry_bytes entry ++ 0 ∷ is.rest;
+  bytes = is.bytes;
+  closed = is.closed;
+  writable = is.writable;
+}
+
 module _ (decls : List ℕ) (entries : List Entry) (entry : Entry) (at : ℕ) (block : List ℕ) where
   module _ (content : Option (List ℕ)) (puts : PutsEntry content at block decls entries entry) where
     pub first_torn : (images : List ℕ → Type 0) → LeavesAsRead content images → (c : List ℕ) → IsTornFrom images at (length block) c

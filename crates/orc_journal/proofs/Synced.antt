@@ -76,16 +76,6 @@ module _ {D : Type 0} (disk : DiskMeaning D) where
 
   module _ (goes_on : (first second : Course) (a b c : D) → disk.leads first a b → disk.leads second b c → disk.leads (joined first second) a c) where
     -- more operations, whose reads gave nothing
-    pub IsSynced-later : (old synced mid new : D) → IsSynced disk old synced mid → Hears disk false [] mid new → IsSynced disk old synced new
-    IsSynced-later old synced mid new looked led = ⊎_elim
-        (λ was. inl (record {
-          at_once = was.at_once;
-          empty = was.empty;
-          looked = Hears-trans disk goes_on false false ((0, []) ∷ []) [] old mid new was.looked led;
-        }))
-        (λ was. inr was)
-        looked
-
     pub Heard-later : (synced mid new : D) (file : List ℕ) → Heard disk synced mid file → Hears disk false [] mid new → Heard disk synced new file
     Heard-later synced mid new file heard led =
         let all = heard.reads ++ (length file, []) ∷ [] in

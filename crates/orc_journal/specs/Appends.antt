@@ -8,14 +8,14 @@ use Rattle.orc_disk.specs.Moments.{LeavesOnly}
 use Rattle.orc_disk.specs.Course.{FailsAmong}
 use Rattle.orc_disk.specs.Rows.{row}
 use Rattle.orc_journal.specs.Entries.{entry_bytes}
-use Rattle.orc_journal.specs.Journals.{IsGated}
+use Rattle.orc_journal.specs.Journals.{closing_gate, IsGated}
 use Rattle.orc_journal.specs.Opened.{OpenJournal, Holds, WhereHolds}
 use Rattle.orc_journal.specs.declared.entry.Entry.{Entry}
-use Rattle.orc_journal.specs.declared.gate.TheConstants.{OPEN, CLOSED}
+use Rattle.orc_journal.specs.declared.gate.TheConstants.{OPEN}
 
 -- an entry, and a closed gate behind it
 abbrev pub block_bytes : Entry → List ℕ
-block_bytes entry = entry_bytes entry ++ CLOSED ∷ []
+block_bytes entry = entry_bytes entry ++ closing_gate ∷ []
 
 -- the file of a journal of this length behind an append: the entry and a closed gate were put behind the ending gate,
 -- and then that gate was opened
@@ -61,9 +61,36 @@ module _ {D : Type 0} (disk : DiskMeaning D) where
     pub fits : new.len ≤ old.limit
     pub course : disk.leads (row 4 false) old.disk new.disk
 
-  -- One of the four failed and was the last. How many were done before it tells which entries are there.
+  -- The write that opens the gate failed. Before it the disk held the journal of the entries before, which that one
+  -- byte makes the journal of those and the new one, and what the disk tells of a cut write it tells of this one.
+  pub record FailsToOpen (old new : OpenJournal D) (entry : Entry) : Type 0 where
+    pub before : D
+    pub ran : disk.leads (row (opens_gate - 1) false) old.disk before
+    pub put : disk.content before ≡ option_map (written old.len (block_bytes entry)) (disk.content old.disk)
+    pub closed : WhereHolds disk old (λ decls entries.
+        IfSome (disk.content before) (λ file. IsGated file decls entries))
+    pub opened : WhereHolds disk old (λ decls entries.
+        IfSome (option_map (written (old.len - 1) (OPEN ∷ [])) (disk.content before))
+        (λ file. IsGated file decls (entries ++ entry ∷ [])))
+    pub cut : disk.cut (old.len - 1) (OPEN ∷ []) before new.disk
+
+  -- A sync failed behind so many writes and syncs, and what the disk tells of that.
+  pub record FailsToSync (done : ℕ) (old new : D) : Type 0 where
+    pub before : D
+    pub ran : disk.leads (row done false) old before
+    pub cut : disk.cut 0 [] before new
+
+  -- One of the four failed and was the last. How many were done before it tells which entries are there, and what was
+  -- put: of the first write what the disk tells of a cut one, and behind each write what that put.
   pub record HasFailed (old new : OpenJournal D) (entry : Entry) : Type 0 where
     pub rose : Rose (disk.faults old.disk) (disk.faults new.disk)
     pub spent : new ≡ record old { disk = new.disk; spent = true }
     pub course : FailsAmong disk 4 old.disk new.disk (λ done. WhereHolds disk old
         (λ decls entries. IfSome (disk.content new.disk) (IsLeftBehind done decls entries entry)))
+    pub cut : course.done ≡ 0 → disk.cut old.len (block_bytes entry) old.disk new.disk
+    pub syncing : (course.done ≡ 1) ⊎ (course.done ≡ opens_gate) → FailsToSync course.done old.disk new.disk
+    pub put : course.done ≡ 1
+        → disk.content new.disk ≡ option_map (written old.len (block_bytes entry)) (disk.content old.disk)
+    pub opening : course.done + 1 ≡ opens_gate → FailsToOpen old new entry
+    pub opened : course.done ≡ opens_gate
+        → disk.content new.disk ≡ option_map (with_entry old.len entry) (disk.content old.disk)

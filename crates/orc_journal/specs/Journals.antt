@@ -5,7 +5,7 @@ use Rattle.std.specs.List.{flat_map}
 use Rattle.orc_journal.specs.Entries.{entry_bytes, IsWritable}
 use Rattle.orc_journal.specs.Orders.{is_ordered, follows}
 use Rattle.orc_journal.specs.declared.entry.Entry.{Entry}
-use Rattle.orc_journal.specs.declared.gate.TheConstants.{OPEN}
+use Rattle.orc_journal.specs.declared.gate.TheConstants.{OPEN, CLOSED}
 use Rattle.orc_journal.specs.declared.header.TheConstants.{MAGIC, HEADER_LEN}
 
 -- the first bytes of each journal
@@ -27,6 +27,10 @@ journal_bytes decls entries = header decls ++ flat_map gated entries
 -- every value but one is closed
 abbrev pub is_closed : ℕ → Bool
 is_closed gate = not (gate == OPEN)
+
+-- and this one is written
+abbrev pub closing_gate : ℕ
+closing_gate = CLOSED
 
 -- the end of the file in the gate's place, or a closed gate and whatever follows
 abbrev pub is_ending : List ℕ → Bool

@@ -2,6 +2,7 @@ pub mod Entries
 pub mod Orders
 pub mod Journals
 pub mod Committed
+pub mod Operations
 pub mod Hearing
 pub mod Faults
 pub mod Opened

@@ -10,7 +10,7 @@ pub enum OpenFault {
     Foreign { at: u64 },
     /// The file isn't empty and doesn't begin as journals do.
     NotJournal,
-    /// A call of the disk failed.
+    /// An operation of the disk failed.
     DiskFault,
     /// Memory could not be had.
     Memory,
@@ -24,7 +24,7 @@ pub enum OpenFault {
 /// Why an entry was not appended.
 #[derive(Clone, Copy, Debug, PartialEq, Eq)]
 pub enum AppendFault {
-    /// A call of the disk failed. The journal is spent.
+    /// An operation of the disk failed. The journal is spent.
     DiskFault,
     /// The entry would pass the limit; the journal has this length.
     Full { len: u64 },

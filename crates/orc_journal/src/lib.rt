@@ -21,8 +21,6 @@ mod order;
 mod put;
 mod reading;
 mod stage;
-#[cfg(test)]
-mod tests;
 mod writing;
 
 pub use committed::committed_by;

@@ -1,16 +1,16 @@
 //! Opening a journal: what a disk holds is read, and the header or the ending gate is written where
 //! it lacks.
-ghost use Rattle.std.specs.Prelude.{◌≡◌, ◌<◌, ◌≤◌, ◌^◌, ◌+◌, ℕ, true, false, [], List, length, vec_len, IfOk, IfErr, OnOk, IfSome, is_err, IsTrue};
+ghost use Rattle.std.specs.Prelude.{◌≡◌, ◌<◌, ◌≤◌, ◌^◌, ◌+◌, ℕ, true, false, [], List, length, vec_len, IfOk, IfErr, OnOk, OnErr, IfSome, IsTrue};
 ghost use Rattle.orc_io.specs.Counts.{HasCause};
 ghost use Rattle.orc_disk.specs.Crashes.{LeavesAsRead};
 ghost use Rattle.orc_disk.specs.Moments.{Unchanged};
-ghost use Rattle.orc_disk.specs.Course.{Hears};
 ghost use Rattle.orc_journal.specs.Orders.{is_ordered};
+ghost use Rattle.orc_journal.specs.Operations.{FailsBefore};
 ghost use Rattle.orc_journal.specs.Journals.{header, journal_length, IsJournal};
 ghost use Rattle.orc_journal.specs.Opening.{LeavesOpening, HasRefused};
 ghost use Rattle.orc_journal.specs.inside.Fronts.{IsFront};
 ghost use Rattle.orc_journal.specs.inside.ReadFaults.{IsDiskFault, IsFileFault};
-ghost use Rattle.orc_journal.specs.inside.Steps.{WentTo, WroteTo, IsUntouched, HeardPiece, HeardAll, HasLoaded, HasGivenUp, IsStored, IsOpenedAs};
+ghost use Rattle.orc_journal.specs.inside.Steps.{EndsReading, FailsAfter, IsUntouched, HeardPiece, HeardAll, HasLoaded, HasGivenUp, IsStored, IsOpenedAs};
 ghost use Rattle.orc_journal.specs.declared.entry.Entry.{Entry};
 
 use crate::OpenFault;
@@ -34,7 +34,7 @@ fn read_piece<D: Disk>(disk: &mut D, bytes: &mut Vec<u8>) -> Result<bool, OpenFa
         IsFront bytes.old.items file → more ≡ false → bytes.new.items ≡ file)) }
     ensures heard { IfOk result (HeardPiece D.disk disk.old disk.new bytes.old.items bytes.new.items) }
     ensures unchanged { Unchanged D.disk disk.old disk.new }
-    ensures course { WentTo D.disk result disk.old disk.new }
+    ensures ends { IfErr result (EndsReading D.disk disk.old disk.new) }
     ensures refused { IfErr result (IsDiskFault D.disk disk.old disk.new) }
 {
     let mut buf = [0u8; PIECE_LEN];
@@ -50,7 +50,7 @@ fn read_all<D: Disk>(alloc: Global, disk: &mut D) -> Result<Vec<u8>, OpenFault>
     ensures whole { IfOk result (λ bytes. IfSome (D.disk.content disk.old) (λ file. bytes.items ≡ file)) }
     ensures heard { IfOk result (λ bytes. HeardAll D.disk disk.old disk.new bytes.items) }
     ensures unchanged { Unchanged D.disk disk.old disk.new }
-    ensures course { WentTo D.disk result disk.old disk.new }
+    ensures ends { IfErr result (EndsReading D.disk disk.old disk.new) }
     ensures refused { IfErr result (IsDiskFault D.disk disk.old disk.new) }
 {
     let mut bytes = Vec::new(alloc);
@@ -67,7 +67,7 @@ fn load<D: Disk>(alloc: Global, disk: &mut D) -> Result<Vec<u8>, OpenFault>
         → LeavesAsRead (D.disk.content disk.new) (D.disk.may_leave disk.new)) }
     ensures memory { IfErr result (λ fault. fault ≡ OpenFault.Memory → HasGivenUp D.disk disk.old disk.new) }
     ensures unchanged { Unchanged D.disk disk.old disk.new }
-    ensures course { WentTo D.disk result disk.old disk.new }
+    ensures failed { IfErr result (FailsAfter D.disk 2 disk.old disk.new) }
     ensures refused { IfErr result (IsDiskFault D.disk disk.old disk.new) }
 {
     let mut first = [0u8; 1];
@@ -87,11 +87,12 @@ fn begin<D: Disk>(
 ) -> Result<Contents, OpenFault>
     requires short { length decls.now < 2 ^ 32 }
     requires empty { IfSome (D.disk.content disk.old) (λ file. file ≡ []) }
-    ensures stored { IfOk result (λ begun. IsStored D.disk disk.new [] decls.now begun.entries.items begun.len) }
+    ensures stored { IfOk result (λ begun.
+        IsStored D.disk disk.old disk.new [] decls.now begun.entries.items begun.len) }
     ensures entries { IfOk result (λ begun. begun.entries.items ≡ []) }
     ensures room { OnOk result (length (header decls.now) + 1 ≤ limit) }
     ensures leaves { LeavesOpening D.disk decls.now disk.old disk.new }
-    ensures course { WroteTo D.disk result disk.old disk.new }
+    ensures failed { IfErr result (FailsAfter D.disk 2 disk.old disk.new) }
     ensures refused { IfErr result (IsFileFault D.disk disk.old disk.new [] decls.now limit) }
     ensures kept { IfErr result (IsUntouched D.disk disk.old disk.new) }
 {
@@ -112,10 +113,11 @@ fn close<D: Disk>(disk: &mut D, bytes: &[u8], len: u64) -> Result<(), Failed>
     requires whole { IfSome (D.disk.content disk.old) (λ file. bytes.now ≡ file) }
     requires durable { LeavesAsRead (D.disk.content disk.old) (D.disk.may_leave disk.old) }
     ensures stored { (decls : List ℕ) (entries : List Entry) → IsJournal bytes.now decls entries
-        → len ≡ journal_length decls entries → OnOk result (IsStored D.disk disk.new bytes.now decls entries len) }
+        → len ≡ journal_length decls entries
+        → OnOk result (IsStored D.disk disk.old disk.new bytes.now decls entries len) }
     ensures leaves { (decls : List ℕ) (entries : List Entry) → IsJournal bytes.now decls entries
         → len ≡ journal_length decls entries → LeavesOpening D.disk decls disk.old disk.new }
-    ensures course { Hears D.disk (is_err result) [] disk.old disk.new }
+    ensures failed { OnErr result (FailsBefore D.disk 2 disk.old disk.new) }
     ensures cause { HasCause (D.disk.faults disk.old) (D.disk.faults disk.new) result }
 {
     if len <= bytes.len() as u64 {
@@ -136,11 +138,11 @@ fn found<D: Disk>(
     requires whole { IfSome (D.disk.content disk.old) (λ file. bytes.now ≡ file) }
     requires durable { LeavesAsRead (D.disk.content disk.old) (D.disk.may_leave disk.old) }
     ensures stored { IfOk result (λ found.
-        IsStored D.disk disk.new bytes.now decls.now found.entries.items found.len) }
+        IsStored D.disk disk.old disk.new bytes.now decls.now found.entries.items found.len) }
     ensures journal { IfOk result (λ found. IsJournal bytes.now decls.now found.entries.items) }
     ensures ordered { IfOk result (λ found. IsTrue (is_ordered found.entries.items)) }
     ensures leaves { LeavesOpening D.disk decls.now disk.old disk.new }
-    ensures course { WroteTo D.disk result disk.old disk.new }
+    ensures failed { IfErr result (FailsAfter D.disk 2 disk.old disk.new) }
     ensures refused { (limit : ℕ) → IfErr result (IsFileFault D.disk disk.old disk.new bytes.now decls.now limit) }
     ensures kept { IfErr result (IsUntouched D.disk disk.old disk.new) }
 {

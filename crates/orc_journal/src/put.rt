@@ -8,9 +8,9 @@ ghost use Rattle.orc_disk.specs.Moments.{LeavesOnly};
 ghost use Rattle.orc_disk.specs.Course.{FailsAmong};
 ghost use Rattle.orc_disk.specs.Rows.{row};
 ghost use Rattle.orc_journal.specs.Journals.{IsGated};
-ghost use Rattle.orc_journal.specs.Appends.{block_bytes, with_entry, IsBeforeOrAfter, IsLeftBehind};
+ghost use Rattle.orc_journal.specs.Appends.{block_bytes, with_entry, IsBeforeOrAfter};
 ghost use Rattle.orc_journal.specs.declared.entry.Entry.{Entry};
-ghost use Rattle.orc_journal.specs.inside.Blocks.{IsTornFrom, WherePuts};
+ghost use Rattle.orc_journal.specs.inside.Blocks.{IsTornFrom, WherePuts, IsPutShort, IsAppendedShort};
 
 use crate::gate::OPEN;
 use orc_disk::Disk;
@@ -28,9 +28,8 @@ pub(crate) fn put_synced<D: Disk>(disk: &mut D, at: u64, bytes: &[u8]) -> Result
         (IsTornFrom (D.disk.may_leave disk.old) at (length bytes.now)) }
     ensures left { IfSome (D.disk.content disk.new) (IsTornFrom (D.disk.may_leave disk.old) at (length bytes.now)) }
     ensures course { OnOk result (D.disk.leads (row 2 false) disk.old disk.new) }
-    // Where the write was done and the sync failed, the bytes are there.
-    ensures failed { OnErr result (FailsAmong D.disk 2 disk.old disk.new (λ done. done ≡ 1
-        → D.disk.content disk.new ≡ option_map (written at bytes.now) (D.disk.content disk.old))) }
+    ensures failed { OnErr result (FailsAmong D.disk 2 disk.old disk.new
+        (IsPutShort D.disk at bytes.now disk.old disk.new)) }
     ensures cause { HasCause (D.disk.faults disk.old) (D.disk.faults disk.new) result }
 {
     disk.write_at(at, bytes)?;
@@ -54,9 +53,8 @@ pub(crate) fn put_gated<D: Disk>(disk: &mut D, at: u64, block: &[u8]) -> Result<
     ensures left { WherePuts (D.disk.content disk.old) at block.now (λ decls entries entry.
         IfSome (D.disk.content disk.new) (IsBeforeOrAfter decls entries entry)) }
     ensures course { OnOk result (D.disk.leads (row 4 false) disk.old disk.new) }
-    ensures failed { OnErr result (FailsAmong D.disk 4 disk.old disk.new (λ done.
-        WherePuts (D.disk.content disk.old) at block.now (λ decls entries entry.
-        IfSome (D.disk.content disk.new) (IsLeftBehind done decls entries entry)))) }
+    ensures failed { OnErr result (FailsAmong D.disk 4 disk.old disk.new
+        (IsAppendedShort D.disk at block.now disk.old disk.new)) }
     ensures cause { HasCause (D.disk.faults disk.old) (D.disk.faults disk.new) result }
 {
     put_synced(disk, at, block)?;

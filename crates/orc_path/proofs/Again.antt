@@ -3,15 +3,16 @@ use Rattle.std.proofs.Common.{◌≡◌, ℕ, Bool, true, false, ◌==◌, ◌&&
 use Rattle.std.specs.List.{flat_map, list_all}
 use Rattle.std.specs.Option.{option_and_then, option_map_or}
 use Rattle.std.specs.Cmp.{first_so, second_so}
-use Rattle.orc_path.specs.Alphabet.{is_name_byte, is_identifier, is_qualified, is_qualified_rest, is_key, is_key_byte}
+use Rattle.orc_path.specs.Alphabet.{is_name_byte, is_identifier, is_qualified, is_qualified_rest, is_key}
 use Rattle.orc_path.specs.Steps.{PathStep, is_later_step, is_path}
 use Rattle.orc_path.specs.Texts.{escape, key_text, step_text, path_text}
-use Rattle.orc_path.specs.inside.Reading.{name_mode, feed_mark, at_start, whole}
-use Rattle.orc_path.proofs.Runs.{name_modes, feed_all, feed_all-append}
+use Rattle.orc_path.specs.inside.Reading.{name_mode, is_key_byte, feed_mark, feed_all, at_start, whole}
+use Rattle.orc_path.proofs.Runs.{name_modes, feed_all-append}
 use Rattle.orc_path.specs.declared.mode.Mode.{Mode}
 use Rattle.orc_path.specs.declared.mode.Mode.TheVariants.{Slash, Module, Colon, Inside, Next, Key, Closed}
 use Rattle.orc_path.specs.declared.reader.Reader.{Reader}
 use Rattle.orc_path.proofs.Parts.{no_colon}
+use Rattle.orc_path.proofs.Plain.{key_bytes}
 
 -- the path, where these bytes bring the reader to the end of one
 abbrev pub path_behind : Reader → List ℕ → Option (List PathStep)
@@ -78,7 +79,7 @@ names_again m m' d n (b ∷ bs) e =
 byte_again : (d : List PathStep) (n : List ℕ) (ks : List (List ℕ)) (k : List ℕ) (b : ℕ) → is_key_byte b ≡ true → feed_all (reader_at Key d n ks k) (escape b) ≡ Some (reader_at Key d n ks (k ++ b ∷ []))
 byte_again d n ks k b h = grind arith
 
-key_again : (d : List PathStep) (n : List ℕ) (ks : List (List ℕ)) (k more : List ℕ) → is_key more ≡ true → feed_all (reader_at Key d n ks k) (flat_map escape more) ≡ Some (reader_at Key d n ks (k ++ more))
+key_again : (d : List PathStep) (n : List ℕ) (ks : List (List ℕ)) (k more : List ℕ) → list_all is_key_byte more ≡ true → feed_all (reader_at Key d n ks k) (flat_map escape more) ≡ Some (reader_at Key d n ks (k ++ more))
 key_again d n ks k [] h = ap (λ x. Some (reader_at Key d n ks x)) (sym (append-nil k))
 key_again d n ks k (b ∷ more) h =
     feed_all-append (reader_at Key d n ks k) (escape b) (flat_map escape more)
@@ -89,7 +90,7 @@ key_again d n ks k (b ∷ more) h =
 bracket_again : (d : List PathStep) (n : List ℕ) (ks : List (List ℕ)) (k : List ℕ) → is_key k ≡ true → feed_all (reader_at Key d n ks []) (flat_map escape k ++ 93 ∷ []) ≡ Some (reader_at Closed d n (ks ++ k ∷ []) [])
 bracket_again d n ks k h =
     feed_all-append (reader_at Key d n ks []) (flat_map escape k) (93 ∷ [])
-    ∙ ap (option_and_then (λ s. feed_all s (93 ∷ []))) (key_again d n ks [] k h)
+    ∙ ap (option_and_then (λ s. feed_all s (93 ∷ []))) (key_again d n ks [] k (key_bytes k h))
 
 keys_again : (d : List PathStep) (n : List ℕ) (ks more : List (List ℕ)) → list_all is_key more ≡ true → feed_all (reader_at Closed d n ks []) (flat_map key_text more) ≡ Some (reader_at Closed d n (ks ++ more) [])
 keys_again d n ks [] h = ap (λ x. Some (reader_at Closed d n x [])) (sym (append-nil ks))

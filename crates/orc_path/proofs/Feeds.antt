@@ -1,18 +1,19 @@
 -- What a byte adds to the text read so far.
-use Rattle.std.proofs.Common.{◌≡◌, ℕ, true, ◌==◌, List, [], ◌∷◌, ◌++◌, Some, None, Option, refl, sym, ap, subst, ◌∙◌, arith, append_assoc, append-nil}
+use Rattle.std.proofs.Common.{◌≡◌, ℕ, ◌<◌, true, ◌==◌, List, [], ◌∷◌, ◌++◌, Some, None, Option, refl, sym, ap, subst, ◌∙◌, arith, append_assoc, append-nil}
 use Rattle.std.proofs.lemmas.Bool.{and_from}
 use Rattle.std.specs.List.{flat_map, list_all}
 use Rattle.std.specs.Option.{option_map, option_map_or}
 use Rattle.std.specs.Cmp.{first_so, second_so}
 use Rattle.std.proofs.lemmas.Grind.{flat_map-append}
-use Rattle.orc_path.specs.Alphabet.{is_key, is_key_byte}
+use Rattle.orc_path.specs.Alphabet.{is_key}
 use Rattle.orc_path.specs.Steps.{PathStep, is_path, is_later_step, is_name_behind}
 use Rattle.orc_path.specs.Texts.{escape, key_text, step_text}
-use Rattle.orc_path.specs.inside.Reading.{unescape, is_plain, name_mode, present_step, feed_end, feed_key, feed_escape, feed_mark, feed_at, IsNamePart, IsStepRead, IsKeyPart, FitsAt, Fits}
+use Rattle.orc_path.specs.inside.Reading.{unescape, is_key_byte, is_raw, name_mode, present_step, feed_end, feed_key, feed_escape, feed_mark, feed_at, IsNamePart, IsStepRead, IsKeyPart, FitsAt, Fits}
 use Rattle.orc_path.specs.declared.mode.Mode.{Mode}
 use Rattle.orc_path.specs.declared.mode.Mode.TheVariants.{Start, Slash, Module, Colon, Inside, Next, Key, Escape, Closed}
 use Rattle.orc_path.specs.declared.reader.Reader.{Reader}
 use Rattle.orc_path.proofs.Parts.{chosen, none_given, taken, list_all_more, name_step}
+use Rattle.orc_path.proofs.Plain.{is_plain_text-nil, is_plain_text-append, is_plain_text-byte}
 
 -- a step behind others
 pub is_path_more : (done : List PathStep) (s : PathStep) → is_path done ≡ true → is_name_behind done s.node ≡ true → list_all is_key s.keys ≡ true → is_path (done ++ s ∷ []) ≡ true
@@ -60,7 +61,7 @@ node_grows d n ks b e = grind (arith, append_assoc, append-nil)
 end_grows : (m : Mode) (r s : Reader) (b : ℕ) → read_at m r ≡ front r → IsStepRead r → feed_end r b ≡ Some s → Grows m r b s
 end_grows m r s b same f e =
     chosen (Grows m r b) (b == 91) (record r { mode = Key; key = [] }) s _ e
-    (λ k. let is : b ≡ 91 = grind arith in (record { step = record { before = f.before; node = f.node; keys = f.keys }; key = refl }, ap (λ x. front r ++ x ∷ []) (sym is) ∙ ap (λ x. x ++ b ∷ []) (sym same)))
+    (λ k. let is : b ≡ 91 = grind arith in (record { step = record { before = f.before; node = f.node; keys = f.keys }; key = is_plain_text-nil }, ap (λ x. front r ++ x ∷ []) (sym is) ∙ ap (λ x. x ++ b ∷ []) (sym same)))
     (λ k g. taken (Grows m r b) (b == 47) (record r { mode = Next; done = r.done ++ present_step r ∷ []; node = []; keys = [] }) s g
     (λ l. let is : b ≡ 47 = grind arith in (
       record {
@@ -81,11 +82,11 @@ key_closes d n ks k = grind (arith, flat_map-append, append_assoc, append-nil)
 key_grows_by : (d k : List ℕ) (c : ℕ) → d ++ 91 ∷ flat_map escape (k ++ c ∷ []) ≡ (d ++ 91 ∷ flat_map escape k) ++ escape c
 key_grows_by d k c = grind (arith, flat_map-append, append_assoc, append-nil)
 
-plain_escape : (b : ℕ) → is_plain b ≡ true → escape b ≡ b ∷ []
-plain_escape b h = grind arith
+raw_escape : (b : ℕ) → is_raw b ≡ true → escape b ≡ b ∷ []
+raw_escape b h = grind arith
 
-plain_is_key_byte : (b : ℕ) → is_plain b ≡ true → is_key_byte b ≡ true
-plain_is_key_byte b h = grind arith
+raw_is_key_byte : (b : ℕ) → is_raw b ≡ true → is_key_byte b ≡ true
+raw_is_key_byte b h = grind arith
 
 unescape_escape : (b c : ℕ) → unescape b ≡ Some c → escape c ≡ 92 ∷ b ∷ []
 unescape_escape b c h = grind arith
@@ -93,8 +94,11 @@ unescape_escape b c h = grind arith
 unescape_is_key_byte : (b c : ℕ) → unescape b ≡ Some c → is_key_byte c ≡ true
 unescape_is_key_byte b c h = grind arith
 
-key_grows : (r s : Reader) (b : ℕ) → r.mode ≡ Key → IsKeyPart r → feed_key r b ≡ Some s → Grows Key r b s
-key_grows r s b at f e =
+unescape_low : (b c : ℕ) → unescape b ≡ Some c → c < 128
+unescape_low b c h = grind arith
+
+key_grows : (r s : Reader) (b : ℕ) → b < 128 → r.mode ≡ Key → IsKeyPart r → feed_key r b ≡ Some s → Grows Key r b s
+key_grows r s b low at f e =
     chosen (Grows Key r b) (b == 93) (record r { mode = Closed; keys = r.keys ++ r.key ∷ []; key = [] }) s _ e
     (λ k. let is : b ≡ 93 = grind arith in (
       record { before = f.step.before; node = f.step.node; keys = list_all_more is_key r.keys r.key f.step.keys f.key },
@@ -103,10 +107,10 @@ key_grows r s b at f e =
     (λ k g. chosen (Grows Key r b) (b == 92) (record r { mode = Escape }) s _ g
     (λ l. let is : b ≡ 92 = grind arith in
     (record { step = record { before = f.step.before; node = f.step.node; keys = f.step.keys }; key = f.key }, ap (λ x. read_at Key r ++ x ∷ []) (sym is)))
-    (λ l i. taken (Grows Key r b) (is_plain b) (record r { key = r.key ++ b ∷ [] }) s i
+    (λ l i. taken (Grows Key r b) (is_raw b) (record r { key = r.key ++ b ∷ [] }) s i
     (λ p. subst (λ m. FitsAt m (record r { key = r.key ++ b ∷ [] }) × (read_at m (record r { key = r.key ++ b ∷ [] }) ≡ read_at Key r ++ b ∷ [])) (sym at) (
-      record { step = record { before = f.step.before; node = f.step.node; keys = f.step.keys }; key = list_all_more is_key_byte r.key b f.key (plain_is_key_byte b p) },
-      key_grows_by (front r) r.key b ∙ ap (λ x. read_at Key r ++ x) (plain_escape b p),
+      record { step = record { before = f.step.before; node = f.step.node; keys = f.step.keys }; key = is_plain_text-append r.key (b ∷ []) f.key (is_plain_text-byte b low (raw_is_key_byte b p)) },
+      key_grows_by (front r) r.key b ∙ ap (λ x. read_at Key r ++ x) (raw_escape b p),
     ))))
 
 escape_grows : (r s : Reader) (b : ℕ) → IsKeyPart r → feed_escape r b ≡ Some s → Grows Escape r b s
@@ -117,20 +121,20 @@ escape_grows r s b f e = mapped (unescape b) refl e
     mapped (Some c) u g =
         let is : record r { mode = Key; key = r.key ++ c ∷ [] } ≡ s = cc in
         subst (Grows Escape r b) is (
-          record { step = record { before = f.step.before; node = f.step.node; keys = f.step.keys }; key = list_all_more is_key_byte r.key c f.key (unescape_is_key_byte b c u) },
+          record { step = record { before = f.step.before; node = f.step.node; keys = f.step.keys }; key = is_plain_text-append r.key (c ∷ []) f.key (is_plain_text-byte c (unescape_low b c u) (unescape_is_key_byte b c u)) },
           key_grows_by (front r) r.key c ∙ ap (λ x. read_at Key r ++ x) (unescape_escape b c u) ∙ sym (append_assoc (front r ++ 91 ∷ flat_map escape r.key) (92 ∷ []) (b ∷ [])),
         )
 
-mark_grows : (m : Mode) (r s : Reader) (b : ℕ) → r.mode ≡ m → FitsAt m r → feed_mark m r b ≡ Some s → Grows m r b s
-mark_grows Start r s b at f e = start_grows r s b f e
-mark_grows Inside r s b at f e = end_grows Inside r s b refl f.0 e
-mark_grows Closed r s b at f e = end_grows Closed r s b refl f e
-mark_grows Key r s b at f e = key_grows r s b at f e
-mark_grows Escape r s b at f e = escape_grows r s b f e
-mark_grows Slash r s b at f e = none_given (Grows Slash r b s) s e
-mark_grows Module r s b at f e = none_given (Grows Module r b s) s e
-mark_grows Colon r s b at f e = none_given (Grows Colon r b s) s e
-mark_grows Next r s b at f e = none_given (Grows Next r b s) s e
+mark_grows : (m : Mode) (r s : Reader) (b : ℕ) → b < 128 → r.mode ≡ m → FitsAt m r → feed_mark m r b ≡ Some s → Grows m r b s
+mark_grows Start r s b low at f e = start_grows r s b f e
+mark_grows Inside r s b low at f e = end_grows Inside r s b refl f.0 e
+mark_grows Closed r s b low at f e = end_grows Closed r s b refl f e
+mark_grows Key r s b low at f e = key_grows r s b low at f e
+mark_grows Escape r s b low at f e = escape_grows r s b f e
+mark_grows Slash r s b low at f e = none_given (Grows Slash r b s) s e
+mark_grows Module r s b low at f e = none_given (Grows Module r b s) s e
+mark_grows Colon r s b low at f e = none_given (Grows Colon r b s) s e
+mark_grows Next r s b low at f e = none_given (Grows Next r b s) s e
 
 -- what a name needs of the parts around it
 record IsAround (m : Mode) (r : Reader) : Type 0 where
@@ -168,10 +172,10 @@ name_grows m to r b f e =
     let so = fits_around to (record r { mode = to; node = r.node ++ b ∷ [] }) a.before (name_step r.done m to r.node b a.node e) a.keys in
     (so.0, so.1 ∙ node_grows (flat_map step_text r.done) r.node r.keys b a.keys ∙ ap (λ x. x ++ b ∷ []) (sym a.text))
 
--- a byte that is taken stands behind the text that was read so far
-pub feed_grows : (m : Mode) (r s : Reader) (b : ℕ) → r.mode ≡ m → FitsAt m r → feed_at m r b ≡ Some s → Grows m r b s
-feed_grows m r s b at f e = by_name (name_mode m b) refl e
+-- a byte of ASCII that is taken stands behind the text that was read so far
+pub feed_grows : (m : Mode) (r s : Reader) (b : ℕ) → b < 128 → r.mode ≡ m → FitsAt m r → feed_at m r b ≡ Some s → Grows m r b s
+feed_grows m r s b low at f e = by_name (name_mode m b) refl e
   where
     by_name : (o : Option Mode) → name_mode m b ≡ o → option_map_or (λ to. Some (record r { mode = to; node = r.node ++ b ∷ [] })) o (feed_mark m r b) ≡ Some s → Grows m r b s
-    by_name None n g = mark_grows m r s b at f g
+    by_name None n g = mark_grows m r s b low at f g
     by_name (Some to) n g = let is : record r { mode = to; node = r.node ++ b ∷ [] } ≡ s = cc in subst (Grows m r b) is (name_grows m to r b f n)

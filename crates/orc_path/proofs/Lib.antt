@@ -1,13 +1,22 @@
 pub mod Bools
 mod Last
+mod Encoded
+pub mod Plain
+pub mod Written
 mod Parts
 mod Runs
 mod Feeds
 mod Again
 mod Stops
+mod Behind
 mod Refused
+mod Standing
 mod Names
 pub mod Characters
+mod Cuts
+pub mod PathOf
+pub mod Values
+mod ValueReads
 pub mod Texts
 pub mod Equality
 pub mod Extensions

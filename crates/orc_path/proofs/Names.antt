@@ -10,7 +10,7 @@ use Rattle.orc_path.proofs.Runs.{name_modes, name_modes-append}
 use Rattle.orc_path.specs.declared.mode.Mode.{Mode}
 use Rattle.orc_path.specs.declared.mode.Mode.TheVariants.{Start, Slash, Module, Colon, Inside, Next, Key, Escape, Closed}
 use Rattle.orc_path.proofs.Parts.{none_given, name_step}
-use Rattle.orc_path.proofs.Stops.{IsReader, given_before, bad_at, bad_end}
+use Rattle.orc_path.proofs.Stops.{given_before, bad_at, bad_end}
 use Rattle.orc_path.proofs.Again.{identifier_again, qualified_again}
 
 -- whether a name may end behind these bytes
@@ -97,13 +97,11 @@ takes_begins xs (m, e) = (
       (ap may_end (name_modes-append Slash xs (ending m) ∙ ap (option_and_then (λ k. name_modes k (ending m))) e) ∙ ends m xs (reads Slash m [] xs e (refl, refl))),
 )
 
--- the reader of names
-names_read : IsReader IsNameText Takes
-names_read = record {
-  front = λ xs ys t. given_before (name_modes Slash xs) (λ k. name_modes k ys) t.0 (sym (name_modes-append Slash xs ys) ∙ t.1);
-  texts = λ xs t. end_given (name_modes Slash xs) (name_again xs t);
-  begins = takes_begins;
-}
+-- the beginning of a name is read
+begun_taken : (xs : List ℕ) → CanBegin IsNameText xs → Takes xs
+begun_taken xs b =
+    let whole = end_given (name_modes Slash (xs ++ b.0)) (name_again (xs ++ b.0) b.1) in
+    given_before (name_modes Slash xs) (λ k. name_modes k b.0) whole.0 (sym (name_modes-append Slash xs b.0) ∙ whole.1)
 
 one_more : (xs ys : List ℕ) (at : ℕ) (m : Mode) → ys ≡ xs → at < length ys → name_modes Slash (take at xs) ≡ Some m → name_modes Slash (take (suc at) xs) ≡ option_and_then (λ k. Some k) (name_mode m (get_or ys at 0))
 one_more xs ys at m same within e =
@@ -119,12 +117,12 @@ name_taken_at xs ys at m k same within e goes = ap (λ n. name_modes Slash (take
 -- a byte that it does not take
 pub name_refused_at : (xs ys : List ℕ) (at : ℕ) (m : Mode) → ys ≡ xs → at < length ys → name_modes Slash (take at xs) ≡ Some m → name_mode m (get_or ys at 0) ≡ None → IsBadAt IsNameText xs at
 name_refused_at xs ys at m same within e refused =
-    bad_at IsNameText Takes names_read xs at (subst (λ zs. at < length zs) same within) (m, e)
-    (λ t. none_given ⊥ t.0 (sym (one_more xs ys at m same within e ∙ ap (option_and_then (λ k. Some k)) refused) ∙ t.1))
+    bad_at IsNameText xs at (subst (λ zs. at < length zs) same within) (takes_begins (take at xs) (m, e))
+    (λ b. let t = begun_taken (take (suc at) xs) b in none_given ⊥ t.0 (sym (one_more xs ys at m same within e ∙ ap (option_and_then (λ k. Some k)) refused) ∙ t.1))
 
 -- a text that ends where no name may end
 pub name_unfinished : (xs : List ℕ) (m : Mode) → name_modes Slash xs ≡ Some m → is_name_end m ≡ false → IsBadAt IsNameText xs (length xs)
-name_unfinished xs m e end = bad_end IsNameText Takes names_read xs (m, e) (λ t. unlike (sym (name_again xs t) ∙ ap may_end e ∙ end))
+name_unfinished xs m e end = bad_end IsNameText xs (takes_begins xs (m, e)) (λ t. unlike (sym (name_again xs t) ∙ ap may_end e ∙ end))
   where
     unlike : true ≡ false → ⊥
     unlike h = cc

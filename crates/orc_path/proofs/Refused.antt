@@ -1,44 +1,30 @@
--- Where a text is refused.
-use Rattle.std.proofs.Common.{◌≡◌, ℕ, suc, ◌<◌, ◌≤◌, true, List, [], ◌∷◌, ◌++◌, Some, None, Option, length, take, get_or, ◌+◌, add-one, refl, sym, ap, subst, ◌∙◌, append_assoc, append-nil}
-use Rattle.std.specs.List.{flat_map}
+-- Where a text is refused, and what is read.
+use Rattle.std.proofs.Common.{◌≡◌, ℕ, ◌<◌, ◌≤◌, ◌+◌, ◌-◌, ◌%◌, Bool, true, false, cond, List, [], ◌∷◌, ◌++◌, Some, None, Option, length, length-append, encode_utf8, encode_utf8_all, chars, IsUtf8, refl, sym, ap, subst, ◌∙◌, arith, append_assoc, append-nil}
+use Rattle.std.proofs.Math.Dec.{ltb}
+use Rattle.std.specs.List.{flat_map, list_all}
 use Rattle.std.specs.Option.{option_and_then}
-use Rattle.std.proofs.lemmas.List.{take_all}
-use Rattle.std.proofs.Math.Seq.{take-suc}
+use Rattle.std.specs.Str.{all_scalars}
+use Rattle.std.specs.Char.{IsScalar}
+use Rattle.std.proofs.lemmas.Bool.{and_parts, and_from, ltb-true, ltb-false, leb-true, false≢true}
 use Rattle.std.proofs.lemmas.Grind.{flat_map-append}
+use Rattle.std.proofs.lemmas.List.Folds.{list_all-append}
+use Rattle.std.proofs.lemmas.Str.{chars-append, chars-encodes, encode_ascii, IsUtf8-append, IsUtf8-encode}
+use Rattle.orc_path.specs.Alphabet.{is_plain_character}
 use Rattle.orc_path.specs.Steps.{PathStep, is_path}
 use Rattle.orc_path.specs.Texts.{step_text, path_text, IsPathText, CanBegin, IsBadAt}
-use Rattle.orc_path.specs.inside.Reading.{present_step, feed, at_start, whole_at, whole, IsStepRead, FitsAt, Fits}
-use Rattle.orc_path.proofs.Runs.{feed_all, feed_all-append}
+use Rattle.orc_path.specs.inside.Reading.{present_step, feed_all, feed_character, begun_in, at_start, whole_at, whole, IsStepRead, FitsAt}
+use Rattle.orc_path.proofs.Runs.{feed_all-append}
 use Rattle.orc_path.specs.declared.mode.Mode.{Mode}
 use Rattle.orc_path.specs.declared.mode.Mode.TheVariants.{Start, Slash, Module, Colon, Inside, Next, Key, Escape, Closed}
 use Rattle.orc_path.specs.declared.reader.Reader.{Reader}
 use Rattle.orc_path.proofs.Parts.{none_given}
-use Rattle.orc_path.proofs.Stops.{IsReader, given_before, bad_at, bad_end}
-use Rattle.orc_path.proofs.Feeds.{front, read_at, read, blank_front, is_path_more, feed_grows}
+use Rattle.orc_path.proofs.Stops.{given_before, can_begin_front, bad_behind, bad_end}
+use Rattle.orc_path.proofs.Encoded.{are_wide, fellow, IsWide, is_wide}
+use Rattle.orc_path.proofs.Plain.{plain_parts, are_wide-encode, fellow_is_plain}
+use Rattle.orc_path.proofs.Feeds.{front, read_at, blank_front, is_path_more}
 use Rattle.orc_path.proofs.Again.{reader_at, path_behind, path_again}
-
--- some reader stands behind the bytes
-abbrev pub Takes : List ℕ → Type 0
-Takes xs = (r : Reader) × (feed_all at_start xs ≡ Some r)
-
--- what was read is the bytes
-reads_by : (o : Option Reader) (r s : Reader) (b : ℕ) (bs : List ℕ) → feed r b ≡ o → Fits r → ((t : Reader) → feed_all t bs ≡ Some s → Fits t → Fits s × (read s ≡ read t ++ bs))
-    → option_and_then (λ t. feed_all t bs) o ≡ Some s → Fits s × (read s ≡ read r ++ b ∷ bs)
-reads_by None r s b bs f fits more e = none_given _ s e
-reads_by (Some t) r s b bs f fits more e =
-    let grown = feed_grows r.mode r t b refl fits f in
-    let rest = more t e grown.0 in
-    (rest.0, rest.1 ∙ ap (λ x. x ++ bs) grown.1 ∙ append_assoc (read r) (b ∷ []) bs)
-
-pub reads : (r s : Reader) (xs : List ℕ) → feed_all r xs ≡ Some s → Fits r → Fits s × (read s ≡ read r ++ xs)
-reads r s [] e fits = let same : r ≡ s = cc in subst (λ t. Fits t × (read t ≡ read r ++ [])) same (fits, sym (append-nil (read r)))
-reads r s (b ∷ bs) e fits = reads_by (feed r b) r s b bs refl fits (λ t h k. reads t s bs h k) e
-
-start_fits : Fits at_start
-start_fits = record { before = refl; node = (refl, refl); keys = refl }
-
-pub reads_from_start : (s : Reader) (xs : List ℕ) → feed_all at_start xs ≡ Some s → Fits s × (read s ≡ xs)
-reads_from_start s xs e = reads at_start s xs e start_fits
+use Rattle.orc_path.proofs.Characters.{is_plain_text-path_text}
+use Rattle.orc_path.proofs.Behind.{IsBehind, steps, all_steps, InKey, in_key, inside, outside, wide_in, wide_refused, encode_some}
 
 -- the path of a whole text
 path_text-snoc : (d : List PathStep) (s : PathStep) → path_text (d ++ s ∷ []) ≡ flat_map step_text d ++ step_text s
@@ -65,11 +51,21 @@ whole_by Key r p f e = none_given _ p e
 whole_by Escape r p f e = none_given _ p e
 
 -- what is read as a path is its text
-pub whole_text : (r : Reader) (p : List PathStep) (xs : List ℕ) → feed_all at_start xs ≡ Some r → whole r ≡ Some p → IsTextOf p xs
-whole_text r p xs e w = let so = reads_from_start r xs e in subst (IsTextOf p) so.1 (whole_by r.mode r p so.0 w)
+pub whole_text : (r : Reader) (p : List PathStep) (xs : List ℕ) → IsBehind xs r → whole r ≡ Some p → IsTextOf p xs
+whole_text r p xs b w = subst (IsTextOf p) b.is (whole_by r.mode r p b.fits w)
+
+-- a path's text is read
+texts_are_fed : (p : List PathStep) (xs : List ℕ) → IsTextOf p xs → path_behind at_start xs ≡ Some p
+texts_are_fed p xs t = subst (λ x. path_behind at_start x ≡ Some p) t.1 (path_again p t.0)
+
+-- each beginning of a path's text is fed
+begun_fed : (xs : List ℕ) → CanBegin IsPathText xs → (r : Reader) × (feed_all at_start xs ≡ Some r)
+begun_fed xs b =
+    let whole = given_before (feed_all at_start (xs ++ b.0)) whole b.1.0 (texts_are_fed b.1.0 (xs ++ b.0) b.1.1) in
+    given_before (feed_all at_start xs) (λ s. feed_all s b.0) whole.0 (sym (feed_all-append at_start xs b.0) ∙ whole.1)
 
 -- bytes that bring the reader to the end of a path
-abbrev ending : Mode → List ℕ
+abbrev pub ending : Mode → List ℕ
 ending Start = 47 ∷ []
 ending Slash = []
 ending Module = 58 ∷ 97 ∷ []
@@ -91,49 +87,161 @@ ends Key d n ks k = (_, refl)
 ends Escape d n ks k = (_, refl)
 ends Closed d n ks k = (_, refl)
 
-path_of : (o : Option Reader) (p : List PathStep) (xs : List ℕ) → feed_all at_start xs ≡ o → option_and_then whole o ≡ Some p → IsTextOf p xs
-path_of None p xs e w = none_given _ p w
-path_of (Some r) p xs e w = whole_text r p xs e w
+-- they are characters
+record IsEnding (bs : List ℕ) : Type 0 where
+  scalars : all_scalars bs ≡ true
+  plain : list_all is_plain_character bs ≡ true
+  bytes : encode_utf8_all bs ≡ bs
 
-takes_begins : (xs : List ℕ) → Takes xs → CanBegin IsPathText xs
-takes_begins xs (r, e) =
-    let end = ends r.mode r.done r.node r.keys r.key in
-    let all : path_behind at_start (xs ++ ending r.mode) ≡ Some end.0 =
-    ap (option_and_then whole) (feed_all-append at_start xs (ending r.mode) ∙ ap (option_and_then (λ s. feed_all s (ending r.mode))) e) ∙ end.1 in
-    (ending r.mode, (end.0, path_of (feed_all at_start (xs ++ ending r.mode)) end.0 (xs ++ ending r.mode) refl all))
+one : (b : ℕ) (bs : List ℕ) → b < 128 → encode_utf8_all bs ≡ bs → encode_utf8_all (b ∷ bs) ≡ b ∷ bs
+one b bs l e = ap (λ x. x ++ encode_utf8_all bs) (encode_ascii b l) ∙ ap (λ x. b ∷ x) e
 
--- the reader of paths
-pub paths_read : IsReader IsPathText Takes
-paths_read = record {
-  front = λ xs ys t. given_before (feed_all at_start xs) (λ s. feed_all s ys) t.0 (sym (feed_all-append at_start xs ys) ∙ t.1);
-  texts = λ xs t. given_before (feed_all at_start xs) whole t.0 (subst (λ x. path_behind at_start x ≡ Some t.0) t.1.1 (path_again t.0 t.1.0));
-  begins = takes_begins;
-}
+endings : (m : Mode) → IsEnding (ending m)
+endings Start = record { scalars = refl; plain = refl; bytes = one 47 [] (omega arith) refl }
+endings Slash = record { scalars = refl; plain = refl; bytes = refl }
+endings Module = record { scalars = refl; plain = refl; bytes = one 58 (97 ∷ []) (omega arith) (one 97 [] (omega arith) refl) }
+endings Colon = record { scalars = refl; plain = refl; bytes = one 97 [] (omega arith) refl }
+endings Inside = record { scalars = refl; plain = refl; bytes = refl }
+endings Next = record { scalars = refl; plain = refl; bytes = one 97 [] (omega arith) refl }
+endings Key = record { scalars = refl; plain = refl; bytes = one 93 [] (omega arith) refl }
+endings Escape = record { scalars = refl; plain = refl; bytes = one 92 (93 ∷ []) (omega arith) (one 93 [] (omega arith) refl) }
+endings Closed = record { scalars = refl; plain = refl; bytes = refl }
 
-one_more : (xs ys : List ℕ) (at : ℕ) (r : Reader) → ys ≡ xs → at < length ys → feed_all at_start (take at xs) ≡ Some r → feed_all at_start (take (suc at) xs) ≡ option_and_then (λ s. Some s) (feed r (get_or ys at 0))
-one_more xs ys at r same within e =
-    ap (λ zs. feed_all at_start (take (suc at) zs)) (sym same)
-    ∙ ap (feed_all at_start) (take-suc ys at 0 within)
-    ∙ feed_all-append at_start (take at ys) (get_or ys at 0 ∷ [])
-    ∙ ap (option_and_then (λ s. feed_all s (get_or ys at 0 ∷ []))) (ap (λ zs. feed_all at_start (take at zs)) same ∙ e)
+-- what is read so far begins a path's text
+begins_by : (o : Option Reader) (xs : List ℕ) (r : Reader) (p : List PathStep) → IsBehind xs r → feed_all r (ending r.mode) ≡ o → option_and_then whole o ≡ Some p → CanBegin IsPathText xs
+begins_by None xs r p b f e = none_given _ p e
+begins_by (Some s) xs r p b f e =
+    let end = endings r.mode in
+    let behind : IsBehind (xs ++ ending r.mode) s = subst (λ bs. IsBehind (xs ++ bs) s) end.bytes (all_steps (ending r.mode) xs r s end.scalars end.plain b (ap (feed_all r) end.bytes ∙ f)) in
+    (ending r.mode, (p, whole_text s p (xs ++ ending r.mode) behind e))
 
--- a byte that the reader takes
-pub taken_at : (xs ys : List ℕ) (at : ℕ) (r s : Reader) → ys ≡ xs → at < length ys → feed_all at_start (take at xs) ≡ Some r → feed r (get_or ys at 0) ≡ Some s → feed_all at_start (take (at + 1) xs) ≡ Some s
-taken_at xs ys at r s same within e next = ap (λ n. feed_all at_start (take n xs)) (add-one at) ∙ one_more xs ys at r same within e ∙ ap (option_and_then (λ t. Some t)) next
-
--- a byte that it does not take
-pub refused_at : (xs ys : List ℕ) (at : ℕ) (r : Reader) → ys ≡ xs → at < length ys → feed_all at_start (take at xs) ≡ Some r → feed r (get_or ys at 0) ≡ None → IsBadAt IsPathText xs at
-refused_at xs ys at r same within e refused =
-    bad_at IsPathText Takes paths_read xs at (subst (λ zs. at < length zs) same within) (r, e)
-    (λ t. none_given ⊥ t.0 (sym (one_more xs ys at r same within e ∙ ap (option_and_then (λ s. Some s)) refused) ∙ t.1))
+pub begins : (xs : List ℕ) (r : Reader) → IsBehind xs r → CanBegin IsPathText xs
+begins xs r b = let end = ends r.mode r.done r.node r.keys r.key in begins_by (feed_all r (ending r.mode)) xs r end.0 b refl end.1
 
 -- a text that ends where no path may end
-pub unfinished : (xs : List ℕ) (r : Reader) → feed_all at_start xs ≡ Some r → whole r ≡ None → IsBadAt IsPathText xs (length xs)
-unfinished xs r e w = bad_end IsPathText Takes paths_read xs (r, e) (λ t. none_given ⊥ t.0 (sym (unfinished_path xs r e w) ∙ subst (λ x. path_behind at_start x ≡ Some t.0) t.1.1 (path_again t.0 t.1.0)))
-  where
-    unfinished_path : (xs : List ℕ) (r : Reader) → feed_all at_start xs ≡ Some r → whole r ≡ None → path_behind at_start xs ≡ None
-    unfinished_path xs r e w = ap (option_and_then whole) e ∙ w
+pub unfinished : (xs : List ℕ) (r : Reader) → IsBehind xs r → whole r ≡ None → IsBadAt IsPathText xs (length xs)
+unfinished xs r b w = bad_end IsPathText xs (begins xs r b) (λ t. none_given ⊥ t.0 (sym (ap (option_and_then whole) b.fed ∙ w) ∙ texts_are_fed t.0 xs t.1))
 
--- all bytes were read
-pub read_whole : (xs ys : List ℕ) (at : ℕ) (r : Reader) → ys ≡ xs → length ys ≤ at → feed_all at_start (take at xs) ≡ Some r → feed_all at_start xs ≡ Some r
-read_whole xs ys at r same end e = ap (feed_all at_start) (sym (take_all at xs (subst (λ zs. length zs ≤ at) same end))) ∙ e
+-- a character that is refused
+
+-- it is none of the characters of a path's text where it is not plain
+plain_in : (xs rest : List ℕ) (c : ℕ) → IsScalar c → IsUtf8 xs → list_all is_plain_character (chars ((xs ++ encode_utf8 c) ++ rest)) ≡ true → is_plain_character c ≡ true
+plain_in xs rest c s u h =
+    let single : chars (encode_utf8 c) ≡ c ∷ [] = ap chars (sym (append-nil (encode_utf8 c))) ∙ chars-encodes (c ∷ []) (and_from _ _ s refl) in
+    let cut : chars ((xs ++ encode_utf8 c) ++ rest) ≡ (chars xs ++ c ∷ []) ++ chars rest =
+    chars-append (xs ++ encode_utf8 c) rest (IsUtf8-append xs (encode_utf8 c) u (IsUtf8-encode c s)) ∙ ap (λ x. x ++ chars rest) (chars-append xs (encode_utf8 c) u ∙ ap (λ x. chars xs ++ x) single) in
+    let both = and_parts _ _ (sym (list_all-append is_plain_character (chars xs ++ c ∷ []) (chars rest)) ∙ ap (list_all is_plain_character) (sym cut) ∙ h) in
+    let last = and_parts _ _ (sym (list_all-append is_plain_character (chars xs) (c ∷ [])) ∙ both.0) in
+    (and_parts _ _ last.1).0
+
+not_plain_ends : (xs : List ℕ) (r : Reader) (c : ℕ) → IsBehind xs r → IsScalar c → is_plain_character c ≡ false → CanBegin IsPathText (xs ++ encode_utf8 c) → ⊥
+not_plain_ends xs r c b s no_plain k =
+    let text = k.1 in
+    let all = plain_parts (path_text text.0) (is_plain_text-path_text text.0 text.1.0) in
+    let so = plain_in xs k.0 c s (plain_parts xs b.plain).0 (subst (λ x. list_all is_plain_character (chars x) ≡ true) text.1.1 all.1) in
+    false≢true (sym no_plain ∙ so)
+
+not_fed_ends : (xs bs : List ℕ) (r : Reader) → IsBehind xs r → feed_all r bs ≡ None → CanBegin IsPathText (xs ++ bs) → ⊥
+not_fed_ends xs bs r b e k =
+    let t = begun_fed (xs ++ bs) k in
+    none_given ⊥ t.0 (sym (feed_all-append at_start xs bs ∙ ap (option_and_then (λ s. feed_all s bs)) b.fed ∙ e) ∙ t.1)
+
+-- so it ends what begins a path's text
+refused_ends : (t : Bool) (xs : List ℕ) (r : Reader) (c : ℕ) → is_plain_character c ≡ t → IsBehind xs r → IsScalar c → cond t (feed_all r (encode_utf8 c)) None ≡ None → CanBegin IsPathText (xs ++ encode_utf8 c) → ⊥
+refused_ends true xs r c p b s e k = not_fed_ends xs (encode_utf8 c) r b e k
+refused_ends false xs r c p b s e k = not_plain_ends xs r c b s p k
+
+-- a key that is refused one can hold its fellow
+fellow_begins : (xs : List ℕ) (r : Reader) (c : ℕ) (w : IsWide c) → 128 ≤ c → IsBehind xs r → r.mode ≡ Key → IsScalar c → is_plain_character c ≡ false → CanBegin IsPathText (xs ++ w.front)
+fellow_begins xs r c w high b key s no_plain =
+    let d = fellow c in
+    let so = fellow_is_plain c high s no_plain in
+    let fed = wide_in r.mode r (encode_utf8 d) refl key (are_wide-encode d so.high) in
+    let behind = steps xs r (record r { key = r.key ++ encode_utf8 d }) d so.scalar so.plain b fed in
+    can_begin_front IsPathText (xs ++ w.front) (128 ∷ [])
+    (subst (CanBegin IsPathText) (ap (λ x. xs ++ x) w.other ∙ sym (append_assoc xs w.front (128 ∷ []))) (begins (xs ++ encode_utf8 d) _ behind))
+
+-- what the refused character begins
+abbrev IsRefusedAt : List ℕ → Reader → ℕ → List ℕ → Type 0
+IsRefusedAt xs r c rest = IsBadAt IsPathText ((xs ++ encode_utf8 c) ++ rest) (length xs + begun_in r.mode c)
+
+low_refused : (xs : List ℕ) (r : Reader) (c : ℕ) (rest : List ℕ) → c < 128 → IsBehind xs r → (CanBegin IsPathText (xs ++ encode_utf8 c) → ⊥) → IsRefusedAt xs r c rest
+low_refused xs r c rest low b no_more =
+    let one = encode_ascii c low in
+    let none_begun = begun_low r.mode in
+    subst (λ n. IsBadAt IsPathText ((xs ++ encode_utf8 c) ++ rest) n) (sym none_begun)
+    (subst (λ bs. IsBadAt IsPathText ((xs ++ bs) ++ rest) (length xs)) (sym one)
+    (bad_behind IsPathText xs c rest (begins xs r b) (λ k. no_more (subst (λ bs. CanBegin IsPathText (xs ++ bs)) (sym one) k))))
+  where
+    begun_low : (m : Mode) → length xs + begun_in m c ≡ length xs
+    begun_low Key = let l = ap length (encode_ascii c low) in omega arith
+    begun_low Start = omega arith
+    begun_low Slash = omega arith
+    begun_low Module = omega arith
+    begun_low Colon = omega arith
+    begun_low Inside = omega arith
+    begun_low Next = omega arith
+    begun_low Escape = omega arith
+    begun_low Closed = omega arith
+
+key_refused : (m : Mode) (xs : List ℕ) (r : Reader) (c : ℕ) (rest : List ℕ) → m ≡ Key → r.mode ≡ m → 128 ≤ c → IsBehind xs r → IsScalar c → is_plain_character c ≡ false → (CanBegin IsPathText (xs ++ encode_utf8 c) → ⊥) → IsBadAt IsPathText ((xs ++ encode_utf8 c) ++ rest) (length xs + begun_in m c)
+key_refused Key xs r c rest key at high b s no_plain no_more =
+    let w = is_wide c high in
+    let last : ℕ = 128 + c % 64 in
+    let parts : ((xs ++ w.front) ++ last ∷ []) ++ rest ≡ (xs ++ encode_utf8 c) ++ rest =
+    ap (λ x. x ++ rest) (append_assoc xs w.front (last ∷ []) ∙ ap (λ x. xs ++ x) (sym w.bytes)) in
+    let long : length (xs ++ w.front) ≡ length xs + (length (encode_utf8 c) - 1) =
+    let l = ap length w.bytes in let k = length-append w.front (last ∷ []) in let n = length-append xs w.front in omega arith in
+    subst (λ n. IsBadAt IsPathText ((xs ++ encode_utf8 c) ++ rest) n) long
+    (subst (λ x. IsBadAt IsPathText x (length (xs ++ w.front))) parts
+    (bad_behind IsPathText (xs ++ w.front) last rest (fellow_begins xs r c w high b at s no_plain)
+    (λ k. no_more (subst (CanBegin IsPathText) (append_assoc xs w.front (last ∷ []) ∙ ap (λ x. xs ++ x) (sym w.bytes)) k))))
+key_refused Start xs r c rest key at high b s no_plain no_more = let not_so : ⊥ = cc in absurd not_so
+key_refused Slash xs r c rest key at high b s no_plain no_more = let not_so : ⊥ = cc in absurd not_so
+key_refused Module xs r c rest key at high b s no_plain no_more = let not_so : ⊥ = cc in absurd not_so
+key_refused Colon xs r c rest key at high b s no_plain no_more = let not_so : ⊥ = cc in absurd not_so
+key_refused Inside xs r c rest key at high b s no_plain no_more = let not_so : ⊥ = cc in absurd not_so
+key_refused Next xs r c rest key at high b s no_plain no_more = let not_so : ⊥ = cc in absurd not_so
+key_refused Escape xs r c rest key at high b s no_plain no_more = let not_so : ⊥ = cc in absurd not_so
+key_refused Closed xs r c rest key at high b s no_plain no_more = let not_so : ⊥ = cc in absurd not_so
+
+-- a place where no key stands takes not even its first byte
+other_refused : (bs xs : List ℕ) (r : Reader) (c : ℕ) (rest : List ℕ) → encode_utf8 c ≡ bs → (r.mode ≡ Key → ⊥) → 128 ≤ c → IsBehind xs r → IsRefusedAt xs r c rest
+other_refused [] xs r c rest is out high b = absurd (encode_some c is)
+other_refused (first ∷ more) xs r c rest is out high b =
+    let w = leb-true 128 first (and_parts _ _ (ap are_wide (sym is) ∙ are_wide-encode c high)).0 in
+    let parts : (xs ++ first ∷ []) ++ (more ++ rest) ≡ (xs ++ encode_utf8 c) ++ rest =
+    append_assoc xs (first ∷ []) (more ++ rest) ∙ sym (append_assoc xs (first ∷ more) rest) ∙ ap (λ bs. (xs ++ bs) ++ rest) (sym is) in
+    let stops : feed_all r (first ∷ []) ≡ None = ap (option_and_then (λ s. Some s)) (wide_refused r.mode r first w out) in
+    subst (λ n. IsBadAt IsPathText ((xs ++ encode_utf8 c) ++ rest) n) (sym (none_begun r.mode out))
+    (subst (λ x. IsBadAt IsPathText x (length xs)) parts
+    (bad_behind IsPathText xs first (more ++ rest) (begins xs r b) (not_fed_ends xs (first ∷ []) r b stops)))
+  where
+    none_begun : (m : Mode) → (m ≡ Key → ⊥) → length xs + begun_in m c ≡ length xs
+    none_begun Key o = absurd (o refl)
+    none_begun Start o = omega arith
+    none_begun Slash o = omega arith
+    none_begun Module o = omega arith
+    none_begun Colon o = omega arith
+    none_begun Inside o = omega arith
+    none_begun Next o = omega arith
+    none_begun Escape o = omega arith
+    none_begun Closed o = omega arith
+
+-- a character of several bytes that a key refuses is not plain
+key_takes : (t : Bool) (r : Reader) (c : ℕ) → is_plain_character c ≡ t → r.mode ≡ Key → 128 ≤ c → cond t (feed_all r (encode_utf8 c)) None ≡ None → is_plain_character c ≡ false
+key_takes false r c p key high e = p
+key_takes true r c p key high e = none_given _ _ (sym e ∙ wide_in r.mode r (encode_utf8 c) refl key (are_wide-encode c high))
+
+-- where a character is refused
+pub refused : (xs : List ℕ) (r : Reader) (c : ℕ) (rest : List ℕ) → IsScalar c → IsBehind xs r → feed_character r c ≡ None → IsRefusedAt xs r c rest
+refused xs r c rest s b e = by (ltb c 128) refl (in_key r.mode)
+  where
+    no_more : CanBegin IsPathText (xs ++ encode_utf8 c) → ⊥
+    no_more = refused_ends (is_plain_character c) xs r c refl b s e
+
+    by : (t : Bool) → ltb c 128 ≡ t → InKey r.mode → IsRefusedAt xs r c rest
+    by true low _ = low_refused xs r c rest (ltb-true c 128 low) b no_more
+    by false high (inside key) =
+        key_refused r.mode xs r c rest key refl (ltb-false c 128 high) b s (key_takes (is_plain_character c) r c refl key (ltb-false c 128 high) e) no_more
+    by false high (outside out) = other_refused (encode_utf8 c) xs r c rest refl out (ltb-false c 128 high) b

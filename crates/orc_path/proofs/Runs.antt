@@ -1,7 +1,7 @@
 -- Reading many bytes.
 use Rattle.std.proofs.Common.{◌≡◌, ℕ, List, [], ◌∷◌, ◌++◌, Some, None, Option, refl}
 use Rattle.std.specs.Option.{option_and_then}
-use Rattle.orc_path.specs.inside.Reading.{name_mode, feed}
+use Rattle.orc_path.specs.inside.Reading.{name_mode, feed, feed_all}
 use Rattle.orc_path.specs.declared.mode.Mode.{Mode}
 use Rattle.orc_path.specs.declared.reader.Reader.{Reader}
 
@@ -9,11 +9,6 @@ use Rattle.orc_path.specs.declared.reader.Reader.{Reader}
 abbrev pub name_modes : Mode → List ℕ → Option Mode
 name_modes mode [] = Some mode
 name_modes mode (b ∷ bs) = option_and_then (λ next. name_modes next bs) (name_mode mode b)
-
--- the reader behind bytes
-abbrev pub feed_all : Reader → List ℕ → Option Reader
-feed_all r [] = Some r
-feed_all r (b ∷ bs) = option_and_then (λ next. feed_all next bs) (feed r b)
 
 through : {A B C : Type 0} (o : Option A) (first : A → Option B) (second : B → Option C) (joined : A → Option C) → ((a : A) → joined a ≡ option_and_then second (first a))
     → option_and_then joined o ≡ option_and_then second (option_and_then first o)

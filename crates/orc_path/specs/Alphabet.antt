@@ -1,6 +1,8 @@
--- Which bytes names and keys are made of.
-use Rattle.std.specs.Prelude.{ℕ, Bool, false, ◌&&◌, ◌||◌, ◌==◌, nat_le, List, [], ◌∷◌, if◌then◌else◌}
+-- What names, keys and values are made of.
+use Rattle.std.specs.Prelude.{ℕ, Bool, false, ◌&&◌, ◌||◌, ◌==◌, not, nat_le, List, [], ◌∷◌, if◌then◌else◌}
 use Rattle.std.specs.List.{list_all}
+use Rattle.std.specs.Str.{chars, is_utf8}
+use Rattle.orc_text.specs.Characters.{is_noncharacter}
 
 abbrev pub is_letter : ℕ → Bool
 is_letter byte = (nat_le 65 byte && nat_le byte 90) || (nat_le 97 byte && nat_le byte 122)
@@ -32,9 +34,18 @@ is_qualified (byte ∷ rest) = is_name_start byte && is_qualified_rest rest
 abbrev pub is_node_name : List ℕ → Bool
 is_node_name bytes = is_identifier bytes || is_qualified bytes
 
--- tab, line feed, carriage return and the ASCII characters from space on
-abbrev pub is_key_byte : ℕ → Bool
-is_key_byte byte = (byte == 9) || (byte == 10) || (byte == 13) || (nat_le 32 byte && nat_le byte 127)
+-- a character of keys and values: tab, line feed, carriage return, and from the space on each that is no noncharacter
+abbrev pub is_plain_character : ℕ → Bool
+is_plain_character c = (c == 9) || (c == 10) || (c == 13) || (nat_le 32 c && not (is_noncharacter c))
 
+-- UTF-8 of such characters alone
+unfoldable pub is_plain_text : List ℕ → Bool
+is_plain_text bytes = is_utf8 bytes && list_all is_plain_character (chars bytes)
+
+-- what may be a key
 abbrev pub is_key : List ℕ → Bool
-is_key bytes = list_all is_key_byte bytes
+is_key bytes = is_plain_text bytes
+
+-- what may be the value of a leaf
+abbrev pub is_value : List ℕ → Bool
+is_value bytes = is_plain_text bytes

@@ -1,5 +1,7 @@
--- Why a text is refused.
-use Rattle.std.specs.Prelude.{ℕ, List}
+-- Why a text is refused, and what reading it answers.
+use Rattle.std.specs.Prelude.{◌≡◌, ℕ, List, Option, Result}
+use Rattle.std.specs.declared.option.Option.TheVariants.{None, Some}
+use Rattle.std.specs.declared.result.Result.TheVariants.{Ok, Err}
 use Rattle.orc_path.specs.Texts.{IsBadAt}
 use Rattle.orc_path.specs.declared.path.PathFault.{PathFault}
 use Rattle.orc_path.specs.declared.path.PathFault.TheVariants.{BadPath, Memory}
@@ -8,3 +10,9 @@ use Rattle.orc_path.specs.declared.path.PathFault.TheVariants.{BadPath, Memory}
 abbrev pub IsPathFault : (List ℕ → Type 0) → List ℕ → PathFault → Type 0
 IsPathFault IsText bytes (BadPath at) = IsBadAt IsText bytes at
 IsPathFault IsText bytes Memory = Unit {0}
+
+-- the answer is what the text is read as, or that it is none of the kind; want of memory is free
+abbrev pub Reads : {P : Type 0} → Option P → Result P PathFault → Type 0
+Reads read (Ok value) = read ≡ Some value
+Reads read (Err (BadPath at)) = read ≡ None
+Reads read (Err Memory) = Unit {0}

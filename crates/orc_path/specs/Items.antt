@@ -1,7 +1,7 @@
 -- Which item fits a path, and the text of an item where it stands.
 use Rattle.std.specs.Prelude.{ℕ, Bool, false, not, List, [], ◌∷◌, ◌++◌, codes}
 use Rattle.orc_path.specs.Steps.{PathStep, ends_in_keys}
-use Rattle.orc_path.specs.Texts.{path_text}
+use Rattle.orc_path.specs.Texts.{path_text, value_text}
 use Rattle.orc_path.specs.declared.item.Item.{Item}
 use Rattle.orc_path.specs.declared.item.Item.TheVariants.{Entry, Leaf}
 
@@ -11,7 +11,7 @@ fits [] item = false
 fits (first ∷ later) Entry = ends_in_keys (first ∷ later)
 fits (first ∷ later) (Leaf text) = not (ends_in_keys (first ∷ later))
 
--- an item and where it stands: the path, and behind it the value of a leaf
+-- an item and where it stands: the path, and behind it the text of a leaf's value
 abbrev pub item_text : List PathStep → Item → List ℕ
 item_text path Entry = path_text path
-item_text path (Leaf text) = path_text path ++ codes " = " ++ text
+item_text path (Leaf text) = path_text path ++ codes " = " ++ value_text text

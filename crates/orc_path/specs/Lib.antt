@@ -4,6 +4,10 @@ pub mod Order
 pub mod Texts
 pub mod Faults
 pub mod Items
+pub mod Values
+pub mod Reading
+pub mod Limits
+pub mod Laws
 pub mod Configurations
 pub mod Codes
 pub mod inside

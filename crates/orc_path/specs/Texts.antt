@@ -1,4 +1,4 @@
--- The text of a path, and which texts are one.
+-- The texts of paths and values, and which texts are one.
 use Rattle.std.specs.Prelude.{◌≡◌, ℕ, ◌<◌, ◌≤◌, ◌==◌, List, [], ◌∷◌, ◌++◌, length, take, codes, IsTrue, if◌then◌else◌}
 use Rattle.std.specs.List.{flat_map}
 use Rattle.orc_path.specs.Alphabet.{is_node_name}
@@ -25,6 +25,17 @@ abbrev pub path_text : List PathStep → List ℕ
 path_text [] = codes "/"
 path_text (first ∷ later) = step_text first ++ flat_map step_text later
 
+-- a byte of a value: backslash, tab, line feed and carriage return stand behind a backslash
+abbrev pub value_escape : ℕ → List ℕ
+value_escape byte =
+    if byte == 92 then codes "\\\\" else
+    if byte == 9 then codes "\\t" else
+    if byte == 10 then codes "\\n" else
+    if byte == 13 then codes "\\r" else byte ∷ []
+
+abbrev pub value_text : List ℕ → List ℕ
+value_text value = flat_map value_escape value
+
 -- the bytes are the text of some path
 abbrev pub IsPathText : List ℕ → Type 0
 IsPathText bytes = (path : List PathStep) × (IsTrue (is_path path) × (path_text path ≡ bytes))
@@ -43,3 +54,7 @@ pub record IsBadAt (IsText : List ℕ → Type 0) (bytes : List ℕ) (at : ℕ) 
   pub begins : CanBegin IsText (take at bytes)
   pub longest : (len : ℕ) → at < len → len ≤ length bytes → CanBegin IsText (take len bytes) → ⊥
   pub none : IsText bytes → ⊥
+
+-- the text goes on from what stood there before
+abbrev pub GoesOn : List ℕ → List ℕ → Type 0
+GoesOn before now = (more : List ℕ) × (now ≡ before ++ more)

@@ -1,7 +1,10 @@
-//! Which bytes names and keys are made of.
+//! What names, keys and values are made of.
 ghost use Rattle.std.specs.Prelude.{◌≡◌};
 ghost use Rattle.std.specs.List.{list_all};
-ghost use Rattle.orc_path.specs.Alphabet.{is_name_start, is_name_byte, is_identifier, is_key_byte, is_key};
+ghost use Rattle.std.specs.Str.{chars};
+ghost use Rattle.orc_path.specs.Alphabet.{is_name_start, is_name_byte, is_identifier, is_plain_character, is_plain_text, is_key, is_value};
+
+use orc_text::is_noncharacter;
 
 /// A letter or `_`.
 pub(crate) fn is_name_start(byte: u8) -> bool
@@ -34,16 +37,42 @@ pub fn is_identifier(text: &str) -> bool
     }
 }
 
-// Tab, line feed, carriage return or an ASCII character from the space on.
-fn is_key_byte(byte: u8) -> bool
-    ensures { result ≡ is_key_byte byte }
+/// Tab, line feed, carriage return, or a character from the space on that is no noncharacter of
+/// Unicode.
+pub(crate) fn is_plain_character(character: char) -> bool
+    ensures { result ≡ is_plain_character character }
 {
-    matches!(byte, b'\t' | b'\n' | b'\r' | b' '..=127)
+    match character {
+        '\t' | '\n' | '\r' => true,
+        _ => character >= ' ' && !is_noncharacter(character),
+    }
+}
+
+// Whether all characters are plain.
+fn are_plain(text: &str) -> bool
+    ensures { result ≡ list_all is_plain_character (chars text.now) }
+{
+    text.chars().all(|character| is_plain_character(character))
+}
+
+/// Whether each character is a tab, a line feed, a carriage return, or one from the space on that is
+/// no noncharacter of Unicode.
+pub(crate) fn is_plain_text(text: &str) -> bool
+    ensures { result ≡ is_plain_text text.now }
+{
+    are_plain(text)
 }
 
 /// Whether the text may be a key of a step.
 pub fn is_key(text: &str) -> bool
     ensures { result ≡ is_key text.now }
 {
-    text.as_bytes().iter().all(|byte| is_key_byte(*byte))
+    is_plain_text(text)
+}
+
+/// Whether the text may be the value of a leaf.
+pub fn is_value(text: &str) -> bool
+    ensures { result ≡ is_value text.now }
+{
+    is_plain_text(text)
 }

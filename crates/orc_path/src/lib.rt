@@ -6,19 +6,26 @@
 #![tactic(auto)]
 
 mod alphabet;
+mod copies;
 mod entry;
 mod item;
+mod laws;
 mod length;
+mod limits;
 mod mode;
 mod name;
 mod path;
 mod reader;
-#[cfg(test)]
-mod tests;
 mod text;
+mod value;
 
-pub use alphabet::{are_name_bytes, is_identifier, is_key};
+pub use alphabet::{are_name_bytes, is_identifier, is_key, is_value};
 pub use item::{Item, Write};
+pub use laws::{paths_are_read, values_are_read};
+pub use limits::{
+    NAME_LEN, PATH_LEN, PATH_STEPS, STEP_KEYS, VALUE_LEN, is_long_name, is_long_value,
+};
 pub use name::Name;
 pub use path::{Path, PathFault, Step};
 pub use text::push_item;
+pub use value::{push_value, read_value};

@@ -5,9 +5,11 @@ ghost use Rattle.std.specs.declared.cmp.Ordering.TheVariants.{Less};
 ghost use Rattle.orc_path.specs.Order.{path_cmp, is_prefix};
 ghost use Rattle.orc_path.specs.Steps.{PathStep, ends_in_keys, is_path, is_name_behind};
 ghost use Rattle.orc_path.specs.Texts.{path_text, IsPathText};
-ghost use Rattle.orc_path.specs.Faults.{IsPathFault};
+ghost use Rattle.orc_path.specs.Faults.{IsPathFault, Reads};
+ghost use Rattle.orc_path.specs.Reading.{path_of};
 
 use crate::Name;
+use crate::copies::copied_row;
 use crate::reader::Reader;
 use orc_text::{Copied, Memory, Row, Text};
 use std::alloc::Global;
@@ -63,7 +65,7 @@ impl Step {
     {
         Ok(Step {
             node: self.node.copy(alloc)?,
-            keys: self.keys.copy(alloc)?,
+            keys: copied_row(alloc, self.keys.as_slice())?,
         })
     }
 }
@@ -102,18 +104,22 @@ impl Path {
         ensures again { (written : List PathStep) → IsTrue (is_path written) → path_text written ≡ text.now
             → IfOk result (λ path. path ≡ written) }
         ensures fault { IfErr result (IsPathFault IsPathText text.now) }
+        ensures value { Reads (path_of text.now) result }
     {
         let mut reader = Reader::new(alloc);
-        for (at, byte) in text.as_bytes().iter().enumerate() {
-            if !reader.take(alloc, *byte)? {
-                return Err(PathFault::BadPath { at: at as u64 });
+        let mut at = 0;
+        for character in text.chars() {
+            let begun = reader.begun_in(character);
+            if !reader.take(alloc, character)? {
+                return Err(PathFault::BadPath {
+                    at: (at + begun) as u64,
+                });
             }
+            at += character.len_utf8();
         }
         match reader.finish(alloc)? {
             Some(path) => Ok(path),
-            None => Err(PathFault::BadPath {
-                at: text.len() as u64,
-            }),
+            None => Err(PathFault::BadPath { at: at as u64 }),
         }
     }
 
@@ -122,7 +128,7 @@ impl Path {
         ensures { IfOk result (λ path. path ≡ self.now) }
     {
         Ok(Path {
-            steps: self.steps.copy(alloc)?,
+            steps: copied_row(alloc, self.steps.as_slice())?,
         })
     }
 
@@ -148,11 +154,9 @@ impl Path {
         requires { len ≤ length self.now }
         ensures { IfOk result (λ path. path ≡ take len self.now) }
     {
-        let mut steps = Row::new(alloc);
-        for step in &self.steps.as_slice()[..len] {
-            steps.push(step.copy(alloc)?)?;
-        }
-        Ok(Path { steps })
+        Ok(Path {
+            steps: copied_row(alloc, &self.steps.as_slice()[..len])?,
+        })
     }
 
     /// The path with one step more. The name of a first step has its module, and that of a later

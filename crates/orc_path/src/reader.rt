@@ -1,7 +1,8 @@
-//! Reads a path byte by byte.
-ghost use Rattle.std.specs.Prelude.{◌≡◌, ◌++◌, ◌∷◌, [], IfOk};
-ghost use Rattle.orc_path.specs.inside.Reading.{unescape, is_plain, feed_end, feed_key, feed_escape, feed_mark, feed, at_start, whole, present_step, Fits, IsStepRead, Fed};
+//! Reads a path character by character.
+ghost use Rattle.std.specs.Prelude.{◌≡◌, ◌<◌, ◌≤◌, ◌++◌, ◌∷◌, [], encode_utf8, IfOk};
+ghost use Rattle.orc_path.specs.inside.Reading.{unescape, is_raw, feed_all, feed_character, begun_in, feed_end, feed_key, feed_escape, feed_mark, feed, at_start, whole, present_step, Fits, IsStepRead, Fed};
 
+use crate::alphabet::is_plain_character;
 use crate::mode::{Mode, name_mode};
 use crate::{Name, Path, Step};
 use orc_text::{Memory, Row, Text};
@@ -23,10 +24,10 @@ fn unescaped(byte: u8) -> Option<u8>
 }
 
 // Whether this byte of a key stands for itself.
-fn is_plain(byte: u8) -> bool
-    ensures { result ≡ is_plain byte }
+fn is_raw(byte: u8) -> bool
+    ensures { result ≡ is_raw byte }
 {
-    byte > b' ' && byte <= 127 && byte != b'\\' && byte != b']'
+    byte > b' ' && byte != b'\\' && byte != b']'
 }
 
 /// The steps that are whole, and the parts of the one that is being read.
@@ -55,6 +56,7 @@ impl Reader {
 
     // Takes a byte of a key.
     fn take_key(&mut self, alloc: Global, byte: u8) -> Result<bool, Memory>
+        requires { byte < 128 }
         ensures { Fed (feed_key self.old byte) self.new result }
     {
         if byte == b']' {
@@ -67,7 +69,7 @@ impl Reader {
             self.mode = Mode::Escape;
             return Ok(true);
         }
-        if !is_plain(byte) {
+        if !is_raw(byte) {
             return Ok(false);
         }
         self.key.push(char::from(byte))?;
@@ -123,7 +125,8 @@ impl Reader {
 
     // Takes a byte that is none of a name.
     fn take_mark(&mut self, alloc: Global, byte: u8) -> Result<bool, Memory>
-        requires { Fits self.old }
+        requires fits { Fits self.old }
+        requires ascii { byte < 128 }
         ensures { Fed (feed_mark self.old.mode self.old byte) self.new result }
     {
         match self.mode {
@@ -138,9 +141,10 @@ impl Reader {
         }
     }
 
-    /// Takes a byte, where one may stand here.
-    pub(crate) fn take(&mut self, alloc: Global, byte: u8) -> Result<bool, Memory>
-        requires { Fits self.old }
+    // Takes a byte that is a character.
+    fn take_byte(&mut self, alloc: Global, byte: u8) -> Result<bool, Memory>
+        requires fits { Fits self.old }
+        requires ascii { byte < 128 }
         ensures { Fed (feed self.old byte) self.new result }
     {
         match name_mode(self.mode, byte) {
@@ -150,6 +154,45 @@ impl Reader {
                 Ok(true)
             }
             None => self.take_mark(alloc, byte),
+        }
+    }
+
+    // Takes a character of several bytes, which may stand in a key alone.
+    fn take_wide(&mut self, character: char) -> Result<bool, Memory>
+        requires { 128 ≤ character }
+        ensures { Fed (feed_all self.old (encode_utf8 character)) self.new result }
+    {
+        match self.mode {
+            Mode::Key => {
+                self.key.push(character)?;
+                Ok(true)
+            }
+            _ => Ok(false),
+        }
+    }
+
+    /// Takes a character, where one may stand here.
+    pub(crate) fn take(&mut self, alloc: Global, character: char) -> Result<bool, Memory>
+        requires { Fits self.old }
+        ensures { Fed (feed_character self.old character) self.new result }
+    {
+        if !is_plain_character(character) {
+            return Ok(false);
+        }
+        if character.is_ascii() {
+            return self.take_byte(alloc, u32::from(character) as u8);
+        }
+        self.take_wide(character)
+    }
+
+    /// How many bytes of a character that is refused here begin some path: a key may hold another
+    /// character that differs in its last byte.
+    pub(crate) fn begun_in(&self, character: char) -> usize
+        ensures { result ≡ begun_in self.now.mode character }
+    {
+        match self.mode {
+            Mode::Key => character.len_utf8() - 1,
+            _ => 0,
         }
     }
 

@@ -1,11 +1,12 @@
 //! The text of a path, alone and with an item.
-ghost use Rattle.std.specs.Prelude.{◌≡◌, ◌<◌, ◌++◌, IfOk, OnOk, IsTrue};
+ghost use Rattle.std.specs.Prelude.{◌≡◌, ◌<◌, ◌++◌, IfOk, OnOk, OnErr, IsTrue, encode_utf8};
 ghost use Rattle.std.specs.String.{string_bytes};
-ghost use Rattle.orc_path.specs.Alphabet.{is_key};
+ghost use Rattle.std.specs.List.{flat_map};
 ghost use Rattle.orc_path.specs.Items.{item_text};
 ghost use Rattle.orc_path.specs.Steps.{is_path};
-ghost use Rattle.orc_path.specs.Texts.{escape, key_text, step_text, path_text};
+ghost use Rattle.orc_path.specs.Texts.{escape, key_text, step_text, path_text, GoesOn};
 
+use crate::value::push_value;
 use crate::{Item, Path, Step};
 use orc_text::{Memory, Text};
 use std::alloc::{AllocError, Global};
@@ -25,13 +26,24 @@ fn push_escaped(out: &mut String, byte: u8) -> Result<(), AllocError>
     }
 }
 
+// Adds a character of a key.
+#[tactic(auto, using(crate::proofs::Written::escaped_low, crate::proofs::Written::escaped_high))]
+fn push_character(out: &mut String, character: char) -> Result<(), AllocError>
+    ensures { OnOk result (string_bytes out.new ≡ string_bytes out.old ++ flat_map escape (encode_utf8 character)) }
+{
+    if character.is_ascii() {
+        push_escaped(out, u32::from(character) as u8)
+    } else {
+        out.push(character)
+    }
+}
+
 fn push_key(out: &mut String, key: &Text) -> Result<(), AllocError>
-    requires { IsTrue (is_key key.now) }
     ensures { OnOk result (string_bytes out.new ≡ string_bytes out.old ++ key_text key.now) }
 {
     out.push_str("[")?;
-    for byte in key.as_str().as_bytes() {
-        push_escaped(out, *byte)?;
+    for character in key.as_str().chars() {
+        push_character(out, character)?;
     }
     out.push_str("]")
 }
@@ -64,16 +76,18 @@ impl Path {
     }
 }
 
-/// Adds an item to a text: its path, and behind it, where it is a leaf, ` = ` and its value.
+/// Adds an item to a text: its path, and behind it, where it is a leaf, ` = ` and its value with
+/// escapes. After want of memory a part of it may stand there.
 pub fn push_item(out: &mut String, alloc: Global, path: &Path, item: &Item) -> Result<(), Memory>
-    ensures { OnOk result (string_bytes out.new ≡ string_bytes out.old ++ item_text path.now item.now) }
+    ensures ok { OnOk result (string_bytes out.new ≡ string_bytes out.old ++ item_text path.now item.now) }
+    ensures err { OnErr result (GoesOn (string_bytes out.old) (string_bytes out.new)) }
 {
     out.push_str(path.text(alloc)?.as_str())?;
     match item {
         Item::Entry => {}
-        Item::Leaf(text) => {
+        Item::Leaf(value) => {
             out.push_str(" = ")?;
-            out.push_str(text.as_str())?;
+            push_value(out, value.as_str())?;
         }
     }
     Ok(())

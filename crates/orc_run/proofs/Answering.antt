@@ -1,21 +1,78 @@
 -- What a call finds that is answered at once, or is to be committed.
-use Rattle.std.proofs.Common.{◌≡◌, ℕ, true, List, [], ◌∷◌, ◌++◌, take, sym, ap, subst}
+use Rattle.std.proofs.Common.{◌≡◌, ℕ, true, List, [], ◌∷◌, ◌++◌, take, Option, Result, Ok, Err, IfOk, OnErr, inl, refl, sym, ap, subst, arith}
 use Rattle.std.proofs.Math.Seq.{take-length}
 use Rattle.orc_call.specs.declared.call.Call.{Call}
 use Rattle.orc_call.specs.declared.answer.Answer.{Answer}
 use Rattle.orc_state.specs.Legal.{AnswersAtOnce, IsDue, IsLegal}
 use Rattle.orc_run.specs.inside.Pasts.{IsBehind}
-use Rattle.orc_run.specs.inside.Serving.{ServesTo}
-use Rattle.orc_run.specs.inside.Controllers.{view_of, IsCommitting, IsSound}
+use Rattle.orc_run.specs.inside.Serving.{ComesShort, ServesTo, goes_on}
+use Rattle.orc_run.specs.inside.Controllers.{known_of, view_of, IsCommitting, Knows, LeadsTo}
 use Rattle.orc_disk.specs.Meanings.{DiskMeaning}
+use Rattle.orc_journal.specs.declared.entry.Entry.{Entry}
 use Rattle.orc_run.specs.declared.controller.Controller.{Controller}
 use Rattle.orc_state.specs.declared.declarations.Decls.{Decls}
 use Rattle.orc_run.specs.declared.past.Past.{Past}
-use Rattle.orc_run.specs.declared.serving.CallOutcome.TheVariants.{Answered}
+use Rattle.orc_run.specs.declared.serving.CallOutcome.{CallOutcome}
+use Rattle.orc_run.specs.declared.serving.CallOutcome.TheVariants.{Answered, Broken}
+use Rattle.orc_run.specs.declared.stop.Stop.{Stop}
+use Rattle.orc_run.specs.Views.{View}
+use Rattle.orc_text.specs.declared.memory.Memory.{Memory}
+use Rattle.orc_run.proofs.Outcomes.{AreLaws, no_calls, outlives_kept}
 use Rattle.orc_state.specs.declared.state.State.{State}
 
+-- where serving a call led that left the controller as it was
+pub unchanged : {D : Type 0} (meaning : DiskMeaning D) → AreLaws meaning → (decls : Decls) (entries : List Entry) (old : Controller D) → Knows meaning decls entries old
+    → (call : Call) (result : Result CallOutcome Memory) (past : Past) → past ≡ old.past → IfOk result (λ served. ServesTo meaning decls (view_of old entries) call served (view_of old entries))
+    → ((given : Option Answer) (end : Stop) → result ≡ Ok (Broken given end) → ⊥)
+    → LeadsTo meaning decls (view_of old entries) call result (record old { past = past })
+unchanged {D} meaning laws decls entries old sound call result past kept serves unbroken =
+    subst (λ (p : Past). LeadsTo meaning decls (view_of old entries) call result (record old { past = p })) (sym kept) (record {
+      entries = entries;
+      serves = serves;
+      sound = goes result;
+      broken = λ given end is. absurd (unbroken given end is);
+      memory = wants result;
+      rests = sound.rests;
+      outlives = outlives_kept meaning decls w w (omega arith) (no_calls meaning laws decls w sound.rests) refl;
+    })
+  where
+    w : View D
+    w = view_of old entries
+
+    goes : (r : Result CallOutcome Memory) → IfOk r (λ served. goes_on served ≡ true → Knows meaning decls entries (record old { past = old.past }))
+    goes (Ok served) = λ on. record {
+      within = sound.within;
+      behind = sound.behind;
+      legal = sound.legal;
+      rests = sound.rests;
+      up = λ up. let u = sound.up up in record {
+        holds = u.holds;
+        ordered = u.ordered;
+        decided = u.decided;
+        numbers = u.numbers;
+        filled = u.filled;
+        named = u.named;
+        running = u.running;
+        limit = u.limit;
+        all = u.all;
+      };
+    }
+    goes (Err memory) = tt
+
+    wants : (r : Result CallOutcome Memory) → OnErr r (ComesShort meaning decls (view_of old entries) call (view_of old entries))
+    wants (Ok served) = tt
+    wants (Err memory) = inl refl
+
+-- memory was wanting, and nothing is changed
+pub wanting : {D : Type 0} (meaning : DiskMeaning D) → AreLaws meaning → (decls : Decls) (entries : List Entry) (old : Controller D) → Knows meaning decls entries old
+    → (call : Call) (result : Result CallOutcome Memory) (memory : Memory) → result ≡ Err memory → (past : Past) → past ≡ old.past
+    → LeadsTo meaning decls (view_of old entries) call result (record old { past = past })
+wanting meaning laws decls entries old sound call result memory is past kept =
+    subst (λ (r : Result CallOutcome Memory). LeadsTo meaning decls (view_of old entries) call r (record old { past = past })) (sym is)
+    (unchanged meaning laws decls entries old sound call (Err memory) past kept tt (λ given end e. absurd cc))
+
 module _ {D : Type 0} (meaning : DiskMeaning D)
-    (decls : Decls) (old : Controller D) (sound : IsSound meaning decls old) where
+    (decls : Decls) (entries : List Entry) (old : Controller D) (sound : Knows meaning decls entries old) where
   module _ (up : old.up ≡ true) where
     -- it knows its whole history
     pub knows_all : take old.known old.past.history ≡ old.past.history
@@ -24,28 +81,27 @@ module _ {D : Type 0} (meaning : DiskMeaning D)
     pub behind : IsBehind decls old.past old.past.history
     behind = subst (λ (l : List Call). IsBehind decls old.past l) knows_all sound.behind
 
-    pub at_once : (call : Call) (given : Answer) (past : Past) → past ≡ old.past → AnswersAtOnce decls old.past.history call given
-        → ServesTo meaning decls (view_of old) call (Answered given) (view_of (record old { past = past }))
-    at_once call given past kept answers =
-        subst (λ (p : Past). ServesTo meaning decls (view_of old) call (Answered given) (view_of (record old { past = p }))) (sym kept)
-        (ServesTo.at_once given up (subst (λ (l : List Call). AnswersAtOnce decls l call given) (sym knows_all) answers))
+    pub at_once : AreLaws meaning → (call : Call) (given : Answer) (past : Past) → past ≡ old.past → AnswersAtOnce decls old.past.history call given
+        → LeadsTo meaning decls (view_of old entries) call (Ok (Answered given)) (record old { past = past })
+    at_once laws call given past kept answers =
+        unchanged meaning laws decls entries old sound call (Ok (Answered given)) past kept
+        (ServesTo.at_once given up (subst (λ (l : List Call). AnswersAtOnce decls l call given) (sym knows_all) answers)) (λ given end is. absurd cc)
 
     module _ (call : Call) (past : Past) (rest : past ≡ record old.past { state = past.state }) (due : IsDue decls old.past.history call) where
-      pub is_due : IsDue decls (view_of old).known call
+      pub is_due : IsDue decls (known_of old) call
       is_due = subst (λ (l : List Call). IsDue decls l call) (sym knows_all) due
 
       -- with another state it is the same world
-      pub same_view : view_of (record old { past = past }) ≡ view_of old
-      same_view = ap (λ (p : Past). view_of (record old { past = p })) rest
+      pub same_view : view_of (record old { past = past }) entries ≡ view_of old entries
+      same_view = ap (λ (p : Past). view_of (record old { past = p }) entries) rest
 
       with_state : (s : State) → IsBehind decls (record old.past { state = s }) (old.past.history ++ call ∷ [])
-          → IsCommitting meaning decls call (record old { past = record old.past { state = s } })
+          → IsCommitting meaning decls call entries (record old { past = record old.past { state = s } })
       with_state s behind =
           let u = sound.up up in
           record {
             running = up;
             up = record {
-              entries = u.entries;
               holds = u.holds;
               ordered = u.ordered;
               decided = u.decided;
@@ -62,7 +118,7 @@ module _ {D : Type 0} (meaning : DiskMeaning D)
           }
 
       -- the call is to be committed
-      pub is_committing : IsBehind decls past (old.past.history ++ call ∷ []) → IsCommitting meaning decls call (record old { past = past })
+      pub is_committing : IsBehind decls past (old.past.history ++ call ∷ []) → IsCommitting meaning decls call entries (record old { past = past })
       is_committing done =
-          subst (λ (p : Past). IsBehind decls p (old.past.history ++ call ∷ []) → IsCommitting meaning decls call (record old { past = p })) (sym rest)
+          subst (λ (p : Past). IsBehind decls p (old.past.history ++ call ∷ []) → IsCommitting meaning decls call entries (record old { past = p })) (sym rest)
           (with_state past.state) done

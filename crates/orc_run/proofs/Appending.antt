@@ -1,5 +1,5 @@
 -- One append behind another.
-use Rattle.std.proofs.Common.{◌≡◌, ◌⊎◌, Bool, true, false, List, [], ◌∷◌, ◌++◌, IsTrue, refl, sym, ap, subst, ◌∙◌}
+use Rattle.std.proofs.Common.{◌≡◌, Bool, true, false, List, [], ◌∷◌, ◌++◌, IsTrue, sym, subst, ◌∙◌}
 use Rattle.orc_disk.specs.Stops.{Stopping}
 use Rattle.orc_disk.specs.Meanings.{DiskMeaning}
 use Rattle.orc_journal.specs.Opened.{OpenJournal}

@@ -1,5 +1,5 @@
 -- A call that is to be committed: what is so where its commit came to its end.
-use Rattle.std.proofs.Common.{◌≡◌, ◌⊎◌, ℕ, ◌+◌, ◌<◌, ◌≤◌, Bool, true, false, List, [], ◌∷◌, ◌++◌, length, take, drop, All, IsTrue, Option, Some, None, IfSome, is_some, Result, Ok, Err, OnErr, IfOk, inl, inr, ⊎_elim, refl, sym, ap, subst, ◌∙◌, arith}
+use Rattle.std.proofs.Common.{◌≡◌, ◌⊎◌, ℕ, ◌<◌, ◌≤◌, Bool, true, false, List, [], ◌∷◌, ◌++◌, length, take, drop, All, IsTrue, Option, Some, None, IfSome, is_some, Result, Ok, Err, IfOk, inl, inr, ⊎_elim, refl, sym, ap, subst, ◌∙◌, arith}
 use Rattle.std.proofs.Math.Seq.{take-length, drop-length, take-append_seam, drop-append_seam}
 use Rattle.std.proofs.lemmas.List.{length-append}
 use Rattle.std.proofs.lemmas.Option.{IfSome_then}
@@ -31,23 +31,24 @@ use Rattle.orc_state.proofs.Legality.{legal_more}
 use Rattle.orc_bundle.specs.declared.bundle.ScriptStep.TheVariants.{Serve}
 use Rattle.orc_run.specs.Touched.{devices_of}
 use Rattle.orc_run.specs.Views.{View, Decodes, IsKept, Rests, Outlives}
-use Rattle.orc_run.specs.Commits.{AppendsUpTo, Commits, IsNext, answer_by, is_named, is_up_behind, journal_at, known_by, known_then, pending_then}
+use Rattle.orc_run.specs.Commits.{AppendsUpTo, Commits, answer_by, intent_of, is_named, is_up_behind, journal_at, known_by, known_then, pending_then}
 use Rattle.orc_run.specs.Steps.{EndsBecause}
 use Rattle.orc_run.specs.declared.opening.TheConstants.{LARGEST_JOURNAL}
 use Rattle.orc_run.specs.inside.Pasts.{IsBehind}
 use Rattle.orc_run.specs.inside.Transactions.{is_taken, AreNamed, IsFilled}
-use Rattle.orc_run.specs.inside.Serving.{ComesTo, ComesShort, HasCome, goes_on, said_of, said_with, up_behind}
-use Rattle.orc_run.specs.inside.Controllers.{view_of, IsCommitting, IsSound, IsUp}
+use Rattle.orc_run.specs.inside.Serving.{HasCome, ServesTo, goes_on, said_of, said_with, up_behind}
+use Rattle.orc_run.specs.inside.Controllers.{view_of, IsCommitting, IsUp, Knows, LeadsTo}
 use Rattle.orc_run.specs.inside.Deciding.{IsIntentOf, HaveHistory}
 use Rattle.orc_run.specs.declared.commit.Stage.{Stage}
 use Rattle.orc_run.specs.declared.commit.Stage.TheVariants.{Intent, Decide, Settled}
 use Rattle.orc_run.specs.declared.controller.Controller.{Controller}
 use Rattle.orc_run.specs.declared.past.Past.{Past}
 use Rattle.orc_run.specs.declared.serving.CallOutcome.{CallOutcome}
-use Rattle.orc_run.specs.declared.serving.CallOutcome.TheVariants.{Answered, Stopped, Broken}
+use Rattle.orc_run.specs.declared.serving.CallOutcome.TheVariants.{Broken}
 use Rattle.orc_run.specs.declared.stop.Stop.{Stop}
 use Rattle.orc_run.specs.declared.stop.Stop.TheVariants as ending
 use Rattle.orc_run.proofs.Pasts.{all_taken, named_more, named_taken}
+use Rattle.orc_run.proofs.Outcomes.{outlives_kept}
 use Rattle.orc_run.proofs.Deciding.{unnamed_stage, opened, decided, may_end, newest, intent_has, decision_has, end_has}
 
 -- a cause that came later
@@ -136,17 +137,6 @@ module _ {D : Type 0} (meaning : DiskMeaning D) where
   rose_by decls Settled old new intent t is =
       rose_later (meaning.faults old.disk) (meaning.faults is.1.disk) (meaning.faults new.disk) (omega (arith, is.2.did.faults.later, is.3.did.faults.later)) (is.4.did.faults.rose refl)
 
--- what the contract of a commit says
-pub record CommitsTo {D : Type 0} (meaning : DiskMeaning D)
-    (decls : Decls) (old : Controller D) (call : Call) (result : Result CallOutcome Memory) (new : Controller D) : Type 0 where
-  pub comes : IfOk result (λ served. ComesTo meaning decls (view_of old) call served (view_of new))
-  pub sound : IfOk result (λ served. goes_on served ≡ true → IsSound meaning decls new)
-  pub broken : (given : Option Answer) (end : Stop) → result ≡ Ok (Broken given end)
-      → EndsBecause meaning decls (view_of old) (Serve call) end (view_of new)
-  pub memory : OnErr result (ComesShort meaning decls (view_of old) call (view_of new))
-  pub rests : Rests meaning decls (view_of new)
-  pub outlives : Outlives meaning decls (view_of old) (view_of new)
-
 -- why a run ends behind an append
 cause_of : (Q : Stop → Type 0) (outcome : Appended) (said : Option Answer) (given : Option Answer) (end : Stop) → said_with outcome said ≡ Broken given end
     → (outcome ≡ appended.Failed → Q ending.JournalFault) → ((len : ℕ) → Q (ending.Full len)) → Q ending.Memory → Q end
@@ -176,8 +166,8 @@ down_is : (outcome : Appended) (up : Bool) → outcome ≡ appended.Stopped → 
 down_is outcome up is = ap (λ (o : Appended). up_behind o up) is
 
 module _ {D : Type 0} (meaning : DiskMeaning D) (only_now : (d : D) (c : List ℕ) → meaning.left_since d (meaning.moment d) c → meaning.may_leave d c)
-    (decls : Decls) (call : Call) (old : Controller D)
-    (is : IsCommitting meaning decls call old) (lawful : IsTrue (is_call decls.names call)) where
+    (decls : Decls) (call : Call) (es : List Entry) (old : Controller D)
+    (is : IsCommitting meaning decls call es old) (lawful : IsTrue (is_call decls.names call)) where
   -- what it knows, and nothing is pending
   known_old : take old.known old.past.history ≡ old.past.history
   known_old = subst (λ (n : ℕ). take n old.past.history ≡ old.past.history) (sym is.up.all) (take-length old.past.history)
@@ -185,7 +175,7 @@ module _ {D : Type 0} (meaning : DiskMeaning D) (only_now : (d : D) (c : List �
   pending_old : drop old.known old.past.history ≡ []
   pending_old = subst (λ (n : ℕ). drop n old.past.history ≡ []) (sym is.up.all) (drop-length old.past.history)
 
-  have_old : HaveHistory decls is.up.entries old.past.history
+  have_old : HaveHistory decls es old.past.history
   have_old = record { ordered = is.up.ordered; decided = is.up.decided; legal = is.legal }
 
   legal_new : IsLegal decls (old.past.history ++ call ∷ [])
@@ -211,7 +201,7 @@ module _ {D : Type 0} (meaning : DiskMeaning D) (only_now : (d : D) (c : List �
 
   stands_old : Stands meaning (λ file. Decodes decls file before) old.journal.disk.inner
   stands_old =
-      let reads = IfSome_then (meaning.content old.journal.disk.inner) is.up.holds.file (decodes is.up.entries before have_old) in
+      let reads = IfSome_then (meaning.content old.journal.disk.inner) is.up.holds.file (decodes es before have_old) in
       record { reads = reads; images = λ file left. subst (λ (o : Option (List ℕ)). IfSome o (λ f. Decodes decls f before)) (is.up.holds.durable file left) reads }
 
   -- what is kept
@@ -229,54 +219,77 @@ module _ {D : Type 0} (meaning : DiskMeaning D) (only_now : (d : D) (c : List �
   kept_behind Decide w known pending file has = kept_at Decide w known pending file (inr has)
   kept_behind Settled w known pending file has = kept_at Settled w known pending file has
 
+  -- where memory was wanting before the intent was made
+  pub not_begun : (result : Result CallOutcome Memory) (memory : Memory) → result ≡ Err memory → (past : Past) → past.history ≡ old.past.history
+      → LeadsTo meaning decls (view_of old es) call result (record old { past = past })
+  not_begun result memory is_err past same =
+      let w = view_of old es in
+      let keeps : (file : List ℕ) → Decodes decls file before → IsKept decls w file = λ file h. record { history = before; decodes = h; within = inl (sym known_old) } in
+      let rests : Rests meaning decls w = record {
+        reads = IfSome_then (meaning.content old.journal.disk.inner) stands_old.reads keeps;
+        images = λ file left. keeps file (stands_old.images file left);
+      } in
+      let alike : w ≡ view_of (record old { past = past }) es = ap (λ (h : List Call). record w { known = take old.known h; pending = drop old.known h }) (sym same) in
+      let outlives : Outlives meaning decls w w =
+      outlives_kept meaning decls w w (omega arith) (started meaning w.disk (IsKept decls w) (λ c left. rests.images c (only_now w.disk c left))) refl in
+      subst (λ (r : Result CallOutcome Memory). LeadsTo meaning decls w call r (record old { past = past })) (sym is_err) (record {
+        entries = es;
+        serves = tt;
+        sound = tt;
+        broken = λ given end e. absurd cc;
+        memory = inl (sym alike);
+        rests = subst (λ (v : View D). Rests meaning decls v) alike rests;
+        outlives = subst (λ (v : View D). Outlives meaning decls w v) alike outlives;
+      })
+
   module _ (t : ℕ) (devices : List ℕ) (intent : Entry) (intended : IsIntentOf t call devices intent) (free : is_taken old.past.numbers t ≡ false) where
-    stage_old : stage_of t is.up.entries ≡ None
-    stage_old = unnamed_stage old.past.numbers t is.up.entries free is.up.numbers
+    stage_old : stage_of t es ≡ None
+    stage_old = unnamed_stage old.past.numbers t es free is.up.numbers
 
     -- the intent says no more
-    have_intent : HaveHistory decls (is.up.entries ++ intent ∷ []) old.past.history
-    have_intent = subst (λ (e : Entry). HaveHistory decls (is.up.entries ++ e ∷ []) old.past.history) (sym intended.is)
-        (intent_has t decls is.up.entries old.past.history have_old call devices stage_old)
+    have_intent : HaveHistory decls (es ++ intent ∷ []) old.past.history
+    have_intent = subst (λ (e : Entry). HaveHistory decls (es ++ e ∷ []) old.past.history) (sym intended.is)
+        (intent_has t decls es old.past.history have_old call devices stage_old)
 
     -- the decision commits the call
-    have_decision : HaveHistory decls ((is.up.entries ++ intent ∷ []) ++ entry.Decide t ∷ []) (old.past.history ++ call ∷ [])
-    have_decision = subst (λ (e : Entry). HaveHistory decls ((is.up.entries ++ e ∷ []) ++ entry.Decide t ∷ []) (old.past.history ++ call ∷ [])) (sym intended.is)
-        (decision_has t decls (is.up.entries ++ entry.Intent t call devices ∷ []) old.past.history
-        (intent_has t decls is.up.entries old.past.history have_old call devices stage_old) call devices
-        (opened t call devices is.up.entries stage_old) (newest t call devices is.up.entries) legal_new)
+    have_decision : HaveHistory decls ((es ++ intent ∷ []) ++ entry.Decide t ∷ []) (old.past.history ++ call ∷ [])
+    have_decision = subst (λ (e : Entry). HaveHistory decls ((es ++ e ∷ []) ++ entry.Decide t ∷ []) (old.past.history ++ call ∷ [])) (sym intended.is)
+        (decision_has t decls (es ++ entry.Intent t call devices ∷ []) old.past.history
+        (intent_has t decls es old.past.history have_old call devices stage_old) call devices
+        (opened t call devices es stage_old) (newest t call devices es) legal_new)
 
-    ends : IsTrue (follows ((is.up.entries ++ intent ∷ []) ++ entry.Decide t ∷ []) (entry.Settled t))
-    ends = subst (λ (e : Entry). IsTrue (follows ((is.up.entries ++ e ∷ []) ++ entry.Decide t ∷ []) (entry.Settled t))) (sym intended.is)
-        (may_end t call devices ((is.up.entries ++ entry.Intent t call devices ∷ []) ++ entry.Decide t ∷ []) (decided t call devices (is.up.entries ++ entry.Intent t call devices ∷ [])
-        (opened t call devices is.up.entries stage_old)))
+    ends : IsTrue (follows ((es ++ intent ∷ []) ++ entry.Decide t ∷ []) (entry.Settled t))
+    ends = subst (λ (e : Entry). IsTrue (follows ((es ++ e ∷ []) ++ entry.Decide t ∷ []) (entry.Settled t))) (sym intended.is)
+        (may_end t call devices ((es ++ entry.Intent t call devices ∷ []) ++ entry.Decide t ∷ []) (decided t call devices (es ++ entry.Intent t call devices ∷ [])
+        (opened t call devices es stage_old)))
 
-    have_end : HaveHistory decls (((is.up.entries ++ intent ∷ []) ++ entry.Decide t ∷ []) ++ entry.Settled t ∷ []) behind
-    have_end = end_has t decls ((is.up.entries ++ intent ∷ []) ++ entry.Decide t ∷ []) behind have_decision ends
+    have_end : HaveHistory decls (((es ++ intent ∷ []) ++ entry.Decide t ∷ []) ++ entry.Settled t ∷ []) behind
+    have_end = end_has t decls ((es ++ intent ∷ []) ++ entry.Decide t ∷ []) behind have_decision ends
 
-    keeps_first : (file : List ℕ) → IsBeforeOrAfter decls.text is.up.entries intent file → Decodes decls file before
-    keeps_first file = ⊎_elim (decodes is.up.entries before have_old file) (decodes (is.up.entries ++ intent ∷ []) before have_intent file)
+    keeps_first : (file : List ℕ) → IsBeforeOrAfter decls.text es intent file → Decodes decls file before
+    keeps_first file = ⊎_elim (decodes es before have_old file) (decodes (es ++ intent ∷ []) before have_intent file)
 
-    keeps_next : (entries : List Entry) → entries ≡ is.up.entries ++ intent ∷ [] → (file : List ℕ) → IsBeforeOrAfter decls.text entries (entry.Decide t) file → HasEither file
+    keeps_next : (entries : List Entry) → entries ≡ es ++ intent ∷ [] → (file : List ℕ) → IsBeforeOrAfter decls.text entries (entry.Decide t) file → HasEither file
     keeps_next entries same file either = ⊎_elim
-        (λ g. inl (decodes (is.up.entries ++ intent ∷ []) before have_intent file g))
-        (λ g. inr (decodes ((is.up.entries ++ intent ∷ []) ++ entry.Decide t ∷ []) behind have_decision file g))
+        (λ g. inl (decodes (es ++ intent ∷ []) before have_intent file g))
+        (λ g. inr (decodes ((es ++ intent ∷ []) ++ entry.Decide t ∷ []) behind have_decision file g))
         (subst (λ (l : List Entry). IsBeforeOrAfter decls.text l (entry.Decide t) file) same either)
 
-    keeps_last : (entries : List Entry) → entries ≡ (is.up.entries ++ intent ∷ []) ++ entry.Decide t ∷ [] → (file : List ℕ) → IsBeforeOrAfter decls.text entries (entry.Settled t) file → Decodes decls file behind
+    keeps_last : (entries : List Entry) → entries ≡ (es ++ intent ∷ []) ++ entry.Decide t ∷ [] → (file : List ℕ) → IsBeforeOrAfter decls.text entries (entry.Settled t) file → Decodes decls file behind
     keeps_last entries same file either = ⊎_elim
-        (decodes ((is.up.entries ++ intent ∷ []) ++ entry.Decide t ∷ []) behind have_decision file)
-        (decodes (((is.up.entries ++ intent ∷ []) ++ entry.Decide t ∷ []) ++ entry.Settled t ∷ []) behind have_end file)
+        (decodes ((es ++ intent ∷ []) ++ entry.Decide t ∷ []) behind have_decision file)
+        (decodes (((es ++ intent ∷ []) ++ entry.Decide t ∷ []) ++ entry.Settled t ∷ []) behind have_end file)
         (subst (λ (l : List Entry). IsBeforeOrAfter decls.text l (entry.Settled t) file) same either)
 
     -- what a commit leaves, by its last stage
-    commit_went : (stage : Stage) (outcome : Appended) (new : JournalView D) → AppendsUpTo meaning decls.text stage (journal_view old.journal is.up.entries) intent t outcome new
+    commit_went : (stage : Stage) (outcome : Appended) (new : JournalView D) → AppendsUpTo meaning decls.text stage (journal_view old.journal es) intent t outcome new
         → Went meaning HasEither old.journal.disk.inner new.disk × Stands meaning (HasAt stage) new.disk
     commit_went Intent outcome new so =
-        let a = journal_view old.journal is.up.entries in
+        let a = journal_view old.journal es in
         let r = append_went meaning only_now decls.text a new intent (λ file. Decodes decls file before) keeps_first stands_old outcome so.1 in
         (went_weaker meaning (λ file. Decodes decls file before) HasEither a.disk new.disk (λ file h. inl h) r.0, r.1)
     commit_went Decide outcome new so =
-        let a = journal_view old.journal is.up.entries in
+        let a = journal_view old.journal es in
         let b = so.1.0 in
         let r = append_went meaning only_now decls.text a b intent (λ file. Decodes decls file before) keeps_first stands_old appended.Done so.1.1 in
         let first = went_weaker meaning (λ file. Decodes decls file before) HasEither a.disk b.disk (λ file h. inl h) r.0 in
@@ -284,16 +297,16 @@ module _ {D : Type 0} (meaning : DiskMeaning D) (only_now : (d : D) (c : List �
         (stands_weaker meaning (λ file. Decodes decls file before) HasEither b.disk (λ file h. inl h) r.1) outcome so.1.2 in
         (went_on meaning HasEither a.disk b.disk new.disk first s.0, s.1)
     commit_went Settled outcome new so =
-        let a = journal_view old.journal is.up.entries in
+        let a = journal_view old.journal es in
         let b = so.0 in
         let d = so.1 in
         let r = append_went meaning only_now decls.text a b intent (λ file. Decodes decls file before) keeps_first stands_old appended.Done so.2 in
         let first = went_weaker meaning (λ file. Decodes decls file before) HasEither a.disk b.disk (λ file h. inl h) r.0 in
         let s = append_went meaning only_now decls.text b d (entry.Decide t) HasEither (keeps_next b.entries so.2.known)
         (stands_weaker meaning (λ file. Decodes decls file before) HasEither b.disk (λ file h. inl h) r.1) appended.Done so.3 in
-        let all : d.entries ≡ (is.up.entries ++ intent ∷ []) ++ entry.Decide t ∷ [] = so.3.known ∙ ap (λ (l : List Entry). l ++ entry.Decide t ∷ []) so.2.known in
+        let all : d.entries ≡ (es ++ intent ∷ []) ++ entry.Decide t ∷ [] = so.3.known ∙ ap (λ (l : List Entry). l ++ entry.Decide t ∷ []) so.2.known in
         let reads : IfSome (meaning.content d.disk) (λ file. Decodes decls file behind) = IfSome_then (meaning.content d.disk) so.3.reads (λ file g.
-        decodes ((is.up.entries ++ intent ∷ []) ++ entry.Decide t ∷ []) behind have_decision file
+        decodes ((es ++ intent ∷ []) ++ entry.Decide t ∷ []) behind have_decision file
         (subst (λ (l : List Entry). IsGated file decls.text (l ++ entry.Decide t ∷ [])) so.2.known g)) in
         let stands : Stands meaning (λ file. Decodes decls file behind) d.disk = record {
           reads = reads;
@@ -305,22 +318,25 @@ module _ {D : Type 0} (meaning : DiskMeaning D) (only_now : (d : D) (c : List �
           z.1,
         )
 
-    is_free : is_named t is.up.entries ≡ false
-    is_free = on (is_named t is.up.entries) refl
+    is_free : is_named t es ≡ false
+    is_free = on (is_named t es) refl
       where
-        on : (b : Bool) → is_named t is.up.entries ≡ b → is_named t is.up.entries ≡ false
-        on true named = absurd (let taken = named_taken old.past.numbers t is.up.entries is.up.numbers named in cc)
+        on : (b : Bool) → is_named t es ≡ b → is_named t es ≡ false
+        on true named = absurd (let taken = named_taken old.past.numbers t es is.up.numbers named in cc)
         on false named = named
 
     module _ (touched : devices ≡ devices_of decls.names (state_of decls (take old.known old.past.history)) (action_of call)) (positive : 1 ≤ t)
         (least : (u : ℕ) → 1 ≤ u → u < t → is_taken old.past.numbers u ≡ true)
         (stage : Stage) (outcome : Appended) (j : OpenJournal (Stopping D))
-        (so : AppendsUpTo meaning decls.text stage (journal_view old.journal is.up.entries) intent t outcome (journal_view j (known_by stage outcome is.up.entries intent t))) where
-      moved : AppendsUpTo meaning decls.text stage (record (journal_view old.journal is.up.entries) { limit = LARGEST_JOURNAL }) intent t outcome
-          (record (journal_view j (known_by stage outcome is.up.entries intent t)) { limit = LARGEST_JOURNAL })
+        (so : AppendsUpTo meaning decls.text stage (journal_view old.journal es) intent t outcome (journal_view j (known_by stage outcome es intent t))) where
+      abbrev known_now : List Entry
+      known_now = known_by stage outcome es intent t
+
+      moved : AppendsUpTo meaning decls.text stage (record (journal_view old.journal es) { limit = LARGEST_JOURNAL }) intent t outcome
+          (record (journal_view j (known_by stage outcome es intent t)) { limit = LARGEST_JOURNAL })
       moved =
-          let a = journal_view old.journal is.up.entries in
-          let b = journal_view j (known_by stage outcome is.up.entries intent t) in
+          let a = journal_view old.journal es in
+          let b = journal_view j (known_by stage outcome es intent t) in
           let A : ℕ → ℕ → Type 0 = λ m n. AppendsUpTo meaning decls.text stage (record a { limit = m }) intent t outcome (record b { limit = n }) in
           subst (λ m. A m LARGEST_JOURNAL) is.up.limit
           (subst (λ n. A old.journal.limit n) (limit_of meaning decls.text stage a b intent t outcome so ∙ is.up.limit) so)
@@ -330,9 +346,11 @@ module _ {D : Type 0} (meaning : DiskMeaning D) (only_now : (d : D) (c : List �
         abbrev now : Controller D
         now = record { journal = j; up = up; past = past; known = known }
 
-        commits : Commits meaning decls (view_of old) call stage outcome (view_of now)
+        the_intent : intent ≡ intent_of decls (view_of old es) call t
+        the_intent = intended.is ∙ ap (λ (l : List ℕ). entry.Intent t call l) touched
+
+        commits : Commits meaning decls (view_of old es) call stage outcome (view_of now known_now)
         commits = record {
-          entries = is.up.entries;
           t = t;
           next = record {
             journal = is.up.holds.file;
@@ -342,15 +360,15 @@ module _ {D : Type 0} (meaning : DiskMeaning D) (only_now : (d : D) (c : List �
             free = is_free;
             least = λ u from below. is.up.named u (least u from below);
           };
-          appends = subst (λ (e : Entry). AppendsUpTo meaning decls.text stage (journal_at meaning (view_of old) is.up.entries) e t outcome
-              (journal_at meaning (view_of now) (known_by stage outcome is.up.entries e t)))
-              (intended.is ∙ ap (λ (l : List ℕ). entry.Intent t call l) touched) moved;
+          appends = subst (λ (e : Entry). AppendsUpTo meaning decls.text stage (journal_at meaning (view_of old es)) e t outcome
+              (journal_at meaning (view_of now known_now))) the_intent moved;
+          entries = ap (λ (e : Entry). known_by stage outcome es e t) the_intent;
           known = known_is ∙ ap (λ (l : List Call). known_then stage l call) (sym known_old);
           pending = pending_is;
           up = up_is;
         }
 
-        come : HasCome meaning decls (view_of old) call (view_of now)
+        come : HasCome meaning decls (view_of old es) call (view_of now known_now)
         come = record {
           stage = stage;
           outcome = outcome;
@@ -360,35 +378,36 @@ module _ {D : Type 0} (meaning : DiskMeaning D) (only_now : (d : D) (c : List �
         }
 
         went : Went meaning HasEither old.journal.disk.inner j.disk.inner × Stands meaning (HasAt stage) j.disk.inner
-        went = commit_went stage outcome (journal_view j (known_by stage outcome is.up.entries intent t)) so
+        went = commit_went stage outcome (journal_view j (known_by stage outcome es intent t)) so
 
-        rests_now : Rests meaning decls (view_of now)
+        rests_now : Rests meaning decls (view_of now known_now)
         rests_now =
-            let keeps = kept_at stage (view_of now) known_is pending_is in
+            let keeps = kept_at stage (view_of now known_now) known_is pending_is in
             record { reads = IfSome_then (meaning.content j.disk.inner) went.1.reads keeps; images = λ file left. keeps file (went.1.images file left) }
 
-        outlives_now : Outlives meaning decls (view_of old) (view_of now)
+        outlives_now : Outlives meaning decls (view_of old es) (view_of now known_now)
         outlives_now = record {
           later = went.0.later;
-          images = weaker meaning old.journal.disk.inner j.disk.inner HasEither (λ file. IsKept decls (view_of old) file ⊎ IsKept decls (view_of now) file)
+          images = weaker meaning old.journal.disk.inner j.disk.inner HasEither (λ file. IsKept decls (view_of old es) file ⊎ IsKept decls (view_of now known_now) file)
               (λ file. ⊎_elim (λ (h : Decodes decls file before). inl (record { history = before; decodes = h; within = inl (sym known_old) }))
-              (λ h. inr (kept_behind stage (view_of now) known_is pending_is file h))) went.0.run;
+              (λ h. inr (kept_behind stage (view_of now known_now) known_is pending_is file h))) went.0.run;
           still_tells = went.0.tells;
         }
 
-        cause_now : (given : Option Answer) (end : Stop) (count : ℕ) → said_of stage outcome count ≡ Broken given end → EndsBecause meaning decls (view_of old) (Serve call) end (view_of now)
+        cause_now : (given : Option Answer) (end : Stop) (count : ℕ) → said_of stage outcome count ≡ Broken given end → EndsBecause meaning decls (view_of old es) (Serve call) end (view_of now known_now)
         cause_now given end count said =
-            cause_of (λ (x : Stop). EndsBecause meaning decls (view_of old) (Serve call) x (view_of now)) outcome (answer_by stage outcome count) given end said
-            (λ failed. rose_by meaning decls.text stage (journal_view old.journal is.up.entries) (journal_view j (known_by stage outcome is.up.entries intent t)) intent t
-            (subst (λ (o : Appended). AppendsUpTo meaning decls.text stage (journal_view old.journal is.up.entries) intent t o (journal_view j (known_by stage outcome is.up.entries intent t))) failed so))
+            cause_of (λ (x : Stop). EndsBecause meaning decls (view_of old es) (Serve call) x (view_of now known_now)) outcome (answer_by stage outcome count) given end said
+            (λ failed. rose_by meaning decls.text stage (journal_view old.journal es) (journal_view j (known_by stage outcome es intent t)) intent t
+            (subst (λ (o : Appended). AppendsUpTo meaning decls.text stage (journal_view old.journal es) intent t o (journal_view j (known_by stage outcome es intent t))) failed so))
             (λ len. inl (call, refl)) tt
 
         -- what its contract says, for what was said of it
         pub said_so : (result : Result CallOutcome Memory) (count : ℕ) → count ≡ length (take known past.history) → IfOk result (λ served. served ≡ said_of stage outcome count)
-            → IfOk result (λ served. goes_on served ≡ true → IsSound meaning decls now) → CommitsTo meaning decls old call result now
+            → IfOk result (λ served. goes_on served ≡ true → Knows meaning decls known_now now) → LeadsTo meaning decls (view_of old es) call result now
         unfolding come
         said_so (Ok served) count all said sound = record {
-          comes = record { come = come; said = said ∙ ap (said_of stage outcome) all };
+          entries = known_now;
+          serves = ServesTo.came served (view_of now known_now) (record { come = come; said = said ∙ ap (said_of stage outcome) all });
           sound = sound;
           broken = λ given end same. cause_now given end count (sym said ∙ (let s : served ≡ Broken given end = cc in s));
           memory = tt;
@@ -396,7 +415,8 @@ module _ {D : Type 0} (meaning : DiskMeaning D) (only_now : (d : D) (c : List �
           outlives = outlives_now;
         }
         said_so (Err memory) count all said sound = record {
-          comes = tt;
+          entries = known_now;
+          serves = tt;
           sound = tt;
           broken = λ given end same. absurd cc;
           memory = inr come;
@@ -407,7 +427,7 @@ module _ {D : Type 0} (meaning : DiskMeaning D) (only_now : (d : D) (c : List �
       module _ (past : Past) (taken : is_taken past.numbers t ≡ true) (others : (u : ℕ) → is_taken old.past.numbers u ≡ true → is_taken past.numbers u ≡ true)
           (only : (u : ℕ) → is_taken past.numbers u ≡ true → (is_taken old.past.numbers u ≡ true) ⊎ (u ≡ t))
           (filled : IsFilled past.numbers) (more : past.history ≡ behind) (state : past.state ≡ old.past.state)
-          (open_now : (outcome ≡ appended.Stopped → ⊥) → (outcome ≡ appended.Failed → ⊥) → IsOpen meaning j decls.text (known_by stage outcome is.up.entries intent t)) where
+          (open_now : (outcome ≡ appended.Stopped → ⊥) → (outcome ≡ appended.Failed → ⊥) → IsOpen meaning j decls.text (known_by stage outcome es intent t)) where
         behind_new : IsBehind decls past past.history
         behind_new = record {
           state = state ∙ is.behind.state ∙ ap (λ (l : List Call). state_of decls l) (sym more);
@@ -415,33 +435,32 @@ module _ {D : Type 0} (meaning : DiskMeaning D) (only_now : (d : D) (c : List �
           bases = ap (λ (s : State). length s.bases) state ∙ is.behind.bases;
         }
 
-        numbers_first : All (λ e. is_taken past.numbers (number_of e) ≡ true) (is.up.entries ++ intent ∷ [])
-        numbers_first = all_taken old.past.numbers past.numbers is.up.entries intent is.up.numbers others
+        numbers_first : All (λ e. is_taken past.numbers (number_of e) ≡ true) (es ++ intent ∷ [])
+        numbers_first = all_taken old.past.numbers past.numbers es intent is.up.numbers others
             (subst (λ (e : Entry). is_taken past.numbers (number_of e) ≡ true) (sym intended.is) taken)
 
-        numbers_all : All (λ e. is_taken past.numbers (number_of e) ≡ true) (((is.up.entries ++ intent ∷ []) ++ entry.Decide t ∷ []) ++ entry.Settled t ∷ [])
+        numbers_all : All (λ e. is_taken past.numbers (number_of e) ≡ true) (((es ++ intent ∷ []) ++ entry.Decide t ∷ []) ++ entry.Settled t ∷ [])
         numbers_all =
-            all_taken past.numbers past.numbers ((is.up.entries ++ intent ∷ []) ++ entry.Decide t ∷ []) (entry.Settled t)
-            (all_taken past.numbers past.numbers (is.up.entries ++ intent ∷ []) (entry.Decide t) numbers_first (λ u h. h) taken) (λ u h. h) taken
+            all_taken past.numbers past.numbers ((es ++ intent ∷ []) ++ entry.Decide t ∷ []) (entry.Settled t)
+            (all_taken past.numbers past.numbers (es ++ intent ∷ []) (entry.Decide t) numbers_first (λ u h. h) taken) (λ u h. h) taken
 
-        named_all : AreNamed past.numbers (((is.up.entries ++ intent ∷ []) ++ entry.Decide t ∷ []) ++ entry.Settled t ∷ [])
+        named_all : AreNamed past.numbers (((es ++ intent ∷ []) ++ entry.Decide t ∷ []) ++ entry.Settled t ∷ [])
         named_all =
-            named_more past.numbers past.numbers ((is.up.entries ++ intent ∷ []) ++ entry.Decide t ∷ []) (entry.Settled t)
-            (named_more past.numbers past.numbers (is.up.entries ++ intent ∷ []) (entry.Decide t)
-            (named_more old.past.numbers past.numbers is.up.entries intent is.up.named
+            named_more past.numbers past.numbers ((es ++ intent ∷ []) ++ entry.Decide t ∷ []) (entry.Settled t)
+            (named_more past.numbers past.numbers (es ++ intent ∷ []) (entry.Decide t)
+            (named_more old.past.numbers past.numbers es intent is.up.named
             (subst (λ (e : Entry). (u : ℕ) → is_taken past.numbers u ≡ true → (is_taken old.past.numbers u ≡ true) ⊎ (u ≡ number_of e)) (sym intended.is) only))
             (λ u h. inl h)) (λ u h. inl h)
 
         whole : take (length past.history) past.history ≡ past.history
         whole = take-length past.history
 
-        up_settled : outcome ≡ appended.Done → stage ≡ Settled → IsUp meaning decls (record { journal = j; up = up_behind outcome old.up; past = past; known = length past.history })
+        up_settled : outcome ≡ appended.Done → stage ≡ Settled → IsUp meaning decls known_now (record { journal = j; up = up_behind outcome old.up; past = past; known = length past.history })
         up_settled done last =
             let open_there = open_now (λ e. let s = sym done ∙ e in absurd cc) (λ e. let s = sym done ∙ e in absurd cc) in
-            let held = subst (λ (o : Appended). IsOpen meaning j decls.text (known_by Settled o is.up.entries intent t)) done
-            (subst (λ (s : Stage). IsOpen meaning j decls.text (known_by s outcome is.up.entries intent t)) last open_there) in
-            record {
-              entries = ((is.up.entries ++ intent ∷ []) ++ entry.Decide t ∷ []) ++ entry.Settled t ∷ [];
+            let held = subst (λ (o : Appended). IsOpen meaning j decls.text (known_by Settled o es intent t)) done
+            (subst (λ (s : Stage). IsOpen meaning j decls.text (known_by s outcome es intent t)) last open_there) in
+            let here : IsUp meaning decls (known_by Settled appended.Done es intent t) (record { journal = j; up = up_behind outcome old.up; past = past; known = length past.history }) = record {
               holds = held.holds;
               ordered = have_end.ordered;
               decided = have_end.decided ∙ sym more;
@@ -449,21 +468,23 @@ module _ {D : Type 0} (meaning : DiskMeaning D) (only_now : (d : D) (c : List �
               filled = filled;
               named = named_all;
               running = held.running;
-              limit = limit_of meaning decls.text stage (journal_view old.journal is.up.entries) (journal_view j (known_by stage outcome is.up.entries intent t)) intent t outcome so ∙ is.up.limit;
+              limit = limit_of meaning decls.text stage (journal_view old.journal es) (journal_view j (known_by stage outcome es intent t)) intent t outcome so ∙ is.up.limit;
               all = refl;
-            }
+            } in
+            subst (λ (s : Stage). IsUp meaning decls (known_by s outcome es intent t) (record { journal = j; up = up_behind outcome old.up; past = past; known = length past.history })) (sym last)
+            (subst (λ (o : Appended). IsUp meaning decls (known_by Settled o es intent t) (record { journal = j; up = up_behind outcome old.up; past = past; known = length past.history })) (sym done) here)
 
         -- the decision was appended
         pub settled : stage ≡ Settled → (served : CallOutcome) (new : Controller D)
             → served ≡ said_of Settled outcome new.known → new ≡ record { journal = j; up = up_behind outcome old.up; past = past; known = length past.history }
-            → CommitsTo meaning decls old call (Ok served) new
+            → LeadsTo meaning decls (view_of old es) call (Ok served) new
         settled last served new said made =
             let n = length past.history in
             let known_is : take n past.history ≡ known_then stage before call = whole ∙ more ∙ ap (λ (s : Stage). known_then s before call) (sym last) in
             let pending_is : drop n past.history ≡ pending_then stage call = drop-length past.history ∙ ap (λ (s : Stage). pending_then s call) (sym last) in
             let c : Controller D = record { journal = j; up = up_behind outcome old.up; past = past; known = n } in
             let rests = rests_now (up_behind outcome old.up) past n known_is pending_is (up_is outcome old.up is.running) in
-            let sound : (outcome ≡ appended.Done) ⊎ (outcome ≡ appended.Stopped) → IsSound meaning decls c = λ which. record {
+            let sound : (outcome ≡ appended.Done) ⊎ (outcome ≡ appended.Stopped) → Knows meaning decls known_now c = λ which. record {
               within = omega arith;
               behind = subst (λ (l : List Call). IsBehind decls past l) (sym whole) behind_new;
               legal = subst (λ (l : List Call). IsLegal decls l) (sym (whole ∙ more)) legal_new;
@@ -472,16 +493,16 @@ module _ {D : Type 0} (meaning : DiskMeaning D) (only_now : (d : D) (c : List �
             } in
             let same : said_of Settled outcome new.known ≡ said_of stage outcome n =
             ap (λ (s : Stage). said_of s outcome new.known) (sym last) ∙ ap (λ (k : Controller D). said_of stage outcome k.known) made in
-            subst (λ (k : Controller D). CommitsTo meaning decls old call (Ok served) k) (sym made)
+            subst (λ (k : Controller D). LeadsTo meaning decls (view_of old es) call (Ok served) k) (sym made)
             (said_so (up_behind outcome old.up) past n known_is pending_is (up_is outcome old.up is.running) (Ok served) n (sym (ap length whole)) (said ∙ same)
-            (λ on. on_going (IsSound meaning decls c) outcome (answer_by stage outcome n) (sym (ap goes_on (said ∙ same)) ∙ on) (λ done. sound (inl done)) (λ stopped. sound (inr stopped))))
+            (λ on. on_going (Knows meaning decls known_now c) outcome (answer_by stage outcome n) (sym (ap goes_on (said ∙ same)) ∙ on) (λ done. sound (inl done)) (λ stopped. sound (inr stopped))))
 
         -- it was not
         pub undecided : (stage ≡ Settled → ⊥) → (result : Result CallOutcome Memory) (new : Controller D)
             → IfOk result (λ served. served ≡ said_of stage outcome new.known)
             → (outcome ≡ appended.Stopped → IfOk result (λ served. IsBehind decls new.past (take old.known past.history)))
             → new ≡ record { journal = j; up = up_behind outcome old.up; past = record past { state = new.past.state }; known = old.known }
-            → CommitsTo meaning decls old call result new
+            → LeadsTo meaning decls (view_of old es) call result new
         undecided unsettled result new said state_of_new made =
             let known_open : take old.known past.history ≡ before = subst (λ (h : List Call). take old.known h ≡ before) (sym more)
             (subst (λ (n : ℕ). take n behind ≡ before) (sym is.up.all) (take-append_seam before (call ∷ []))) in
@@ -494,14 +515,14 @@ module _ {D : Type 0} (meaning : DiskMeaning D) (only_now : (d : D) (c : List �
             let pending_is : drop old.known past.history ≡ pending_then stage call = pending_open ∙ sym (pending_unsettled stage unsettled) in
             let count : old.known ≡ length (take old.known past.history) = is.up.all ∙ sym (ap length known_open) in
             let rests = rests_now up p old.known known_is pending_is (up_is outcome old.up is.running) in
-            let sound : outcome ≡ appended.Stopped → IsBehind decls new.past (take old.known past.history) → IsSound meaning decls k = λ stopped behind_it. record {
+            let sound : outcome ≡ appended.Stopped → IsBehind decls new.past (take old.known past.history) → Knows meaning decls known_now k = λ stopped behind_it. record {
               within = omega (arith, ap length more, length-append before (call ∷ []), is.up.all);
               behind = record { state = behind_it.state; complete = behind_it.complete; bases = behind_it.bases };
               legal = subst (λ (l : List Call). IsLegal decls l) (sym known_open) is.legal;
               rests = rests;
               up = λ on. let d = down_is outcome old.up stopped in absurd cc;
             } in
-            subst (λ (x : Controller D). CommitsTo meaning decls old call result x) (sym made)
+            subst (λ (x : Controller D). LeadsTo meaning decls (view_of old es) call result x) (sym made)
             (said_so up p old.known known_is pending_is (up_is outcome old.up is.running) result old.known count
             (counted result (ap (λ (x : Controller D). x.known) made) said)
             (sound_by result (counted result (ap (λ (x : Controller D). x.known) made) said) sound state_of_new))
@@ -521,10 +542,10 @@ module _ {D : Type 0} (meaning : DiskMeaning D) (only_now : (d : D) (c : List �
             counted (Err memory) same h = tt
 
             sound_by : (r : Result CallOutcome Memory) → IfOk r (λ served. served ≡ said_of stage outcome old.known)
-                → (outcome ≡ appended.Stopped → IsBehind decls new.past (take old.known past.history) → IsSound meaning decls (record { journal = j; up = up_behind outcome old.up; past = record past { state = new.past.state }; known = old.known }))
+                → (outcome ≡ appended.Stopped → IsBehind decls new.past (take old.known past.history) → Knows meaning decls known_now (record { journal = j; up = up_behind outcome old.up; past = record past { state = new.past.state }; known = old.known }))
                 → (outcome ≡ appended.Stopped → IfOk r (λ served. IsBehind decls new.past (take old.known past.history)))
-                → IfOk r (λ served. goes_on served ≡ true → IsSound meaning decls (record { journal = j; up = up_behind outcome old.up; past = record past { state = new.past.state }; known = old.known }))
+                → IfOk r (λ served. goes_on served ≡ true → Knows meaning decls known_now (record { journal = j; up = up_behind outcome old.up; past = record past { state = new.past.state }; known = old.known }))
             sound_by (Err memory) said sound state_of_new = tt
             sound_by (Ok served) said sound state_of_new = λ on.
-                on_going (IsSound meaning decls (record { journal = j; up = up_behind outcome old.up; past = record past { state = new.past.state }; known = old.known }))
-                outcome (answer_by stage outcome old.known) (sym (ap goes_on said) ∙ on) (λ done. absurd (unfinished meaning decls.text stage (journal_view old.journal is.up.entries) (journal_view j (known_by stage outcome is.up.entries intent t)) intent t outcome unsettled so done)) (λ stopped. sound stopped (state_of_new stopped))
+                on_going (Knows meaning decls known_now (record { journal = j; up = up_behind outcome old.up; past = record past { state = new.past.state }; known = old.known }))
+                outcome (answer_by stage outcome old.known) (sym (ap goes_on said) ∙ on) (λ done. absurd (unfinished meaning decls.text stage (journal_view old.journal es) (journal_view j (known_by stage outcome es intent t)) intent t outcome unsettled so done)) (λ stopped. sound stopped (state_of_new stopped))

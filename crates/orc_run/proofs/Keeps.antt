@@ -1,15 +1,15 @@
 -- What a run keeps: the history at entry, and then some of the script's calls in their order.
-use Rattle.std.proofs.Common.{◌≡◌, ◌⊎◌, ℕ, Bool, true, false, List, [], ◌∷◌, ◌++◌, None, Some, Option, IfSome, is_some, if◌then◌else◌, inl, inr, ⊎_elim, refl, sym, ap, subst, ◌∙◌, append_assoc, append-nil}
+use Rattle.std.proofs.Common.{◌≡◌, ◌⊎◌, ℕ, Bool, true, false, List, [], ◌∷◌, ◌++◌, None, Some, Option, is_some, if◌then◌else◌, inl, inr, ⊎_elim, refl, sym, ap, subst, ◌∙◌, append_assoc, append-nil}
 use Rattle.orc_call.specs.declared.call.Call.{Call}
-use Rattle.orc_disk.specs.Moments.{LeavesOnly}
-use Rattle.orc_disk.proofs.Moments.{started, joined, weaker}
-use Rattle.orc_run.specs.Views.{View, IsKept, Rests, Outlives}
+use Rattle.std.proofs.lemmas.Option.{IfSome_then}
+use Rattle.orc_run.proofs.Later.{Behind, behind_run, behind_steps, kept_now, kept_since}
+use Rattle.orc_run.specs.Views.{View, Rests}
 use Rattle.orc_run.specs.Steps.{Serves, Does, Breaks}
 use Rattle.orc_run.specs.Commits.{known_then, pending_then}
 use Rattle.orc_run.specs.declared.commit.Stage.{Stage}
 use Rattle.orc_run.specs.declared.commit.Stage.TheVariants.{Intent, Decide, Settled}
 use Rattle.orc_run.specs.Runs.{StepsDone}
-use Rattle.orc_run.specs.Ends.{IsSubsequence, calls_in, RunsUntil, KeepsAll, HoldsFrom}
+use Rattle.orc_run.specs.Ends.{IsSubsequence, calls_in, RunsUntil, KeepsAll}
 use Rattle.orc_disk.specs.Meanings.{DiskMeaning}
 use Rattle.orc_run.specs.Runs.StepsDone.{begun, one_more}
 use Rattle.orc_run.specs.Ends.IsSubsequence.{none, skip, take}
@@ -104,6 +104,7 @@ module _ {D : Type 0} where
       → Adds first w calls → Does meaning decls w s text new → Adds first new (calls ++ calls_in (s ∷ []))
   adds_step meaning decls first w new calls (step.Show d) text told so does = adds_equal first w new calls so does.1
   adds_step meaning decls first w new calls (step.Serve call) text told so does = adds_serve meaning decls first w new calls call text so does
+  adds_step meaning decls first w new calls step.Settle text told so does = adds_equal first w new calls so does.1
   adds_step meaning decls first w new calls step.Stop text told so does = adds_same first w new calls [] so (ap (λ (x : View D). x.known) does.1) (ap (λ (x : View D). x.pending) does.1)
   adds_step meaning decls first w new calls (step.StopAt call bytes) text told so does = adds_armed first w new calls w.up call bytes so does.1
   adds_step meaning decls first w new calls step.Recover text told so does = subst (Adds first new) (sym (append-nil calls)) (adds_recover first w new calls so does.pending (does.known told))
@@ -118,86 +119,52 @@ module _ {D : Type 0} where
   adds_break meaning decls first w new calls s text end so (Breaks.unprinted call stage outcome n up due commits) =
       adds_come first w n calls call stage so commits.known commits.pending
 
--- ---- what is kept holds from what was known
-
-kept_from : {D : Type 0} (decls : Decls) (w : View D) (front added : List Call) (file : List ℕ) → w.known ≡ front ++ added → IsKept decls w file → HoldsFrom decls front file
-kept_from decls w front added file known kept = (
-  kept.history,
-  kept.decodes,
-  ⊎_elim
-      (λ e. (added, e ∙ known))
-      (λ e. (added ++ w.pending, e ∙ ap (λ (l : List Call). l ++ w.pending) known ∙ append_assoc front added w.pending))
-      kept.within,
-)
-
-kept_now : {D : Type 0} (decls : Decls) (w : View D) (file : List ℕ) → IsKept decls w file → HoldsFrom decls w.known file
-kept_now decls w file kept = kept_from decls w w.known [] file (sym (append-nil w.known)) kept
+-- ---- the calls that a run adds
 
 module _ {D : Type 0} (meaning : DiskMeaning D)
     (only_now : (disk : D) (c : List ℕ) → meaning.left_since disk (meaning.moment disk) c → meaning.may_leave disk c) (decls : Decls) where
-  -- what holds of each view that a run reaches
-  record Reaches (first w : View D) (calls : List Call) : Type 0 where
-    images : LeavesOnly meaning first.disk w.disk (HoldsFrom decls first.known)
-    told : is_some (meaning.content w.disk) ≡ true
-    adds : Adds first w calls
+  adds_steps : (first last : View D) (steps : List ScriptStep) (text : List ℕ) → first.pending ≡ [] → is_some (meaning.content first.disk) ≡ true → StepsDone meaning decls first steps text last
+      → Adds first last (calls_in steps)
+  adds_steps first last steps text idle told begun = adds_first first idle
+  adds_steps first last steps text idle told (one_more before t mid s more new runs does outlives) =
+      let so = adds_steps first mid before t idle told runs in
+      subst (Adds first new) (sym (calls_in-append before (s ∷ [])))
+      (adds_step meaning decls first mid new (calls_in before) s more (behind_steps meaning decls first mid before t told runs).told so does)
 
-  reaches_more : (first w new : View D) (calls more : List Call) → Reaches first w calls → Outlives meaning decls w new
-      → Adds first new more → Reaches first new more
-  reaches_more first w new calls more so outlives adds = record {
-    images = joined meaning first.disk w.disk new.disk (HoldsFrom decls first.known) so.images
-        (weaker meaning w.disk new.disk (λ file. IsKept decls w file ⊎ IsKept decls new file) (HoldsFrom decls first.known)
-        (λ file. ⊎_elim (kept_from decls w first.known so.adds.added file so.adds.known) (kept_from decls new first.known adds.added file adds.known))
-        outlives.images);
-    told = outlives.still_tells ∙ so.told;
-    adds = adds;
-  }
-
-  reaches : (first w : View D) (steps : List ScriptStep) (text : List ℕ) → first.pending ≡ [] → is_some (meaning.content first.disk) ≡ true → Rests meaning decls first
-      → StepsDone meaning decls first steps text w → Reaches first w (calls_in steps)
-  reaches first w steps text idle told rests begun = record {
-    images = started meaning first.disk (HoldsFrom decls first.known) (λ file left. kept_now decls first file (rests.images file (only_now first.disk file left)));
-    told = told;
-    adds = adds_first first idle;
-  }
-  reaches first w steps text idle told rests (one_more before t mid s more new runs does outlives) =
-      let so = reaches first mid before t idle told rests runs in
-      let adds = adds_step meaning decls first mid new (calls_in before) s more so.told so.adds does in
-      subst (Reaches first new) (sym (calls_in-append before (s ∷ []))) (reaches_more first mid new (calls_in before) _ so outlives adds)
-
-  -- the last view of a run, and the calls of the steps up to it
-  last_reached : (first last : View D) (done rest : List ScriptStep) (text : List ℕ) (end : Option Stop) → first.pending ≡ [] → is_some (meaning.content first.disk) ≡ true
-      → Rests meaning decls first → RunsUntil meaning decls first done rest text end last
-      → (calls : List Call) × (more : List Call) × (calls_in (done ++ rest) ≡ calls ++ more) × Reaches first last calls
-  last_reached first last done rest text None idle told rests runs =
-      (calls_in done, calls_in rest, calls_in-append done rest, reaches first last done text idle told rests runs)
-  last_reached first last done rest text (Some end) idle told rests runs =
+  -- what the last view of a run knows more, and the calls of the steps up to it
+  adds_run : (first last : View D) (done rest : List ScriptStep) (text : List ℕ) (end : Option Stop) → first.pending ≡ [] → is_some (meaning.content first.disk) ≡ true
+      → RunsUntil meaning decls first done rest text end last
+      → (calls : List Call) × (more : List Call) × (calls_in (done ++ rest) ≡ calls ++ more) × Adds first last calls
+  adds_run first last done rest text None idle told runs =
+      (calls_in done, calls_in rest, calls_in-append done rest, adds_steps first last done text idle told runs)
+  adds_run first last done rest text (Some end) idle told runs =
       let s = runs.0 in
       let more = runs.1 in
       let ends = runs.3 in
-      let so = reaches first ends.view done ends.before idle told rests ends.runs in
-      let adds = adds_break meaning decls first ends.view last (calls_in done) s ends.more end so.adds ends.breaks in
+      let so = adds_steps first ends.view done ends.before idle told ends.runs in
       let all : calls_in (done ++ rest) ≡ (calls_in done ++ calls_in (s ∷ [])) ++ calls_in more =
       calls_in-append done rest ∙ ap (λ (l : List ScriptStep). calls_in done ++ calls_in l) runs.2 ∙ ap (λ (l : List Call). calls_in done ++ l) (calls_in-append (s ∷ []) more)
       ∙ sym (append_assoc (calls_in done) (calls_in (s ∷ [])) (calls_in more)) in
-      (calls_in done ++ calls_in (s ∷ []), calls_in more, all, reaches_more first ends.view last (calls_in done) (calls_in done ++ calls_in (s ∷ [])) so ends.outlives adds)
+      (calls_in done ++ calls_in (s ∷ []), calls_in more, all, adds_break meaning decls first ends.view last (calls_in done) s ends.more end so ends.breaks)
 
-  kept_content : (last : View D) (o : Option (List ℕ)) → IfSome o (IsKept decls last) → IfSome o (HoldsFrom decls last.known)
-  kept_content last None kept = tt
-  kept_content last (Some file) kept = kept_now decls last file kept
+  itself : (last : View D) → is_some (meaning.content last.disk) ≡ true → Behind meaning decls last last
+  itself last told = behind_steps meaning decls last last [] [] told begun
 
   pub keeps_all : (first last : View D) (done rest script : List ScriptStep) (text : List ℕ) (end : Option Stop) → script ≡ done ++ rest → first.pending ≡ []
-      → is_some (meaning.content first.disk) ≡ true → Rests meaning decls first → Rests meaning decls last
+      → is_some (meaning.content first.disk) ≡ true → Rests meaning decls last
       → RunsUntil meaning decls first done rest text end last → KeepsAll meaning decls first last script
-  keeps_all first last done rest script text end parts idle told rests rests' runs =
-      let reached = last_reached first last done rest text end idle told rests runs in
+  keeps_all first last done rest script text end parts idle told rests runs =
+      let behind = behind_run meaning decls first last done rest text end told runs in
+      let now = itself last behind.told in
+      let reached = adds_run first last done rest text end idle told runs in
       let so = reached.3 in
       record {
-        journal = kept_content last (meaning.content last.disk) rests'.reads;
-        crash_now = λ file left. kept_now decls last file (rests'.images file left);
-        crash_since = λ file left. so.images.each file left;
+        journal = IfSome_then (meaning.content last.disk) rests.reads (kept_now meaning decls last last now);
+        crash_now = λ file left. kept_now meaning decls last last now file (rests.images file left);
+        crash_since = kept_since meaning decls only_now first last behind rests;
         added = (
-          so.adds.added,
-          so.adds.known,
-          subst (IsSubsequence so.adds.added) (sym (ap calls_in parts ∙ reached.2)) (some_of_more so.adds.added reached.0 reached.1 so.adds.are),
+          so.added,
+          so.known,
+          subst (IsSubsequence so.added) (sym (ap calls_in parts ∙ reached.2)) (some_of_more so.added reached.0 reached.1 so.are),
         );
       }

@@ -1,9 +1,10 @@
 mod Refusals
-mod OneWord
+mod Encodable
 mod Pasts
 mod Equality
 mod AtOnce
 mod Ranges
+mod Reasons
 mod Runs
 mod Keeps
 mod Tops
@@ -18,3 +19,10 @@ mod Deciding
 mod Committing
 mod Answering
 mod Appending
+mod OneAnswer
+mod Parts
+mod Transcripts
+mod OneTranscript
+mod Decided
+mod Later
+mod Acknowledged

@@ -14,14 +14,14 @@ use Rattle.orc_journal.specs.Opened.{OpenJournal, Holds}
 use Rattle.orc_journal.specs.Opening.{HasOpened, HasRefused}
 use Rattle.orc_journal.specs.declared.fault.OpenFault.{OpenFault}
 use Rattle.orc_append.specs.Views.{unstopped}
-use Rattle.orc_run.specs.Opening.{IsOpened, IsOpenedAs, IsPastFault, IsRefused, stop_of}
+use Rattle.orc_run.specs.Opening.{IsOpened, IsPastFault, IsRefused, stop_of}
 use Rattle.orc_run.specs.declared.stop.Stop.{Stop}
 use Rattle.std.specs.Result.{IfOk, IfErr, MatchResult}
 use Rattle.orc_journal.specs.declared.entry.Entry.{Entry}
 use Rattle.orc_state.specs.Legal.{IsLegal}
 use Rattle.orc_run.specs.inside.Pasts.{IsBehind, IsPast}
 use Rattle.orc_run.specs.Views.{View, IsKept, Rests}
-use Rattle.orc_run.specs.inside.Controllers.{view_of, IsSound}
+use Rattle.orc_run.specs.inside.Controllers.{known_of, view_of, Knows, Opens}
 use Rattle.orc_disk.specs.Meanings.{DiskMeaning}
 use Rattle.orc_state.specs.declared.declarations.Decls.{Decls}
 use Rattle.orc_run.specs.declared.controller.Controller.{Controller}
@@ -49,12 +49,17 @@ module _ {D : Type 0} (meaning : DiskMeaning D) (decls : Decls) (old : D) (text 
     }
 
     -- its past was learned, or it has none
-    pub opened_as : (result : Result (Controller D) (Stop × D)) → IfOk result (λ c. history_of read ≡ (view_of c).known)
+    pub opens : (result : Result (Controller D) (Stop × D)) → IfOk result (λ c. Knows meaning decls read c) → IfOk result (λ c. history_of read ≡ known_of c)
         → MatchResult result (λ c. c.journal ≡ journal) (λ refused. refused.1 ≡ journal.disk.inner)
-        → IfOk result (λ c. IsOpenedAs meaning decls old (view_of c).known c.journal.disk.inner)
-    opened_as (Ok c) known same =
-        (entries, is_opened c.journal.disk.inner (ap (λ (j : OpenJournal (Stopping D)). j.disk.inner) same), ap history_of (sym all) ∙ known)
-    opened_as (Err refused) known same = tt
+        → IfOk result (λ c. Opens meaning decls old c)
+    opens (Ok c) knows known same = record {
+      entries = entries;
+      knows = subst (λ (l : List Entry). Knows meaning decls l c) all knows;
+      opened = subst (λ (j : OpenJournal (Stopping D)). HasOpened (inside meaning) decls.text LARGEST_JOURNAL (unstopped old) j entries) (sym same)
+          (subst (λ (l : List ℕ). HasOpened (inside meaning) l LARGEST_JOURNAL (unstopped old) journal entries) is opened);
+      decided = ap history_of (sym all) ∙ known;
+    }
+    opens (Err refused) knows known same = tt
 
     pub without_past : (result : Result (Controller D) (Stop × D)) → IfErr result (λ refused. IsPastFault decls read refused.0)
         → MatchResult result (λ c. c.journal ≡ journal) (λ refused. refused.1 ≡ journal.disk.inner)
@@ -77,9 +82,9 @@ module _ {D : Type 0} (meaning : DiskMeaning D) (decls : Decls) (old : D) (text 
 module _ {D : Type 0} (meaning : DiskMeaning D) where
   newly_rests : (decls : Decls) (c : Controller D) (entries : List Entry) → Holds (inside meaning) c.journal decls.text entries
       → IsTrue (is_ordered entries) → history_of entries ≡ take c.known c.past.history → IsLegal decls (take c.known c.past.history)
-      → Rests meaning decls (view_of c)
+      → Rests meaning decls (view_of c entries)
   newly_rests decls c entries holds ordered decided legal =
-      let w = view_of c in
+      let w = view_of c entries in
       let reads : IfSome (meaning.content w.disk) (IsKept decls w) = IfSome_then (meaning.content w.disk) holds.file (λ file gated. kept decls w entries file gated ordered decided legal) in
       record {
         reads = reads;
@@ -88,7 +93,7 @@ module _ {D : Type 0} (meaning : DiskMeaning D) where
 
   pub newly_sound : (decls : Decls) (c : Controller D) (entries : List Entry) → IsPast decls c.past entries → c.known ≡ length c.past.history
       → Holds (inside meaning) c.journal decls.text entries → IsTrue (is_ordered entries)
-      → c.journal.limit ≡ LARGEST_JOURNAL → c.journal.disk.stopped ≡ false → IsSound meaning decls c
+      → c.journal.limit ≡ LARGEST_JOURNAL → c.journal.disk.stopped ≡ false → Knows meaning decls entries c
   newly_sound decls c entries past all holds ordered limit running =
       let whole : take c.known c.past.history ≡ c.past.history = ap (λ n. take n c.past.history) all ∙ take-length c.past.history in
       let decided : history_of entries ≡ take c.known c.past.history = sym past.history ∙ sym whole in
@@ -99,7 +104,6 @@ module _ {D : Type 0} (meaning : DiskMeaning D) where
         legal = legal;
         rests = newly_rests decls c entries holds ordered decided legal;
         up = λ u. record {
-          entries = entries;
           holds = holds;
           ordered = ordered;
           decided = sym past.history;
@@ -111,3 +115,7 @@ module _ {D : Type 0} (meaning : DiskMeaning D) where
           all = all;
         };
       }
+
+  -- what was opened, by its disk alone
+  pub opened_disk : (decls : Decls) (old : D) (c : Controller D) (is : Opens meaning decls old c) → IsOpened meaning decls old is.entries c.journal.disk.inner
+  opened_disk decls old c is = record { journal = c.journal; disk_is = refl; opened = is.opened }

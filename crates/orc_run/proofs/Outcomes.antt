@@ -42,7 +42,7 @@ module _ {D : Type 0} (meaning : DiskMeaning D) where
   }
 
   -- a run of no calls
-  no_calls : AreLaws → (decls : Decls) (w : View D) → Rests meaning decls w → LeavesOnly meaning w.disk w.disk (IsKept decls w)
+  pub no_calls : AreLaws → (decls : Decls) (w : View D) → Rests meaning decls w → LeavesOnly meaning w.disk w.disk (IsKept decls w)
   no_calls laws decls w rests = started meaning w.disk (IsKept decls w) (λ c left. rests.images c (laws.only_now w.disk c left))
 
   -- the run ends with nothing printed, behind disk calls at each of which a crash left what was kept
@@ -63,12 +63,12 @@ module _ {D : Type 0} (meaning : DiskMeaning D) where
 
   -- a step that is done without a disk call
   pub goes_on : AreLaws → (decls : Decls) (w : View D) (s : ScriptStep) (c : Controller D) (text : List ℕ)
-      → Rests meaning decls w → w.disk ≡ c.journal.disk.inner → IsSound meaning decls c
-      → Does meaning decls w s text (view_of c) → StepsTo meaning decls w s (Ok (c, text))
+      → Rests meaning decls w → w.disk ≡ c.journal.disk.inner → (sound : IsSound meaning decls c)
+      → Does meaning decls w s text (view_of c sound.0) → StepsTo meaning decls w s (Ok (c, text))
   goes_on laws decls w s c text rests same sound does =
       let run : LeavesOnly meaning w.disk c.journal.disk.inner (IsKept decls w) =
       subst (λ (d : D). LeavesOnly meaning w.disk d (IsKept decls w)) same (no_calls laws decls w rests) in
-      (sound, does, outlives_kept decls w (view_of c) (subst (λ (d : D). meaning.faults w.disk ≤ meaning.faults d) same (omega arith)) run (ap (λ (d : D). is_some (meaning.content d)) (sym same)))
+      (sound, does, outlives_kept decls w (view_of c sound.0) (subst (λ (d : D). meaning.faults w.disk ≤ meaning.faults d) same (omega arith)) run (ap (λ (d : D). is_some (meaning.content d)) (sym same)))
 
   -- a step that prints, or ends for want of memory
   pub printing : {M : Type 0} (decls : Decls) (w : View D) (s : ScriptStep) (c : Controller D) (text : Result (List ℕ) M) (outcome : StepResult D)
@@ -81,24 +81,25 @@ module _ {D : Type 0} (meaning : DiskMeaning D) where
 
   -- one that changes nothing
   pub only_prints : {M : Type 0} → AreLaws → (decls : Decls) (s : ScriptStep) (c : Controller D) (text : Result (List ℕ) M) (outcome : StepResult D) (P : List ℕ → Type 0)
-      → IsSound meaning decls c → ((t : List ℕ) → P t → Does meaning decls (view_of c) s t (view_of c)) → IfOk text P
-      → MatchResult text (λ t. outcome ≡ Ok (c, t)) (λ e. Wants c outcome) → (s ≡ Recover → ⊥) → StepsTo meaning decls (view_of c) s outcome
+      → (sound : IsSound meaning decls c) → ((t : List ℕ) → P t → Does meaning decls (view_of c sound.0) s t (view_of c sound.0)) → IfOk text P
+      → MatchResult text (λ t. outcome ≡ Ok (c, t)) (λ e. Wants c outcome) → (s ≡ Recover → ⊥) → StepsTo meaning decls (view_of c sound.0) s outcome
   only_prints laws decls s c text outcome P sound does made is other =
-      printing decls (view_of c) s c text outcome is
-      (IfOk-weaker text P (λ t. StepsTo meaning decls (view_of c) s (Ok (c, t)))
-      (λ t p. goes_on laws decls (view_of c) s c t sound.rests refl sound (does t p)) made)
-      (ends_wanting laws decls (view_of c) s sound.rests other)
+      let w = view_of c sound.0 in
+      printing decls w s c text outcome is
+      (IfOk-weaker text P (λ t. StepsTo meaning decls w s (Ok (c, t)))
+      (λ t p. goes_on laws decls w s c t sound.1.rests refl sound (does t p)) made)
+      (ends_wanting laws decls w s sound.1.rests other)
 
   -- an armed stop
-  pub arms : AreLaws → (decls : Decls) (c : Controller D) (call bytes : ℕ) (journal : OpenJournal (Stopping D)) (text : List ℕ) → IsSound meaning decls c
+  pub arms : AreLaws → (decls : Decls) (c : Controller D) (call bytes : ℕ) (journal : OpenJournal (Stopping D)) (text : List ℕ) → (sound : IsSound meaning decls c)
       → c.up ≡ true → journal ≡ (armed c call bytes).journal → text ≡ []
-      → StepsTo meaning decls (view_of c) (StopAt call bytes) (Ok ((record { journal = journal; up = c.up; past = c.past; known = c.known }), text))
+      → StepsTo meaning decls (view_of c sound.0) (StopAt call bytes) (Ok ((record { journal = journal; up = c.up; past = c.past; known = c.known }), text))
   arms laws decls c call bytes journal text sound up is none =
-      let w = view_of c in
-      let does : view_of (armed c call bytes) ≡ (if w.up then record w { armed = call; bytes = bytes } else w) =
+      let w = view_of c sound.0 in
+      let does : view_of (armed c call bytes) sound.0 ≡ (if w.up then record w { armed = call; bytes = bytes } else w) =
       ap (λ (b : Bool). if b then record w { armed = call; bytes = bytes } else w) (sym up) in
       subst
       (λ (j : OpenJournal (Stopping D)). StepsTo meaning decls w (StopAt call bytes) (Ok ((record { journal = j; up = c.up; past = c.past; known = c.known }), text)))
       (sym is)
-      (goes_on laws decls w (StopAt call bytes) (armed c call bytes) text sound.rests refl
-      (armed-sound meaning decls c call bytes sound) (none, does))
+      (goes_on laws decls w (StopAt call bytes) (armed c call bytes) text sound.1.rests refl
+      (sound.0, armed-sound meaning decls sound.0 c call bytes sound.1) (none, does))

@@ -17,7 +17,7 @@ use Rattle.orc_call.specs.declared.call.Action.{Action}
 use Rattle.orc_state.specs.States.{action_of, after, opening, put_all, IsComplete}
 use Rattle.orc_state.specs.Calls.{is_call}
 use Rattle.orc_state.specs.Legal.{IsLegal, IsDue}
-use Rattle.orc_state.specs.inside.Declarations.{AreDecls}
+use Rattle.orc_state.specs.Declarations.{AreDecls}
 use Rattle.orc_run.specs.inside.Pasts.{IsBehind, IsPast}
 use Rattle.orc_run.specs.Opening.{IsIllegalAt}
 use Rattle.orc_run.specs.inside.Transactions.{is_taken, AreNamed, IsFilled}

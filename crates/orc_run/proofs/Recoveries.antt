@@ -18,8 +18,8 @@ use Rattle.orc_journal.proofs.Accepted.{not_damaged, not_foreign, not_strange, n
 use Rattle.orc_state.specs.Legal.{IsLegal}
 use Rattle.orc_run.specs.Views.{View, IsKept, IsWithin, Rests, HasHistory}
 use Rattle.orc_run.specs.Steps.{Breaks, EndsBecause, FailsToRecover, Recovers}
-use Rattle.orc_run.specs.inside.Controllers.{view_of, IsSound, StepsTo, Wants, StepResult, ends_run}
-use Rattle.orc_run.specs.Opening.{IsIllegal, IsOpened, IsOpenedAs, IsRefused, IsRefusedAtOnce, IsRefusedBecause, MayBeOpening}
+use Rattle.orc_run.specs.inside.Controllers.{known_of, pending_of, view_of, Opens, StepsTo, Wants, StepResult, ends_run}
+use Rattle.orc_run.specs.Opening.{IsIllegal, IsOpened, IsRefused, IsRefusedAtOnce, IsRefusedBecause, MayBeOpening}
 use Rattle.orc_disk.specs.Meanings.{DiskMeaning}
 use Rattle.orc_print.specs.Printed.{recovered_line}
 use Rattle.orc_state.specs.declared.declarations.Decls.{Decls}
@@ -28,6 +28,7 @@ use Rattle.orc_run.specs.declared.controller.Controller.{Controller}
 use Rattle.orc_run.specs.declared.stop.Stop.{Stop}
 use Rattle.orc_run.specs.declared.stop.Stop.TheVariants as ending
 use Rattle.orc_run.proofs.Fronts.{legal_take}
+use Rattle.orc_run.proofs.Openings.{opened_disk}
 use Rattle.orc_run.proofs.Outcomes.{AreLaws, outlives_kept, ends_silently, printing}
 
 -- the journal that a file is, with its ending gate
@@ -99,7 +100,7 @@ module _ {D : Type 0} (meaning : DiskMeaning D) where
       is
 
   silent : (decls : Decls) (w : View D) (new : D) (end : Stop) → Breaks meaning decls w step.Recover [] end (record w { disk = new })
-  silent decls w new end = Breaks.recovering end (record w { disk = new }) (record { known = refl; pending = refl })
+  silent decls w new end = Breaks.recovering end (record w { disk = new }) (record { entries = refl; known = refl; pending = refl })
 
   fails : (decls : Decls) (w : View D) (disk new : D) (end : Stop) → w.disk ≡ disk → Rests meaning decls w → IsRefused meaning decls disk new end
       → FailsToRecover meaning decls w end (record w { disk = new })
@@ -152,40 +153,40 @@ module _ {D : Type 0} (meaning : DiskMeaning D) where
 
   -- what was learned, with the line of it printed, is a recovery
   recovers : (decls : Decls) (w : View D) (c : Controller D) (text : List ℕ) → Rests meaning decls w
-      → IsSound meaning decls c → (c.up ≡ true) × ((view_of c).armed ≡ 0) × ((view_of c).pending ≡ [])
-      → IfSome (meaning.content w.disk) (λ file. HasHistory decls file (view_of c).known) → (disk : D) → w.disk ≡ disk → IsOpenedAs meaning decls disk (view_of c).known c.journal.disk.inner
-      → text ≡ recovered_line c.known → Recovers meaning decls w text (view_of c)
-  recovers decls w c text rests sound up tells disk at opened prints = record {
-    prints = prints ∙ ap recovered_line (sym (length-take-le c.known c.past.history sound.within));
+      → (disk : D) (is : Opens meaning decls disk c) → (c.up ≡ true) × (c.journal.disk.op ≡ 0) × (pending_of c ≡ [])
+      → IfSome (meaning.content w.disk) (λ file. HasHistory decls file (known_of c)) → w.disk ≡ disk
+      → text ≡ recovered_line c.known → Recovers meaning decls w text (view_of c is.entries)
+  recovers decls w c text rests disk is up tells at prints = record {
+    prints = prints ∙ ap recovered_line (sym (length-take-le c.known c.past.history is.knows.within));
     up = up.0;
     armed = up.1;
     pending = up.2;
-    legal = sound.legal;
+    legal = is.knows.legal;
     read = tells;
-    known = λ some. learned decls w (view_of c).known (meaning.content w.disk) rests.reads tells some;
-    opened = subst (λ (d : D). IsOpenedAs meaning decls d (view_of c).known c.journal.disk.inner) (sym at) opened;
-    same = as_opened decls w disk c.journal.disk.inner opened.0 at rests opened.1;
+    known = λ some. learned decls w (known_of c) (meaning.content w.disk) rests.reads tells some;
+    opened = (is.entries, subst (λ (d : D). IsOpened meaning decls d is.entries c.journal.disk.inner) (sym at) (opened_disk meaning decls disk c is), is.decided);
+    entries = refl;
+    same = as_opened decls w disk c.journal.disk.inner is.entries at rests (opened_disk meaning decls disk c is);
   }
 
   -- the journal was opened again
   pub reopens : {M : Type 0} → AreLaws meaning → (decls : Decls) (w : View D) (disk : D) (c : Controller D) (text : Result (List ℕ) M) (outcome : StepResult D)
-      → w.disk ≡ disk → Rests meaning decls w → IsSound meaning decls c
-      → (c.up ≡ true) × ((view_of c).armed ≡ 0) × ((view_of c).pending ≡ []) → IfSome (meaning.content disk) (λ file. HasHistory decls file (view_of c).known)
+      → w.disk ≡ disk → Rests meaning decls w → Opens meaning decls disk c
+      → (c.up ≡ true) × (c.journal.disk.op ≡ 0) × (pending_of c ≡ []) → IfSome (meaning.content disk) (λ file. HasHistory decls file (known_of c))
       → meaning.faults disk ≤ meaning.faults c.journal.disk.inner → LeavesOnly meaning disk c.journal.disk.inner (MayBeOpening meaning decls disk) → is_some (meaning.content c.journal.disk.inner) ≡ is_some (meaning.content disk)
-      → IsOpenedAs meaning decls disk (view_of c).known c.journal.disk.inner
       → IfOk text (λ t. t ≡ recovered_line c.known) → MatchResult text (λ t. outcome ≡ Ok (c, t)) (λ e. Wants c outcome)
       → StepsTo meaning decls w step.Recover outcome
-  reopens laws decls w disk c text outcome at rests sound up tells later run same opened made is =
+  reopens laws decls w disk c text outcome at rests opens up tells later run same made is =
       let later_w : meaning.faults w.disk ≤ meaning.faults c.journal.disk.inner = subst (λ (d : D). meaning.faults d ≤ meaning.faults c.journal.disk.inner) (sym at) later in
       let before : is_some (meaning.content c.journal.disk.inner) ≡ is_some (meaning.content w.disk) = same ∙ ap (λ (d : D). is_some (meaning.content d)) (sym at) in
       let kept = kept_while_opened laws decls w c.journal.disk.inner rests before
       (subst (λ (d : D). LeavesOnly meaning d c.journal.disk.inner (MayBeOpening meaning decls d)) (sym at) run) in
-      let told = subst (λ (d : D). IfSome (meaning.content d) (λ file. HasHistory decls file (view_of c).known)) (sym at) tells in
+      let told = subst (λ (d : D). IfSome (meaning.content d) (λ file. HasHistory decls file (known_of c))) (sym at) tells in
       printing meaning decls w step.Recover c text outcome is
       (IfOk-weaker text (λ t. t ≡ recovered_line c.known) (λ t. StepsTo meaning decls w step.Recover (Ok (c, t)))
-      (λ t line. (sound, recovers decls w c t rests sound up told disk at opened line, outlives_kept meaning decls w (view_of c) later_w kept before)) made)
+      (λ t line. ((opens.entries, opens.knows), recovers decls w c t rests disk opens up told at line, outlives_kept meaning decls w (view_of c opens.entries) later_w kept before)) made)
       (ends_silently meaning laws decls w step.Recover c.journal.disk.inner ending.Memory (silent decls w c.journal.disk.inner ending.Memory) later_w kept before tt
-      (λ is. fails decls w disk c.journal.disk.inner ending.Memory at rests (inr (opened.0, opened.1, tt))))
+      (λ is. fails decls w disk c.journal.disk.inner ending.Memory at rests (inr (opens.entries, opened_disk meaning decls disk c opens, tt))))
 
   -- it was not
   pub refuses : AreLaws meaning → (decls : Decls) (w : View D) (disk new : D) (text : List ℕ) (end : Stop)

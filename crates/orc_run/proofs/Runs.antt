@@ -26,6 +26,13 @@ pub wrote_end : {D : Type 0} (meaning : DiskMeaning D) (decls : Decls) (w new : 
 wrote_end meaning decls w new s held held' text ending.WriteFault cause took = absurd cause
 wrote_end meaning decls w new s held held' text end cause took = (refl, took)
 
+-- no step ends the run by a fault of the sink
+pub no_write : {D : Type 0} (meaning : DiskMeaning D) (decls : Decls) (w new : View D) (s : ScriptStep) (end : Stop) → EndsBecause meaning decls w s end new
+    → ◌≡◌ {A = Result Done Stop} (Err end) (Err ending.WriteFault) → ⊥
+no_write meaning decls w new s end cause is =
+    let same : end ≡ ending.WriteFault = cc in
+    subst (λ (x : Stop). EndsBecause meaning decls w s x new) same cause
+
 -- a sink that took all so far and then a front of more took a front of all
 begins_more : (a b c : Option (List ℕ)) (before text : List ℕ) → Appends a b before → TakesFront b c text → TakesFront a c (before ++ text)
 begins_more a b c before text taken more =

@@ -1,11 +1,9 @@
 -- What is printed of a call that was served, and where the run stands behind it.
-use Rattle.std.proofs.Common.{◌≡◌, ◌⊎◌, ℕ, true, List, [], ◌++◌, codes, length, Option, None, Some, inl, inr, ⊎_elim, refl, sym, ap, subst, ◌∙◌}
+use Rattle.std.proofs.Common.{◌≡◌, ◌⊎◌, ℕ, true, List, [], length, Option, None, Some, inl, inr, ⊎_elim, refl, sym, ap, subst, ◌∙◌}
 use Rattle.orc_call.specs.declared.call.Call.{Call}
 use Rattle.orc_call.specs.declared.answer.Answer.{Answer}
-use Rattle.orc_call.specs.declared.answer.Answer.TheVariants as answer
 use Rattle.orc_state.specs.States.{action_of}
-use Rattle.orc_state.specs.Legal.{AnswersAtOnce, IsDue, state_of}
-use Rattle.orc_print.specs.Printed.{answer_line}
+use Rattle.orc_state.specs.Legal.{AnswersAtOnce, state_of}
 use Rattle.orc_run.specs.Views.{View, Rests, Outlives}
 use Rattle.orc_run.specs.Steps.{Serves, Breaks, EndsBecause}
 use Rattle.orc_run.specs.Commits.{Commits, answer_by, commit_end, commit_text, line_of}
@@ -13,9 +11,10 @@ use Rattle.orc_append.specs.declared.outcome.Appended.{Appended}
 use Rattle.orc_append.specs.declared.outcome.Appended.TheVariants as appended
 use Rattle.orc_run.specs.declared.commit.Stage.{Stage}
 use Rattle.orc_run.specs.declared.commit.Stage.TheVariants.{Intent, Decide, Settled}
-use Rattle.orc_run.specs.inside.Controllers.{view_of, GoesOn, IsSound, StepsTo, Wants, StepResult}
-use Rattle.orc_run.specs.inside.Serving.{answer_in, goes_on, said_of, said_with, served_text, ComesShort, ComesTo, HasCome, IsAnswerAmong, ServesTo}
+use Rattle.orc_run.specs.inside.Controllers.{view_of, GoesOn, Knows, StepsTo, Wants, StepResult}
+use Rattle.orc_run.specs.inside.Serving.{answer_in, goes_on, said_of, said_with, served_text, ComesShort, HasCome, IsAnswerAmong, ServesTo}
 use Rattle.orc_disk.specs.Meanings.{DiskMeaning}
+use Rattle.orc_journal.specs.declared.entry.Entry.{Entry}
 use Rattle.orc_state.specs.declared.declarations.Decls.{Decls}
 use Rattle.orc_bundle.specs.declared.bundle.ScriptStep.TheVariants as step
 use Rattle.orc_run.specs.declared.controller.Controller.{Controller}
@@ -131,34 +130,34 @@ module _ {D : Type 0} (meaning : DiskMeaning D) (decls : Decls) (w : View D) (ca
 -- ---- where the step led
 
 module _ {D : Type 0} (meaning : DiskMeaning D) where
-  pub leads_short : (decls : Decls) (w : View D) (call : Call) (c : Controller D) (outcome : StepResult D) → Wants c outcome → ComesShort meaning decls w call (view_of c)
-      → Rests meaning decls (view_of c) → Outlives meaning decls w (view_of c)
+  pub leads_short : (decls : Decls) (w : View D) (call : Call) (c : Controller D) (entries : List Entry) (outcome : StepResult D) → Wants c outcome → ComesShort meaning decls w call (view_of c entries)
+      → Rests meaning decls (view_of c entries) → Outlives meaning decls w (view_of c entries)
       → StepsTo meaning decls w (step.Serve call) outcome
-  leads_short decls w call c outcome wants short rests outlives =
+  leads_short decls w call c entries outcome wants short rests outlives =
       subst (λ (o : StepResult D). StepsTo meaning decls w (step.Serve call) o) (sym wants)
-      (view_of c, refl, breaks_short meaning decls w call (view_of c) short, tt, outlives, rests, λ is. absurd cc)
+      (view_of c entries, refl, breaks_short meaning decls w call (view_of c entries) short, tt, outlives, rests, λ is. absurd cc)
 
-  led : (decls : Decls) (w : View D) (call : Call) (served : CallOutcome) (c : Controller D) (outcome : StepResult D) → GoesOn served c (served_text decls.names call served) outcome
-      → ServesTo meaning decls w call served (view_of c) → (goes_on served ≡ true → IsSound meaning decls c)
-      → ((given : Option Answer) (end : Stop) → served ≡ Broken given end → EndsBecause meaning decls w (step.Serve call) end (view_of c))
-      → Rests meaning decls (view_of c) → Outlives meaning decls w (view_of c)
+  led : (decls : Decls) (w : View D) (call : Call) (served : CallOutcome) (c : Controller D) (entries : List Entry) (outcome : StepResult D) → GoesOn served c (served_text decls.names call served) outcome
+      → ServesTo meaning decls w call served (view_of c entries) → (goes_on served ≡ true → Knows meaning decls entries c)
+      → ((given : Option Answer) (end : Stop) → served ≡ Broken given end → EndsBecause meaning decls w (step.Serve call) end (view_of c entries))
+      → Rests meaning decls (view_of c entries) → Outlives meaning decls w (view_of c entries)
       → StepsTo meaning decls w (step.Serve call) outcome
-  led decls w call (Answered given) c outcome is to sound cause rests outlives =
+  led decls w call (Answered given) c entries outcome is to sound cause rests outlives =
       subst (λ (o : StepResult D). StepsTo meaning decls w (step.Serve call) o) (sym is)
-      (sound refl, serves meaning decls w call (Answered given) (view_of c) to refl, outlives)
-  led decls w call (Stopped given) c outcome is to sound cause rests outlives =
+      ((entries, sound refl), serves meaning decls w call (Answered given) (view_of c entries) to refl, outlives)
+  led decls w call (Stopped given) c entries outcome is to sound cause rests outlives =
       subst (λ (o : StepResult D). StepsTo meaning decls w (step.Serve call) o) (sym is)
-      (sound refl, serves meaning decls w call (Stopped given) (view_of c) to refl, outlives)
-  led decls w call (Broken given end) c outcome is to sound cause rests outlives =
+      ((entries, sound refl), serves meaning decls w call (Stopped given) (view_of c entries) to refl, outlives)
+  led decls w call (Broken given end) c entries outcome is to sound cause rests outlives =
       subst (λ (o : StepResult D). StepsTo meaning decls w (step.Serve call) o) (sym is)
-      (view_of c, refl, breaks_with meaning decls w call (Broken given end) (view_of c) to given end refl, cause given end refl, outlives, rests, λ is. absurd cc)
+      (view_of c entries, refl, breaks_with meaning decls w call (Broken given end) (view_of c entries) to given end refl, cause given end refl, outlives, rests, λ is. absurd cc)
 
-  pub leads : (decls : Decls) (w : View D) (call : Call) (served : CallOutcome) (c : Controller D) (outcome : StepResult D)
+  pub leads : (decls : Decls) (w : View D) (call : Call) (served : CallOutcome) (c : Controller D) (entries : List Entry) (outcome : StepResult D)
       → GoesOn served c (served_text decls.names call served) outcome ⊎ Wants c outcome
-      → ServesTo meaning decls w call served (view_of c) → (goes_on served ≡ true → IsSound meaning decls c)
-      → ((given : Option Answer) (end : Stop) → served ≡ Broken given end → EndsBecause meaning decls w (step.Serve call) end (view_of c))
-      → Rests meaning decls (view_of c) → Outlives meaning decls w (view_of c)
+      → ServesTo meaning decls w call served (view_of c entries) → (goes_on served ≡ true → Knows meaning decls entries c)
+      → ((given : Option Answer) (end : Stop) → served ≡ Broken given end → EndsBecause meaning decls w (step.Serve call) end (view_of c entries))
+      → Rests meaning decls (view_of c entries) → Outlives meaning decls w (view_of c entries)
       → StepsTo meaning decls w (step.Serve call) outcome
-  leads decls w call served c outcome is to sound cause rests outlives =
-      ⊎_elim (λ goes. led decls w call served c outcome goes to sound cause rests outlives)
-      (λ wants. leads_short decls w call c outcome wants (comes_short meaning decls w call served (view_of c) to) rests outlives) is
+  leads decls w call served c entries outcome is to sound cause rests outlives =
+      ⊎_elim (λ goes. led decls w call served c entries outcome goes to sound cause rests outlives)
+      (λ wants. leads_short decls w call c entries outcome wants (comes_short meaning decls w call served (view_of c entries) to) rests outlives) is

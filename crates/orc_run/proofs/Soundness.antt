@@ -2,8 +2,9 @@
 use Rattle.std.proofs.Common.{ℕ, Bool, false, List}
 use Rattle.std.proofs.lemmas.Option.{IfSome_then}
 use Rattle.orc_run.specs.Views.{View, IsKept, Rests}
-use Rattle.orc_run.specs.inside.Controllers.{view_of, IsSound, IsUp}
+use Rattle.orc_run.specs.inside.Controllers.{view_of, IsUp, Knows}
 use Rattle.orc_disk.specs.Meanings.{DiskMeaning}
+use Rattle.orc_journal.specs.declared.entry.Entry.{Entry}
 use Rattle.orc_state.specs.declared.declarations.Decls.{Decls}
 use Rattle.orc_run.specs.declared.controller.Controller.{Controller}
 
@@ -31,18 +32,17 @@ module _ {D : Type 0} (meaning : DiskMeaning D) where
     images = λ file left. still_kept decls w up armed bytes file (rests.images file left);
   }
 
-  pub stopped-sound : (decls : Decls) (c : Controller D) → IsSound meaning decls c → IsSound meaning decls (stopped c)
-  stopped-sound decls c sound = record {
+  pub stopped-sound : (decls : Decls) (entries : List Entry) (c : Controller D) → Knows meaning decls entries c → Knows meaning decls entries (stopped c)
+  stopped-sound decls entries c sound = record {
     within = sound.within;
     behind = sound.behind;
     legal = sound.legal;
-    rests = still_rests decls (view_of c) false c.journal.disk.op c.journal.disk.bytes sound.rests;
+    rests = still_rests decls (view_of c entries) false c.journal.disk.op c.journal.disk.bytes sound.rests;
     up = λ up. absurd cc;
   }
 
-  armed-up : (decls : Decls) (c : Controller D) (call bytes : ℕ) → IsUp meaning decls c → IsUp meaning decls (armed c call bytes)
-  armed-up decls c call bytes up = record {
-    entries = up.entries;
+  armed-up : (decls : Decls) (entries : List Entry) (c : Controller D) (call bytes : ℕ) → IsUp meaning decls entries c → IsUp meaning decls entries (armed c call bytes)
+  armed-up decls entries c call bytes up = record {
     holds = record {
       unspent = up.holds.unspent;
       start = up.holds.start;
@@ -61,11 +61,11 @@ module _ {D : Type 0} (meaning : DiskMeaning D) where
     all = up.all;
   }
 
-  pub armed-sound : (decls : Decls) (c : Controller D) (call bytes : ℕ) → IsSound meaning decls c → IsSound meaning decls (armed c call bytes)
-  armed-sound decls c call bytes sound = record {
+  pub armed-sound : (decls : Decls) (entries : List Entry) (c : Controller D) (call bytes : ℕ) → Knows meaning decls entries c → Knows meaning decls entries (armed c call bytes)
+  armed-sound decls entries c call bytes sound = record {
     within = sound.within;
     behind = sound.behind;
     legal = sound.legal;
-    rests = still_rests decls (view_of c) c.up call bytes sound.rests;
-    up = λ up. armed-up decls c call bytes (sound.up up);
+    rests = still_rests decls (view_of c entries) c.up call bytes sound.rests;
+    up = λ up. armed-up decls entries c call bytes (sound.up up);
   }

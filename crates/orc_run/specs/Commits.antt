@@ -1,5 +1,5 @@
 -- What a commit appends to the journal, and what comes of it.
-use Rattle.std.specs.Prelude.{◌≡◌, ◌≢◌, ◌==◌, ℕ, ◌<◌, ◌≤◌, Bool, true, false, List, [], ◌∷◌, ◌++◌, codes, length, IsTrue, Option, IfSome}
+use Rattle.std.specs.Prelude.{◌≡◌, ◌≢◌, ◌==◌, ℕ, ◌<◌, ◌≤◌, Bool, true, false, List, [], ◌∷◌, ◌++◌, codes, IsTrue, Option, IfSome}
 use Rattle.std.specs.declared.option.Option.TheVariants.{None, Some}
 use Rattle.std.specs.List.{list_any}
 use Rattle.orc_call.specs.declared.call.Call.{Call}
@@ -53,24 +53,30 @@ module _ {D : Type 0} (meaning : DiskMeaning D) where
       × Appends meaning decls begun (entry.Decide t) appended.Done decided
       × Appends meaning decls decided (entry.Settled t) outcome new
 
-  -- what can be told of the journal of a view, where these are its entries
-  abbrev pub journal_at : View D → List Entry → JournalView D
-  journal_at view entries = record {
+  -- what can be told of the journal of a view
+  abbrev pub journal_at : View D → JournalView D
+  journal_at view = record {
     disk = view.disk;
-    entries = entries;
+    entries = view.entries;
     armed = view.armed;
     bytes = view.bytes;
     limit = LARGEST_JOURNAL;
   }
 
-  -- These are the entries of the journal, and the number is the least one from 1 on that none of them has.
-  pub record IsNext (decls : Decls) (view : View D) (entries : List Entry) (t : ℕ) : Type 0 where
-    pub journal : IfSome (meaning.content view.disk) (λ file. IsGated file decls.text entries)
-    pub ordered : IsTrue (is_ordered entries)
-    pub decided : history_of entries ≡ view.known
+  -- The number is the least one from 1 on that no entry of the journal has. These entries commit what is known, and
+  -- are what the disk holds, where it tells that.
+  pub record IsNext (decls : Decls) (view : View D) (t : ℕ) : Type 0 where
+    pub journal : IfSome (meaning.content view.disk) (λ file. IsGated file decls.text view.entries)
+    pub ordered : IsTrue (is_ordered view.entries)
+    pub decided : history_of view.entries ≡ view.known
     pub positive : 1 ≤ t
-    pub free : is_named t entries ≡ false
-    pub least : (u : ℕ) → 1 ≤ u → u < t → is_named u entries ≡ true
+    pub free : is_named t view.entries ≡ false
+    pub least : (u : ℕ) → 1 ≤ u → u < t → is_named u view.entries ≡ true
+
+-- the intent of a call with this number: it names the devices that the call changes
+abbrev pub intent_of : {D : Type 0} → Decls → View D → Call → ℕ → Entry
+intent_of decls view call t =
+    entry.Intent t call (devices_of decls.names (state_of decls view.known) (action_of call))
 
 -- what is known behind a commit that came to this stage, and what is pending
 abbrev pub known_then : Stage → List Call → Call → List Call
@@ -88,16 +94,15 @@ abbrev pub is_up_behind : Appended → Bool
 is_up_behind appended.Stopped = false
 is_up_behind outcome = true
 
--- The commit of a call came to this stage, and the append there to this outcome: so the call is known, or pending.
+-- The commit of a call came to this stage, and the append there to this outcome: so these entries are known, and the
+-- call is known, or pending.
 pub record Commits {D : Type 0} (meaning : DiskMeaning D) (decls : Decls) (old : View D) (call : Call) (stage : Stage)
     (outcome : Appended) (new : View D) : Type 0 where
-  pub entries : List Entry
   pub t : ℕ
-  pub next : IsNext meaning decls old entries t
-  pub appends :
-      (let intent = entry.Intent t call (devices_of decls.names (state_of decls old.known) (action_of call)) in
-      AppendsUpTo meaning decls.text stage (journal_at meaning old entries) intent t outcome
-      (journal_at meaning new (known_by stage outcome entries intent t)))
+  pub next : IsNext meaning decls old t
+  pub appends : AppendsUpTo meaning decls.text stage (journal_at meaning old) (intent_of decls old call t) t outcome
+      (journal_at meaning new)
+  pub entries : new.entries ≡ known_by stage outcome old.entries (intent_of decls old call t) t
   pub known : new.known ≡ known_then stage old.known call
   pub pending : new.pending ≡ pending_then stage call
   pub up : new.up ≡ is_up_behind outcome

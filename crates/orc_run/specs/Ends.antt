@@ -1,12 +1,12 @@
 -- What a run did with its source, its sink and its disk: what they were before and after it.
-use Rattle.std.specs.Prelude.{◌≡◌, ◌⊎◌, ℕ, ◌<◌, ◌≤◌, true, List, [], ◌∷◌, ◌++◌, length, Option, IfSome, is_some, is_ok, Result}
+use Rattle.std.specs.Prelude.{◌≡◌, ◌⊎◌, ℕ, ◌+◌, ◌≤◌, true, List, [], ◌∷◌, ◌++◌, length, Option, IfSome, is_some, is_ok, Result}
 use Rattle.std.specs.declared.option.Option.TheVariants.{None, Some}
 use Rattle.std.specs.declared.result.Result.TheVariants.{Ok, Err}
 use Rattle.std.specs.Io.KnownBytes.{Appends, Consumes, IsAtEnd}
 use Rattle.orc_io.specs.Pieces.{TakesFront}
 use Rattle.orc_disk.specs.Moments.{LeavesOnly}
 use Rattle.orc_call.specs.declared.call.Call.{Call}
-use Rattle.orc_bundle.specs.Bundles.{Spells, decls_of}
+use Rattle.orc_bundle.specs.Bundles.{bundle_of}
 use Rattle.orc_state.specs.Legal.{IsLegal}
 use Rattle.orc_print.specs.Printed.{recovered_line}
 use Rattle.orc_disk.specs.Meanings.{DiskMeaning}
@@ -22,7 +22,10 @@ use Rattle.orc_state.specs.declared.declarations.Decls.{Decls}
 use Rattle.orc_run.specs.declared.stop.Done.{Done}
 use Rattle.orc_run.specs.declared.stop.Stop.{Stop}
 use Rattle.orc_run.specs.declared.stop.Stop.TheVariants as ending
-use Rattle.orc_run.specs.declared.stop.Rule.TheVariants as Rule
+use Rattle.orc_state.specs.declared.rule.Rule.{Rule}
+use Rattle.orc_run.specs.Checks.{EndsCheck}
+use Rattle.orc_run.specs.declared.words.Command.{Command}
+use Rattle.orc_run.specs.declared.words.Command.TheVariants.{Check, Run}
 
 -- what stands outside a run: the bytes that its source has left, those that its sink holds, each where it tells them,
 -- and its disk
@@ -31,18 +34,25 @@ pub record Outside (D : Type 0) : Type 0 where
   pub held : Option (List ℕ)
   pub disk : D
 
--- the source gave the text of this bundle, and no more bytes than a bundle may have
+-- The source gave these bytes: all that it had left, where they are no more than a bundle may have, and else one more
+-- than that.
+pub record GivesFirst (before after : Option (List ℕ)) (bytes : List ℕ) : Type 0 where
+  pub given : Consumes before after bytes
+  pub most : length bytes ≤ LARGEST_BUNDLE + 1
+  pub end : length bytes ≤ LARGEST_BUNDLE → IsAtEnd after
+
+-- they are this bundle, and the source was read to its end
 pub record GivesBundle (before after : Option (List ℕ)) (bundle : Bundle) : Type 0 where
   pub bytes : List ℕ
-  pub given : Consumes before after bytes
-  pub small : length bytes ≤ LARGEST_BUNDLE
-  pub spelled : Spells bytes bundle
+  pub first : GivesFirst before after bytes
+  pub is : bundle_of bytes ≡ Ok bundle
+  pub at_end : IsAtEnd after
 
--- the source was read to its end and gave bytes that are the text of no bundle, or it gave more than a bundle may have
-pub record GivesNone (before after : Option (List ℕ)) : Type 0 where
+-- or this line of them is the first one at fault, and this is the first rule that it breaks
+pub record GivesFault (before after : Option (List ℕ)) (line : ℕ) (rule : Rule) : Type 0 where
   pub bytes : List ℕ
-  pub given : Consumes before after bytes
-  pub none : (LARGEST_BUNDLE < length bytes) ⊎ (IsAtEnd after × ((bundle : Bundle) → Spells bytes bundle → ⊥))
+  pub first : GivesFirst before after bytes
+  pub is : bundle_of bytes ≡ Err (line, rule)
 
 -- one history is a front of another
 abbrev pub IsPrefix : List Call → List Call → Type 0
@@ -74,8 +84,8 @@ Wrote before after text end (Err ending.WriteFault) = TakesFront before after te
 Wrote before after text end (Err other) = (end ≡ Some other) × Appends before after text
 
 module _ {D : Type 0} (meaning : DiskMeaning D) where
-  -- The journal of the disk was opened: its history is known, that of the bytes that the disk gave. On a disk that
-  -- isn't empty this is said; of one that tells nothing only that nothing else is.
+  -- The journal of the disk was opened: its entries are known, and their history, which are those of the bytes that
+  -- the disk gave. Where it gave any, this is printed.
   pub record Starts (decls : Decls) (disk : D) (start : View D) (greeting : List ℕ) : Type 0 where
     pub up : start.up ≡ true
     pub armed : start.armed ≡ 0
@@ -83,9 +93,9 @@ module _ {D : Type 0} (meaning : DiskMeaning D) where
     pub legal : IsLegal decls start.known
     pub history : IfSome (meaning.content disk) (λ file. HasHistory decls file start.known)
     pub opened : IsOpenedAs meaning decls disk start.known start.disk
-    pub greeting_is : IfSome (meaning.content disk) (λ file.
-        ((file ≡ []) × (greeting ≡ [])) ⊎ ((file ≡ [] → ⊥) × (greeting ≡ recovered_line (length start.known))))
-    pub greeting_may_be : (greeting ≡ []) ⊎ (greeting ≡ recovered_line (length start.known))
+    pub entries : start.entries ≡ opened.0
+    pub greeting_is : ((opened.1.opened.file ≡ []) × (greeting ≡ []))
+        ⊎ ((opened.1.opened.file ≡ [] → ⊥) × (greeting ≡ recovered_line (length start.known)))
     pub opening : LeavesOnly meaning disk start.disk (MayBeOpening meaning decls disk)
     pub still_tells : is_some (meaning.content start.disk) ≡ is_some (meaning.content disk)
     pub later : meaning.faults disk ≤ meaning.faults start.disk
@@ -145,9 +155,9 @@ module _ {D : Type 0} (meaning : DiskMeaning D) where
 
   -- What a run leaves to those who called, where the disk tells what it holds. The disk holds a journal of one legal
   -- history, so does each file that a crash now may leave, and so did a crash at each moment since the journal was
-  -- opened. The history at entry is a front of each. Every call that was acknowledged stands in what is known, which
-  -- is a front of the history that the disk holds and of what a crash leaves: the history at entry and then some of
-  -- the script's calls, in their order.
+  -- opened. The history at entry is a front of each. What is known is a front of the history that the disk holds and
+  -- of what a crash leaves: the history at entry and then some of the script's calls, in their order. (That a call
+  -- which was answered Committed stays is `AcknowledgedStays`.)
   pub record KeepsAll (decls : Decls) (start last : View D) (script : List ScriptStep) : Type 0 where
     pub journal : IfSome (meaning.content last.disk) (HoldsFrom decls last.known)
     pub crash_now : (file : List ℕ) → meaning.may_leave last.disk file → HoldsFrom decls last.known file
@@ -170,21 +180,19 @@ module _ {D : Type 0} (meaning : DiskMeaning D) where
   pub record BundleRun (bundle : Bundle) (before after : Outside D) (status : Result Done Stop) : Type 0 where
     pub printed : List ℕ
     pub end : Option Stop
-    pub ran : DiskRun (decls_of bundle) bundle.steps before.disk after.disk printed end
+    pub ran : DiskRun bundle.decls bundle.steps before.disk after.disk printed end
     pub wrote : Wrote before.held after.held printed end status
     pub whole : is_ok status ≡ true → ran.runs.rest ≡ []
     pub unwritten : status ≡ Err ending.WriteFault
-        → TookUpToLast (decls_of bundle) ran.start bundle.steps after.disk ran.greeting ran.text end ran.runs
+        → TookUpToLast bundle.decls ran.start bundle.steps after.disk ran.greeting ran.text end ran.runs
         before.held after.held
 
   -- The journal was not opened, for this cause, which is in the bytes that the disk gave, and the sink took nothing.
-  -- Unless the disk failed it is as it was, or holds the journal with its gate. Where memory was wanting before that,
-  -- nothing was done.
+  -- Unless the disk failed it is as it was, or holds the journal with its gate.
   pub record IsUnopened (bundle : Bundle) (before after : Outside D) (end : Stop) : Type 0 where
-    pub cause : IsRefusedBecause meaning (decls_of bundle) before.disk after.disk end
-    pub refused : ((end ≡ ending.Memory) × (after.disk ≡ before.disk))
-        ⊎ IsRefused meaning (decls_of bundle) before.disk after.disk end
-    pub opening : LeavesOnly meaning before.disk after.disk (MayBeOpening meaning (decls_of bundle) before.disk)
+    pub cause : IsRefusedBecause meaning bundle.decls before.disk after.disk end
+    pub refused : IsRefused meaning bundle.decls before.disk after.disk end
+    pub opening : LeavesOnly meaning before.disk after.disk (MayBeOpening meaning bundle.decls before.disk)
     pub same : after.held ≡ before.held
 
   -- how the run of a bundle ended, by its status
@@ -193,19 +201,31 @@ module _ {D : Type 0} (meaning : DiskMeaning D) where
   EndsOver bundle before after (Err ending.WriteFault) = BundleRun bundle before after (Err ending.WriteFault)
   EndsOver bundle before after (Err end) = IsUnopened bundle before after end ⊎ BundleRun bundle before after (Err end)
 
-  -- the source was read to its end and gave a bundle, whose run ended so
+  -- the source gave a bundle, whose run ended so
   pub record WholeRun (before after : Outside D) (status : Result Done Stop) : Type 0 where
     pub bundle : Bundle
     pub gives : GivesBundle before.left after.left bundle
-    pub at_end : IsAtEnd after.left
     pub ends : EndsOver bundle before after status
 
-  -- how a run ended, by its status
-  abbrev pub EndsBy : Outside D → Outside D → Result Done Stop → Type 0
-  EndsBy before after (Err ending.Usage) = Unit {0}
-  EndsBy before after (Err ending.ReadFault) = Unit {0}
-  EndsBy before after (Err (ending.Bundle line rule)) =
-      GivesNone before.left after.left × (line ≡ 0) × (rule ≡ Rule.Line)
-  EndsBy before after (Err ending.Memory) =
-      ((after.held ≡ before.held) × (after.disk ≡ before.disk)) ⊎ WholeRun before after (Err ending.Memory)
-  EndsBy before after status = WholeRun before after status
+  -- the source gave a bundle, whose check ended so, and nothing was done to the disk
+  pub record WholeCheck (before after : Outside D) (status : Result Done Stop) : Type 0 where
+    pub bundle : Bundle
+    pub gives : GivesBundle before.left after.left bundle
+    pub ends : EndsCheck bundle before.held after.held status
+    pub disk_is : after.disk ≡ before.disk
+
+  -- a command was done, to this status
+  abbrev pub EndsAs : Command → Outside D → Outside D → Result Done Stop → Type 0
+  EndsAs Check before after status = WholeCheck before after status
+  EndsAs Run before after status = WholeRun before after status
+
+  -- How the program ended, by the command and the status. It ends with Bundle exactly where the first bytes of the
+  -- source are none, whatever the command; where it ends with ReadFault or Memory these may not all have been read.
+  abbrev pub EndsBy : Option Command → Outside D → Outside D → Result Done Stop → Type 0
+  EndsBy None before after status = status ≡ Err ending.Usage
+  EndsBy (Some command) before after (Err ending.Usage) = ⊥
+  EndsBy (Some command) before after (Err ending.ReadFault) = Unit {0}
+  EndsBy (Some command) before after (Err (ending.Bundle line rule)) = GivesFault before.left after.left line rule
+  EndsBy (Some command) before after (Err ending.Memory) =
+      ((after.held ≡ before.held) × (after.disk ≡ before.disk)) ⊎ EndsAs command before after (Err ending.Memory)
+  EndsBy (Some command) before after status = EndsAs command before after status

@@ -3,10 +3,15 @@ use Rattle.std.specs.Prelude.{◌≡◌, ℕ, true, false, List, ◌∷◌, code
 use Rattle.orc_call.specs.declared.call.Call.{Call}
 use Rattle.orc_call.specs.declared.call.TheConstants.{MOST_ACTIONS}
 use Rattle.orc_journal.specs.Entries.{entry_bytes, entry_kind}
-use Rattle.orc_journal.specs.Journals.{magic, gated, is_closed}
+use Rattle.orc_journal.specs.Journals.{magic, gated, is_closed, closing_gate}
 use Rattle.orc_journal.specs.declared.entry.Entry.{Entry}
 use Rattle.orc_journal.specs.declared.entry.Entry.TheVariants.{Intent, Decide, Abort, Settled}
+use Rattle.orc_path.specs.declared.limits.TheConstants.{NAME_LEN, PATH_STEPS, STEP_KEYS, PATH_LEN, VALUE_LEN}
 use Rattle.orc_bundle.specs.declared.bundle.TheConstants.{LARGEST_BUNDLE}
+use Rattle.orc_bundle.specs.declared.lines.TheConstants.{LONGEST_LINE}
+use Rattle.orc_bundle.specs.declared.script.TheConstants.{MOST_CALLERS, MOST_STEPS}
+use Rattle.orc_state.specs.declared.declarations.TheConstants.{MOST_DEVICES}
+use Rattle.orc_state.specs.declared.lawful.TheConstants.{MOST_WRITES}
 use Rattle.orc_run.specs.declared.opening.TheConstants.{LARGEST_JOURNAL}
 use Rattle.orc_state.specs.declared.declarations.Decls.{Decls}
 use Rattle.orc_run.specs.Views.{Decodes, HasHistory}
@@ -21,11 +26,22 @@ FileTellsOneHistory = (decls : Decls) (file : List ℕ) (learned held : List Cal
 pub record HasTheseNumbers : Type 0 where
   pub bundle : LARGEST_BUNDLE ≡ 16_777_216
   pub journal : LARGEST_JOURNAL ≡ 268_435_456
+  pub line : LONGEST_LINE ≡ 1_048_576
+  pub name : NAME_LEN ≡ 64
+  pub path : PATH_LEN ≡ 4_096
+  pub path_steps : PATH_STEPS ≡ 32
+  pub step_keys : STEP_KEYS ≡ 8
+  pub value : VALUE_LEN ≡ 4_096
+  pub devices : MOST_DEVICES ≡ 256
+  pub callers : MOST_CALLERS ≡ 256
+  pub steps : MOST_STEPS ≡ 100_000
   pub actions : MOST_ACTIONS ≡ 64
+  pub writes : MOST_WRITES ≡ 16_777_216
   pub first_bytes : magic ≡ codes "ORCJRNL1"
   pub gate : (entry : Entry) → gated entry ≡ 1 ∷ entry_bytes entry
   pub open_gate : is_closed 1 ≡ false
   pub closed_gate : is_closed 0 ≡ true
+  pub written_gate : closing_gate ≡ 0
   pub intent : (t : ℕ) (call : Call) (devices : List ℕ) → entry_kind (Intent t call devices) ≡ 1
   pub decide : (t : ℕ) → entry_kind (Decide t) ≡ 2
   pub abort : (t : ℕ) → entry_kind (Abort t) ≡ 3

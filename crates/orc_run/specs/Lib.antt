@@ -1,10 +1,15 @@
+pub mod Words
 pub mod Touched
 pub mod Views
 pub mod Opening
 pub mod Commits
 pub mod Steps
 pub mod Runs
+pub mod Checks
 pub mod Ends
 pub mod Statuses
+pub mod Decided
+pub mod Transcripts
+pub mod Acknowledged
 pub mod Laws
 pub mod inside

@@ -1,6 +1,6 @@
 -- What a step of a script prints, and what a user can tell behind it.
 use Rattle.std.specs.declared.option.Option.TheVariants.{None, Some}
-use Rattle.std.specs.Prelude.{◌≡◌, ◌⊎◌, ℕ, ◌+◌, ◌-◌, ◌<◌, ◌≤◌, true, false, List, [], ◌∷◌, ◌++◌, codes, length, Option, IfSome, is_some, if◌then◌else◌}
+use Rattle.std.specs.Prelude.{◌≡◌, ◌⊎◌, ℕ, true, false, List, [], ◌++◌, codes, length, IfSome, is_some, if◌then◌else◌}
 use Rattle.orc_io.specs.Counts.{Rose}
 use Rattle.orc_call.specs.declared.call.Call.{Call}
 use Rattle.orc_call.specs.declared.answer.Answer.{Answer}
@@ -22,6 +22,7 @@ use Rattle.orc_run.specs.declared.stop.Stop.TheVariants as ending
 
 -- nothing more is known, nor pending
 pub record Stays {D : Type 0} (old new : View D) : Type 0 where
+  pub entries : new.entries ≡ old.entries
   pub known : new.known ≡ old.known
   pub pending : new.pending ≡ old.pending
 
@@ -36,8 +37,8 @@ pub data Serves {D : Type 0} (meaning : DiskMeaning D) (decls : Decls) (old : Vi
       → Commits meaning decls old call stage outcome new → commit_end outcome ≡ None
       → Serves meaning decls old call (commit_text decls.names call stage outcome (length new.known)) new
 
--- The controller is up again and knows the history that the journal is read as: what it knew, and the open call where
--- the journal has it. The disk holds what it held.
+-- The controller is up again and knows the entries that the journal is read as, and their history: what it knew, and
+-- the open call where the journal has it. The disk holds what it held.
 pub record Recovers {D : Type 0} (meaning : DiskMeaning D) (decls : Decls) (old : View D) (text : List ℕ)
     (new : View D) : Type 0 where
   pub prints : text ≡ recovered_line (length new.known)
@@ -49,6 +50,7 @@ pub record Recovers {D : Type 0} (meaning : DiskMeaning D) (decls : Decls) (old 
       → (new.known ≡ old.known) ⊎ (new.known ≡ old.known ++ old.pending)
   pub read : IfSome (meaning.content old.disk) (λ file. HasHistory decls file new.known)
   pub opened : IsOpenedAs meaning decls old.disk new.known new.disk
+  pub entries : new.entries ≡ opened.0
   pub same : meaning.content new.disk ≡ meaning.content old.disk
 
 -- The journal was not opened again. The disk holds what it held.
@@ -62,6 +64,7 @@ abbrev pub Does : {D : Type 0} → DiskMeaning D → Decls → View D → Script
 Does meaning decls old (step.Show device) text new =
     (text ≡ tree_text (name_of decls.names device) (tree_due (state_of decls old.known) device)) × (new ≡ old)
 Does meaning decls old (step.Serve call) text new = Serves meaning decls old call text new
+Does meaning decls old step.Settle text new = (text ≡ []) × (new ≡ old)
 Does meaning decls old step.Stop text new = (text ≡ codes "stopped\n") × (new ≡ record old { up = false })
 Does meaning decls old (step.StopAt op bytes) text new =
     (text ≡ []) × (new ≡ (if old.up then record old { armed = op; bytes = bytes } else old))
@@ -85,10 +88,10 @@ pub data Breaks {D : Type 0} (meaning : DiskMeaning D) (decls : Decls) (old : Vi
       → Breaks meaning decls old (step.Serve call) [] ending.Memory new
 
 module _ {D : Type 0} (meaning : DiskMeaning D) where
-  -- Why a run ends at a step, from a view before it to one behind it. Want of memory is free, and a
-  -- commit that finds the journal full is said by `Breaks`. A disk that tells what
-  -- it holds always is a journal of these declarations: so over such a one no recovery finds it Foreign, NotJournal
-  -- or Damaged.
+  -- Why a run ends at a step, from a view before it to one behind it. Want of memory is free. Of Full this says only
+  -- that the step serves a call: that its commit found the journal full is said by `Breaks`. A disk that tells what it
+  -- holds always is a journal of these declarations: so over such a one no recovery finds it Foreign, NotJournal or
+  -- Damaged.
   abbrev pub EndsBecause : Decls → View D → ScriptStep → Stop → View D → Type 0
   EndsBecause decls old at ending.JournalFault new = Rose (meaning.faults old.disk) (meaning.faults new.disk)
   EndsBecause decls old at (ending.Full len) new = ((call : Call) × (at ≡ step.Serve call)) ⊎ IsUntold meaning old

@@ -11,11 +11,12 @@ use Rattle.orc_disk.specs.Meanings.{DiskMeaning}
 use Rattle.orc_state.specs.Legal.{IsLegal}
 use Rattle.orc_state.specs.declared.declarations.Decls.{Decls}
 
--- the disk, the calls that the controller knows as committed, the call that it was committing as it stopped, if one,
--- whether it is up, which operation of the disk from now on stops it, 0 where none does, and how many bytes that one
--- still puts
+-- the disk, the entries that the controller knows in the journal, the calls that it knows as committed, the call that
+-- it was committing as it stopped, if one, whether it is up, which operation of the disk from now on stops it, 0 where
+-- none does, and how many bytes that one still puts
 pub record View (D : Type 0) : Type 0 where
   pub disk : D
+  pub entries : List Entry
   pub known : List Call
   pub pending : List Call
   pub up : Bool

@@ -5,7 +5,7 @@ ghost use Rattle.orc_journal.specs.Entries.{AreDevices};
 ghost use Rattle.orc_state.specs.States.{IsComplete, action_of, after, refusal};
 ghost use Rattle.orc_state.specs.Calls.{is_call};
 ghost use Rattle.orc_state.specs.Legal.{IsLegal, state_of};
-ghost use Rattle.orc_state.specs.inside.Declarations.{AreDecls};
+ghost use Rattle.orc_state.specs.Declarations.{AreDecls};
 ghost use Rattle.orc_run.specs.inside.Transactions.{is_taken, IsFilled};
 ghost use Rattle.orc_run.specs.inside.Deciding.{IsIntentOf};
 

@@ -1,7 +1,8 @@
-//! The program's top calls: a bundle is read and checked, its script is run over a journal, and what
-//! it prints is written as it is done.
+//! The program's top call: a bundle is read and checked, or its script is run over a journal, and what
+//! that prints is written as it is done.
 #![tactic(auto)]
 
+mod checking;
 mod commit;
 mod controller;
 mod decision;
@@ -19,6 +20,10 @@ mod stop;
 mod top;
 mod words;
 
-pub use laws::{file_tells_one_history, has_these_numbers};
-pub use stop::{Done, Ended, Rule, Stop, status};
+pub use laws::{
+    acknowledged_stays, bytes_decide, file_tells_one_history, has_these_numbers, one_transcript,
+};
+pub use orc_state::Rule;
+pub use stop::{Done, Ended, Stop, status};
 pub use top::orchestrate;
+pub use words::Command;

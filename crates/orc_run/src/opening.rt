@@ -1,15 +1,15 @@
 //! Opening the controller's journal, and learning the past that it tells.
 ghost use Rattle.orc_disk.specs.Stops.{inside};
-ghost use Rattle.std.specs.Prelude.{◌≡◌, ◌<◌, ◌≤◌, ◌^◌, true, false, [], length, IfOk, IfErr, IfSome, IsTrue, ◌↔◌, MatchResult, is_some};
+ghost use Rattle.std.specs.Prelude.{◌≡◌, ◌<◌, ◌≤◌, ◌^◌, true, false, [], length, IfOk, IfErr, IfSome, IsTrue, MatchResult, is_some};
 ghost use Rattle.orc_disk.specs.Moments.{LeavesOnly};
 ghost use Rattle.orc_journal.specs.Orders.{is_ordered};
 ghost use Rattle.orc_journal.specs.Committed.{history_of};
 ghost use Rattle.orc_journal.specs.Opened.{Holds};
-ghost use Rattle.orc_state.specs.inside.Declarations.{AreDecls};
+ghost use Rattle.orc_state.specs.Declarations.{AreDecls};
 ghost use Rattle.orc_run.specs.declared.opening.TheConstants.{LARGEST_JOURNAL};
 ghost use Rattle.orc_run.specs.Views.{HasHistory};
-ghost use Rattle.orc_run.specs.inside.Controllers.{view_of, IsSound};
-ghost use Rattle.orc_run.specs.Opening.{IsOpenedAs, IsPastFault, IsRefused, IsRefusedBecause, MayBeOpening, stop_of};
+ghost use Rattle.orc_run.specs.inside.Controllers.{known_of, pending_of, Knows, Opens};
+ghost use Rattle.orc_run.specs.Opening.{IsPastFault, IsRefused, IsRefusedBecause, MayBeOpening, stop_of};
 
 use crate::Stop;
 use crate::controller::Controller;
@@ -29,15 +29,11 @@ impl<D: Disk> Controller<D> {
     pub(crate) fn open(alloc: Global, decls: &Decls, disk: D) -> Result<Controller<D>, (Stop, D)>
         requires decls { AreDecls decls.now }
         requires short { length decls.now.text < 2 ^ 32 }
-        ensures sound { IfOk result (λ c. IsSound D.disk decls.now c) }
-        ensures up { IfOk result (λ c. (c.up ≡ true) × ((view_of c).armed ≡ 0) × ((view_of c).pending ≡ [])) }
-        ensures opened { IfOk result
-            (λ c. IsOpenedAs D.disk decls.now disk (view_of c).known c.journal.disk.inner) }
+        ensures opens { IfOk result (λ c. Opens D.disk decls.now disk c) }
+        ensures up { IfOk result (λ c. (c.up ≡ true) × (c.journal.disk.op ≡ 0) × (pending_of c ≡ [])) }
         ensures not_opened { IfErr result (λ refused. IsRefused D.disk decls.now disk refused.1 refused.0) }
         ensures tells { IfOk result (λ c. IfSome (D.disk.content disk)
-            (λ file. HasHistory decls.now file (view_of c).known)) }
-        ensures fresh { IfOk result (λ c. IfSome (D.disk.content disk)
-            (λ file. (c.journal.fresh ≡ true) ↔ (file ≡ []))) }
+            (λ file. HasHistory decls.now file (known_of c))) }
         ensures refused { IfErr result (λ refused. IsRefusedBecause D.disk decls.now disk refused.1 refused.0) }
         ensures any_moment { MatchResult result
             (λ c. LeavesOnly D.disk disk c.journal.disk.inner (MayBeOpening D.disk decls.now disk))
@@ -49,7 +45,7 @@ impl<D: Disk> Controller<D> {
             (λ c. is_some (D.disk.content c.journal.disk.inner) ≡ is_some (D.disk.content disk))
             (λ refused. is_some (D.disk.content refused.1) ≡ is_some (D.disk.content disk)) }
     {
-        match StopJournal::open(alloc, disk, decls.text.as_str().as_bytes(), LARGEST_JOURNAL) {
+        match StopJournal::open(alloc, disk, decls.text.as_slice(), LARGEST_JOURNAL) {
             Ok((journal, entries)) => Controller::learn(alloc, decls, journal, &entries),
             Err((fault, disk)) => Err((stop_of(fault), disk)),
         }
@@ -67,9 +63,9 @@ impl<D: Disk> Controller<D> {
         requires ordered { IsTrue (is_ordered entries.now) }
         requires limit { journal.limit ≡ LARGEST_JOURNAL }
         requires running { journal.disk.stopped ≡ false }
-        ensures sound { IfOk result (λ c. IsSound D.disk decls.now c) }
-        ensures up { IfOk result (λ c. (c.up ≡ true) × ((view_of c).pending ≡ [])) }
-        ensures known { IfOk result (λ c. history_of entries.now ≡ (view_of c).known) }
+        ensures knows { IfOk result (λ c. Knows D.disk decls.now entries.now c) }
+        ensures up { IfOk result (λ c. (c.up ≡ true) × (pending_of c ≡ [])) }
+        ensures known { IfOk result (λ c. history_of entries.now ≡ known_of c) }
         ensures same { MatchResult result (λ c. c.journal ≡ journal) (λ refused. refused.1 ≡ journal.disk.inner) }
         ensures refused { IfErr result (λ refused. IsPastFault decls.now entries.now refused.0) }
     {

@@ -6,7 +6,7 @@ ghost use Rattle.orc_journal.specs.Committed.{history_of};
 ghost use Rattle.orc_journal.specs.declared.entry.Entry.{Entry};
 ghost use Rattle.orc_state.specs.Calls.{is_call};
 ghost use Rattle.orc_state.specs.Legal.{AnswersAtOnce, IsDue, IsLegal, IsNew};
-ghost use Rattle.orc_state.specs.inside.Declarations.{AreDecls};
+ghost use Rattle.orc_state.specs.Declarations.{AreDecls};
 ghost use Rattle.orc_run.specs.inside.Pasts.{IsBehind, IsPast};
 ghost use Rattle.orc_run.specs.Opening.{IsIllegalAt};
 

@@ -4,8 +4,7 @@ ghost use Rattle.std.specs.List.{list_all};
 ghost use Rattle.std.specs.Io.KnownBytes.{Appends};
 ghost use Rattle.orc_io.specs.Counts.{Rose};
 ghost use Rattle.orc_bundle.specs.Bundles.{is_step};
-ghost use Rattle.orc_state.specs.inside.Declarations.{AreDecls};
-ghost use Rattle.orc_bundle.specs.inside.Encodable.{IsEncodable};
+ghost use Rattle.orc_state.specs.Declarations.{AreDecls};
 ghost use Rattle.orc_run.specs.Views.{Outlives};
 ghost use Rattle.orc_run.specs.Steps.{Does};
 ghost use Rattle.orc_run.specs.inside.Controllers.{view_of, CanDo, CanRun, IsSound};
@@ -29,8 +28,9 @@ pub(crate) fn run_steps<K: Sink, D: Disk>(
     sink: &mut K,
 ) -> Ended<D>
     requires can { CanRun D.disk decls.now controller steps.now }
-    ensures ends { Finishes D.disk (K.sink.held sink.old) (K.sink.held sink.new) decls.now
-        (view_of controller) steps.now [] result.disk result.status }
+    ensures ends { (sound : IsSound D.disk decls.now controller)
+        → Finishes D.disk (K.sink.held sink.old) (K.sink.held sink.new) decls.now
+        (view_of controller sound.0) steps.now [] result.disk result.status }
     ensures later { K.sink.faults sink.old ≤ K.sink.faults sink.new }
     ensures write { IsErrOf result.status Stop.WriteFault → Rose (K.sink.faults sink.old) (K.sink.faults sink.new) }
 {
@@ -57,10 +57,12 @@ fn run_step<K: Sink, D: Disk>(
 ) -> Result<Controller<D>, Ended<D>>
     requires can { CanDo D.disk decls.now controller step.now }
     ensures sound { IfOk result (λ c. IsSound D.disk decls.now c) }
-    ensures done { IfOk result (λ c. WritesStep D.disk (K.sink.held sink.old) (K.sink.held sink.new) decls.now
-        (view_of controller) step.now (view_of c)) }
-    ensures halts { IfErr result (λ ended. Halts D.disk (K.sink.held sink.old) (K.sink.held sink.new) decls.now
-        (view_of controller) step.now ended.disk ended.status) }
+    ensures done { IfOk result (λ c. (old : IsSound D.disk decls.now controller) → (new : IsSound D.disk decls.now c)
+        × WritesStep D.disk (K.sink.held sink.old) (K.sink.held sink.new) decls.now
+        (view_of controller old.0) step.now (view_of c new.0)) }
+    ensures halts { IfErr result (λ ended. (old : IsSound D.disk decls.now controller)
+        → Halts D.disk (K.sink.held sink.old) (K.sink.held sink.new) decls.now
+        (view_of controller old.0) step.now ended.disk ended.status) }
     ensures later { K.sink.faults sink.old ≤ K.sink.faults sink.new }
     ensures write { IfErr result (λ ended. IsErrOf ended.status Stop.WriteFault
         → Rose (K.sink.faults sink.old) (K.sink.faults sink.new)) }

@@ -1,23 +1,17 @@
 //! Serving a call: its answer at once, or its commit in the journal.
-ghost use Rattle.std.specs.Prelude.{◌≡◌, ◌≢◌, ◌≤◌, ℕ, true, Ok, Option, length, take, IfOk, OnErr, IsTrue};
+ghost use Rattle.std.specs.Prelude.{◌≡◌, ◌≢◌, ◌≤◌, true, List, length, take, IfOk, IsTrue};
 ghost use Rattle.orc_append.specs.declared.outcome.Appended.{Appended};
-ghost use Rattle.orc_call.specs.Encoding.{IsCall};
-ghost use Rattle.orc_call.specs.declared.answer.Answer.{Answer};
 ghost use Rattle.orc_journal.specs.Entries.{AreDevices};
 ghost use Rattle.orc_state.specs.States.{action_of};
 ghost use Rattle.orc_state.specs.Calls.{is_call};
 ghost use Rattle.orc_state.specs.Legal.{IsLegal, state_of};
-ghost use Rattle.orc_state.specs.inside.Declarations.{AreDecls};
+ghost use Rattle.orc_state.specs.Declarations.{AreDecls};
 ghost use Rattle.orc_run.specs.Touched.{devices_of};
-ghost use Rattle.orc_run.specs.Views.{Outlives, Rests};
-ghost use Rattle.orc_run.specs.Steps.{EndsBecause};
 ghost use Rattle.orc_run.specs.inside.Pasts.{IsBehind};
-ghost use Rattle.orc_run.specs.inside.Serving.{ComesTo, ComesShort, ServesTo, goes_on, said_of, up_behind};
-ghost use Rattle.orc_run.specs.inside.Controllers.{view_of, IsSound, IsCommitting};
+ghost use Rattle.orc_run.specs.inside.Serving.{said_of, up_behind};
+ghost use Rattle.orc_run.specs.inside.Controllers.{known_of, view_of, IsCommitting, IsSound, LeadsTo};
+ghost use Rattle.orc_journal.specs.declared.entry.Entry.{Entry};
 ghost use Rattle.orc_run.specs.declared.commit.Stage.{Stage};
-ghost use Rattle.orc_bundle.specs.declared.bundle.ScriptStep.{ScriptStep};
-ghost use Rattle.orc_run.specs.declared.serving.CallOutcome.{CallOutcome};
-ghost use Rattle.orc_run.specs.declared.stop.Stop.{Stop};
 
 use crate::Stop;
 use crate::commit::{Stage, append_commit};
@@ -53,15 +47,8 @@ impl<D: Disk> Controller<D> {
         requires decls { AreDecls decls.now }
         requires sound { IsSound D.disk decls.now self.old }
         requires call { IsTrue (is_call decls.now.names call.now) }
-        requires encodable { IsCall call.now }
-        ensures served { IfOk result (λ served. ServesTo D.disk decls.now (view_of self.old) call.now served
-            (view_of self.new)) }
-        ensures sound { IfOk result (λ served. goes_on served ≡ true → IsSound D.disk decls.now self.new) }
-        ensures broken { (given : Option Answer) (end : Stop) → result ≡ Ok (CallOutcome.Broken given end)
-            → EndsBecause D.disk decls.now (view_of self.old) (ScriptStep.Serve call.now) end (view_of self.new) }
-        ensures memory { OnErr result (ComesShort D.disk decls.now (view_of self.old) call.now (view_of self.new)) }
-        ensures rests { Rests D.disk decls.now (view_of self.new) }
-        ensures outlives { Outlives D.disk decls.now (view_of self.old) (view_of self.new) }
+        ensures { (sound : IsSound D.disk decls.now self.old)
+            → LeadsTo D.disk decls.now (view_of self.old sound.0) call.now result self.new }
     {
         if !self.up {
             return Ok(CallOutcome::Answered(Answer::Down));
@@ -89,20 +76,13 @@ impl<D: Disk> Controller<D> {
         devices: Row<u32>,
     ) -> Result<CallOutcome, Memory>
         requires decls { AreDecls decls.now }
-        requires committing { IsCommitting D.disk decls.now call.now self.old }
+        requires committing { (entries : List Entry) × IsCommitting D.disk decls.now call.now entries self.old }
         requires call { IsTrue (is_call decls.now.names call.now) }
-        requires encodable { IsCall call.now }
         requires devices { AreDevices devices }
         requires touched { devices ≡ devices_of decls.now.names
-            (state_of decls.now (view_of self.old).known) (action_of call.now) }
-        ensures comes { IfOk result (λ served. ComesTo D.disk decls.now (view_of self.old) call.now served
-            (view_of self.new)) }
-        ensures sound { IfOk result (λ served. goes_on served ≡ true → IsSound D.disk decls.now self.new) }
-        ensures broken { (given : Option Answer) (end : Stop) → result ≡ Ok (CallOutcome.Broken given end)
-            → EndsBecause D.disk decls.now (view_of self.old) (ScriptStep.Serve call.now) end (view_of self.new) }
-        ensures memory { OnErr result (ComesShort D.disk decls.now (view_of self.old) call.now (view_of self.new)) }
-        ensures rests { Rests D.disk decls.now (view_of self.new) }
-        ensures outlives { Outlives D.disk decls.now (view_of self.old) (view_of self.new) }
+            (state_of decls.now (known_of self.old)) (action_of call.now) }
+        ensures { (entries : List Entry) → IsCommitting D.disk decls.now call.now entries self.old
+            → LeadsTo D.disk decls.now (view_of self.old entries) call.now result self.new }
     {
         let (t, intent) = begin(alloc, &mut self.past, call, devices)?;
         let reached = append_commit(alloc, &mut self.journal, &intent, t);

@@ -1,15 +1,13 @@
 //! The steps of a script, as the controller does them.
 ghost use Rattle.std.specs.Prelude.{[], Ok, ◌≡◌, ◌⊎◌, ◌<◌, ◌^◌, length, codes, IfOk, IsTrue, MatchResult, if◌then◌else◌};
-ghost use Rattle.orc_call.specs.Encoding.{IsCall};
 ghost use Rattle.orc_state.specs.States.{tree_due, name_of};
 ghost use Rattle.orc_state.specs.Calls.{is_call};
 ghost use Rattle.orc_bundle.specs.Bundles.{is_step};
-ghost use Rattle.orc_bundle.specs.inside.Encodable.{IsEncodable};
 ghost use Rattle.orc_state.specs.Legal.{state_of};
-ghost use Rattle.orc_state.specs.inside.Declarations.{AreDecls};
+ghost use Rattle.orc_state.specs.Declarations.{AreDecls};
 ghost use Rattle.orc_print.specs.Printed.{history_text, tree_text};
 ghost use Rattle.orc_run.specs.inside.Serving.{answer_in, IsAnswerAmong, served_text};
-ghost use Rattle.orc_run.specs.inside.Controllers.{view_of, CanDo, GoesOn, IsSound, StepsTo, Wants};
+ghost use Rattle.orc_run.specs.inside.Controllers.{known_of, view_of, CanDo, GoesOn, IsSound, StepsTo, Wants};
 ghost use Rattle.orc_bundle.specs.declared.bundle.ScriptStep.{ScriptStep};
 
 use crate::Stop;
@@ -33,11 +31,13 @@ impl<D: Disk> Controller<D> {
         step: &ScriptStep,
     ) -> Result<(Controller<D>, Row<u8>), LastStep<D>>
         requires can { CanDo D.disk decls.now self step.now }
-        ensures { StepsTo D.disk decls.now (view_of self) step.now result }
+        ensures { (sound : IsSound D.disk decls.now self)
+            → StepsTo D.disk decls.now (view_of self sound.0) step.now result }
     {
         match step {
             ScriptStep::Show(device) => self.show(alloc, decls, *device),
             ScriptStep::Serve(call) => self.answer(alloc, decls, call),
+            ScriptStep::Settle => self.settled(alloc, decls),
             ScriptStep::Stop => self.stop(alloc, decls),
             ScriptStep::StopAt(op, bytes) => self.stop_at(alloc, decls, *op, *bytes),
             ScriptStep::Recover => self.recover(alloc, decls),
@@ -54,7 +54,8 @@ impl<D: Disk> Controller<D> {
     ) -> Result<(Controller<D>, Row<u8>), LastStep<D>>
         requires sound { IsSound D.disk decls.now self }
         requires device { device < length decls.now.names }
-        ensures { StepsTo D.disk decls.now (view_of self) (ScriptStep.Show device) result }
+        ensures { (sound : IsSound D.disk decls.now self)
+            → StepsTo D.disk decls.now (view_of self sound.0) (ScriptStep.Show device) result }
     {
         let text = self.tree_text(alloc, decls, device);
         self.printing(alloc, text)
@@ -64,7 +65,7 @@ impl<D: Disk> Controller<D> {
         requires sound { IsSound D.disk decls.now self.now }
         requires device { device < length decls.now.names }
         ensures { IfOk result (λ text. text ≡ tree_text (name_of decls.now.names device)
-            (tree_due (state_of decls.now (view_of self.now).known) device)) }
+            (tree_due (state_of decls.now (known_of self.now)) device)) }
     {
         let tree = self.past.state.tree_due(alloc, device)?;
         let name = device_name(decls.names.as_slice(), device);
@@ -74,7 +75,8 @@ impl<D: Disk> Controller<D> {
     // Prints the history.
     fn history(self, alloc: Global, decls: &Decls) -> Result<(Controller<D>, Row<u8>), LastStep<D>>
         requires sound { IsSound D.disk decls.now self }
-        ensures { StepsTo D.disk decls.now (view_of self) ScriptStep.History result }
+        ensures { (sound : IsSound D.disk decls.now self)
+            → StepsTo D.disk decls.now (view_of self sound.0) ScriptStep.History result }
     {
         let text = self.history_text(alloc, decls);
         self.printing(alloc, text)
@@ -83,7 +85,7 @@ impl<D: Disk> Controller<D> {
     fn history_text(&self, alloc: Global, decls: &Decls) -> Result<Row<u8>, Memory>
         requires sound { IsSound D.disk decls.now self.now }
         ensures { IfOk result (λ text. text ≡ (if self.now.up then history_text
-            (view_of self.now).known else codes "down\n")) }
+            (known_of self.now) else codes "down\n")) }
     {
         if !self.up {
             return Ok(Row::from_vec(down(alloc)?));
@@ -95,7 +97,8 @@ impl<D: Disk> Controller<D> {
     // The controller stops.
     fn stop(mut self, alloc: Global, decls: &Decls) -> Result<(Controller<D>, Row<u8>), LastStep<D>>
         requires sound { IsSound D.disk decls.now self }
-        ensures { StepsTo D.disk decls.now (view_of self) ScriptStep.Stop result }
+        ensures { (sound : IsSound D.disk decls.now self)
+            → StepsTo D.disk decls.now (view_of self sound.0) ScriptStep.Stop result }
     {
         match stopped(alloc) {
             Ok(text) => {
@@ -104,6 +107,15 @@ impl<D: Disk> Controller<D> {
             }
             Err(Memory) => Err(self.wanting(alloc)),
         }
+    }
+
+    // Nothing is in flight.
+    fn settled(self, alloc: Global, decls: &Decls) -> Result<(Controller<D>, Row<u8>), LastStep<D>>
+        requires sound { IsSound D.disk decls.now self }
+        ensures { (sound : IsSound D.disk decls.now self)
+            → StepsTo D.disk decls.now (view_of self sound.0) ScriptStep.Settle result }
+    {
+        Ok((self, Row::new(alloc)))
     }
 
     // Arms a stop where the controller is up.
@@ -115,7 +127,8 @@ impl<D: Disk> Controller<D> {
         bytes: u64,
     ) -> Result<(Controller<D>, Row<u8>), LastStep<D>>
         requires sound { IsSound D.disk decls.now self }
-        ensures { StepsTo D.disk decls.now (view_of self) (ScriptStep.StopAt op bytes) result }
+        ensures { (sound : IsSound D.disk decls.now self)
+            → StepsTo D.disk decls.now (view_of self sound.0) (ScriptStep.StopAt op bytes) result }
     {
         if !self.up {
             return Ok((self, Row::new(alloc)));
@@ -129,7 +142,8 @@ impl<D: Disk> Controller<D> {
         requires decls { AreDecls decls.now }
         requires short { length decls.now.text < 2 ^ 32 }
         requires sound { IsSound D.disk decls.now self }
-        ensures { StepsTo D.disk decls.now (view_of self) ScriptStep.Recover result }
+        ensures { (sound : IsSound D.disk decls.now self)
+            → StepsTo D.disk decls.now (view_of self sound.0) ScriptStep.Recover result }
     {
         match Controller::open(alloc, decls, self.into_disk()) {
             Ok(controller) => {
@@ -154,8 +168,8 @@ impl<D: Disk> Controller<D> {
         requires decls { AreDecls decls.now }
         requires sound { IsSound D.disk decls.now self }
         requires call { IsTrue (is_call decls.now.names call.now) }
-        requires encodable { IsCall call.now }
-        ensures { StepsTo D.disk decls.now (view_of self) (ScriptStep.Serve call.now) result }
+        ensures { (sound : IsSound D.disk decls.now self)
+            → StepsTo D.disk decls.now (view_of self sound.0) (ScriptStep.Serve call.now) result }
     {
         match self.serve(alloc, decls, call) {
             Ok(outcome) => self.answered(alloc, decls.names.as_slice(), call, outcome),

@@ -3,29 +3,10 @@ ghost use Rattle.std.specs.Prelude.{◌≡◌, Err};
 ghost use Rattle.orc_run.specs.Statuses.{status_of, stop_status};
 
 use orc_disk::Disk;
-use std::fmt;
+use orc_state::Rule;
 use thiserror::Error;
 
-/// The rule that a line of a bundle breaks.
-#[derive(Clone, Copy, Debug, PartialEq, Eq)]
-pub enum Rule {
-    /// The line has no form that may stand there.
-    Line,
-}
-
-impl fmt::Display for Rule {
-    ghost use Rattle.std.specs.Prelude.{Some, codes};
-
-    ghost output = { λ _. Some (codes "line") };
-
-    fn fmt<W: fmt::Write>(&self, f: &mut fmt::Formatter<W>) -> fmt::Result {
-        match self {
-            Rule::Line => write!(f, "line"),
-        }
-    }
-}
-
-/// The source was read to its end, and every step of the script was done.
+/// The command did all that it is to do.
 #[derive(Clone, Copy, Debug, PartialEq, Eq)]
 pub struct Done;
 
@@ -64,7 +45,7 @@ pub enum Stop {
     /// A call of the sink failed.
     #[error("WriteFault")]
     WriteFault,
-    /// A call of the journal's disk failed.
+    /// An operation of the disk of the journal failed.
     #[error("JournalFault")]
     JournalFault,
     /// Memory could not be had.

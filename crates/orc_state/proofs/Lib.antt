@@ -8,3 +8,4 @@ pub mod Legality
 pub mod Removals
 mod Clashes
 mod LeastClash
+mod PutOrder

@@ -1,7 +1,9 @@
 pub mod States
 pub mod Histories
 pub mod Calls
+pub mod Declarations
 pub mod Texts
 pub mod Legal
+pub mod Rules
 pub mod Laws
 pub mod inside

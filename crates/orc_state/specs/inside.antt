@@ -1,2 +1,2 @@
 pub mod Clashes
-pub mod Declarations
+pub mod Orders

@@ -5,6 +5,9 @@ ghost use Rattle.orc_state.specs.States.{name_of};
 use orc_call::Put;
 use orc_text::{Row, Text};
 
+/// The most devices of a bundle.
+pub const MOST_DEVICES: usize = 256;
+
 /// A declared device: its name, and the items of its base in the order of their lines.
 #[derive(Debug, Drop)]
 pub struct Device {
@@ -12,11 +15,11 @@ pub struct Device {
     pub base: Row<Put>,
 }
 
-/// The declarations: their text as the journal stores it, and the devices with their names, both
-/// in the order of declaration.
+/// The declarations: their text as the journal stores it, which is the bytes of the bundle before its
+/// line `script`, and the devices with their names, both in the order of declaration.
 #[derive(Drop)]
 pub struct Decls {
-    pub text: Text,
+    pub text: Row<u8>,
     pub names: Row<Text>,
     pub devices: Row<Device>,
 }

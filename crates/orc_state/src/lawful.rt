@@ -1,13 +1,15 @@
 //! Which calls a call block can give.
-ghost use Rattle.std.specs.Prelude.{◌≡◌, true};
-ghost use Rattle.orc_path.specs.Steps.{is_path};
+ghost use Rattle.std.specs.Prelude.{◌≡◌};
 ghost use Rattle.std.specs.List.{list_all, list_any};
 ghost use Rattle.orc_state.specs.States.{is_same_text};
-ghost use Rattle.orc_state.specs.Calls.{has_plain_keys, is_action, is_call, is_item_at, is_plain_word, is_plain_item, is_write};
+ghost use Rattle.orc_state.specs.Calls.{is_action, is_call, is_item_at, is_lawful_item, is_lawful_name, is_write};
 
 use orc_call::{Action, Call, DevicePut};
-use orc_path::{Item, Path, Step, are_name_bytes, is_identifier};
+use orc_path::{Item, Path, is_identifier, is_long_name, is_long_value, is_value};
 use orc_text::Text;
+
+/// The most writes of a literal service.
+pub const MOST_WRITES: usize = 16_777_216;
 
 /// Whether a call block under declarations of devices of these names can give the call.
 pub fn is_call(names: &[Text], call: &Call) -> bool
@@ -15,7 +17,7 @@ pub fn is_call(names: &[Text], call: &Call) -> bool
 {
     // Read, so that its range is known to the proof.
     let _number = call.number;
-    if !is_identifier(call.caller.as_str()) {
+    if !is_lawful_name(call.caller.as_str()) {
         return false;
     }
     match call.actions.as_slice() {
@@ -30,9 +32,11 @@ fn is_action(names: &[Text], action: &Action) -> bool
 {
     match action {
         Action::Literal(id, writes) => {
-            is_identifier(id.as_str()) && are_writes(names, writes.as_slice())
+            is_lawful_name(id.as_str())
+                && writes.len() <= MOST_WRITES
+                && are_writes(names, writes.as_slice())
         }
-        Action::Delete(id) => is_identifier(id.as_str()),
+        Action::Delete(id) => is_lawful_name(id.as_str()),
         _ => false,
     }
 }
@@ -58,50 +62,34 @@ fn is_name(names: &[Text], device: &Text) -> bool
     names.iter().any(|name| *device == *name)
 }
 
-// Whether an item may stand at a path of a bundle.
-fn is_item_at(path: &Path, item: &Item) -> bool
+/// Whether an item may stand at a path of a bundle.
+pub fn is_item_at(path: &Path, item: &Item) -> bool
     ensures { result ≡ is_item_at path.now item.now }
 {
-    if !is_plain_path(path) {
+    // Looked into, so that the proof knows that it is a path.
+    let _steps = path.steps.len();
+    if path.is_long() {
         return false;
     }
-    if !is_plain_item(item) {
+    if !is_lawful_item(item) {
         return false;
     }
     item.fits(path)
 }
 
-// Whether the text of a leaf is plain.
-fn is_plain_item(item: &Item) -> bool
-    ensures { result ≡ is_plain_item item.now }
+// Whether a leaf can hold it.
+fn is_lawful_item(item: &Item) -> bool
+    ensures { result ≡ is_lawful_item item.now }
 {
     match item {
         Item::Entry => true,
-        Item::Leaf(text) => is_plain_word(text.as_str()),
+        Item::Leaf(text) => is_value(text.as_str()) && !is_long_value(text.as_str()),
     }
 }
 
-/// Whether each key of the path is plain.
-pub fn is_plain_path(path: &Path) -> bool
-    ensures plain { result ≡ list_all has_plain_keys path.now }
-    ensures path { is_path path.now ≡ true }
+/// Whether a caller, a device or a literal service can have this name.
+pub fn is_lawful_name(name: &str) -> bool
+    ensures { result ≡ is_lawful_name name.now }
 {
-    path.steps.as_slice().iter().all(has_plain_keys)
-}
-
-// Whether each key of the step is plain.
-fn has_plain_keys(step: &Step) -> bool
-    ensures { result ≡ has_plain_keys step.now }
-{
-    step.keys
-        .as_slice()
-        .iter()
-        .all(|key| is_plain_word(key.as_str()))
-}
-
-/// Whether the word is one or more letters, digits, `-`, `_` and `.`.
-pub fn is_plain_word(word: &str) -> bool
-    ensures { result ≡ is_plain_word word.now }
-{
-    !word.is_empty() && are_name_bytes(word.as_bytes())
+    is_identifier(name) && !is_long_name(name)
 }

@@ -1,12 +1,12 @@
 //! The state of the orchestrator.
 ghost use Rattle.std.specs.Prelude.{◌≡◌, ◌≢◌, ◌<◌, ◌^◌, false, IfOk, IsTrue, Ok, None, length};
-ghost use Rattle.orc_state.specs.States.{IsComplete, after, fits_action, fits_devices, fits_puts, fits_writes, lives, opening, others, part, put_all, refusal, tree_due};
-ghost use Rattle.std.specs.FinMap.{empty};
+ghost use Rattle.orc_state.specs.States.{IsComplete, after, fits_action, fits_devices, fits_writes, lives, opening, others, part, refusal, tree_due};
 
 use crate::Device;
+use crate::base::tree_of;
 use crate::clash::clash;
 use crate::expansion::expansion;
-use orc_call::{Action, Answer, DevicePut, Put};
+use orc_call::{Action, Answer, DevicePut};
 use orc_text::{Memory, Row, Text};
 use orc_tree::Tree;
 use std::alloc::Global;
@@ -158,16 +158,4 @@ fn others(live: Row<Service>, id: &Text) -> Row<Service>
     let mut live = live.into_vec();
     live.retain(|service| service.id != *id);
     Row::from_vec(live)
-}
-
-// A tree with these items.
-fn tree_of(alloc: Global, puts: &[Put]) -> Result<Tree, Memory>
-    requires { IsTrue (fits_puts puts.now) }
-    ensures { IfOk result (λ tree. tree ≡ put_all puts.now empty) }
-{
-    let mut tree = Tree::new(alloc);
-    for put in puts {
-        tree.set(put.path.copy(alloc)?, put.item.copy(alloc)?)?;
-    }
-    Ok(tree)
 }

@@ -1,4 +1,5 @@
 //! A line of a table: a call, what it is given, and what must come, with `|` between them.
+use crate::restrictions::{is_default, is_typed};
 use crate::statements::is_parsed;
 use crate::values::{is_canon, is_read, is_written};
 use orc_text::{Memory, Text};
@@ -22,6 +23,8 @@ pub(crate) fn holds(alloc: Global, line: &str) -> bool {
 fn answers(alloc: Global, call: &str, given: &str, expected: &str) -> Result<bool, Memory> {
     match call {
         "parse" => is_parsed(alloc, given, expected),
+        "type" => is_typed(alloc, given, expected),
+        "default" => is_default(alloc, given, expected),
         "canon" => is_canon(alloc, given, expected),
         "from_json" => is_read(alloc, given, expected),
         "to_json" => is_written(alloc, given, expected),

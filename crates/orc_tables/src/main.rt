@@ -1,14 +1,20 @@
 //! Runs the tables that the words name: how many lines of each hold, and which don't.
 //!
-//! A word `NAME.yang` names a module, which is compared with the listing `NAME.statements`. A table
-//! whose name ends in `trees` or `calls` is done from top to bottom. Lines that are empty or begin
-//! with `#` say nothing.
+//! A word `NAME.yang` names a module, which is compared with the listing `NAME.statements`, and a word
+//! `NAME.file` a file that is made, used as a disk and removed. A table whose name ends in `trees`,
+//! `calls`, `disks`, `journals` or `paths` is done from top to bottom. Lines that are empty or begin with `#`
+//! say nothing.
 #![tactic(auto)]
 
 mod actions;
 mod calls;
+mod disks;
+mod files;
 mod fills;
+mod journals;
 mod line;
+mod paths;
+mod restrictions;
 mod statements;
 mod table;
 mod trees;
@@ -17,6 +23,7 @@ mod undone;
 mod values;
 mod words;
 
+use crate::files::keeps_bytes;
 use crate::statements::is_listed;
 use crate::table::Table;
 use std::process::ExitCode;
@@ -36,14 +43,15 @@ fn main(rt: HostRuntime) -> ExitCode {
 }
 
 // Prints a line for each word, and says whether all is as it must be.
-fn run_all<R: Files + Env + Print + AllocGlobal>(rt: &R) -> io::Result<bool> {
+fn run_all<R: Files<File = fs::File> + Env + Print + AllocGlobal>(rt: &R) -> io::Result<bool> {
     let mut names = env::args(rt)?;
     let _program = names.next();
     let mut good = true;
     for name in names {
-        let holds = match name.as_str().strip_suffix(".yang") {
-            Some(module) => list(rt, module)?,
-            None => run(rt, name.as_str())?,
+        let holds = match name.as_str().rsplit_once('.') {
+            Some((module, "yang")) => list(rt, module)?,
+            Some((_, "file")) => keep(rt, name.as_str())?,
+            _ => run(rt, name.as_str())?,
         };
         good = good && holds;
     }
@@ -80,6 +88,16 @@ fn list<R: Files + Print + AllocGlobal>(rt: &R, name: &str) -> io::Result<bool> 
     match good {
         true => println!(rt; "{name}.yang: as listed")?,
         false => println!(rt; "{name}.yang: DIFFERS")?,
+    }
+    Ok(good)
+}
+
+// Prints whether a file keeps its bytes, and says so.
+fn keep<R: Files<File = fs::File> + Print + AllocGlobal>(rt: &R, name: &str) -> io::Result<bool> {
+    let good = keeps_bytes(rt, name)?;
+    match good {
+        true => println!(rt; "{name}: keeps its bytes")?,
+        false => println!(rt; "{name}: DIFFERS")?,
     }
     Ok(good)
 }

@@ -1,6 +1,9 @@
 //! Tables: each has lines of one kind.
 use crate::calls::Calls;
+use crate::disks::Disks;
+use crate::journals::Journals;
 use crate::line::holds;
+use crate::paths::Paths;
 use crate::trees::Trees;
 use std::alloc::Global;
 
@@ -13,6 +16,12 @@ pub(crate) enum Table {
     Trees(Trees),
     /// Of calls and their encodings.
     Calls(Calls),
+    /// Of what a crash leaves of disks.
+    Disks(Disks),
+    /// Of files that are journals or not.
+    Journals(Journals),
+    /// Of paths, values and names.
+    Paths(Paths),
 }
 
 impl Table {
@@ -22,6 +31,12 @@ impl Table {
             Table::Trees(Trees::new(alloc))
         } else if name.ends_with("calls") {
             Table::Calls(Calls::new(alloc))
+        } else if name.ends_with("disks") {
+            Table::Disks(Disks::new(alloc))
+        } else if name.ends_with("journals") {
+            Table::Journals(Journals::new(alloc))
+        } else if name.ends_with("paths") {
+            Table::Paths(Paths::new(alloc))
         } else {
             Table::Answers(alloc)
         }
@@ -33,6 +48,9 @@ impl Table {
             Table::Answers(alloc) => holds(*alloc, line),
             Table::Trees(trees) => trees.take(line).unwrap_or(false),
             Table::Calls(calls) => calls.take(line).unwrap_or(false),
+            Table::Disks(disks) => disks.take(line).unwrap_or(false),
+            Table::Journals(journals) => journals.take(line).unwrap_or(false),
+            Table::Paths(paths) => paths.take(line).unwrap_or(false),
         }
     }
 }

@@ -1,4 +1,5 @@
 //! Why a line of a table isn't done.
+use orc_journal::AppendFault;
 use orc_path::PathFault;
 use orc_text::Memory;
 use std::alloc::{AllocError, AllocFailed};
@@ -28,6 +29,12 @@ impl<T: Drop> From<AllocFailed<T>> for Undone {
 
 impl From<PathFault> for Undone {
     fn from(_: PathFault) -> Undone {
+        Undone
+    }
+}
+
+impl From<AppendFault> for Undone {
+    fn from(_: AppendFault) -> Undone {
         Undone
     }
 }

@@ -1,7 +1,7 @@
 //! The words of a line: items, numbers and lists.
 use crate::undone::Undone;
 use orc_call::{DevicePut, Put};
-use orc_path::{Item, Path};
+use orc_path::{Item, Path, read_value};
 use orc_text::{Row, Text};
 use std::alloc::Global;
 
@@ -26,8 +26,10 @@ pub(crate) fn put_of(alloc: Global, text: &str) -> Result<Put, Undone> {
 fn item_of(alloc: Global, value: Option<&str>) -> Result<Item, Undone> {
     match value {
         Some(value) => {
-            let text = value.strip_prefix(' ').unwrap_or(value);
-            Ok(Item::Leaf(Text::from_str(alloc, text)?))
+            match read_value(alloc, value.strip_prefix(' ').unwrap_or(value))? {
+                Some(text) => Ok(Item::Leaf(text)),
+                None => Err(Undone),
+            }
         }
         None => Ok(Item::Entry),
     }

@@ -1,5 +1,5 @@
 -- Rows of operations of a disk that stops another one.
-use Rattle.std.specs.Prelude.{◌≡◌, ◌⊎◌, ℕ, ◌+◌, ◌-◌, ◌<◌, ◌≤◌, min, ◌++◌, Bool, true, false, ◌||◌}
+use Rattle.std.specs.Prelude.{◌≡◌, ◌⊎◌, ℕ, ◌+◌, ◌-◌, ◌<◌, ◌≤◌, min, List, ◌++◌, Bool, true, false, ◌||◌}
 use Rattle.std.proofs.Common.{arith, inl, inr, refl, sym, ap, ◌∙◌, ⊎_elim}
 use Rattle.std.proofs.lemmas.Bool.{true≢false, false≢true}
 use Rattle.orc_text.specs.Counts.{capped}
@@ -159,3 +159,12 @@ Led-counts disk counts course a b p =
           (λ stopped. sum_rose_second _ _ _ _ inner.later stopped.1)
           (p.cause e);
     }
+
+-- it tells what reads gave where the disk inside does
+pub Led-tells : {D : Type 0} (disk : DiskMeaning D)
+    → ((course : Course) (a b : D) → disk.leads course a b → disk.heard b ≡ disk.heard a ++ course.gave)
+    → (course : Course) (a b : Stopping D)
+    → Led disk course a b → disk.heard b.inner ≡ disk.heard a.inner ++ course.gave
+Led-tells disk tells course a b p =
+    tells p.inner_course a.inner b.inner p.inner
+    ∙ ap (λ (l : List (ℕ × List ℕ)). disk.heard a.inner ++ l) p.gave

@@ -1,10 +1,15 @@
 -- What an append puts where.
-use Rattle.std.specs.Prelude.{◌≡◌, ℕ, List, Option, IfSome}
+use Rattle.std.specs.Prelude.{◌≡◌, ◌⊎◌, ℕ, ◌+◌, ◌-◌, false, List, [], ◌∷◌, ◌++◌, Option, IfSome}
+use Rattle.std.specs.Option.{option_map}
+use Rattle.orc_disk.specs.Files.{written}
+use Rattle.orc_disk.specs.Meanings.{DiskMeaning}
+use Rattle.orc_disk.specs.Rows.{row}
 use Rattle.orc_disk.specs.Torn.{Torn}
 use Rattle.orc_journal.specs.Entries.{IsEntry, IsWritable}
 use Rattle.orc_journal.specs.Journals.{journal_length, IsGated}
-use Rattle.orc_journal.specs.Appends.{block_bytes}
+use Rattle.orc_journal.specs.Appends.{block_bytes, opens_gate, IsLeftBehind, FailsToSync}
 use Rattle.orc_journal.specs.declared.entry.Entry.{Entry}
+use Rattle.orc_journal.specs.declared.gate.TheConstants.{OPEN}
 
 -- a file is one of these images, torn by a write of n bytes at this offset
 abbrev pub IsTornFrom : (List ℕ → Type 0) → ℕ → ℕ → List ℕ → Type 0
@@ -32,3 +37,34 @@ abbrev pub WherePuts : Option (List ℕ) → ℕ → List ℕ → (List ℕ → 
 WherePuts content at block P =
     (decls : List ℕ) (entries : List Entry) (entry : Entry) → PutsEntry content at block decls entries entry
     → P decls entries entry
+
+module _ {D : Type 0} (disk : DiskMeaning D) where
+  -- Of a write and its sync one failed, behind so many that were done. Where that is the write, none came before it,
+  -- and where it is the sync, the bytes are there.
+  pub record IsPutShort (at : ℕ) (bytes : List ℕ) (old new : D) (done : ℕ) : Type 0 where
+    pub cut : done ≡ 0 → disk.cut at bytes old new
+    pub put : done ≡ 1 → disk.content new ≡ option_map (written at bytes) (disk.content old)
+    pub syncing : done ≡ 1 → FailsToSync disk 1 old new
+
+  -- The entry was put with a closed gate behind it, and then the write failed that opens the gate before it.
+  pub record IsOpenedShort (at : ℕ) (block : List ℕ) (old new : D) : Type 0 where
+    pub before : D
+    pub ran : disk.leads (row 2 false) old before
+    pub put : disk.content before ≡ option_map (written at block) (disk.content old)
+    pub closed : WherePuts (disk.content old) at block (λ decls entries entry.
+        IfSome (disk.content before) (λ file. IsGated file decls entries))
+    pub opened : WherePuts (disk.content old) at block (λ decls entries entry.
+        IfSome (option_map (written (at - 1) (OPEN ∷ [])) (disk.content before))
+        (λ file. IsGated file decls (entries ++ entry ∷ [])))
+    pub cut : disk.cut (at - 1) (OPEN ∷ []) before new
+
+  -- Of the four writes and syncs of an append one failed, behind so many that were done.
+  pub record IsAppendedShort (at : ℕ) (block : List ℕ) (old new : D) (done : ℕ) : Type 0 where
+    pub left : WherePuts (disk.content old) at block (λ decls entries entry.
+        IfSome (disk.content new) (IsLeftBehind done decls entries entry))
+    pub cut : done ≡ 0 → disk.cut at block old new
+    pub syncing : (done ≡ 1) ⊎ (done ≡ opens_gate) → FailsToSync disk done old new
+    pub put : done ≡ 1 → disk.content new ≡ option_map (written at block) (disk.content old)
+    pub opening : done + 1 ≡ opens_gate → IsOpenedShort at block old new
+    pub opened : done ≡ opens_gate → disk.content new
+        ≡ option_map (written (at - 1) (OPEN ∷ [])) (option_map (written at block) (disk.content old))

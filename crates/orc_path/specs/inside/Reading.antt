@@ -1,9 +1,9 @@
 -- Reading a path or a name byte by byte.
-use Rattle.std.specs.Prelude.{◌≡◌, ℕ, Bool, true, false, ◌==◌, ◌&&◌, not, List, [], ◌∷◌, ◌++◌, Option, Result, IsTrue, IfOk, MatchBool, if◌then◌else◌}
+use Rattle.std.specs.Prelude.{◌≡◌, ℕ, Bool, true, false, ◌==◌, ◌&&◌, ◌||◌, not, nat_le, ◌-◌, List, [], ◌∷◌, ◌++◌, length, encode_utf8, Option, Result, IsTrue, IfOk, MatchBool, if◌then◌else◌}
 use Rattle.std.specs.declared.option.Option.TheVariants.{None, Some}
-use Rattle.std.specs.Option.{option_map, option_map_or}
+use Rattle.std.specs.Option.{option_map, option_map_or, option_and_then}
 use Rattle.std.specs.List.{list_all}
-use Rattle.orc_path.specs.Alphabet.{is_name_start, is_name_byte, is_identifier, is_qualified, is_key_byte, is_key}
+use Rattle.orc_path.specs.Alphabet.{is_name_start, is_name_byte, is_identifier, is_qualified, is_key, is_plain_character}
 use Rattle.orc_path.specs.Steps.{PathStep, is_path, is_name_behind}
 use Rattle.orc_path.specs.declared.mode.Mode.{Mode}
 use Rattle.orc_path.specs.declared.mode.Mode.TheVariants.{Start, Slash, Module, Colon, Inside, Next, Key, Escape, Closed}
@@ -19,9 +19,13 @@ unescape b =
     if b == 110 then Some 10 else
     if b == 114 then Some 13 else None
 
+-- tab, line feed, carriage return and the bytes from the space on: what the UTF-8 of a key is made of
+abbrev pub is_key_byte : ℕ → Bool
+is_key_byte b = (b == 9) || (b == 10) || (b == 13) || nat_le 32 b
+
 -- a byte of a key that stands for itself
-abbrev pub is_plain : ℕ → Bool
-is_plain b =
+abbrev pub is_raw : ℕ → Bool
+is_raw b =
     is_key_byte b && not (b == 92) && not (b == 93) && not (b == 32) && not (b == 9) && not (b == 10) && not (b == 13)
 
 -- the mode behind a byte of a name
@@ -68,7 +72,7 @@ abbrev pub feed_key : Reader → ℕ → Option Reader
 feed_key r b =
     if b == 93 then Some (record r { mode = Closed; keys = r.keys ++ r.key ∷ []; key = [] }) else
     if b == 92 then Some (record r { mode = Escape }) else
-    if is_plain b then Some (record r { key = r.key ++ b ∷ [] }) else None
+    if is_raw b then Some (record r { key = r.key ++ b ∷ [] }) else None
 
 -- behind a backslash
 abbrev pub feed_escape : Reader → ℕ → Option Reader
@@ -95,7 +99,28 @@ feed_at mode r b =
 abbrev pub feed : Reader → ℕ → Option Reader
 feed r b = feed_at r.mode r b
 
--- Whether a byte was taken: it was where one may stand there, and this is then the next reader.
+-- the reader behind bytes, where each of them may stand
+abbrev pub feed_all : Reader → List ℕ → Option Reader
+feed_all r [] = Some r
+feed_all r (b ∷ bs) = option_and_then (λ next. feed_all next bs) (feed r b)
+
+-- the reader behind a character, where it is plain and its bytes may stand
+abbrev pub feed_character : Reader → ℕ → Option Reader
+feed_character r c = if is_plain_character c then feed_all r (encode_utf8 c) else None
+
+-- how many bytes of a character that is refused begin some path here: a key may hold another one that begins like it
+abbrev pub begun_in : Mode → ℕ → ℕ
+begun_in Key c = length (encode_utf8 c) - 1
+begun_in Start c = 0
+begun_in Slash c = 0
+begun_in Module c = 0
+begun_in Colon c = 0
+begun_in Inside c = 0
+begun_in Next c = 0
+begun_in Escape c = 0
+begun_in Closed c = 0
+
+-- Whether a byte or a character was taken: it was where one may stand there, and this is then the next reader.
 abbrev pub Fed : {E : Type 0} → Option Reader → Reader → Result Bool E → Type 0
 Fed next new result = IfOk result (λ taken. MatchBool taken (next ≡ Some new) (next ≡ None))
 

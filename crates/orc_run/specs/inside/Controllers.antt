@@ -1,8 +1,13 @@
 -- The controller, and what its calls keep.
 use Rattle.orc_disk.specs.Stops.{inside}
 use Rattle.orc_run.specs.declared.opening.TheConstants.{LARGEST_JOURNAL}
-use Rattle.std.specs.Prelude.{◌≡◌, ℕ, ◌<◌, ◌≤◌, ◌^◌, true, false, List, [], length, take, drop, ◌∷◌, ◌++◌, All, IsTrue, Result, Ok, Err}
+use Rattle.std.specs.Prelude.{◌≡◌, ℕ, ◌<◌, ◌≤◌, ◌^◌, true, false, List, [], length, take, drop, ◌∷◌, ◌++◌, All, IsTrue, IfOk, OnErr, Option, Result, Ok, Err}
 use Rattle.orc_call.specs.declared.call.Call.{Call}
+use Rattle.orc_call.specs.declared.answer.Answer.{Answer}
+use Rattle.orc_text.specs.declared.memory.Memory.{Memory}
+use Rattle.orc_append.specs.Views.{unstopped}
+use Rattle.orc_journal.specs.Opening.{HasOpened}
+use Rattle.orc_run.specs.inside.Serving.{ComesShort, ServesTo, goes_on}
 use Rattle.orc_journal.specs.Entries.{number_of}
 use Rattle.orc_journal.specs.Orders.{is_ordered}
 use Rattle.orc_journal.specs.Committed.{history_of}
@@ -16,24 +21,31 @@ use Rattle.orc_run.specs.Steps.{Does, Breaks, EndsBecause, FailsToRecover}
 use Rattle.orc_disk.specs.Meanings.{DiskMeaning}
 use Rattle.orc_state.specs.declared.declarations.Decls.{Decls}
 use Rattle.orc_bundle.specs.declared.bundle.ScriptStep.{ScriptStep}
-use Rattle.orc_bundle.specs.declared.bundle.ScriptStep.TheVariants.{Recover}
+use Rattle.orc_bundle.specs.declared.bundle.ScriptStep.TheVariants.{Recover, Serve}
 use Rattle.orc_run.specs.declared.serving.CallOutcome.{CallOutcome}
 use Rattle.orc_run.specs.declared.serving.CallOutcome.TheVariants.{Answered, Stopped, Broken}
 use Rattle.orc_run.specs.declared.stop.Stop.{Stop}
 use Rattle.orc_run.specs.declared.stop.Stop.TheVariants as ending
 use Rattle.orc_run.specs.declared.controller.Controller.{Controller}
 use Rattle.orc_run.specs.declared.controller.LastStep.{LastStep}
-use Rattle.orc_state.specs.inside.Declarations.{AreDecls}
+use Rattle.orc_state.specs.Declarations.{AreDecls}
 use Rattle.orc_bundle.specs.Bundles.{is_step}
-use Rattle.orc_bundle.specs.inside.Encodable.{IsEncodable}
 use Rattle.std.specs.List.{list_all}
 
--- what a user can tell of the controller
-abbrev pub view_of : {D : Type 0} → Controller D → View D
-view_of c = record {
+-- what it knows as committed, and what it was committing
+abbrev pub known_of : {D : Type 0} → Controller D → List Call
+known_of c = take c.known c.past.history
+
+abbrev pub pending_of : {D : Type 0} → Controller D → List Call
+pending_of c = drop c.known c.past.history
+
+-- what a user can tell of the controller, where it knows these entries
+abbrev pub view_of : {D : Type 0} → Controller D → List Entry → View D
+view_of c entries = record {
   disk = c.journal.disk.inner;
-  known = take c.known c.past.history;
-  pending = drop c.known c.past.history;
+  entries = entries;
+  known = known_of c;
+  pending = pending_of c;
   up = c.up;
   armed = c.journal.disk.op;
   bytes = c.journal.disk.bytes;
@@ -58,9 +70,8 @@ abbrev pub Wants : {D : Type 0} → Controller D → StepResult D → Type 0
 Wants c result = result ≡ ends_run c.journal.disk.inner [] ending.Memory
 
 module _ {D : Type 0} (meaning : DiskMeaning D) where
-  -- it is up: its journal holds the history that it knows
-  pub record IsUp (decls : Decls) (c : Controller D) : Type 0 where
-    pub entries : List Entry
+  -- it is up: its journal holds these entries, and the history that it knows
+  pub record IsUp (decls : Decls) (entries : List Entry) (c : Controller D) : Type 0 where
     pub holds : Holds (inside meaning) c.journal decls.text entries
     pub ordered : IsTrue (is_ordered entries)
     pub decided : history_of entries ≡ c.past.history
@@ -72,20 +83,24 @@ module _ {D : Type 0} (meaning : DiskMeaning D) where
     pub all : c.known ≡ length c.past.history
 
   -- it is up, and the state has done the action of a call that is to be committed
-  pub record IsCommitting (decls : Decls) (call : Call) (c : Controller D) : Type 0 where
+  pub record IsCommitting (decls : Decls) (call : Call) (entries : List Entry) (c : Controller D) : Type 0 where
     pub running : c.up ≡ true
-    pub up : IsUp decls c
+    pub up : IsUp decls entries c
     pub legal : IsLegal decls c.past.history
     pub due : IsDue decls c.past.history call
     pub behind : IsBehind decls c.past (c.past.history ++ call ∷ [])
 
-  -- it knows a legal history, and the state behind it
-  pub record IsSound (decls : Decls) (c : Controller D) : Type 0 where
+  -- it knows these entries, a legal history, and the state behind it
+  pub record Knows (decls : Decls) (entries : List Entry) (c : Controller D) : Type 0 where
     pub within : c.known ≤ length c.past.history
-    pub behind : IsBehind decls c.past (take c.known c.past.history)
-    pub legal : IsLegal decls (take c.known c.past.history)
-    pub rests : Rests meaning decls (view_of c)
-    pub up : c.up ≡ true → IsUp decls c
+    pub behind : IsBehind decls c.past (known_of c)
+    pub legal : IsLegal decls (known_of c)
+    pub rests : Rests meaning decls (view_of c entries)
+    pub up : c.up ≡ true → IsUp decls entries c
+
+  -- it knows some entries
+  abbrev pub IsSound : Decls → Controller D → Type 0
+  IsSound decls c = (entries : List Entry) × Knows decls entries c
 
   -- a step of a script under the declarations can be done
   pub record CanDo (decls : Decls) (c : Controller D) (step : ScriptStep) : Type 0 where
@@ -93,7 +108,6 @@ module _ {D : Type 0} (meaning : DiskMeaning D) where
     pub short : length decls.text < 2 ^ 32
     pub sound : IsSound decls c
     pub lawful : IsTrue (is_step decls.names step)
-    pub encodable : IsEncodable step
 
   -- the steps of a script under the declarations can be done
   pub record CanRun (decls : Decls) (c : Controller D) (steps : List ScriptStep) : Type 0 where
@@ -101,15 +115,33 @@ module _ {D : Type 0} (meaning : DiskMeaning D) where
     pub short : length decls.text < 2 ^ 32
     pub sound : IsSound decls c
     pub lawful : IsTrue (list_all (is_step decls.names) steps)
-    pub encodable : All IsEncodable steps
 
   -- where a step led
   abbrev pub StepsTo : Decls → View D → ScriptStep → StepResult D → Type 0
   StepsTo decls old step (Ok done) =
-      IsSound decls done.0 × Does meaning decls old step done.1 (view_of done.0)
-      × Outlives meaning decls old (view_of done.0)
+      (sound : IsSound decls done.0) × Does meaning decls old step done.1 (view_of done.0 sound.0)
+      × Outlives meaning decls old (view_of done.0 sound.0)
   StepsTo decls old step (Err end) =
       (last : View D) × (last.disk ≡ end.disk) × Breaks meaning decls old step end.text end.stop last
       × EndsBecause meaning decls old step end.stop last
       × Outlives meaning decls old last × Rests meaning decls last
       × (step ≡ Recover → FailsToRecover meaning decls old end.stop last)
+
+  -- where serving a call led
+  pub record LeadsTo (decls : Decls) (old : View D) (call : Call) (result : Result CallOutcome Memory)
+      (c : Controller D) : Type 0 where
+    pub entries : List Entry
+    pub serves : IfOk result (λ served. ServesTo meaning decls old call served (view_of c entries))
+    pub sound : IfOk result (λ served. goes_on served ≡ true → Knows decls entries c)
+    pub broken : (given : Option Answer) (end : Stop) → result ≡ Ok (Broken given end)
+        → EndsBecause meaning decls old (Serve call) end (view_of c entries)
+    pub memory : OnErr result (ComesShort meaning decls old call (view_of c entries))
+    pub rests : Rests meaning decls (view_of c entries)
+    pub outlives : Outlives meaning decls old (view_of c entries)
+
+  -- a controller that was opened: it knows the entries of the bytes that the disk gave, and their history
+  pub record Opens (decls : Decls) (disk : D) (c : Controller D) : Type 0 where
+    pub entries : List Entry
+    pub knows : Knows decls entries c
+    pub opened : HasOpened (inside meaning) decls.text LARGEST_JOURNAL (unstopped disk) c.journal entries
+    pub decided : history_of entries ≡ known_of c

@@ -9,6 +9,7 @@ use Rattle.orc_run.specs.Views.{View, Rests, Outlives}
 use Rattle.orc_run.specs.Steps.{Does, Breaks, EndsBecause, FailsToRecover}
 use Rattle.orc_run.specs.Ends.{ScriptRun, TookUpToLast, Wrote}
 use Rattle.orc_disk.specs.Meanings.{DiskMeaning}
+use Rattle.orc_journal.specs.declared.entry.Entry.{Entry}
 use Rattle.orc_run.specs.declared.controller.Controller.{Controller}
 use Rattle.orc_bundle.specs.declared.bundle.ScriptStep.{ScriptStep}
 use Rattle.orc_bundle.specs.declared.bundle.ScriptStep.TheVariants.{Recover}
@@ -62,8 +63,8 @@ module _ {D : Type 0} (meaning : DiskMeaning D) where
 
   -- what was printed at the start was written, and the script was run; or memory was wanting for what is printed at
   -- the start
-  abbrev pub GreetsAndFinishes : Option (List ℕ) → Option (List ℕ) → Decls → Controller D → List ScriptStep → D
-      → Result Done Stop → Type 0
-  GreetsAndFinishes held held' decls c script disk status =
+  abbrev pub GreetsAndFinishes : Option (List ℕ) → Option (List ℕ) → Decls → Controller D → List Entry
+      → List ScriptStep → D → Result Done Stop → Type 0
+  GreetsAndFinishes held held' decls c entries script disk status =
       ((held' ≡ held) × (disk ≡ c.journal.disk.inner) × (status ≡ Err ending.Memory))
-      ⊎ Finishes held held' decls (view_of c) script (greeting c) disk status
+      ⊎ Finishes held held' decls (view_of c entries) script (greeting c) disk status

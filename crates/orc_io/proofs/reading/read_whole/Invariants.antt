@@ -9,6 +9,7 @@ invariant-loop-buf g l =
     record {
       taken : Consumes (source.left l.fn.source) (source.left l.source) l.whole.items;
       later : source.faults l.fn.source ≤ source.faults l.source;
+      most : vec_len l.whole ≤ l.limit + 1;
     }
 
 -- each turn takes a byte at least

@@ -1,10 +1,9 @@
 -- Each piece leads on from those before it.
-use Rattle.std.specs.Prelude.{false}
 use Rattle.std.proofs.Common.{rules, sym, subst}
 use Rattle.std.proofs.lemmas.Result.{err_from_is_err_and}
-use Rattle.orc_disk.proofs.Courses.{Reaches-trans}
 use Rattle.orc_journal.specs.inside.Steps.{HeardPiece, HeardFront}
 use Rattle.orc_journal.proofs.Changes.{Unchanged-refl, Unchanged-trans}
+use Rattle.orc_journal.proofs.Operations.{ends_reading_later}
 use Rattle.orc_journal.proofs.Pieces.{heard_nothing, heard_more, heard_all}
 use Rattle.orc_journal.proofs.opening.read_all.Goals as goal
 
@@ -16,12 +15,11 @@ pieces-init g c = record {
       (heard_nothing g.D.Disk.disk g.met.D.Disk.stays c.args.disk.now);
 }
 
-pub returns-in_err-read_piece-clause-course : goal.returns-in_err-read_piece-clause-course
-returns-in_err-read_piece-clause-course g c =
+pub returns-in_err-read_piece-clause-ends : goal.returns-in_err-read_piece-clause-ends
+returns-in_err-read_piece-clause-ends g c =
     let p = err_from_is_err_and c.from_residual.result c.from_residual.ensures.1 in
-    let last = c.in_err-read_piece.ensures.course in
     let heard = c.pieces.invariant.heard in
-    rw (p.1, p.2) (last.0, Reaches-trans g.D.Disk.disk g.met.D.Disk.goes_on false last.0 c.args.disk.now c.pieces.disk c.read_piece.new.disk (heard.reads, heard.course) last.1, last.2)
+    rw (p.1, p.2) (ends_reading_later g.D.Disk.disk g.met.D.Disk.goes_on c.args.disk.now c.pieces.disk c.read_piece.new.disk _ (heard.reads, heard.course) c.in_err-read_piece.ensures.ends)
 
 pub pieces-preserved : goal.pieces-preserved
 pieces-preserved g c =
@@ -32,11 +30,6 @@ pieces-preserved g c =
       heard = heard_more disk g.met.D.Disk.goes_on c.args.disk.now c.pieces.disk c.read_piece.new.disk c.pieces.bytes.items c.read_piece.new.bytes.items
           c.pieces.invariant.heard _ c.in_ok-read_piece.ensures.heard;
     }
-
-pub returns-clause-course : goal.returns-clause-course
-returns-clause-course g c =
-    let heard = c.pieces.invariant.heard in
-    Reaches-trans g.D.Disk.disk g.met.D.Disk.goes_on false false c.args.disk.now c.pieces.disk c.read_piece.new.disk (heard.reads, heard.course) c.in_ok-read_piece.ensures.course
 
 pub returns-clause-heard : goal.returns-clause-heard
 returns-clause-heard g c =

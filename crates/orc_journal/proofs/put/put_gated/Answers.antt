@@ -1,16 +1,14 @@
 -- The first write leaves the entries as they are, and the second may open the gate.
-use Rattle.std.specs.Prelude.{◌≡◌, ◌-◌, false, [], ◌∷◌, length, IfSome}
-use Rattle.std.specs.Option.{option_map}
-use Rattle.std.proofs.Common.{arith}
+use Rattle.std.specs.Prelude.{◌≡◌, ℕ, ◌-◌, false, [], ◌∷◌, length}
+use Rattle.std.proofs.Common.{arith, sym, subst, ⊎_elim}
 use Rattle.std.proofs.lemmas.Option.{IfSome_then}
 use Rattle.std.proofs.lemmas.Result.{on_ok_weaker, on_err_weaker}
-use Rattle.orc_journal.specs.Appends.{IsBeforeOrAfter, IsLeftBehind}
-use Rattle.orc_journal.specs.inside.Blocks.{IsTornFrom, WherePuts}
-use Rattle.orc_disk.specs.Files.{written}
+use Rattle.orc_journal.specs.Appends.{IsBeforeOrAfter, FailsToSync}
+use Rattle.orc_journal.specs.inside.Blocks.{IsTornFrom, IsPutShort, IsAppendedShort}
 use Rattle.orc_disk.specs.Rows.{row}
 use Rattle.orc_disk.proofs.Courses.{FailsAmong-later, FailsAmong-weaker}
 use Rattle.orc_disk.proofs.Moments.{joined, weaker}
-use Rattle.orc_journal.proofs.LeftBehind.{left_by_first, left_by_second}
+use Rattle.orc_journal.proofs.LeftBehind.{left_by_first, appended_short}
 use Rattle.orc_journal.proofs.Outcomes.{on_err_anyway}
 use Rattle.orc_journal.proofs.Puts.{with_entry-done, first_torn, first_written, second_torn, second_written}
 use Rattle.orc_journal.proofs.put.put_gated.Goals as goal
@@ -73,33 +71,36 @@ returns-clause-course g c =
 
 pub returns-in_err-put_synced-clause-failed : goal.returns-in_err-put_synced-clause-failed
 returns-in_err-put_synced-clause-failed g c =
-    let content = g.D.Disk.disk.content in
+    let disk = g.D.Disk.disk in
     let at = c.args.at in
     let block = c.args.block.now in
-    let old = content c.args.disk.now in
-    let new = content c.put_synced.new.disk in
+    let old = c.args.disk.now in
+    let new = c.put_synced.new.disk in
     on_err_anyway c.from_residual.result
-    (FailsAmong-weaker g.D.Disk.disk 2 4 c.args.disk.now c.put_synced.new.disk
-    (λ done. done ≡ 1 → new ≡ option_map (written at block) old)
-    (λ done. WherePuts old at block (λ decls entries entry. IfSome new (IsLeftBehind done decls entries entry)))
-    (omega arith)
-    (λ done fewer wrote decls entries entry puts. IfSome_then new c.put_synced.ensures.left (left_by_first decls entries entry done at block old (g.D.Disk.disk.may_leave c.args.disk.now) c.requires.durable puts fewer))
+    (FailsAmong-weaker disk 2 4 old new (IsPutShort disk at block old new) (IsAppendedShort disk at block old new) (omega arith)
+    (λ done fewer short. record {
+      left = λ decls entries entry puts. IfSome_then (disk.content new) c.put_synced.ensures.left
+          (left_by_first decls entries entry done at block (disk.content old) (disk.may_leave old) c.requires.durable puts fewer);
+      cut = short.cut;
+      put = short.put;
+      syncing = λ which.
+          let one : done ≡ 1 = ⊎_elim (λ one. one) (λ three. absurd (omega (arith, three, fewer))) which in
+          subst (λ (n : ℕ). FailsToSync disk n old new) (sym one) (short.syncing one);
+      opening = λ third. absurd (omega (arith, third, fewer));
+      opened = λ three. absurd (omega (arith, three, fewer));
+    })
     c.in_err-put_synced.ensures.failed)
 
 pub returns-clause-failed : goal.returns-clause-failed
 returns-clause-failed g c =
-    let content = g.D.Disk.disk.content in
+    let disk = g.D.Disk.disk in
     let at = c.args.at in
     let block = c.args.block.now in
-    let old = content c.args.disk.now in
-    let mid = content c.put_synced.new.disk in
-    let new = content c.put_synced-2.new.disk in
+    let old = c.args.disk.now in
+    let mid = c.put_synced.new.disk in
+    let new = c.put_synced-2.new.disk in
     on_err_weaker c.put_synced-2.result
-    (FailsAmong-later g.D.Disk.disk g.met.D.Disk.goes_on 2 2 c.args.disk.now c.put_synced.new.disk c.put_synced-2.new.disk
-    (λ done. done ≡ 1 → new ≡ option_map (written (at - 1) (1 ∷ [])) mid)
-    (λ done. WherePuts old at block (λ decls entries entry. IfSome new (IsLeftBehind done decls entries entry)))
+    (FailsAmong-later disk g.met.D.Disk.goes_on 2 2 old mid new (IsPutShort disk (at - 1) (1 ∷ []) mid new) (IsAppendedShort disk at block old new)
     c.in_ok-put_synced.ensures.course
-    (λ done fewer wrote decls entries entry puts.
-    let staged = first_written decls entries entry at block old puts mid c.in_ok-put_synced.ensures.done in
-    left_by_second decls entries entry done new fewer (λ one. second_written decls entries entry at block old puts mid new staged (wrote one))))
+    (λ done fewer short. appended_short disk g.met.D.Disk.goes_on at block old mid new done c.in_ok-put_synced.ensures.course c.in_ok-put_synced.ensures.done fewer short))
     c.put_synced-2.ensures.failed

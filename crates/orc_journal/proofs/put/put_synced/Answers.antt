@@ -1,14 +1,13 @@
 -- A crash before each operation and after it leaves what one before them would have left, torn by the write.
-use Rattle.std.specs.Prelude.{◌≡◌, length}
-use Rattle.std.specs.Option.{option_map}
+use Rattle.std.specs.Prelude.{length}
 use Rattle.std.proofs.Common.{◌∙◌, arith}
 use Rattle.std.proofs.lemmas.Option.{IfSome_then}
-use Rattle.orc_disk.specs.Files.{written}
+use Rattle.std.proofs.lemmas.Result.{on_err_weaker}
 use Rattle.orc_disk.proofs.Torn.{Torn-refl}
-use Rattle.orc_disk.proofs.Courses.{one_more-Ok, one_more-FailsAmong, FailsAmong-first}
+use Rattle.orc_disk.proofs.Courses.{one_more-Ok, FailsAmong-first}
 use Rattle.orc_disk.proofs.Moments.{started, goes_on}
-use Rattle.orc_journal.specs.inside.Blocks.{IsTornFrom}
-use Rattle.orc_journal.proofs.Outcomes.{on_err_anyway}
+use Rattle.orc_journal.specs.inside.Blocks.{IsTornFrom, IsPutShort}
+use Rattle.orc_journal.proofs.Outcomes.{on_err_anyway, one_more_failed}
 use Rattle.orc_journal.proofs.put.put_synced.Goals as goal
 
 pub returns-in_err-write_at-clause-any_moment : goal.returns-in_err-write_at-clause-any_moment
@@ -47,20 +46,25 @@ returns-clause-course g c =
 
 pub returns-in_err-write_at-clause-failed : goal.returns-in_err-write_at-clause-failed
 returns-in_err-write_at-clause-failed g c =
-    let content = g.D.Disk.disk.content in
     let old = c.args.disk.now in
     let new = c.write_at.new.self in
     on_err_anyway c.from_residual.result
     (FailsAmong-first g.D.Disk.disk 2 old new
-    (λ done. done ≡ 1 → content new ≡ option_map (written c.args.at c.args.bytes.now) (content old))
-    (omega arith) (g.met.D.Disk.stays old) c.in_err-write_at.ensures.performed.course (λ one. absurd (omega (arith, one))))
+    (IsPutShort g.D.Disk.disk c.args.at c.args.bytes.now old new)
+    (omega arith) (g.met.D.Disk.stays old) c.in_err-write_at.ensures.performed.course
+    (record { cut = λ none. c.in_err-write_at.ensures.cut; put = λ one. absurd (omega (arith, one)); syncing = λ one. absurd (omega (arith, one)) }))
 
 pub returns-clause-failed : goal.returns-clause-failed
 returns-clause-failed g c =
-    let content = g.D.Disk.disk.content in
     let old = c.args.disk.now in
     let new = c.sync.new.self in
-    one_more-FailsAmong g.D.Disk.disk g.met.D.Disk.goes_on c.sync.result 1 old c.write_at.new.self new
-    (λ done. done ≡ 1 → content new ≡ option_map (written c.args.at c.args.bytes.now) (content old))
+    one_more_failed g.D.Disk.disk c.sync.result 1 old c.write_at.new.self new
+    (IsPutShort g.D.Disk.disk c.args.at c.args.bytes.now old new)
     c.in_ok-write_at.ensures.performed.course c.sync.ensures.performed.course
-    (λ one. c.sync.ensures.unchanged.same ∙ c.in_ok-write_at.ensures.done)
+    (on_err_weaker c.sync.result
+    (λ cut. record {
+      cut = λ none. absurd (omega (arith, none));
+      put = λ one. c.sync.ensures.unchanged.same ∙ c.in_ok-write_at.ensures.done;
+      syncing = λ one. record { before = c.write_at.new.self; ran = c.in_ok-write_at.ensures.performed.course; cut = cut };
+    })
+    c.sync.ensures.cut)

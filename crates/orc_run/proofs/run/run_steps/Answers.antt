@@ -1,9 +1,7 @@
-use Rattle.std.proofs.Common.{subst, [], ◌++◌, sym, arith}
+use Rattle.std.proofs.Common.{[], ◌++◌, sym, arith}
 use Rattle.std.proofs.lemmas.List.{take_all}
-use Rattle.std.proofs.lemmas.List.Elements.{All-get_or}
 use Rattle.orc_state.proofs.Fits.{list_all-read}
 use Rattle.orc_bundle.specs.Bundles.{is_step}
-use Rattle.orc_bundle.specs.inside.Encodable.{IsEncodable}
 use Rattle.orc_io.proofs.Fronts.{Appends-trans}
 use Rattle.orc_run.specs.inside.Controllers.{view_of}
 use Rattle.orc_run.specs.Runs.StepsDone.{begun}
@@ -20,7 +18,6 @@ run_step-requires g c =
         short = can.short;
         sound = c.loop-step.invariant.sound;
         lawful = list_all-read (is_step c.args.decls.now.names) c.args.steps.now c.loop-step.step-index c.step-item.result c.loop-step-test.true c.step-item.is can.lawful;
-        encodable = subst IsEncodable (sym c.step-item.is) (All-get_or IsEncodable c.args.steps.now c.loop-step.step-index c.step-item.result c.loop-step-test.true can.encodable);
       };
     }
 
@@ -28,35 +25,38 @@ pub loop-step-init : goal.loop-step-init
 loop-step-init g c = record {
   sound = c.requires.can.sound;
   later = omega arith;
-  done = ([], begun, takes_nothing (g.K.Sink.sink.held c.args.sink.now));
+  done = λ old. (old, [], begun, takes_nothing (g.K.Sink.sink.held c.args.sink.now));
 }
 
 pub loop-step-preserved : goal.loop-step-preserved
 loop-step-preserved g c =
     let so = c.loop-step.invariant in
-    let more = c.in-Ok.ensures.done in
     let disk = g.D.Disk.disk in
     record {
       sound = c.in-Ok.ensures.sound;
       later = omega (arith, so.later, c.in-Ok.ensures.later);
-      done = (
-        so.done.0 ++ more.text,
-        runs_more disk c.args.decls.now (view_of c.args.controller) (view_of c.loop-step.controller) (view_of c.in-Ok.controller)
-            c.args.steps.now c.loop-step.step-index c.step-item.result so.done.0 more.text c.loop-step-test.true c.step-item.is so.done.1 more.does more.outlives,
-        Appends-trans _ _ _ so.done.0 more.text so.done.2 more.took,
-      );
+      done = λ old.
+          let far = so.done old in
+          let led = c.in-Ok.ensures.done far.0 in
+          let more = led.1 in (
+            led.0,
+            far.1 ++ more.text,
+            runs_more disk c.args.decls.now (view_of c.args.controller old.0) (view_of c.loop-step.controller far.0.0) (view_of c.in-Ok.controller led.0.0)
+                c.args.steps.now c.loop-step.step-index c.step-item.result far.1 more.text c.loop-step-test.true c.step-item.is far.2 more.does more.outlives,
+            Appends-trans _ _ _ far.1 more.text far.3 more.took,
+          );
     }
 
 pub returns-in-Err-clause-ends : goal.returns-in-Err-clause-ends
-returns-in-Err-clause-ends g c =
-    let so = c.loop-step.invariant in
+returns-in-Err-clause-ends g c sound =
+    let so = c.loop-step.invariant.done sound in
     let disk = g.D.Disk.disk in
-    finishes_here disk c.args.decls.now _ _ _ (view_of c.args.controller) (view_of c.loop-step.controller)
-    c.args.steps.now c.loop-step.step-index c.step-item.result so.done.0 c.in-Err.ended.disk c.in-Err.ended.status c.loop-step-test.true c.step-item.is so.done.1 so.done.2 c.in-Err.ensures.halts
+    finishes_here disk c.args.decls.now _ _ _ (view_of c.args.controller sound.0) (view_of c.loop-step.controller so.0.0)
+    c.args.steps.now c.loop-step.step-index c.step-item.result so.1 c.in-Err.ended.disk c.in-Err.ended.status c.loop-step-test.true c.step-item.is so.2 so.3 (c.in-Err.ensures.halts so.0)
 
 pub returns-clause-ends : goal.returns-clause-ends
-returns-clause-ends g c =
-    let so = c.loop-step.invariant in
+returns-clause-ends g c sound =
+    let so = c.loop-step.invariant.done sound in
     let disk = g.D.Disk.disk in
-    finishes_whole disk c.args.decls.now _ _ (view_of c.args.controller) (view_of c.loop-step.controller)
-    c.args.steps.now c.loop-step.step-index so.done.0 c.into_disk.result (take_all c.loop-step.step-index c.args.steps.now (omega (arith, c.loop-step-test.false))) so.done.1 (sym c.into_disk.ensures) so.sound.rests so.done.2
+    finishes_whole disk c.args.decls.now _ _ (view_of c.args.controller sound.0) (view_of c.loop-step.controller so.0.0)
+    c.args.steps.now c.loop-step.step-index so.1 c.into_disk.result (take_all c.loop-step.step-index c.args.steps.now (omega (arith, c.loop-step-test.false))) so.2 (sym c.into_disk.ensures) so.0.1.rests so.3

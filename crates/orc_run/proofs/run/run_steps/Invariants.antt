@@ -13,6 +13,7 @@ invariant-loop-step g l =
     record {
       sound : IsSound disk l.decls l.controller;
       later : faults l.fn.sink ≤ faults l.sink;
-      done : (text : List ℕ) × StepsDone disk l.decls (view_of l.fn.controller) (take l.step-index l.steps) text (view_of l.controller)
+      done : (old : IsSound disk l.decls l.fn.controller) → (new : IsSound disk l.decls l.controller) × (text : List ℕ)
+          × StepsDone disk l.decls (view_of l.fn.controller old.0) (take l.step-index l.steps) text (view_of l.controller new.0)
           × Appends (held l.fn.sink) (held l.sink) text;
     }

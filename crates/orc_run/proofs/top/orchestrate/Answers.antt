@@ -1,19 +1,15 @@
--- The bundle was read, and its run ended so.
-use Rattle.orc_run.proofs.Tops.{by_read}
+-- The words name a command.
+use Rattle.std.proofs.Common.{sym, subst, ◌∙◌}
+use Rattle.std.specs.declared.option.Option.{Option}
+use Rattle.orc_run.specs.Ends.{EndsBy}
+use Rattle.orc_run.specs.declared.words.Command.{Command}
 use Rattle.orc_run.proofs.top.orchestrate.Goals as goal
 
-pub returns-in-Ok-clause-ends : goal.returns-in-Ok-clause-ends
-returns-in-Ok-clause-ends g c =
-    let d = g.D.Disk.disk in
+pub returns-in-Some-clause-ends : goal.returns-in-Some-clause-ends
+returns-in-Some-clause-ends g c =
     let left = g.S.Source.source.left in
     let held = g.K.Sink.sink.held in
-    by_read d
+    subst (λ (command : Option Command). EndsBy g.D.Disk.disk command
     (record { left = left c.args.source.now; held = held c.args.sink.now; disk = c.args.disk })
-    (record { left = left c.read_input.new.source; held = held c.run_bundle.new.sink; disk = c.run_bundle.result.disk })
-    c.run_bundle.result.status c.run_bundle.ensures.causes
-    (record {
-      bundle = c.in-Ok.bundle;
-      gives = c.in-Ok.ensures.gives;
-      at_end = c.in-Ok.ensures.end;
-      ends = c.run_bundle.ensures.ends (left c.args.source.now) (left c.read_input.new.source);
-    })
+    (record { left = left c.do_command.new.source; held = held c.do_command.new.sink; disk = c.do_command.result.disk })
+    c.do_command.result.status) (sym c.in-Some.is ∙ c.command_of.ensures) c.do_command.ensures.ends

@@ -1,16 +1,16 @@
 use Rattle.std.proofs.Common.{◌≡◌, codes, refl}
 use Rattle.std.specs.Bool.{if◌then◌else◌}
 use Rattle.orc_print.specs.Printed.{history_text}
-use Rattle.orc_run.specs.inside.Controllers.{view_of}
+use Rattle.orc_run.specs.inside.Controllers.{known_of}
 use Rattle.orc_bundle.specs.declared.bundle.ScriptStep.TheVariants.{History}
 use Rattle.orc_run.proofs.Outcomes.{AreLaws, only_prints}
 use Rattle.orc_run.proofs.controller.Controller.history.Goals as goal
 
 pub returns : goal.returns
-returns g c =
+returns g c sound =
     let d = g.D.Disk.disk in
     let laws : AreLaws d =
     record { reads = g.met.D.Disk.reads_as_image; counts = g.met.D.Disk.counts_now; only_now = g.met.D.Disk.only_now; untold = g.met.D.Disk.untold_has_no_image } in
     only_prints d laws c.args.decls.now History c.args.self c.history_text-text.result c.printing.result
-    (λ t. t ≡ (if c.args.self.up then history_text (view_of c.args.self).known else codes "down\n"))
-    c.requires.sound (λ t is. (is, refl)) c.history_text-text.ensures c.printing.ensures (λ is. cc)
+    (λ t. t ≡ (if c.args.self.up then history_text (known_of c.args.self) else codes "down\n"))
+    sound (λ t is. (is, refl)) c.history_text-text.ensures c.printing.ensures (λ is. cc)

@@ -9,8 +9,8 @@ offset-at-requires-clause-within g c =
     let illegal = c.in-Err-Illegal.ensures.illegal c.in-Err-Illegal.place (ap Err c.in-Err-Illegal.field-0-is) in
     slice_get_within c.args.entries.now c.in-Err-Illegal.place (Decide illegal.t) illegal.decide
 
-pub returns-in-Ok-clause-sound : goal.returns-in-Ok-clause-sound
-returns-in-Ok-clause-sound g c =
+pub returns-in-Ok-clause-knows : goal.returns-in-Ok-clause-knows
+returns-in-Ok-clause-knows g c =
     newly_sound g.D.Disk.disk c.args.decls.now
     (record { journal = c.args.journal; up = true; past = c.in-Ok.past; known = c.len.result }) c.args.entries.now c.in-Ok.ensures.past c.len.ensures
     c.requires.holds c.requires.ordered c.requires.limit c.requires.running

@@ -1,35 +1,56 @@
 -- The call is answered without a change, or it is due and committed.
-use Rattle.std.proofs.Common.{ℕ, List, Ok, Some, IfSome, refl, sym, ap, subst, ◌∙◌}
+use Rattle.std.proofs.Common.{ℕ, List, Ok, IfSome, refl, sym, ap, subst, ◌∙◌}
 use Rattle.std.specs.declared.option.Option.{Option}
-use Rattle.std.proofs.lemmas.Result.{IfOk-weaker}
+use Rattle.std.proofs.lemmas.Result.{err_from_is_err_and}
 use Rattle.orc_call.specs.declared.call.Action.{Action}
 use Rattle.orc_call.specs.declared.answer.Answer.{Answer}
+use Rattle.orc_call.specs.declared.answer.Answer.TheVariants.{Down}
 use Rattle.orc_state.specs.States.{action_of}
 use Rattle.orc_run.specs.Touched.{devices_of}
-use Rattle.orc_run.specs.Steps.{EndsBecause}
 use Rattle.orc_run.specs.Views.{View}
-use Rattle.orc_run.specs.inside.Serving.{ComesTo, ServesTo}
-use Rattle.orc_run.specs.inside.Controllers.{view_of}
+use Rattle.orc_run.specs.inside.Serving.{ServesTo}
+use Rattle.orc_run.specs.inside.Controllers.{LeadsTo}
+use Rattle.orc_run.specs.declared.serving.CallOutcome.TheVariants.{Answered}
 use Rattle.orc_state.specs.Legal.{AnswersAtOnce, state_of}
 use Rattle.orc_state.specs.declared.state.State.{State}
-use Rattle.orc_bundle.specs.declared.bundle.ScriptStep.TheVariants.{Serve}
-use Rattle.orc_run.proofs.Answering.{at_once, same_view, is_committing}
+use Rattle.orc_run.proofs.Answering.{at_once, same_view, is_committing, unchanged, wanting}
+use Rattle.orc_run.proofs.Outcomes.{AreLaws}
 use Rattle.orc_run.proofs.controller.Controller.serve.Goals as goal
 
-pub returns-then-not-self-clause-served : goal.returns-then-not-self-clause-served
-returns-then-not-self-clause-served g c = ServesTo.down c.if-not-self.true
+pub returns-then-not-self : goal.returns-then-not-self
+returns-then-not-self g c sound =
+    let d = g.D.Disk.disk in
+    let laws : AreLaws d =
+    record { reads = g.met.D.Disk.reads_as_image; counts = g.met.D.Disk.counts_now; only_now = g.met.D.Disk.only_now; untold = g.met.D.Disk.untold_has_no_image } in
+    unchanged d laws c.args.decls.now sound.0 c.args.self.now sound.1 c.args.call.now (Ok (Answered Down)) c.args.self.now.past refl
+    (ServesTo.down c.if-not-self.true) (λ given end is. absurd cc)
 
 pub commit-requires-clause-committing : goal.commit-requires-clause-committing
 commit-requires-clause-committing g c =
     let disk = g.D.Disk.disk in
     let none = ap (λ (o : Option Answer). Ok o) c.in-None.is in
-    is_committing disk c.args.decls.now c.args.self.now c.requires.sound c.if-not-self.false
-    c.args.call.now c.answer_or_apply.new.self c.answer_or_apply.ensures.rest (c.in_ok-answer.ensures.due none) (c.in_ok-answer.ensures.done none)
+    let sound = c.requires.sound in (
+      sound.0,
+      is_committing disk c.args.decls.now sound.0 c.args.self.now sound.1 c.if-not-self.false
+          c.args.call.now c.answer_or_apply.new.self c.answer_or_apply.ensures.rest (c.in_ok-answer.ensures.due none) (c.in_ok-answer.ensures.done none),
+    )
 
-pub returns-in-Some-clause-served : goal.returns-in-Some-clause-served
-returns-in-Some-clause-served g c =
-    let disk = g.D.Disk.disk in
-    at_once disk c.args.decls.now c.args.self.now c.requires.sound c.if-not-self.false
+pub returns-in_err-answer : goal.returns-in_err-answer
+returns-in_err-answer g c sound =
+    let d = g.D.Disk.disk in
+    let laws : AreLaws d =
+    record { reads = g.met.D.Disk.reads_as_image; counts = g.met.D.Disk.counts_now; only_now = g.met.D.Disk.only_now; untold = g.met.D.Disk.untold_has_no_image } in
+    let result = c.from_residual-in_err-answer.result in
+    let wants = err_from_is_err_and result c.from_residual-in_err-answer.ensures.1 in
+    wanting d laws c.args.decls.now sound.0 c.args.self.now sound.1 c.args.call.now result wants.0 wants.1
+    c.answer_or_apply.new.self (c.in_err-answer.ensures.kept (λ e. let h = c.in_err-answer.is in absurd cc))
+
+pub returns-in-Some : goal.returns-in-Some
+returns-in-Some g c sound =
+    let d = g.D.Disk.disk in
+    let laws : AreLaws d =
+    record { reads = g.met.D.Disk.reads_as_image; counts = g.met.D.Disk.counts_now; only_now = g.met.D.Disk.only_now; untold = g.met.D.Disk.untold_has_no_image } in
+    at_once d c.args.decls.now sound.0 c.args.self.now sound.1 c.if-not-self.false laws
     c.args.call.now c.in-Some.answer c.answer_or_apply.new.self (c.in_ok-answer.ensures.kept (λ e. let h = c.in-Some.is in absurd cc))
     (subst (λ (o : Option Answer). IfSome o (AnswersAtOnce c.args.decls.now c.args.self.now.past.history c.args.call.now)) c.in-Some.is c.in_ok-answer.ensures.answer)
 
@@ -39,24 +60,24 @@ commit-requires-clause-touched g c =
     let decls = c.args.decls.now in
     let old = c.args.self.now in
     let call = c.args.call.now in
-    let same = same_view disk decls old c.requires.sound c.if-not-self.false call c.answer_or_apply.new.self c.answer_or_apply.ensures.rest
+    let sound = c.requires.sound in
+    let same = same_view disk decls sound.0 old sound.1 c.if-not-self.false call c.answer_or_apply.new.self c.answer_or_apply.ensures.rest
     (c.in_ok-answer.ensures.due (ap (λ (o : Option Answer). Ok o) c.in-None.is)) in
     c.in_ok-devices.ensures.devices
     ∙ ap (λ (l : List (List ℕ)). devices_of l old.past.state c.action_of.result.now) c.as_slice.ensures
     ∙ ap (λ (a : Action). devices_of decls.names old.past.state a) c.action_of.ensures
-    ∙ ap (λ (s : State). devices_of decls.names s (action_of call)) c.requires.sound.behind.state
+    ∙ ap (λ (s : State). devices_of decls.names s (action_of call)) sound.1.behind.state
     ∙ ap (λ (w : View g.row.D.Denot). devices_of decls.names (state_of decls w.known) (action_of call)) (sym same)
 
-pub returns-in-None-clause-served : goal.returns-in-None-clause-served
-returns-in-None-clause-served g c =
+pub returns-in-None : goal.returns-in-None
+returns-in-None g c sound =
     let disk = g.D.Disk.disk in
     let decls = c.args.decls.now in
     let old = c.args.self.now in
     let call = c.args.call.now in
     let past = c.answer_or_apply.new.self in
-    let new = view_of c.commit.new.self in
-    let due = c.in_ok-answer.ensures.due (ap (λ (o : Option Answer). Ok o) c.in-None.is) in
-    IfOk-weaker c.commit.result (λ served. ComesTo disk decls (view_of (record old { past = past })) call served new) (λ served. ServesTo disk decls (view_of old) call served new)
-    (λ served h. ServesTo.came served new (subst (λ (w : View g.row.D.Denot). ComesTo disk decls w call served new)
-    (same_view disk decls old c.requires.sound c.if-not-self.false call past c.answer_or_apply.ensures.rest due) h))
-    c.commit.ensures.comes
+    let none = ap (λ (o : Option Answer). Ok o) c.in-None.is in
+    let due = c.in_ok-answer.ensures.due none in
+    subst (λ (w : View g.row.D.Denot). LeadsTo disk decls w call c.commit.result c.commit.new.self)
+    (same_view disk decls sound.0 old sound.1 c.if-not-self.false call past c.answer_or_apply.ensures.rest due)
+    (c.commit.ensures sound.0 (is_committing disk decls sound.0 old sound.1 c.if-not-self.false call past c.answer_or_apply.ensures.rest due (c.in_ok-answer.ensures.done none)))

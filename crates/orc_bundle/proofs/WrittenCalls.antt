@@ -1,0 +1,174 @@
+-- Calls that are written are read.
+use Rattle.std.proofs.Common.{◌≡◌, ℕ, Bool, true, false, ◌&&◌, ◌||◌, List, [], ◌∷◌, ◌++◌, codes, length, length-append, map, refl, ap, sym, ◌∙◌, subst, arith, append_assoc, append-nil, Result, Ok, Some, None, nat_le}
+use Rattle.std.specs.List.{list_all}
+use Rattle.std.specs.Cmp.Lexicographic.{bytes_decides}
+use Rattle.std.proofs.lemmas.Bool.{and_parts, false≢true}
+use Rattle.orc_path.specs.Items.{item_text}
+use Rattle.orc_call.specs.declared.call.Action.{Action}
+use Rattle.orc_call.specs.declared.call.Action.TheVariants as action
+use Rattle.orc_call.specs.declared.call.DevicePut.{DevicePut}
+use Rattle.orc_state.specs.States.{is_same_text}
+use Rattle.orc_state.specs.Calls.{is_action, is_item_at, is_lawful_name, is_write}
+use Rattle.orc_state.specs.declared.lawful.TheConstants.{MOST_WRITES}
+use Rattle.orc_state.specs.declared.rule.Rule.{Rule}
+use Rattle.orc_bundle.specs.Keywords.{keyword_of}
+use Rattle.orc_bundle.specs.Lines.{is_settled}
+use Rattle.orc_bundle.specs.Names.{is_among}
+use Rattle.orc_bundle.specs.Scripts.{a_write, after_end, after_write, an_action, behind_action, step_words, word_at, words_at, write_words}
+use Rattle.orc_bundle.specs.Words.{cut_at}
+use Rattle.orc_bundle.specs.Written.{AreLinesOf, lines_of_action, line_of_write}
+use Rattle.orc_bundle.specs.declared.bundle.ScriptStep.{ScriptStep}
+use Rattle.orc_bundle.specs.declared.bundle.ScriptStep.TheVariants.{Serve}
+use Rattle.orc_bundle.specs.declared.script.Script.{Script}
+use Rattle.orc_bundle.specs.declared.script.Part.TheVariants as part
+use Rattle.orc_bundle.proofs.Texts.{IsLawfulAt, IsLawfulName, item_short, lawful_at, lawful_name, part_append, part_known, part_of_item, part_of_word}
+use Rattle.orc_bundle.proofs.WrittenItems.{item_again}
+use Rattle.orc_bundle.proofs.WrittenLines.{IsText, cut_word}
+use Rattle.orc_bundle.proofs.WrittenScript.{Ends, one_line, resting}
+
+-- a name among lawful ones is lawful
+pub lawful_among : (names : List (List ℕ)) (name : List ℕ) → list_all is_lawful_name names ≡ true → is_among names name ≡ true → is_lawful_name name ≡ true
+lawful_among [] name h named = absurd (false≢true named)
+lawful_among (n ∷ ns) name h named =
+    let parts = and_parts (is_lawful_name n) (list_all is_lawful_name ns) h in
+    on (is_same_text name n) refl parts (lawful_among ns name parts.1) named where
+      on : (b : Bool) → is_same_text name n ≡ b → (is_lawful_name n ≡ true) × (list_all is_lawful_name ns ≡ true) → (is_among ns name ≡ true → is_lawful_name name ≡ true) → (b || is_among ns name) ≡ true → is_lawful_name name ≡ true
+      on true is parts more h = subst (λ (x : List ℕ). is_lawful_name x ≡ true) (sym ((bytes_decides name n).0 is)) parts.0
+      on false is parts more h = more h
+
+-- texts of calls
+
+pub end_text : IsText (codes "end")
+end_text = record { part = part_known (codes "end") refl refl; kept = refl; short = omega arith }
+
+pub literal_text : (id : List ℕ) → IsLawfulName id → IsText (codes "literal " ++ id)
+literal_text id l =
+    let size = l.size in
+    let whole = length-append (codes "literal ") id in
+    record { part = part_append (codes "literal ") id (part_known (codes "literal ") refl refl) (part_of_word id l.word); kept = refl; short = omega arith }
+
+pub delete_text : (id : List ℕ) → IsLawfulName id → IsText (codes "delete " ++ id)
+delete_text id l =
+    let size = l.size in
+    let whole = length-append (codes "delete ") id in
+    record { part = part_append (codes "delete ") id (part_known (codes "delete ") refl refl) (part_of_word id l.word); kept = refl; short = omega arith }
+
+pub write_text : (w : DevicePut) → IsLawfulName w.device → IsLawfulAt w.path w.item → IsText (line_of_write w)
+write_text w l at =
+    let item = item_text w.path w.item in
+    let one = length-append (codes "write ") w.device in
+    let two = length-append (codes "write " ++ w.device) (codes " ") in
+    let three = length-append (codes "write " ++ w.device ++ codes " ") item in
+    let size = l.size in
+    let most = item_short w.path w.item at in
+    record {
+      part = part_append (codes "write " ++ w.device ++ codes " ") item
+          (part_append (codes "write " ++ w.device) (codes " ") (part_append (codes "write ") w.device (part_known (codes "write ") refl refl) (part_of_word w.device l.word)) (part_known (codes " ") refl refl))
+          (part_of_item w.path w.item at);
+      kept = refl;
+      short = omega arith;
+    }
+
+-- the places inside a call
+module _ (callers : List (List ℕ)) (done : List ScriptStep) (caller : List ℕ) (number : ℕ) where
+  abbrev pub opened : Script
+  opened = record { part = part.Call; callers = callers; steps = done; caller = caller; number = number; name = []; writes = [] }
+
+  abbrev pub literal : List ℕ → List DevicePut → Script
+  literal id writes = record { part = part.Literal; callers = callers; steps = done; caller = caller; number = number; name = id; writes = writes }
+
+  abbrev pub deletion : List ℕ → Script
+  deletion id = record { part = part.Delete; callers = callers; steps = done; caller = caller; number = number; name = id; writes = [] }
+
+  abbrev pub served : Action → Script
+  served a = resting callers (done ++ Serve (record { caller = caller; number = number; actions = a ∷ [] }) ∷ []) number
+
+  -- the next line that is not skipped is `settle`
+  abbrev pub IsFollowed : List (List ℕ) → Type 0
+  IsFollowed ts = (later : List (List ℕ)) → AreLinesOf ts later → is_settled later ≡ true
+
+  module _ (names : List (List ℕ)) (rest : List (List ℕ)) (r : Result (List ScriptStep) (ℕ × Rule)) where
+    end_literal_reads : (later : List (List ℕ)) (id : List ℕ) (writes : List DevicePut) → is_settled later ≡ true
+        → step_words names (literal id writes) (codes "end") later None ≡ Ok (served (action.Literal id writes))
+    unfolding word_at behind_action keyword_of after_end
+    end_literal_reads later id writes settled = rw settled refl
+
+    pub end_literal : (id : List ℕ) (writes : List DevicePut) → IsFollowed rest
+        → Ends names (served (action.Literal id writes)) rest r → Ends names (literal id writes) (codes "end" ∷ rest) r
+    end_literal id writes settled =
+        one_line names (literal id writes) (served (action.Literal id writes)) (codes "end") rest r end_text
+        (λ later are. end_literal_reads later id writes (settled later are))
+
+    end_deletion_reads : (later : List (List ℕ)) (id : List ℕ) → is_settled later ≡ true
+        → step_words names (deletion id) (codes "end") later None ≡ Ok (served (action.Delete id))
+    unfolding word_at behind_action keyword_of after_end
+    end_deletion_reads later id settled = rw settled refl
+
+    pub end_deletion : (id : List ℕ) → IsFollowed rest
+        → Ends names (served (action.Delete id)) rest r → Ends names (deletion id) (codes "end" ∷ rest) r
+    end_deletion id settled =
+        one_line names (deletion id) (served (action.Delete id)) (codes "end") rest r end_text
+        (λ later are. end_deletion_reads later id (settled later are))
+
+    literal_reads : (later : List (List ℕ)) (id : List ℕ) → IsLawfulName id → step_words names opened (codes "literal " ++ id) later (Some (codes "literal", id)) ≡ Ok (literal id [])
+    unfolding words_at an_action keyword_of
+    literal_reads later id l = let ident = l.identifier in let short = l.short in rw ident (rw short refl)
+
+    pub literal_line : (id : List ℕ) → IsLawfulName id → Ends names (literal id []) rest r → Ends names opened ((codes "literal " ++ id) ∷ rest) r
+    literal_line id l = one_line names opened (literal id []) (codes "literal " ++ id) rest r (literal_text id l) (λ later are. literal_reads later id l)
+
+    delete_reads : (later : List (List ℕ)) (id : List ℕ) → IsLawfulName id → step_words names opened (codes "delete " ++ id) later (Some (codes "delete", id)) ≡ Ok (deletion id)
+    unfolding words_at an_action keyword_of
+    delete_reads later id l = let ident = l.identifier in let short = l.short in rw ident (rw short refl)
+
+    pub delete_line : (id : List ℕ) → IsLawfulName id → Ends names (deletion id) rest r → Ends names opened ((codes "delete " ++ id) ∷ rest) r
+    delete_line id l = one_line names opened (deletion id) (codes "delete " ++ id) rest r (delete_text id l) (λ later are. delete_reads later id l)
+
+    write_reads : (later : List (List ℕ)) (id : List ℕ) (writes : List DevicePut) (w : DevicePut) → IsLawfulName w.device → is_among names w.device ≡ true → IsLawfulAt w.path w.item
+        → step_words names (literal id writes) (line_of_write w) later (Some (codes "write", w.device ++ codes " " ++ item_text w.path w.item)) ≡ Ok (literal id (writes ++ w ∷ []))
+    unfolding words_at a_write keyword_of after_write
+    write_reads later id writes w l named at =
+        let item = item_text w.path w.item in
+        let ident = l.identifier in
+        let short = l.short in
+        let reads = item_again w.path w.item at in
+        ap (λ (x : List ℕ). write_words names (literal id writes) (cut_at 32 x)) (append_assoc w.device (codes " ") item)
+        ∙ ap (write_words names (literal id writes)) (cut_word w.device item l.word)
+        ∙ rw ident (rw short (rw reads (rw named refl)))
+
+    pub write_line : (id : List ℕ) (writes : List DevicePut) (w : DevicePut) → IsLawfulName w.device → is_among names w.device ≡ true → IsLawfulAt w.path w.item
+        → Ends names (literal id (writes ++ w ∷ [])) rest r → Ends names (literal id writes) (line_of_write w ∷ rest) r
+    write_line id writes w l named at =
+        one_line names (literal id writes) (literal id (writes ++ w ∷ [])) (line_of_write w) rest r (write_text w l at) (λ later are. write_reads later id writes w l named at)
+
+  -- all writes of a literal
+  pub writes_read : (names : List (List ℕ)) (id : List ℕ) (before todo : List DevicePut) (rest : List (List ℕ)) (r : Result (List ScriptStep) (ℕ × Rule))
+      → list_all is_lawful_name names ≡ true → list_all (is_write names) todo ≡ true
+      → Ends names (literal id (before ++ todo)) rest r → Ends names (literal id before) (map line_of_write todo ++ rest) r
+  writes_read names id before [] rest r lawful all behind = subst (λ (ws : List DevicePut). Ends names (literal id ws) rest r) (append-nil before) behind
+  writes_read names id before (w ∷ ws) rest r lawful all behind =
+      let parts = and_parts (is_write names w) (list_all (is_write names) ws) all in
+      let each = and_parts (is_among names w.device) (is_item_at w.path w.item) parts.0 in
+      write_line names (map line_of_write ws ++ rest) r id before w
+      (lawful_name w.device (lawful_among names w.device lawful each.0)) each.0 (lawful_at w.path w.item each.1)
+      (writes_read names id (before ++ w ∷ []) ws rest r lawful parts.1
+      (subst (λ (all : List DevicePut). Ends names (literal id all) rest r) (sym (append_assoc before (w ∷ []) ws)) behind))
+
+  -- an action and the line that ends it
+  pub action_read : (names : List (List ℕ)) (a : Action) (rest : List (List ℕ)) (r : Result (List ScriptStep) (ℕ × Rule))
+      → list_all is_lawful_name names ≡ true → is_action names a ≡ true → IsFollowed rest
+      → Ends names (served a) rest r → Ends names opened (lines_of_action a ++ codes "end" ∷ rest) r
+  action_read names (action.Literal id writes) rest r lawful is settled behind =
+      let two = and_parts (is_lawful_name id && nat_le (length writes) MOST_WRITES) (list_all (is_write names) writes) is in
+      let first = and_parts (is_lawful_name id) (nat_le (length writes) MOST_WRITES) two.0 in
+      literal_line names (map line_of_write writes ++ codes "end" ∷ rest) r id (lawful_name id first.0)
+      (writes_read names id [] writes (codes "end" ∷ rest) r lawful two.1 (end_literal names rest r id writes settled behind))
+  action_read names (action.Delete id) rest r lawful is settled behind =
+      delete_line names (codes "end" ∷ rest) r id (lawful_name id is) (end_deletion names rest r id settled behind)
+  action_read names (action.Create id body) rest r lawful is settled behind = absurd (false≢true is)
+  action_read names (action.Modify id body) rest r lawful is settled behind = absurd (false≢true is)
+  action_read names (action.Redeploy id) rest r lawful is settled behind = absurd (false≢true is)
+  action_read names (action.Set put) rest r lawful is settled behind = absurd (false≢true is)
+  action_read names (action.Unset path) rest r lawful is settled behind = absurd (false≢true is)
+  action_read names (action.BasePut put) rest r lawful is settled behind = absurd (false≢true is)
+  action_read names (action.BaseRemove device path) rest r lawful is settled behind = absurd (false≢true is)

@@ -1,0 +1,176 @@
+-- A script's lines that are written are read.
+use Rattle.std.proofs.Common.{◌≡◌, ℕ, ◌<◌, ◌≤◌, ◌+◌, ◌^◌, Bool, true, false, not, cond, List, [], ◌∷◌, ◌++◌, codes, length, length-append, refl, ap, ◌∙◌, arith, append_assoc, Result, Ok, Err, Some, None, decimal, nat_le, nat_lt}
+use Rattle.std.specs.List.{list_all}
+use Rattle.std.specs.Str.{is_utf8}
+use Rattle.std.proofs.lemmas.Bool.{lt-leb}
+use Rattle.orc_state.specs.declared.rule.Rule.{Rule}
+use Rattle.orc_state.specs.declared.rule.Rule.TheVariants as rule
+use Rattle.orc_bundle.specs.Bundles.{on_line, script_steps}
+use Rattle.orc_bundle.specs.Keywords.{keyword_of}
+use Rattle.orc_bundle.specs.Lines.{is_skipped, text_of}
+use Rattle.orc_bundle.specs.Names.{place_of}
+use Rattle.orc_bundle.specs.Scripts.{a_step, after_show, after_stop, bare_step, scripted_at, step_words, stop_words, word_at, words_at}
+use Rattle.orc_bundle.specs.Words.{cut_at}
+use Rattle.orc_bundle.specs.declared.bundle.ScriptStep.{ScriptStep}
+use Rattle.orc_bundle.specs.declared.bundle.ScriptStep.TheVariants.{Show, Settle, Stop, StopAt, Recover, History}
+use Rattle.orc_bundle.specs.declared.bundle.TheConstants.{LARGEST_BUNDLE}
+use Rattle.orc_bundle.specs.declared.script.Script.{Script}
+use Rattle.orc_bundle.specs.declared.script.Part.TheVariants as part
+use Rattle.orc_bundle.specs.declared.script.TheConstants.{MOST_STEPS}
+use Rattle.std.proofs.lemmas.Str.{is_utf8-from_IsUtf8}
+use Rattle.orc_bundle.specs.Written.{AreLinesOf, IsLineOf, none, one, skipped}
+use Rattle.orc_bundle.specs.declared.lines.TheConstants.{LONGEST_LINE}
+use Rattle.orc_bundle.proofs.Skipped.{script}
+use Rattle.orc_bundle.proofs.Texts.{is_line_byte, IsLawfulName, number_short, part_append, part_known, part_of_word, word_of_number}
+use Rattle.orc_bundle.proofs.WrittenDeclarations.{bytes_of}
+use Rattle.orc_bundle.proofs.WrittenLines.{IsText, cut_word, not_large, number_again}
+
+-- a line is looked at by its text
+scripted_by_text : (names : List (List ℕ)) (s : Script) (at : ℕ) (t line : List ℕ) (later : List (List ℕ)) → IsText t → IsLineOf t line → at + length line ≤ LARGEST_BUNDLE
+    → scripted_at names s at line later ≡ step_words names s t later (cut_at 32 t)
+unfolding scripted_at
+scripted_by_text names s at t line later is spells within =
+    let says = spells.says in
+    let text = text_of line in
+    let looked : Result Script Rule = cond (is_skipped text) (Ok s) (step_words names s text later (cut_at 32 text)) in
+    ap (λ (b : Bool). cond b (Err rule.Size) (cond (not (is_utf8 text)) (Err rule.Utf8) looked)) (not_large t line at says is.short within)
+    ∙ ap (λ (b : Bool). cond (not b) (Err rule.Utf8) looked) (ap is_utf8 says ∙ is_utf8-from_IsUtf8 t is.part.utf8)
+    ∙ ap (λ (b : Bool). cond b (Ok s) (step_words names s text later (cut_at 32 text))) (ap is_skipped says ∙ is.kept)
+    ∙ ap (λ (x : List ℕ). step_words names s x later (cut_at 32 x)) says
+
+passed_over : (names : List (List ℕ)) (s : Script) (at : ℕ) (t line : List ℕ) (later : List (List ℕ)) → IsLineOf t line → is_skipped t ≡ true → is_utf8 t ≡ true → length t ≤ LONGEST_LINE
+    → at + length line ≤ LARGEST_BUNDLE → scripted_at names s at line later ≡ Ok s
+passed_over names s at t line later spells skip utf8 short within =
+    script at line later names s
+    (record { small = not_large t line at spells.says short within; utf8 = ap is_utf8 spells.says ∙ utf8; skipped = ap is_skipped spells.says ∙ skip })
+
+-- wherever they begin, lines of these texts give this
+abbrev pub Ends : List (List ℕ) → Script → List (List ℕ) → Result (List ScriptStep) (ℕ × Rule) → Type 0
+Ends names s ts r = (ls : List (List ℕ)) → AreLinesOf ts ls → (at n : ℕ) → at + bytes_of ls ≤ LARGEST_BUNDLE → script_steps names s at n ls ≡ r
+
+-- no line is left
+pub no_line : (names : List (List ℕ)) (s : Script) → Ends names s [] (Ok s.steps)
+no_line names s ls none at n within = refl
+no_line names s ls (skipped text l texts more spells over utf8 short are) at n within =
+    ap (λ (x : Result Script Rule). on_line (n + 1) x (λ v. script_steps names v (at + length l) (n + 1) more))
+    (passed_over names s at text l more spells over utf8 short (omega arith))
+    ∙ no_line names s more are (at + length l) (n + 1) (omega arith)
+
+-- a text more in front
+pub one_line : (names : List (List ℕ)) (s u : Script) (t : List ℕ) (ts : List (List ℕ)) (r : Result (List ScriptStep) (ℕ × Rule))
+    → IsText t → ((later : List (List ℕ)) → AreLinesOf ts later → step_words names s t later (cut_at 32 t) ≡ Ok u)
+    → Ends names u ts r → Ends names s (t ∷ ts) r
+one_line names s u t ts r is reads behind = ends where
+  ends : Ends names s (t ∷ ts) r
+  ends ls (one text l texts more spells are) at n within =
+      ap (λ (x : Result Script Rule). on_line (n + 1) x (λ v. script_steps names v (at + length l) (n + 1) more))
+      (scripted_by_text names s at t l more is spells (omega arith) ∙ reads more are)
+      ∙ behind more are (at + length l) (n + 1) (omega arith)
+  ends ls (skipped text l texts more spells over utf8 short are) at n within =
+      ap (λ (x : Result Script Rule). on_line (n + 1) x (λ v. script_steps names v (at + length l) (n + 1) more))
+      (passed_over names s at text l more spells over utf8 short (omega arith))
+      ∙ ends more are (at + length l) (n + 1) (omega arith)
+
+-- no call is open
+abbrev pub resting : List (List ℕ) → List ScriptStep → ℕ → Script
+resting callers done number = record { part = part.Steps; callers = callers; steps = done; caller = []; number = number; name = []; writes = [] }
+
+pub room : (done : List ScriptStep) → length done < MOST_STEPS → nat_le MOST_STEPS (length done) ≡ false
+room done h = lt-leb MOST_STEPS (length done) h
+
+-- steps of one word
+
+bare_text : (t : List ℕ) → list_all is_line_byte t ≡ true → list_all (λ b. nat_lt b 128) t ≡ true → is_skipped t ≡ false → length t ≤ 100 → IsText t
+bare_text t bytes low kept short = record { part = part_known t bytes low; kept = kept; short = omega arith }
+
+-- texts of steps
+
+pub show_text : (name : List ℕ) → IsLawfulName name → IsText (codes "show " ++ name)
+show_text name l =
+    let size = l.size in
+    let whole = length-append (codes "show ") name in
+    record { part = part_append (codes "show ") name (part_known (codes "show ") refl refl) (part_of_word name l.word); kept = refl; short = omega arith }
+
+pub stop_at_text : (count bytes : ℕ) → count < 2 ^ 64 → bytes < 2 ^ 64 → IsText (codes "stop " ++ decimal count ++ codes " " ++ decimal bytes)
+stop_at_text count bytes c b =
+    let short_count = number_short count c in
+    let short_bytes = number_short bytes b in
+    let one = length-append (codes "stop ") (decimal count) in
+    let two = length-append (codes "stop " ++ decimal count) (codes " ") in
+    let three = length-append (codes "stop " ++ decimal count ++ codes " ") (decimal bytes) in
+    record {
+      part = part_append (codes "stop " ++ decimal count ++ codes " ") (decimal bytes)
+          (part_append (codes "stop " ++ decimal count) (codes " ") (part_append (codes "stop ") (decimal count) (part_known (codes "stop ") refl refl) (part_of_word (decimal count) (word_of_number count c))) (part_known (codes " ") refl refl))
+          (part_of_word (decimal bytes) (word_of_number bytes b));
+      kept = refl;
+      short = omega arith;
+    }
+
+module _ (names callers : List (List ℕ)) (done : List ScriptStep) (number : ℕ) (rest : List (List ℕ)) (r : Result (List ScriptStep) (ℕ × Rule)) (few : length done < MOST_STEPS) where
+  abbrev here : Script
+  here = resting callers done number
+
+  abbrev behind : ScriptStep → Script
+  behind step = resting callers (done ++ step ∷ []) number
+
+  settle_reads : (later : List (List ℕ)) → step_words names here (codes "settle") later None ≡ Ok (behind Settle)
+  unfolding word_at bare_step keyword_of
+  settle_reads later = let full = room done few in rw full refl
+
+  stop_reads : (later : List (List ℕ)) → step_words names here (codes "stop") later None ≡ Ok (behind Stop)
+  unfolding word_at bare_step keyword_of
+  stop_reads later = let full = room done few in rw full refl
+
+  recover_reads : (later : List (List ℕ)) → step_words names here (codes "recover") later None ≡ Ok (behind Recover)
+  unfolding word_at bare_step keyword_of
+  recover_reads later = let full = room done few in rw full refl
+
+  history_reads : (later : List (List ℕ)) → step_words names here (codes "history") later None ≡ Ok (behind History)
+  unfolding word_at bare_step keyword_of
+  history_reads later = let full = room done few in rw full refl
+
+  pub settle_line : Ends names (behind Settle) rest r → Ends names here (codes "settle" ∷ rest) r
+  settle_line = one_line names here (behind Settle) (codes "settle") rest r (bare_text (codes "settle") refl refl refl (omega arith)) (λ later are. settle_reads later)
+
+  pub stop_line : Ends names (behind Stop) rest r → Ends names here (codes "stop" ∷ rest) r
+  stop_line = one_line names here (behind Stop) (codes "stop") rest r (bare_text (codes "stop") refl refl refl (omega arith)) (λ later are. stop_reads later)
+
+  pub recover_line : Ends names (behind Recover) rest r → Ends names here (codes "recover" ∷ rest) r
+  recover_line = one_line names here (behind Recover) (codes "recover") rest r (bare_text (codes "recover") refl refl refl (omega arith)) (λ later are. recover_reads later)
+
+  pub history_line : Ends names (behind History) rest r → Ends names here (codes "history" ∷ rest) r
+  history_line = one_line names here (behind History) (codes "history") rest r (bare_text (codes "history") refl refl refl (omega arith)) (λ later are. history_reads later)
+
+  -- steps of more words
+
+  show_reads : (later : List (List ℕ)) (name : List ℕ) (device : ℕ) → IsLawfulName name → place_of names name ≡ Some device
+      → step_words names here (codes "show " ++ name) later (Some (codes "show", name)) ≡ Ok (behind (Show device))
+  unfolding words_at a_step keyword_of after_show
+  show_reads later name device l place =
+      let full = room done few in
+      let ident = l.identifier in
+      let short = l.short in
+      rw ident (rw short (rw full (rw place refl)))
+
+  pub show_line : (name : List ℕ) (device : ℕ) → IsLawfulName name → place_of names name ≡ Some device
+      → Ends names (behind (Show device)) rest r → Ends names here ((codes "show " ++ name) ∷ rest) r
+  show_line name device l place =
+      one_line names here (behind (Show device)) (codes "show " ++ name) rest r (show_text name l) (λ later are. show_reads later name device l place)
+
+  stop_at_reads : (later : List (List ℕ)) (count bytes : ℕ) → count < 2 ^ 64 → bytes < 2 ^ 64
+      → step_words names here (codes "stop " ++ decimal count ++ codes " " ++ decimal bytes) later (Some (codes "stop", decimal count ++ codes " " ++ decimal bytes))
+      ≡ Ok (behind (StopAt count bytes))
+  unfolding words_at a_step keyword_of after_stop
+  stop_at_reads later count bytes c b =
+      let full = room done few in
+      let one = number_again count c in
+      let two = number_again bytes b in
+      ap (λ (x : List ℕ). stop_words here (cut_at 32 x)) (append_assoc (decimal count) (codes " ") (decimal bytes))
+      ∙ ap (stop_words here) (cut_word (decimal count) (decimal bytes) (word_of_number count c))
+      ∙ rw one (rw two (rw full refl))
+
+  pub stop_at_line : (count bytes : ℕ) → count < 2 ^ 64 → bytes < 2 ^ 64
+      → Ends names (behind (StopAt count bytes)) rest r → Ends names here ((codes "stop " ++ decimal count ++ codes " " ++ decimal bytes) ∷ rest) r
+  stop_at_line count bytes c b =
+      one_line names here (behind (StopAt count bytes)) (codes "stop " ++ decimal count ++ codes " " ++ decimal bytes) rest r
+      (stop_at_text count bytes c b) (λ later are. stop_at_reads later count bytes c b)

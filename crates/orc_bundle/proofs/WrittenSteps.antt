@@ -1,0 +1,229 @@
+-- All steps that are written are read.
+use Rattle.std.proofs.Common.{◌≡◌, inl, ℕ, zero, suc, ◌<◌, ◌≤◌, ◌+◌, ◌^◌, Bool, true, false, not, ◌&&◌, ◌==◌, cond, List, [], ◌∷◌, ◌++◌, codes, length, length-append, refl, ap, sym, ◌∙◌, subst, arith, append_assoc, append-nil, Result, Ok, Some, None, decimal, nat_le, nat_lt, eqb-true}
+use Rattle.std.specs.List.{AllByRecursion, IsDistinct, flat_map, list_all, list_any, position_or_len}
+use Rattle.std.specs.Cmp.Lexicographic.{bytes_decides}
+use Rattle.std.proofs.lemmas.Bool.{and_parts, lt-leb, lt-ltb, ltb-true, false≢true}
+use Rattle.orc_call.specs.declared.call.Action.{Action}
+use Rattle.orc_call.specs.declared.call.Call.{Call}
+use Rattle.orc_state.specs.States.{action_of, first_action, is_same_text, name_of}
+use Rattle.orc_state.specs.Calls.{is_action, is_call, is_lawful_name}
+use Rattle.orc_state.specs.declared.rule.Rule.{Rule}
+use Rattle.orc_bundle.specs.Bundles.{is_step}
+use Rattle.orc_bundle.specs.Keywords.{keyword_of}
+use Rattle.orc_bundle.specs.Lines.{is_end, is_settled, text_of}
+use Rattle.orc_bundle.specs.Names.{is_among, place_of, with_name}
+use Rattle.orc_bundle.specs.Scripts.{a_step, after_call, call_words, is_caller_more, step_words, words_at}
+use Rattle.orc_bundle.specs.Words.{cut_at, is_text}
+use Rattle.orc_bundle.specs.Written.{AreLinesOf, lines_of_action, are_settled, begins_settled, callers_behind, step_lines}
+use Rattle.orc_bundle.specs.declared.bundle.ScriptStep.{ScriptStep}
+use Rattle.orc_bundle.specs.declared.bundle.ScriptStep.TheVariants.{Show, Serve, Settle, Stop, StopAt, Recover, History}
+use Rattle.orc_bundle.specs.declared.script.Script.{Script}
+use Rattle.orc_bundle.specs.declared.script.TheConstants.{MOST_CALLERS, MOST_STEPS}
+use Rattle.orc_bundle.proofs.Texts.{IsLawfulName, lawful_name, number_short, part_append, part_known, part_of_word, word_of_number}
+use Rattle.orc_bundle.proofs.WrittenCalls.{action_read, opened}
+use Rattle.orc_bundle.proofs.WrittenDevices.{same_name}
+use Rattle.orc_bundle.proofs.WrittenLines.{IsText, among, contained_behind, cut_word, number_again, settled_first}
+use Rattle.orc_bundle.proofs.WrittenScript.{Ends, history_line, no_line, one_line, recover_line, resting, room, settle_line, show_line, stop_at_line, stop_line}
+
+-- the line of a call
+
+no_caller_more : (callers : List (List ℕ)) (done : List ScriptStep) (number : ℕ) (caller : List ℕ) → length (with_name callers caller) ≤ MOST_CALLERS
+    → is_caller_more (resting callers done number) caller ≡ false
+no_caller_more callers done number caller h = on (is_among callers caller) h where
+  on : (b : Bool) → length (cond b callers (callers ++ caller ∷ [])) ≤ MOST_CALLERS → (not b && nat_le MOST_CALLERS (length callers)) ≡ false
+  on true few = refl
+  on false few = let size = length-append callers (caller ∷ []) in lt-leb MOST_CALLERS (length callers) (omega arith)
+
+call_reads : (names callers : List (List ℕ)) (done : List ScriptStep) (before : ℕ) (caller : List ℕ) (number : ℕ) (later : List (List ℕ))
+    → length done < MOST_STEPS → IsLawfulName caller → number < 2 ^ 64 → length (with_name callers caller) ≤ MOST_CALLERS → list_any is_end later ≡ true
+    → step_words names (resting callers done before) (codes "call " ++ caller ++ codes " " ++ decimal number) later (Some (codes "call", caller ++ codes " " ++ decimal number))
+    ≡ Ok (opened (with_name callers caller) done caller number)
+unfolding words_at a_step keyword_of after_call
+call_reads names callers done before caller number later few l fits known ends =
+    let s = resting callers done before in
+    let full = room done few in
+    let ident = l.identifier in
+    let short = l.short in
+    let again = number_again number fits in
+    let more = no_caller_more callers done before caller known in
+    ap (λ (x : List ℕ). call_words s later (cut_at 32 x)) (append_assoc caller (codes " ") (decimal number))
+    ∙ ap (call_words s later) (cut_word caller (decimal number) l.word)
+    ∙ rw again (rw ident (rw short (rw full (rw more (rw ends refl)))))
+
+pub call_text : (caller : List ℕ) (number : ℕ) → IsLawfulName caller → number < 2 ^ 64 → IsText (codes "call " ++ caller ++ codes " " ++ decimal number)
+call_text caller number l fits =
+    let size = l.size in
+    let digits = number_short number fits in
+    let one = length-append (codes "call ") caller in
+    let two = length-append (codes "call " ++ caller) (codes " ") in
+    let three = length-append (codes "call " ++ caller ++ codes " ") (decimal number) in
+    record {
+      part = part_append (codes "call " ++ caller ++ codes " ") (decimal number)
+          (part_append (codes "call " ++ caller) (codes " ") (part_append (codes "call ") caller (part_known (codes "call ") refl refl) (part_of_word caller l.word)) (part_known (codes " ") refl refl))
+          (part_of_word (decimal number) (word_of_number number fits));
+      kept = refl;
+      short = omega arith;
+    }
+
+-- a line of these texts is `end`
+abbrev HasEnd : List (List ℕ) → Type 0
+HasEnd ts = (later : List (List ℕ)) → AreLinesOf ts later → list_any is_end later ≡ true
+
+call_line : (names callers : List (List ℕ)) (done : List ScriptStep) (before : ℕ) (caller : List ℕ) (number : ℕ) (rest : List (List ℕ)) (r : Result (List ScriptStep) (ℕ × Rule))
+    → length done < MOST_STEPS → IsLawfulName caller → number < 2 ^ 64 → length (with_name callers caller) ≤ MOST_CALLERS → HasEnd rest
+    → Ends names (opened (with_name callers caller) done caller number) rest r
+    → Ends names (resting callers done before) ((codes "call " ++ caller ++ codes " " ++ decimal number) ∷ rest) r
+call_line names callers done before caller number rest r few l fits most ends =
+    one_line names (resting callers done before) (opened (with_name callers caller) done caller number) (codes "call " ++ caller ++ codes " " ++ decimal number) rest r
+    (call_text caller number l fits) (λ later are. call_reads names callers done before caller number later few l fits most (ends later are))
+
+-- a call
+
+one_action : (actions : List Action) → (length actions == 1) ≡ true → first_action actions ∷ [] ≡ actions
+one_action [] h = absurd (let no_one : 0 ≡ 1 = eqb-true 0 1 h in omega arith)
+one_action (a ∷ []) h = refl
+one_action (a ∷ b ∷ more) h = absurd (let no_one : length (a ∷ b ∷ more) ≡ 1 = eqb-true (length (a ∷ b ∷ more)) 1 h in omega arith)
+
+-- what is known of a lawful call
+pub record IsKnown (names : List (List ℕ)) (call : Call) : Type 0 where
+  pub caller : IsLawfulName call.caller
+  pub number : call.number < 2 ^ 64
+  pub one : first_action call.actions ∷ [] ≡ call.actions
+  pub action : is_action names (action_of call) ≡ true
+
+pub known : (names : List (List ℕ)) (call : Call) → is_call names call ≡ true → IsKnown names call
+known names call h =
+    let three = and_parts (is_lawful_name call.caller && nat_lt call.number (2 ^ 64) && (length call.actions == 1)) (is_action names (action_of call)) h in
+    let two = and_parts (is_lawful_name call.caller && nat_lt call.number (2 ^ 64)) (length call.actions == 1) three.0 in
+    let one = and_parts (is_lawful_name call.caller) (nat_lt call.number (2 ^ 64)) two.0 in
+    record {
+      caller = lawful_name call.caller one.0;
+      number = ltb-true call.number (2 ^ 64) one.1;
+      one = one_action call.actions two.1;
+      action = three.1;
+    }
+
+is_the_end : (line : List ℕ) → text_of line ≡ codes "end" → is_end line ≡ true
+is_the_end line says = ap (λ (t : List ℕ). is_text t (codes "end")) says
+
+serve_lines : (names callers : List (List ℕ)) (done : List ScriptStep) (before : ℕ) (call : Call) (rest : List (List ℕ)) (r : Result (List ScriptStep) (ℕ × Rule))
+    → list_all is_lawful_name names ≡ true → length done < MOST_STEPS → is_call names call ≡ true → length (with_name callers call.caller) ≤ MOST_CALLERS
+    → ((later : List (List ℕ)) → AreLinesOf rest later → is_settled later ≡ true)
+    → Ends names (resting (with_name callers call.caller) (done ++ Serve call ∷ []) call.number) rest r
+    → Ends names (resting callers done before) (step_lines names (Serve call) ++ rest) r
+serve_lines names callers done before call rest r lawful few is most settled behind =
+    let k = known names call is in
+    let a = action_of call in
+    let more = lines_of_action a ++ codes "end" ∷ rest in
+    let same : record { caller = call.caller; number = call.number; actions = a ∷ [] } ≡ call =
+    ap (λ (actions : List Action). record call { actions = actions }) k.one in
+    let served = subst (λ (c : Call). Ends names (resting (with_name callers call.caller) (done ++ Serve c ∷ []) call.number) rest r) (sym same) behind in
+    let line = codes "call " ++ call.caller ++ codes " " ++ decimal call.number in
+    subst (λ (ts : List (List ℕ)). Ends names (resting callers done before) (line ∷ ts) r) (sym (append_assoc (lines_of_action a) (codes "end" ∷ []) rest))
+    (call_line names callers done before call.caller call.number more r few k.caller k.number most
+    (λ later are. among more later (codes "end") is_end are is_the_end (contained_behind (lines_of_action a) (codes "end" ∷ rest) (codes "end") (inl refl)))
+    (action_read (with_name callers call.caller) done call.caller call.number names a rest r lawful k.action settled served))
+
+-- the devices' names
+
+later_other : (x : List ℕ) (xs : List (List ℕ)) (k : ℕ) → AllByRecursion (λ (n : List ℕ). is_same_text x n ≡ false) xs → k < length xs → is_same_text (name_of xs k) x ≡ false
+later_other x [] k h lt = absurd (omega arith)
+later_other x (y ∷ ys) zero h lt = on (is_same_text y x) refl where
+  on : (t : Bool) → is_same_text y x ≡ t → is_same_text y x ≡ false
+  on false is = is
+  on true is = absurd (let same : is_same_text x y ≡ true = (bytes_decides x y).1 (sym ((bytes_decides y x).0 is)) in let other = h.0 in cc)
+later_other x (y ∷ ys) (suc k) h lt = later_other x ys k h.1 (omega arith)
+
+first_at : (names : List (List ℕ)) (k : ℕ) → IsDistinct is_same_text names → k < length names → position_or_len (is_same_text (name_of names k)) names ≡ k
+unfolding IsDistinct
+first_at [] k h lt = absurd (omega arith)
+first_at (x ∷ xs) zero h lt = ap (λ (b : Bool). cond (not b) (1 + position_or_len (is_same_text x) xs) 0) (same_name x)
+first_at (x ∷ xs) (suc k) h lt =
+    let more = first_at xs k h.1 (omega arith) in
+    ap (λ (b : Bool). cond (not b) (1 + position_or_len (is_same_text (name_of xs k)) xs) 0) (later_other x xs k h.0 (omega arith)) ∙ omega arith
+
+place_again : (names : List (List ℕ)) (k : ℕ) → IsDistinct is_same_text names → k < length names → place_of names (name_of names k) ≡ Some k
+place_again names k h lt =
+    ap (λ (i : ℕ). cond (nat_lt i (length names)) (Some i) None) (first_at names k h lt)
+    ∙ ap (λ (b : Bool). cond b (Some k) None) (lt-ltb k (length names) lt)
+
+pub name_lawful : (names : List (List ℕ)) (k : ℕ) → list_all is_lawful_name names ≡ true → k < length names → is_lawful_name (name_of names k) ≡ true
+name_lawful [] k h lt = absurd (omega arith)
+name_lawful (n ∷ ns) zero h lt = (and_parts (is_lawful_name n) (list_all is_lawful_name ns) h).0
+name_lawful (n ∷ ns) (suc k) h lt = name_lawful ns k (and_parts (is_lawful_name n) (list_all is_lawful_name ns) h).1 (omega arith)
+
+-- callers
+
+with_more : (callers : List (List ℕ)) (name : List ℕ) → length callers ≤ length (with_name callers name)
+with_more callers name = on (is_among callers name) where
+  on : (b : Bool) → length callers ≤ length (cond b callers (callers ++ name ∷ []))
+  on true = omega arith
+  on false = let size = length-append callers (name ∷ []) in omega arith
+
+callers_more : (callers : List (List ℕ)) (steps : List ScriptStep) → length callers ≤ length (callers_behind callers steps)
+callers_more callers [] = omega arith
+callers_more callers (Serve call ∷ steps) = let one = with_more callers call.caller in let rest = callers_more (with_name callers call.caller) steps in omega arith
+callers_more callers (Show device ∷ steps) = callers_more callers steps
+callers_more callers (Settle ∷ steps) = callers_more callers steps
+callers_more callers (Stop ∷ steps) = callers_more callers steps
+callers_more callers (StopAt count bytes ∷ steps) = callers_more callers steps
+callers_more callers (Recover ∷ steps) = callers_more callers steps
+callers_more callers (History ∷ steps) = callers_more callers steps
+
+settled_lines : (names : List (List ℕ)) (steps : List ScriptStep) → begins_settled steps ≡ true
+    → (later : List (List ℕ)) → AreLinesOf (flat_map (step_lines names) steps) later → is_settled later ≡ true
+settled_lines names [] h later are = absurd (false≢true h)
+settled_lines names (Settle ∷ steps) h later are = settled_first (flat_map (step_lines names) steps) later are
+settled_lines names (Serve call ∷ steps) h later are = absurd (false≢true h)
+settled_lines names (Show device ∷ steps) h later are = absurd (false≢true h)
+settled_lines names (Stop ∷ steps) h later are = absurd (false≢true h)
+settled_lines names (StopAt count bytes ∷ steps) h later are = absurd (false≢true h)
+settled_lines names (Recover ∷ steps) h later are = absurd (false≢true h)
+settled_lines names (History ∷ steps) h later are = absurd (false≢true h)
+
+-- the rest of the steps
+module _ (names : List (List ℕ)) (lawful : list_all is_lawful_name names ≡ true) (distinct : IsDistinct is_same_text names) where
+  abbrev lines : List ScriptStep → List (List ℕ)
+  lines steps = flat_map (step_lines names) steps
+
+  moved : (s : Script) (done : List ScriptStep) (step : ScriptStep) (steps : List ScriptStep) → Ends names s (lines steps) (Ok ((done ++ step ∷ []) ++ steps)) → Ends names s (lines steps) (Ok (done ++ step ∷ steps))
+  moved s done step steps h = subst (λ (all : List ScriptStep). Ends names s (lines steps) (Ok all)) (append_assoc done (step ∷ []) steps) h
+
+  next : (done : List ScriptStep) (step : ScriptStep) (steps : List ScriptStep) → length done + length (step ∷ steps) ≤ MOST_STEPS → length (done ++ step ∷ []) + length steps ≤ MOST_STEPS
+  next done step steps h = let size = length-append done (step ∷ []) in omega arith
+
+  pub steps_read : (callers : List (List ℕ)) (done todo : List ScriptStep) (number : ℕ)
+      → list_all (is_step names) todo ≡ true → are_settled todo ≡ true → length done + length todo ≤ MOST_STEPS → length (callers_behind callers todo) ≤ MOST_CALLERS
+      → Ends names (resting callers done number) (lines todo) (Ok (done ++ todo))
+  steps_read callers done [] number all settled few most =
+      subst (λ (steps : List ScriptStep). Ends names (resting callers done number) [] (Ok steps)) (sym (append-nil done)) (no_line names (resting callers done number))
+  steps_read callers done (Show device ∷ steps) number all settled few most =
+      let parts = and_parts (is_step names (Show device)) (list_all (is_step names) steps) all in
+      let within = ltb-true device (length names) parts.0 in
+      show_line names callers done number (lines steps) (Ok (done ++ Show device ∷ steps)) (omega arith) (name_of names device) device
+      (lawful_name (name_of names device) (name_lawful names device lawful within)) (place_again names device distinct within)
+      (moved _ done (Show device) steps (steps_read callers (done ++ Show device ∷ []) steps number parts.1 settled (next done (Show device) steps few) most))
+  steps_read callers done (Serve call ∷ steps) number all settled few most =
+      let parts = and_parts (is_step names (Serve call)) (list_all (is_step names) steps) all in
+      let two = and_parts (begins_settled steps) (are_settled steps) settled in
+      let now = with_name callers call.caller in
+      let grows = callers_more now steps in
+      serve_lines names callers done number call (lines steps) (Ok (done ++ Serve call ∷ steps)) lawful (omega arith) parts.0 (omega arith) (settled_lines names steps two.0)
+      (moved _ done (Serve call) steps (steps_read now (done ++ Serve call ∷ []) steps call.number parts.1 two.1 (next done (Serve call) steps few) most))
+  steps_read callers done (Settle ∷ steps) number all settled few most =
+      settle_line names callers done number (lines steps) (Ok (done ++ Settle ∷ steps)) (omega arith)
+      (moved _ done Settle steps (steps_read callers (done ++ Settle ∷ []) steps number all settled (next done Settle steps few) most))
+  steps_read callers done (Stop ∷ steps) number all settled few most =
+      stop_line names callers done number (lines steps) (Ok (done ++ Stop ∷ steps)) (omega arith)
+      (moved _ done Stop steps (steps_read callers (done ++ Stop ∷ []) steps number all settled (next done Stop steps few) most))
+  steps_read callers done (StopAt count bytes ∷ steps) number all settled few most =
+      let parts = and_parts (is_step names (StopAt count bytes)) (list_all (is_step names) steps) all in
+      let fit = and_parts (nat_lt count (2 ^ 64)) (nat_lt bytes (2 ^ 64)) parts.0 in
+      stop_at_line names callers done number (lines steps) (Ok (done ++ StopAt count bytes ∷ steps)) (omega arith) count bytes (ltb-true count (2 ^ 64) fit.0) (ltb-true bytes (2 ^ 64) fit.1)
+      (moved _ done (StopAt count bytes) steps (steps_read callers (done ++ StopAt count bytes ∷ []) steps number parts.1 settled (next done (StopAt count bytes) steps few) most))
+  steps_read callers done (Recover ∷ steps) number all settled few most =
+      recover_line names callers done number (lines steps) (Ok (done ++ Recover ∷ steps)) (omega arith)
+      (moved _ done Recover steps (steps_read callers (done ++ Recover ∷ []) steps number all settled (next done Recover steps few) most))
+  steps_read callers done (History ∷ steps) number all settled few most =
+      history_line names callers done number (lines steps) (Ok (done ++ History ∷ steps)) (omega arith)
+      (moved _ done History steps (steps_read callers (done ++ History ∷ []) steps number all settled (next done History steps few) most))

@@ -1,0 +1,10 @@
+use Rattle.std.proofs.Common.{sym}
+use Rattle.orc_bundle.proofs.Lawful.{pushed, past_all}
+use Rattle.orc_bundle.proofs.declarations.push_base.Goals as goal
+
+pub returns-then-n-devices : goal.returns-then-n-devices
+returns-then-n-devices c =
+    pushed c.args.n c.args.put c.args.devices.now c.index-devices-n.result c.push.new.self c.push.result c.if-n-devices.true c.push.ensures.ok
+
+pub returns-else-n-devices : goal.returns-else-n-devices
+returns-else-n-devices c = sym (past_all c.args.n c.args.put c.args.devices.now c.if-n-devices.false)

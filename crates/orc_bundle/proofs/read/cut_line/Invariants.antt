@@ -1,6 +1,0 @@
-use Rattle.std.proofs.Common.{◌≡◌, take, true}
-use Rattle.orc_bundle.specs.inside.Lines.{lacks}
-use Rattle.orc_bundle.proofs.read.cut_line.Given as goal
-
-abbrev pub invariant-loop-at : goal.invariant-loop-at
-invariant-loop-at l = lacks 10 (take l.at l.bytes) ≡ true

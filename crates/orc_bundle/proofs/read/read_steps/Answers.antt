@@ -1,0 +1,27 @@
+use Rattle.std.proofs.Common.{◌≡◌, ◌+◌, ℕ, List, length, length-append, ap, ◌∙◌, arith, Result}
+use Rattle.orc_state.specs.declared.rule.Rule.{Rule}
+use Rattle.orc_bundle.specs.declared.script.Script.{Script}
+use Rattle.orc_bundle.specs.Lines.{lines_of}
+use Rattle.orc_bundle.specs.Bundles.{on_line, script_steps}
+use Rattle.orc_bundle.proofs.read.read_steps.Goals as goal
+
+pub lines-preserved : goal.lines-preserved
+lines-preserved c =
+    let names = c.args.names.now in
+    let line = c.first_line.result.0.now in
+    let later = c.first_line.result.1.now in
+    let inv = c.lines.invariant in
+    let bytes : length c.lines.rest.now ≡ length line + length later =
+    ap (λ (x : List ℕ). length x) c.first_line.ensures.parts ∙ length-append line later in
+    let some = c.first_line.ensures.some in
+    let rest = inv.1 in
+    let count = inv.2 in
+    let small = inv.3 in (
+      inv.0
+          ∙ ap (script_steps names c.lines.script c.lines.at c.lines.number) c.first_line.ensures.lines
+          ∙ ap (λ (r : Result Script Rule). on_line (c.lines.number + 1) r (λ t. script_steps names t (c.lines.at + length line) (c.lines.number + 1) (lines_of later))) c.in_default.ensures.steps,
+      omega arith,
+      omega arith,
+      c.in_default.ensures.small,
+      c.in_default.ensures.lawful c.lines.number inv.4 (omega arith),
+    )

@@ -1,0 +1,22 @@
+-- The first words of lines.
+use Rattle.std.specs.Prelude.{ℕ, List, codes, if◌then◌else◌}
+use Rattle.orc_bundle.specs.Words.{is_text}
+use Rattle.orc_bundle.specs.declared.keyword.Keyword.{Keyword}
+use Rattle.orc_bundle.specs.declared.keyword.Keyword.TheVariants as keyword
+
+unfoldable pub keyword_of : List ℕ → Keyword
+keyword_of word =
+    if is_text word (codes "device") then keyword.Device else
+    if is_text word (codes "base") then keyword.Base else
+    if is_text word (codes "yang") then keyword.Yang else
+    if is_text word (codes "script") then keyword.Script else
+    if is_text word (codes "show") then keyword.Show else
+    if is_text word (codes "call") then keyword.Call else
+    if is_text word (codes "literal") then keyword.Literal else
+    if is_text word (codes "write") then keyword.Write else
+    if is_text word (codes "delete") then keyword.Delete else
+    if is_text word (codes "end") then keyword.End else
+    if is_text word (codes "settle") then keyword.Settle else
+    if is_text word (codes "stop") then keyword.Stop else
+    if is_text word (codes "recover") then keyword.Recover else
+    if is_text word (codes "history") then keyword.History else keyword.Other

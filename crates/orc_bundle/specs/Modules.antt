@@ -1,0 +1,79 @@
+-- The YANG module of a block.
+use Rattle.std.specs.Prelude.{ℕ, Bool, false, ◌&&◌, ◌||◌, List, [], ◌∷◌, codes, Option, Result, if◌then◌else◌}
+use Rattle.std.specs.declared.option.Option.TheVariants.{None, Some}
+use Rattle.std.specs.declared.result.Result.TheVariants.{Ok, Err}
+use Rattle.std.specs.List.{list_any}
+use Rattle.std.specs.Option.{option_map_or}
+use Rattle.orc_path.specs.Alphabet.{is_identifier}
+use Rattle.orc_path.specs.Limits.{is_long_name}
+use Rattle.orc_state.specs.declared.rule.Rule.{Rule}
+use Rattle.orc_state.specs.declared.rule.Rule.TheVariants as rule
+use Rattle.orc_yang.specs.Parsing.{statements_of}
+use Rattle.orc_yang.specs.declared.fault.YangFault.{YangFault}
+use Rattle.orc_yang.specs.declared.statement.Stmt.{Stmt}
+use Rattle.orc_yang.specs.declared.statement.Stmt.TheOpen.{Stmt-F}
+use Rattle.orc_yang.specs.declared.statement.Stmt.TheViews.{out-Stmt}
+use Rattle.orc_yang.specs.declared.statement.Stmt.TheFolds.{fold-Stmt}
+use Rattle.orc_bundle.specs.Rules.{checked, or_rule}
+use Rattle.orc_bundle.specs.Words.{cut_at, is_text}
+
+-- identifiers past their limit
+
+-- an identifier past the limit
+abbrev pub is_long_identifier : List ℕ → Bool
+is_long_identifier word = is_identifier word && is_long_name word
+
+-- of a word with or without a prefix and a colon
+abbrev pub has_long_part : List ℕ → Option (List ℕ × List ℕ) → Bool
+has_long_part word None = is_long_identifier word
+has_long_part word (Some parts) = is_long_identifier parts.0 || is_long_identifier parts.1
+
+abbrev pub is_long_word : List ℕ → Bool
+is_long_word word = has_long_part word (cut_at 58 word)
+
+-- the statements whose argument is a name, an identifier with or without a prefix (RFC 7950)
+unfoldable pub takes_name : List ℕ → Bool
+takes_name keyword = list_any (is_text keyword) (
+    codes "module" ∷ codes "import" ∷ codes "prefix" ∷ codes "typedef" ∷ codes "grouping" ∷ codes "container"
+    ∷ codes "list" ∷ codes "leaf" ∷ codes "leaf-list" ∷ codes "uses" ∷ codes "type" ∷ codes "choice" ∷ codes "case"
+    ∷ codes "anydata" ∷ codes "anyxml" ∷ codes "submodule" ∷ codes "include" ∷ codes "belongs-to" ∷ codes "rpc"
+    ∷ codes "action" ∷ codes "notification" ∷ codes "identity" ∷ codes "base" ∷ codes "feature" ∷ codes "extension"
+    ∷ codes "argument" ∷ codes "bit" ∷ [])
+
+-- the keyword, or the name that the argument is, has a part past the limit
+abbrev pub is_long_head : List ℕ → Option (List ℕ) → Bool
+is_long_head keyword argument =
+    is_long_word keyword || (takes_name keyword && option_map_or is_long_word argument false)
+
+abbrev pub long_step : Stmt-F Bool → Bool
+long_step s = is_long_head s.keyword s.argument || list_any (λ is_long. is_long) s.subs
+
+-- so has the statement or one below it
+abbrev pub has_long_name : Stmt → Bool
+has_long_name = fold-Stmt Bool long_step
+
+-- modules
+
+-- the identifier of a `module` statement
+abbrev pub identifier_of : Option (List ℕ) → Option (List ℕ)
+identifier_of None = None
+identifier_of (Some argument) = if is_identifier argument then Some argument else None
+
+abbrev pub module_name : Stmt → Option (List ℕ)
+module_name s = if is_text (out-Stmt s).keyword (codes "module") then identifier_of (out-Stmt s).argument else None
+
+-- of statements that are one such statement
+abbrev pub only_module : List Stmt → Option (List ℕ)
+only_module [] = None
+only_module (s ∷ []) = module_name s
+only_module (s ∷ next ∷ rest) = None
+
+abbrev pub module_of_statements : Result (List Stmt) YangFault → Result (List ℕ) Rule
+module_of_statements (Err fault) = Err rule.Yang
+module_of_statements (Ok statements) =
+    checked ((list_any has_long_name statements, rule.Size) ∷ [])
+    (or_rule (only_module statements) rule.Yang (λ name. Ok name))
+
+-- the name of the module that a block's text is
+unfoldable pub module_of : List ℕ → Result (List ℕ) Rule
+module_of text = module_of_statements (statements_of text)

@@ -1,0 +1,178 @@
+-- What each form of a script's line makes of the steps so far.
+use Rattle.std.specs.Prelude.{ℕ, Bool, not, ◌&&◌, ◌||◌, nat_le, List, [], ◌∷◌, ◌++◌, length, Option, Result, if◌then◌else◌}
+use Rattle.std.specs.declared.option.Option.TheVariants.{None, Some}
+use Rattle.std.specs.declared.result.Result.TheVariants.{Ok, Err}
+use Rattle.std.specs.List.{list_any}
+use Rattle.std.specs.Str.{is_utf8}
+use Rattle.orc_path.specs.Alphabet.{is_identifier}
+use Rattle.orc_path.specs.Limits.{is_long_name}
+use Rattle.orc_call.specs.declared.call.Action.{Action}
+use Rattle.orc_call.specs.declared.call.Action.TheVariants as action
+use Rattle.orc_state.specs.declared.rule.Rule.{Rule}
+use Rattle.orc_state.specs.declared.rule.Rule.TheVariants as rule
+use Rattle.orc_bundle.specs.Rules.{checked, or_rule, on_ok}
+use Rattle.orc_bundle.specs.Lines.{is_end, is_large, is_settled, is_skipped, text_of}
+use Rattle.orc_bundle.specs.Words.{cut_at, number_in}
+use Rattle.orc_bundle.specs.Keywords.{keyword_of}
+use Rattle.orc_bundle.specs.Names.{is_among, place_of, with_name}
+use Rattle.orc_bundle.specs.Items.{put_of}
+use Rattle.orc_bundle.specs.declared.bundle.ScriptStep.{ScriptStep}
+use Rattle.orc_bundle.specs.declared.bundle.ScriptStep.TheVariants as step
+use Rattle.orc_bundle.specs.declared.keyword.Keyword.{Keyword}
+use Rattle.orc_bundle.specs.declared.keyword.Keyword.TheVariants as keyword
+use Rattle.orc_bundle.specs.declared.script.Script.{Script}
+use Rattle.orc_bundle.specs.declared.script.Part.{Part}
+use Rattle.orc_bundle.specs.declared.script.Part.TheVariants as part
+use Rattle.orc_bundle.specs.declared.script.TheConstants.{MOST_CALLERS, MOST_STEPS}
+
+-- no step, and no call is open
+abbrev pub no_steps : Script
+no_steps = record { part = part.Steps; callers = []; steps = []; caller = []; number = 0; name = []; writes = [] }
+
+-- steps of one line
+
+-- no step more can stand
+abbrev pub is_full : Script → Bool
+is_full s = nat_le MOST_STEPS (length s.steps)
+
+abbrev pub with_step : Script → ScriptStep → Script
+with_step s step = record s { steps = s.steps ++ step ∷ [] }
+
+-- a step of one word
+abbrev pub after_bare : Script → ScriptStep → Result Script Rule
+after_bare s step = checked ((is_full s, rule.Size) ∷ []) (Ok (with_step s step))
+
+-- `show D`, where these devices are declared
+unfoldable pub after_show : List (List ℕ) → Script → List ℕ → Result Script Rule
+after_show names s rest =
+    checked ((not (is_identifier rest), rule.Line) ∷ (is_long_name rest || is_full s, rule.Size) ∷ [])
+    (or_rule (place_of names rest) rule.Unknown (λ n. Ok (with_step s (step.Show n))))
+
+-- `stop K B`
+abbrev pub stop_words : Script → Option (List ℕ × List ℕ) → Result Script Rule
+stop_words s None = Err rule.Line
+stop_words s (Some words) =
+    or_rule (number_in words.0) rule.Line (λ count.
+    or_rule (number_in words.1) rule.Line (λ bytes.
+    after_bare s (step.StopAt count bytes)))
+
+unfoldable pub after_stop : Script → List ℕ → Result Script Rule
+after_stop s rest = stop_words s (cut_at 32 rest)
+
+-- calls
+
+-- a caller more than can be
+abbrev pub is_caller_more : Script → List ℕ → Bool
+is_caller_more s name = not (is_among s.callers name) && nat_le MOST_CALLERS (length s.callers)
+
+-- `call C N`, behind which a line is `end`
+abbrev pub call_words : Script → List (List ℕ) → Option (List ℕ × List ℕ) → Result Script Rule
+call_words s later None = Err rule.Line
+call_words s later (Some words) =
+    or_rule (number_in words.1) rule.Line (λ number.
+    checked (
+    (not (is_identifier words.0), rule.Line)
+    ∷ (is_long_name words.0 || is_full s || is_caller_more s words.0, rule.Size)
+    ∷ (not (list_any is_end later), rule.Line)
+    ∷ [])
+    (Ok (record s {
+      part = part.Call;
+      callers = with_name s.callers words.0;
+      caller = words.0;
+      number = number;
+    })))
+
+unfoldable pub after_call : Script → List ℕ → List (List ℕ) → Result Script Rule
+after_call s rest later = call_words s later (cut_at 32 rest)
+
+-- an action of this kind on the service of this name, which the call gets
+abbrev pub begun : Script → Part → List ℕ → Result Script Rule
+begun s kind name =
+    checked ((not (is_identifier name), rule.Line) ∷ (is_long_name name, rule.Size) ∷ [])
+    (Ok (record s { part = kind; name = name; writes = [] }))
+
+-- `write D ITEM`
+abbrev pub write_words : List (List ℕ) → Script → Option (List ℕ × List ℕ) → Result Script Rule
+write_words names s None = Err rule.Line
+write_words names s (Some words) =
+    checked ((not (is_identifier words.0), rule.Line) ∷ [])
+    (on_ok (put_of (is_long_name words.0) words.1) (λ put.
+    checked ((not (is_among names words.0), rule.Unknown) ∷ [])
+    (Ok (record s {
+      writes = s.writes ++ (record { device = words.0; path = put.path; item = put.item }) ∷ [];
+    }))))
+
+unfoldable pub after_write : List (List ℕ) → Script → List ℕ → Result Script Rule
+after_write names s rest = write_words names s (cut_at 32 rest)
+
+-- the call with its action is a step
+abbrev pub with_call : Script → Action → Script
+with_call s action = record s {
+  part = part.Steps;
+  steps = s.steps ++ step.Serve (record { caller = s.caller; number = s.number; actions = action ∷ [] }) ∷ [];
+  caller = [];
+  name = [];
+  writes = [];
+}
+
+-- `end`, behind an action; the first line behind it that is not skipped is `settle`
+unfoldable pub after_end : Script → Action → List (List ℕ) → Result Script Rule
+after_end s action later = checked ((not (is_settled later), rule.Line) ∷ []) (Ok (with_call s action))
+
+-- which forms stand where
+
+-- of more than one word, where no call is open
+unfoldable pub a_step : Keyword → List (List ℕ) → Script → List ℕ → List (List ℕ) → Result Script Rule
+a_step keyword.Show names s rest later = after_show names s rest
+a_step keyword.Stop names s rest later = after_stop s rest
+a_step keyword.Call names s rest later = after_call s rest later
+a_step _ names s rest later = Err rule.Line
+
+-- of one word
+unfoldable pub bare_step : Keyword → Script → Result Script Rule
+bare_step keyword.Settle s = after_bare s step.Settle
+bare_step keyword.Stop s = after_bare s step.Stop
+bare_step keyword.Recover s = after_bare s step.Recover
+bare_step keyword.History s = after_bare s step.History
+bare_step _ s = Err rule.Line
+
+-- the one action of a call: `literal NAME` or `delete NAME`
+unfoldable pub an_action : Keyword → Script → List ℕ → Result Script Rule
+an_action keyword.Literal s rest = begun s part.Literal rest
+an_action keyword.Delete s rest = begun s part.Delete rest
+an_action _ s rest = Err rule.Line
+
+-- a line of a literal
+unfoldable pub a_write : Keyword → List (List ℕ) → Script → List ℕ → Result Script Rule
+a_write keyword.Write names s rest = after_write names s rest
+a_write _ names s rest = Err rule.Line
+
+-- the line behind an action
+unfoldable pub behind_action : Keyword → Script → Action → List (List ℕ) → Result Script Rule
+behind_action keyword.End s action later = after_end s action later
+behind_action _ s action later = Err rule.Line
+
+-- a line of more than one word
+unfoldable pub words_at : Part → List (List ℕ) → Script → List ℕ → List ℕ → List (List ℕ) → Result Script Rule
+words_at part.Steps names s word rest later = a_step (keyword_of word) names s rest later
+words_at part.Call names s word rest later = an_action (keyword_of word) s rest
+words_at part.Literal names s word rest later = a_write (keyword_of word) names s rest
+words_at part.Delete names s word rest later = Err rule.Line
+
+-- a line of one word
+unfoldable pub word_at : Part → Script → List ℕ → List (List ℕ) → Result Script Rule
+word_at part.Steps s word later = bare_step (keyword_of word) s
+word_at part.Call s word later = Err rule.Line
+word_at part.Literal s word later = behind_action (keyword_of word) s (action.Literal s.name s.writes) later
+word_at part.Delete s word later = behind_action (keyword_of word) s (action.Delete s.name) later
+
+-- a line that is not skipped
+abbrev pub step_words : List (List ℕ) → Script → List ℕ → List (List ℕ) → Option (List ℕ × List ℕ) → Result Script Rule
+step_words names s text later None = word_at s.part s text later
+step_words names s text later (Some words) = words_at s.part names s words.0 words.1 later
+
+-- a line with the lines behind it; so many bytes stand in front of it
+unfoldable pub scripted_at : List (List ℕ) → Script → ℕ → List ℕ → List (List ℕ) → Result Script Rule
+scripted_at names s at line later =
+    checked ((is_large at line, rule.Size) ∷ (not (is_utf8 (text_of line)), rule.Utf8) ∷ [])
+    (if is_skipped (text_of line) then Ok s else step_words names s (text_of line) later (cut_at 32 (text_of line)))

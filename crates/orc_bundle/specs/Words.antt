@@ -1,0 +1,29 @@
+-- The words of a line.
+use Rattle.std.specs.Prelude.{ℕ, Bool, false, not, ◌==◌, ◌&&◌, ◌||◌, ◌^◌, nat_eq, nat_lt, List, [], ◌∷◌, length, Option, if◌then◌else◌}
+use Rattle.std.specs.Str.{all_ascii_digits}
+use Rattle.std.specs.Str.Parse.{digits_value}
+use Rattle.std.specs.declared.option.Option.TheVariants.{None, Some}
+use Rattle.std.specs.Option.{option_map}
+use Rattle.std.specs.Cmp.Lexicographic.{pointwise}
+
+-- the text in front of the first such byte, and the text behind it; words are parted by one space, the byte 32
+abbrev pub cut_at : ℕ → List ℕ → Option (List ℕ × List ℕ)
+cut_at c [] = None
+cut_at c (b ∷ bs) = if b == c then Some ([], bs) else option_map (λ parts. (b ∷ parts.0, parts.1)) (cut_at c bs)
+
+-- a text is this one
+abbrev pub is_text : List ℕ → List ℕ → Bool
+is_text = pointwise nat_eq
+
+-- a sign or a needless zero stands in front
+abbrev pub is_padded : List ℕ → Bool
+is_padded [] = false
+is_padded (d ∷ ds) = (d == 43) || ((d == 48) && nat_lt 0 (length ds))
+
+-- decimal digits without a leading zero, of 64 bits
+abbrev pub is_number : List ℕ → Bool
+is_number word =
+    not (is_padded word) && nat_lt 0 (length word) && all_ascii_digits word && nat_lt (digits_value 10 word) (2 ^ 64)
+
+abbrev pub number_in : List ℕ → Option ℕ
+number_in word = if is_number word then Some (digits_value 10 word) else None

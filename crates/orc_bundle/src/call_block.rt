@@ -1,0 +1,183 @@
+//! What each line of a call block makes of the open call.
+ghost use Rattle.std.specs.Prelude.{◌≡◌, ◌≤◌, ◌+◌, ℕ, List, IsTrue, OnOk};
+ghost use Rattle.std.specs.List.{list_all};
+ghost use Rattle.orc_state.specs.Calls.{is_action};
+ghost use Rattle.orc_state.specs.declared.lawful.TheConstants.{MOST_WRITES};
+ghost use Rattle.orc_bundle.specs.Bundles.{is_step};
+ghost use Rattle.orc_bundle.specs.Keywords.{keyword_of};
+ghost use Rattle.orc_bundle.specs.Lines.{lines_of};
+ghost use Rattle.orc_bundle.specs.Scripts.{a_write, after_end, after_write, an_action, begun, behind_action};
+ghost use Rattle.orc_bundle.specs.inside.Lawful.{AreSteps, has_caller};
+ghost use Rattle.orc_bundle.specs.inside.Readers.{Steps};
+
+use crate::bundle::ScriptStep;
+use crate::fault::{LineFault, breaks};
+use crate::items::read_put;
+use crate::keyword::{Keyword, keyword_of};
+use crate::lines::is_settled;
+use crate::names::Names;
+use crate::script::{Part, Script};
+use crate::words::cut;
+use orc_call::{Action, Call, DevicePut};
+use orc_path::{is_identifier, is_long_name};
+use orc_state::Rule;
+use orc_text::{Row, Text};
+use std::alloc::Global;
+use std::mem::replace;
+
+impl Script {
+    // An action of this kind on the service of this name.
+    fn begin(&mut self, alloc: Global, part: Part, name: &str) -> Result<(), LineFault>
+        ensures steps { Steps (begun self.old part name.now) self.new result }
+        ensures lawful { (names : List (List ℕ)) (most : ℕ) → AreSteps names most self.old
+            → self.old.part ≡ Part.Call → OnOk result (AreSteps names most self.new) }
+    {
+        if !is_identifier(name) {
+            return breaks(Rule::Line);
+        }
+        if is_long_name(name) {
+            return breaks(Rule::Size);
+        }
+        self.part = part;
+        self.name = Text::from_str(alloc, name)?;
+        self.writes = Row::new(alloc);
+        Ok(())
+    }
+
+    // `write D ITEM`.
+    #[tactic(auto, unfolding(crate::specs::Scripts::after_write))]
+    fn take_write(&mut self, alloc: Global, names: &Names, rest: &str) -> Result<(), LineFault>
+        ensures steps { Steps (after_write names.now self.old rest.now) self.new result }
+        ensures lawful { (most : ℕ) → AreSteps names.now most self.old → self.old.part ≡ Part.Literal
+            → OnOk result (AreSteps names.now (most + 1) self.new) }
+    {
+        let Some((name, item)) = cut(rest) else {
+            return breaks(Rule::Line);
+        };
+        if !is_identifier(name) {
+            return breaks(Rule::Line);
+        }
+        let put = read_put(alloc, is_long_name(name), item)?;
+        let device = Text::from_str(alloc, name)?;
+        if !names.has(&device) {
+            return breaks(Rule::Unknown);
+        }
+        self.writes.push(DevicePut {
+            device,
+            path: put.path,
+            item: put.item,
+        })?;
+        Ok(())
+    }
+
+    // `end` behind an action, with the bytes behind the line.
+    #[tactic(auto, unfolding(crate::specs::Scripts::after_end))]
+    fn take_end(&mut self, alloc: Global, action: Action, later: &[u8]) -> Result<(), LineFault>
+        ensures steps { Steps (after_end self.old action (lines_of later.now)) self.new result }
+        ensures lawful { (names : List (List ℕ)) (most : ℕ) → IsTrue (list_all (is_step names) self.old.steps)
+            → IsTrue (has_caller self.old) → IsTrue (is_action names action)
+            → OnOk result (AreSteps names most self.new) }
+    {
+        if !is_settled(later) {
+            return breaks(Rule::Line);
+        }
+        let mut actions = Row::new(alloc);
+        actions.push(action)?;
+        let caller = replace(&mut self.caller, Text::new(alloc));
+        self.steps.push(ScriptStep::Serve(Call {
+            caller,
+            number: self.number,
+            actions,
+        }))?;
+        self.part = Part::Steps;
+        self.name = Text::new(alloc);
+        self.writes = Row::new(alloc);
+        Ok(())
+    }
+
+    // The action of a call.
+    #[tactic(auto, unfolding(crate::specs::Scripts::an_action))]
+    pub(crate) fn take_action(
+        &mut self,
+        alloc: Global,
+        word: &str,
+        rest: &str,
+    ) -> Result<(), LineFault>
+        ensures steps { Steps (an_action (keyword_of word.now) self.old rest.now) self.new result }
+        ensures lawful { (names : List (List ℕ)) (most : ℕ) → AreSteps names most self.old
+            → self.old.part ≡ Part.Call → OnOk result (AreSteps names most self.new) }
+    {
+        match keyword_of(word) {
+            Keyword::Literal => self.begin(alloc, Part::Literal, rest),
+            Keyword::Delete => self.begin(alloc, Part::Delete, rest),
+            _ => breaks(Rule::Line),
+        }
+    }
+
+    // A line of more than one word of a literal.
+    #[tactic(auto, unfolding(crate::specs::Scripts::a_write))]
+    pub(crate) fn take_literal_words(
+        &mut self,
+        alloc: Global,
+        names: &Names,
+        word: &str,
+        rest: &str,
+    ) -> Result<(), LineFault>
+        ensures steps { Steps (a_write (keyword_of word.now) names.now self.old rest.now) self.new result }
+        ensures lawful { (most : ℕ) → AreSteps names.now most self.old → self.old.part ≡ Part.Literal
+            → OnOk result (AreSteps names.now (most + 1) self.new) }
+    {
+        match keyword_of(word) {
+            Keyword::Write => self.take_write(alloc, names, rest),
+            _ => breaks(Rule::Line),
+        }
+    }
+
+    // A line of one word behind a literal.
+    #[tactic(auto, unfolding(crate::specs::Scripts::behind_action, crate::specs::Scripts::after_end))]
+    pub(crate) fn end_literal(
+        &mut self,
+        alloc: Global,
+        word: &str,
+        later: &[u8],
+    ) -> Result<(), LineFault>
+        ensures steps { Steps
+            (behind_action (keyword_of word.now) self.old (Action.Literal self.old.name self.old.writes)
+            (lines_of later.now))
+            self.new result }
+        ensures lawful { (names : List (List ℕ)) (most : ℕ) → AreSteps names most self.old
+            → self.old.part ≡ Part.Literal → most ≤ MOST_WRITES → OnOk result (AreSteps names most self.new) }
+    {
+        match keyword_of(word) {
+            Keyword::End => {
+                let name = replace(&mut self.name, Text::new(alloc));
+                let writes = replace(&mut self.writes, Row::new(alloc));
+                self.take_end(alloc, Action::Literal(name, writes), later)
+            }
+            _ => breaks(Rule::Line),
+        }
+    }
+
+    // A line of one word behind a deletion.
+    #[tactic(auto, unfolding(crate::specs::Scripts::behind_action, crate::specs::Scripts::after_end))]
+    pub(crate) fn end_delete(
+        &mut self,
+        alloc: Global,
+        word: &str,
+        later: &[u8],
+    ) -> Result<(), LineFault>
+        ensures steps { Steps
+            (behind_action (keyword_of word.now) self.old (Action.Delete self.old.name) (lines_of later.now))
+            self.new result }
+        ensures lawful { (names : List (List ℕ)) (most : ℕ) → AreSteps names most self.old
+            → self.old.part ≡ Part.Delete → OnOk result (AreSteps names most self.new) }
+    {
+        match keyword_of(word) {
+            Keyword::End => {
+                let name = replace(&mut self.name, Text::new(alloc));
+                self.take_end(alloc, Action::Delete(name), later)
+            }
+            _ => breaks(Rule::Line),
+        }
+    }
+}

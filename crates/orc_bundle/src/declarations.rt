@@ -1,0 +1,258 @@
+//! What was declared so far, and what each form of a declaration makes of it.
+ghost use Rattle.std.specs.Prelude.{◌≡◌, ◌<◌, ◌≤◌, ◌+◌, ◌^◌, OnOk, length};
+ghost use Rattle.orc_bundle.specs.Lines.{lines_of};
+ghost use Rattle.orc_bundle.specs.Keywords.{keyword_of};
+ghost use Rattle.orc_bundle.specs.Declarations.{nothing_declared, with_base, after_header, after_device, after_base, after_yang, after_script, declaration, bare_declaration, after_text, declared_at};
+ghost use Rattle.orc_bundle.specs.inside.Readers.{Steps};
+ghost use Rattle.orc_bundle.specs.inside.Lawful.{AreDeclared};
+ghost use Rattle.orc_bundle.specs.declared.bundle.TheConstants.{LARGEST_BUNDLE};
+
+use crate::fault::{LineFault, breaks};
+use crate::items::read_put;
+use crate::keyword::{Keyword, keyword_of};
+use crate::lines::{block_of, is_large, is_skipped, line_text};
+use crate::module::module_of;
+use crate::names::Names;
+use crate::words::{cut, number_of, read_text};
+use orc_call::Put;
+use orc_path::{is_identifier, is_long_name};
+use orc_state::{Device, MOST_DEVICES, Rule};
+use orc_text::{Memory, Row, Text};
+use std::alloc::Global;
+use std::mem::replace;
+
+/// Which lines may stand.
+#[derive(Clone, Copy, Debug, PartialEq, Eq)]
+pub enum Section {
+    /// The header alone.
+    Header,
+    /// Declarations, or the line that ends them.
+    Declarations,
+    /// The script.
+    Script,
+}
+
+/// What was declared so far.
+#[derive(Debug, Drop)]
+pub struct Declared {
+    pub section: Section,
+    /// How many lines of a block are still to come.
+    pub skip: u64,
+    /// The names of the modules.
+    pub modules: Names,
+    /// The names of the devices.
+    pub names: Names,
+    /// The devices with their bases.
+    pub devices: Row<Device>,
+}
+
+// Adds an item to the base of the device of a number.
+fn push_base(devices: &mut [Device], n: usize, put: Put) -> Result<(), Memory>
+    ensures { OnOk result (devices.new ≡ with_base n put devices.old) }
+{
+    if n < devices.len() {
+        devices[n].base.push(put)
+    } else {
+        Ok(())
+    }
+}
+
+// The same in a row.
+fn add_base(alloc: Global, devices: &mut Row<Device>, n: usize, put: Put) -> Result<(), Memory>
+    ensures { OnOk result (devices.new ≡ with_base n put devices.old) }
+{
+    let mut items = replace(devices, Row::new(alloc)).into_vec();
+    let added = push_base(items.as_mut_slice(), n, put);
+    *devices = Row::from_vec(items);
+    added
+}
+
+impl Declared {
+    /// Nothing is declared, and the header is due.
+    pub(crate) fn new(alloc: Global) -> Declared
+        ensures { result ≡ nothing_declared }
+    {
+        Declared {
+            section: Section::Header,
+            skip: 0,
+            modules: Names::new(alloc),
+            names: Names::new(alloc),
+            devices: Row::new(alloc),
+        }
+    }
+
+    // `orc 1`.
+    #[tactic(auto, unfolding(crate::specs::Declarations::after_header))]
+    fn take_header(&mut self, text: &str) -> Result<(), LineFault>
+        ensures steps { Steps (after_header self.old text.now) self.new result }
+        ensures lawful { AreDeclared self.old → OnOk result (AreDeclared self.new) }
+    {
+        if text != "orc 1" {
+            return breaks(Rule::Header);
+        }
+        self.section = Section::Declarations;
+        Ok(())
+    }
+
+    // `device D plain`.
+    #[tactic(auto, unfolding(crate::specs::Declarations::after_device))]
+    fn take_device(&mut self, alloc: Global, rest: &str) -> Result<(), LineFault>
+        ensures steps { Steps (after_device self.old rest.now) self.new result }
+        ensures lawful { AreDeclared self.old → OnOk result (AreDeclared self.new) }
+    {
+        let Some((name, kind)) = cut(rest) else {
+            return breaks(Rule::Line);
+        };
+        if !is_identifier(name) || kind != "plain" {
+            return breaks(Rule::Line);
+        }
+        if is_long_name(name) {
+            return breaks(Rule::Size);
+        }
+        let name = Text::from_str(alloc, name)?;
+        let is_old = self.names.has(&name);
+        if !is_old && self.names.len() >= MOST_DEVICES {
+            return breaks(Rule::Size);
+        }
+        if is_old {
+            return breaks(Rule::Duplicate);
+        }
+        self.names.add(name.copy(alloc)?)?;
+        self.devices.push(Device {
+            name,
+            base: Row::new(alloc),
+        })?;
+        Ok(())
+    }
+
+    // `base D ITEM`.
+    #[tactic(auto, unfolding(crate::specs::Declarations::after_base))]
+    fn take_base(&mut self, alloc: Global, rest: &str) -> Result<(), LineFault>
+        ensures steps { Steps (after_base self.old rest.now) self.new result }
+        ensures lawful { AreDeclared self.old → OnOk result (AreDeclared self.new) }
+    {
+        let Some((name, item)) = cut(rest) else {
+            return breaks(Rule::Line);
+        };
+        if !is_identifier(name) {
+            return breaks(Rule::Line);
+        }
+        let put = read_put(alloc, is_long_name(name), item)?;
+        let name = Text::from_str(alloc, name)?;
+        let Some(n) = self.names.place(&name) else {
+            return breaks(Rule::Unknown);
+        };
+        add_base(alloc, &mut self.devices, n, put)?;
+        Ok(())
+    }
+
+    // `yang N`, with the bytes behind the line.
+    #[tactic(auto, unfolding(crate::specs::Declarations::after_yang))]
+    fn take_yang(&mut self, alloc: Global, rest: &str, later: &[u8]) -> Result<(), LineFault>
+        ensures steps { Steps (after_yang self.old rest.now (lines_of later.now)) self.new result }
+        ensures lawful { AreDeclared self.old → OnOk result (AreDeclared self.new) }
+    {
+        let Some(count) = number_of(rest) else {
+            return breaks(Rule::Line);
+        };
+        let Some(text) = block_of(alloc, later, count)? else {
+            return breaks(Rule::Line);
+        };
+        let name = module_of(alloc, text.as_slice())?;
+        if name.as_str() == "orc" || self.modules.has(&name) {
+            return breaks(Rule::Duplicate);
+        }
+        self.modules.add(name)?;
+        self.skip = count;
+        Ok(())
+    }
+
+    // `script`.
+    #[tactic(auto, unfolding(crate::specs::Declarations::after_script))]
+    fn take_script(&mut self) -> Result<(), LineFault>
+        ensures steps { Steps (after_script self.old) self.new result }
+        ensures lawful { AreDeclared self.old → OnOk result (AreDeclared self.new) }
+    {
+        self.section = Section::Script;
+        Ok(())
+    }
+
+    // A declaration of more than one word.
+    #[tactic(auto, unfolding(crate::specs::Declarations::declaration))]
+    fn take_words(
+        &mut self,
+        alloc: Global,
+        word: &str,
+        rest: &str,
+        later: &[u8],
+    ) -> Result<(), LineFault>
+        ensures steps { Steps
+            (declaration (keyword_of word.now) self.old rest.now (lines_of later.now))
+            self.new result }
+        ensures lawful { AreDeclared self.old → OnOk result (AreDeclared self.new) }
+    {
+        match keyword_of(word) {
+            Keyword::Device => self.take_device(alloc, rest),
+            Keyword::Base => self.take_base(alloc, rest),
+            Keyword::Yang => self.take_yang(alloc, rest, later),
+            _ => breaks(Rule::Line),
+        }
+    }
+
+    // A declaration of one word.
+    #[tactic(auto, unfolding(crate::specs::Declarations::bare_declaration))]
+    fn take_word(&mut self, word: &str) -> Result<(), LineFault>
+        ensures steps { Steps (bare_declaration (keyword_of word.now) self.old) self.new result }
+        ensures lawful { AreDeclared self.old → OnOk result (AreDeclared self.new) }
+    {
+        match keyword_of(word) {
+            Keyword::Script => self.take_script(),
+            _ => breaks(Rule::Line),
+        }
+    }
+
+    // A line that is not skipped.
+    #[tactic(auto, unfolding(crate::specs::Declarations::after_text))]
+    fn take_text(&mut self, alloc: Global, text: &str, later: &[u8]) -> Result<(), LineFault>
+        ensures steps { Steps (after_text self.old text.now (lines_of later.now)) self.new result }
+        ensures lawful { AreDeclared self.old → OnOk result (AreDeclared self.new) }
+    {
+        if self.section == Section::Header {
+            return self.take_header(text);
+        }
+        match cut(text) {
+            Some((word, rest)) => self.take_words(alloc, word, rest, later),
+            None => self.take_word(text),
+        }
+    }
+
+    /// A line, with the bytes behind it. So many bytes stand in front of it.
+    #[tactic(auto, unfolding(crate::specs::Declarations::declared_at))]
+    pub(crate) fn take(
+        &mut self,
+        alloc: Global,
+        at: u64,
+        line: &[u8],
+        later: &[u8],
+    ) -> Result<(), LineFault>
+        requires { at + length line.now < 2 ^ 63 }
+        ensures steps { Steps (declared_at self.old at line.now (lines_of later.now)) self.new result }
+        ensures lawful { AreDeclared self.old → OnOk result (AreDeclared self.new) }
+        ensures small { OnOk result (at + length line.now ≤ LARGEST_BUNDLE) }
+    {
+        if is_large(at, line) {
+            return breaks(Rule::Size);
+        }
+        if self.skip > 0 {
+            self.skip -= 1;
+            return Ok(());
+        }
+        let Some(text) = read_text(line_text(line)) else {
+            return breaks(Rule::Utf8);
+        };
+        if is_skipped(text.as_bytes()) {
+            return Ok(());
+        }
+        self.take_text(alloc, text, later)
+    }
+}

@@ -1,0 +1,48 @@
+//! The first words of lines.
+ghost use Rattle.std.specs.Prelude.{◌≡◌};
+ghost use Rattle.orc_bundle.specs.Keywords.{keyword_of};
+
+/// The first word of a line.
+#[derive(Clone, Copy, Debug, PartialEq, Eq)]
+pub(crate) enum Keyword {
+    Device,
+    Base,
+    Yang,
+    Script,
+    Show,
+    Call,
+    Literal,
+    Write,
+    Delete,
+    End,
+    Settle,
+    Stop,
+    Recover,
+    History,
+    /// No line has it.
+    Other,
+}
+
+/// The keyword that a word is.
+#[tactic(auto, unfolding(crate::specs::Keywords::keyword_of))]
+pub(crate) fn keyword_of(word: &str) -> Keyword
+    ensures { result ≡ keyword_of word.now }
+{
+    match word {
+        "device" => Keyword::Device,
+        "base" => Keyword::Base,
+        "yang" => Keyword::Yang,
+        "script" => Keyword::Script,
+        "show" => Keyword::Show,
+        "call" => Keyword::Call,
+        "literal" => Keyword::Literal,
+        "write" => Keyword::Write,
+        "delete" => Keyword::Delete,
+        "end" => Keyword::End,
+        "settle" => Keyword::Settle,
+        "stop" => Keyword::Stop,
+        "recover" => Keyword::Recover,
+        "history" => Keyword::History,
+        _ => Keyword::Other,
+    }
+}

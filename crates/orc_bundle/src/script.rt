@@ -1,0 +1,302 @@
+//! The steps so far, and what each form of a script's line makes of them.
+ghost use Rattle.std.specs.Prelude.{◌≡◌, ◌<◌, ◌≤◌, ◌+◌, ◌^◌, ℕ, List, IsTrue, OnOk, length};
+ghost use Rattle.orc_bundle.specs.Lines.{lines_of};
+ghost use Rattle.orc_bundle.specs.Keywords.{keyword_of};
+ghost use Rattle.orc_bundle.specs.Words.{cut_at};
+ghost use Rattle.orc_bundle.specs.Scripts.{no_steps, is_full, is_caller_more, after_bare, after_show, after_stop, after_call, step_words, a_step, bare_step, words_at, word_at, scripted_at};
+ghost use Rattle.orc_bundle.specs.inside.Readers.{Steps};
+ghost use Rattle.orc_bundle.specs.inside.Lawful.{AreSteps};
+ghost use Rattle.orc_bundle.specs.Bundles.{is_step};
+ghost use Rattle.orc_state.specs.declared.declarations.TheConstants.{MOST_DEVICES};
+ghost use Rattle.orc_state.specs.declared.lawful.TheConstants.{MOST_WRITES};
+ghost use Rattle.orc_bundle.specs.declared.bundle.TheConstants.{LARGEST_BUNDLE};
+
+use crate::bundle::ScriptStep;
+use crate::fault::{LineFault, breaks};
+use crate::keyword::{Keyword, keyword_of};
+use crate::lines::{ends_later, is_large, is_skipped, line_text};
+use crate::names::Names;
+use crate::words::{cut, number_of, read_text};
+use orc_call::DevicePut;
+use orc_path::{is_identifier, is_long_name};
+use orc_state::Rule;
+use orc_text::{Row, Text};
+use std::alloc::Global;
+
+/// The most callers of a script.
+pub const MOST_CALLERS: usize = 256;
+
+/// The most steps of a script.
+pub const MOST_STEPS: usize = 100_000;
+
+/// Which lines may stand.
+#[derive(Clone, Copy, Debug, PartialEq, Eq)]
+pub enum Part {
+    /// Steps: no call is open.
+    Steps,
+    /// The action of the open call.
+    Call,
+    /// Writes of the open call's literal, or the line that ends the call.
+    Literal,
+    /// Behind the open call's deletion, the line that ends the call.
+    Delete,
+}
+
+/// The steps so far, with the callers that they name, and the parts of the open call.
+#[derive(Debug, Drop)]
+pub struct Script {
+    pub part: Part,
+    pub callers: Names,
+    pub steps: Row<ScriptStep>,
+    pub caller: Text,
+    pub number: u64,
+    /// The service that the action names.
+    pub name: Text,
+    pub writes: Row<DevicePut>,
+}
+
+impl Script {
+    /// No step, and no call is open.
+    pub(crate) fn new(alloc: Global) -> Script
+        ensures { result ≡ no_steps }
+    {
+        Script {
+            part: Part::Steps,
+            callers: Names::new(alloc),
+            steps: Row::new(alloc),
+            caller: Text::new(alloc),
+            number: 0,
+            name: Text::new(alloc),
+            writes: Row::new(alloc),
+        }
+    }
+
+    // Whether no step more can stand.
+    fn is_full(&self) -> bool
+        ensures { result ≡ is_full self.now }
+    {
+        self.steps.len() >= MOST_STEPS
+    }
+
+    // A step of one word.
+    fn take_bare(&mut self, step: ScriptStep) -> Result<(), LineFault>
+        ensures steps { Steps (after_bare self.old step) self.new result }
+        ensures lawful { (names : List (List ℕ)) (most : ℕ) → AreSteps names most self.old
+            → IsTrue (is_step names step) → OnOk result (AreSteps names most self.new) }
+    {
+        if self.is_full() {
+            return breaks(Rule::Size);
+        }
+        self.steps.push(step)?;
+        Ok(())
+    }
+
+    // `show D`.
+    #[tactic(auto, unfolding(crate::specs::Scripts::after_show))]
+    fn take_show(&mut self, alloc: Global, names: &Names, rest: &str) -> Result<(), LineFault>
+        requires { length names.now ≤ MOST_DEVICES }
+        ensures steps { Steps (after_show names.now self.old rest.now) self.new result }
+        ensures lawful { (most : ℕ) → AreSteps names.now most self.old
+            → OnOk result (AreSteps names.now most self.new) }
+    {
+        if !is_identifier(rest) {
+            return breaks(Rule::Line);
+        }
+        if is_long_name(rest) || self.is_full() {
+            return breaks(Rule::Size);
+        }
+        let name = Text::from_str(alloc, rest)?;
+        let Some(n) = names.place(&name) else {
+            return breaks(Rule::Unknown);
+        };
+        self.steps.push(ScriptStep::Show(n as u32))?;
+        Ok(())
+    }
+
+    // `stop K B`.
+    #[tactic(auto, unfolding(crate::specs::Scripts::after_stop))]
+    fn take_stop(&mut self, rest: &str) -> Result<(), LineFault>
+        ensures steps { Steps (after_stop self.old rest.now) self.new result }
+        ensures lawful { (names : List (List ℕ)) (most : ℕ) → AreSteps names most self.old
+            → OnOk result (AreSteps names most self.new) }
+    {
+        let Some((count, bytes)) = cut(rest) else {
+            return breaks(Rule::Line);
+        };
+        let Some(count) = number_of(count) else {
+            return breaks(Rule::Line);
+        };
+        let Some(bytes) = number_of(bytes) else {
+            return breaks(Rule::Line);
+        };
+        self.take_bare(ScriptStep::StopAt(count, bytes))
+    }
+
+    // Whether this would be a caller more than can be.
+    fn is_caller_more(&self, name: &Text) -> bool
+        ensures { result ≡ is_caller_more self.now name.now }
+    {
+        !self.callers.has(name) && self.callers.len() >= MOST_CALLERS
+    }
+
+    // `call C N`, with the bytes behind the line.
+    #[tactic(auto, unfolding(crate::specs::Scripts::after_call))]
+    fn take_call(&mut self, alloc: Global, rest: &str, later: &[u8]) -> Result<(), LineFault>
+        ensures steps { Steps (after_call self.old rest.now (lines_of later.now)) self.new result }
+        ensures lawful { (names : List (List ℕ)) (most : ℕ) → AreSteps names most self.old
+            → OnOk result (AreSteps names most self.new) }
+    {
+        let Some((caller, number)) = cut(rest) else {
+            return breaks(Rule::Line);
+        };
+        let Some(number) = number_of(number) else {
+            return breaks(Rule::Line);
+        };
+        if !is_identifier(caller) {
+            return breaks(Rule::Line);
+        }
+        let name = Text::from_str(alloc, caller)?;
+        if is_long_name(caller) || self.is_full() || self.is_caller_more(&name) {
+            return breaks(Rule::Size);
+        }
+        if !ends_later(later) {
+            return breaks(Rule::Line);
+        }
+        self.callers.add(name.copy(alloc)?)?;
+        self.part = Part::Call;
+        self.caller = name;
+        self.number = number;
+        Ok(())
+    }
+
+    // A step of more than one word.
+    #[tactic(auto, unfolding(crate::specs::Scripts::a_step))]
+    fn take_step(
+        &mut self,
+        alloc: Global,
+        names: &Names,
+        word: &str,
+        rest: &str,
+        later: &[u8],
+    ) -> Result<(), LineFault>
+        requires { length names.now ≤ MOST_DEVICES }
+        ensures steps { Steps
+            (a_step (keyword_of word.now) names.now self.old rest.now (lines_of later.now))
+            self.new result }
+        ensures lawful { (most : ℕ) → AreSteps names.now most self.old
+            → OnOk result (AreSteps names.now most self.new) }
+    {
+        match keyword_of(word) {
+            Keyword::Show => self.take_show(alloc, names, rest),
+            Keyword::Stop => self.take_stop(rest),
+            Keyword::Call => self.take_call(alloc, rest, later),
+            _ => breaks(Rule::Line),
+        }
+    }
+
+    // A step of one word.
+    #[tactic(auto, unfolding(crate::specs::Scripts::bare_step))]
+    fn take_bare_step(&mut self, word: &str) -> Result<(), LineFault>
+        ensures steps { Steps (bare_step (keyword_of word.now) self.old) self.new result }
+        ensures lawful { (names : List (List ℕ)) (most : ℕ) → AreSteps names most self.old
+            → OnOk result (AreSteps names most self.new) }
+    {
+        match keyword_of(word) {
+            Keyword::Settle => self.take_bare(ScriptStep::Settle),
+            Keyword::Stop => self.take_bare(ScriptStep::Stop),
+            Keyword::Recover => self.take_bare(ScriptStep::Recover),
+            Keyword::History => self.take_bare(ScriptStep::History),
+            _ => breaks(Rule::Line),
+        }
+    }
+
+    // A line of more than one word.
+    #[tactic(auto, unfolding(crate::specs::Scripts::words_at))]
+    fn take_words(
+        &mut self,
+        alloc: Global,
+        names: &Names,
+        word: &str,
+        rest: &str,
+        later: &[u8],
+    ) -> Result<(), LineFault>
+        requires { length names.now ≤ MOST_DEVICES }
+        ensures steps { Steps
+            (words_at self.old.part names.now self.old word.now rest.now (lines_of later.now))
+            self.new result }
+        ensures lawful { (most : ℕ) → AreSteps names.now most self.old
+            → OnOk result (AreSteps names.now (most + 1) self.new) }
+    {
+        match self.part {
+            Part::Steps => self.take_step(alloc, names, word, rest, later),
+            Part::Call => self.take_action(alloc, word, rest),
+            Part::Literal => self.take_literal_words(alloc, names, word, rest),
+            Part::Delete => breaks(Rule::Line),
+        }
+    }
+
+    // A line of one word.
+    #[tactic(auto, unfolding(crate::specs::Scripts::word_at))]
+    fn take_word(&mut self, alloc: Global, word: &str, later: &[u8]) -> Result<(), LineFault>
+        ensures steps { Steps (word_at self.old.part self.old word.now (lines_of later.now)) self.new result }
+        ensures lawful { (names : List (List ℕ)) (most : ℕ) → AreSteps names most self.old → most ≤ MOST_WRITES
+            → OnOk result (AreSteps names most self.new) }
+    {
+        match self.part {
+            Part::Steps => self.take_bare_step(word),
+            Part::Call => breaks(Rule::Line),
+            Part::Literal => self.end_literal(alloc, word, later),
+            Part::Delete => self.end_delete(alloc, word, later),
+        }
+    }
+
+    // A line that is not skipped.
+    fn take_text(
+        &mut self,
+        alloc: Global,
+        names: &Names,
+        text: &str,
+        later: &[u8],
+    ) -> Result<(), LineFault>
+        requires { length names.now ≤ MOST_DEVICES }
+        ensures steps { Steps
+            (step_words names.now self.old text.now (lines_of later.now) (cut_at 32 text.now))
+            self.new result }
+        ensures lawful { (most : ℕ) → AreSteps names.now most self.old → most ≤ MOST_WRITES
+            → OnOk result (AreSteps names.now (most + 1) self.new) }
+    {
+        match cut(text) {
+            Some((word, rest)) => self.take_words(alloc, names, word, rest, later),
+            None => self.take_word(alloc, text, later),
+        }
+    }
+
+    /// A line, with the bytes behind it. So many bytes stand in front of it.
+    #[tactic(auto, unfolding(crate::specs::Scripts::scripted_at))]
+    pub(crate) fn take(
+        &mut self,
+        alloc: Global,
+        names: &Names,
+        at: u64,
+        line: &[u8],
+        later: &[u8],
+    ) -> Result<(), LineFault>
+        requires room { at + length line.now < 2 ^ 63 }
+        requires few { length names.now ≤ MOST_DEVICES }
+        ensures steps { Steps (scripted_at names.now self.old at line.now (lines_of later.now)) self.new result }
+        ensures lawful { (most : ℕ) → AreSteps names.now most self.old → most ≤ MOST_WRITES
+            → OnOk result (AreSteps names.now (most + 1) self.new) }
+        ensures small { OnOk result (at + length line.now ≤ LARGEST_BUNDLE) }
+    {
+        if is_large(at, line) {
+            return breaks(Rule::Size);
+        }
+        let Some(text) = read_text(line_text(line)) else {
+            return breaks(Rule::Utf8);
+        };
+        if is_skipped(text.as_bytes()) {
+            return Ok(());
+        }
+        self.take_text(alloc, names, text, later)
+    }
+}

@@ -1,0 +1,56 @@
+//! The words of a line.
+ghost use Rattle.std.specs.Prelude.{◌≡◌, MatchOption, None, Some, true, false};
+ghost use Rattle.std.specs.Str.{is_utf8};
+ghost use Rattle.orc_bundle.specs.Words.{cut_at, is_padded, number_in};
+
+use std::str;
+
+/// The text in front of the first space and the text behind it.
+pub(crate) fn cut(text: &str) -> Option<(&str, &str)>
+    ensures { MatchOption result (cut_at 32 text.now ≡ None)
+        (λ parts. cut_at 32 text.now ≡ Some (parts.0.now, parts.1.now)) }
+{
+    text.split_once(' ')
+}
+
+/// The text in front of the first colon and the text behind it.
+pub(crate) fn cut_prefix(text: &str) -> Option<(&str, &str)>
+    ensures { MatchOption result (cut_at 58 text.now ≡ None)
+        (λ parts. cut_at 58 text.now ≡ Some (parts.0.now, parts.1.now)) }
+{
+    text.split_once(':')
+}
+
+// Whether a sign or a needless zero stands in front.
+fn is_padded(digits: &[u8]) -> bool
+    ensures { result ≡ is_padded digits.now }
+{
+    match digits {
+        [] => false,
+        [first, rest @ ..] => *first == b'+' || *first == b'0' && !rest.is_empty(),
+    }
+}
+
+/// A number in decimal without leading zeros.
+pub(crate) fn number_of(word: &str) -> Option<u64>
+    ensures { result ≡ number_in word.now }
+{
+    if is_padded(word.as_bytes()) {
+        return None;
+    }
+    match word.parse() {
+        Ok(number) => Some(number),
+        Err(_) => None,
+    }
+}
+
+/// The text of these bytes, where they are UTF-8.
+pub(crate) fn read_text(bytes: &[u8]) -> Option<&str>
+    ensures { MatchOption result (is_utf8 bytes.now ≡ false)
+        (λ text. (is_utf8 bytes.now ≡ true) × (text.now ≡ bytes.now)) }
+{
+    match str::from_utf8(bytes) {
+        Ok(text) => Some(text),
+        Err(_) => None,
+    }
+}

@@ -1,0 +1,56 @@
+-- Reading a value character by character.
+use Rattle.std.proofs.Common.{◌≡◌, ℕ, true, false, cond, List, [], ◌∷◌, ◌++◌, Some, None, Option, length, encode_utf8, refl, sym, ap, ◌∙◌, arith, append-nil}
+use Rattle.std.proofs.lemmas.List.{nil_from_length}
+use Rattle.std.proofs.lemmas.Str.{encode_ascii}
+use Rattle.orc_path.specs.inside.ValueReading.{value_unescape, is_never_raw, unescaped, led, ahead}
+use Rattle.orc_path.specs.declared.value.ValueReader.{ValueReader}
+use Rattle.orc_path.proofs.Values.{is_marked, led_led, meaning_low, unescaped_character, unescaped_raw_none, unescaped_backslash, unescaped_meant, unescaped_none}
+
+module _ (r : ValueReader) where
+  escaped : (rest : List ℕ) → r.is_escaped ≡ true → ahead r rest ≡ led r.value (unescaped (92 ∷ rest))
+  escaped rest is_so = ap (λ t. led r.value (unescaped (cond t (92 ∷ rest) rest))) is_so
+
+  plain : (rest : List ℕ) → r.is_escaped ≡ false → ahead r rest ≡ led r.value (unescaped rest)
+  plain rest no_escape = ap (λ t. led r.value (unescaped (cond t (92 ∷ rest) rest))) no_escape
+
+  -- behind a backslash
+  pub ahead_meant : (c m : ℕ) (value rest : List ℕ) → r.is_escaped ≡ true → value_unescape c ≡ Some m → value ≡ r.value ++ encode_utf8 m
+      → ahead r (encode_utf8 c ++ rest) ≡ ahead (record { value = value; is_escaped = false }) rest
+  ahead_meant c m value rest is_so is pushed =
+      escaped (encode_utf8 c ++ rest) is_so ∙ ap (led r.value) (unescaped_meant c m rest is) ∙ led_led r.value (m ∷ []) (unescaped rest)
+      ∙ ap (λ v. led v (unescaped rest)) (ap (λ x. r.value ++ x) (sym (encode_ascii m (meaning_low c m is))) ∙ sym pushed)
+
+  pub ahead_none : (c : ℕ) (rest : List ℕ) → r.is_escaped ≡ true → value_unescape c ≡ None → ahead r (encode_utf8 c ++ rest) ≡ None
+  ahead_none c rest is_so is = escaped (encode_utf8 c ++ rest) is_so ∙ ap (led r.value) (unescaped_none c rest is)
+
+  -- elsewhere
+  pub ahead_backslash : (c : ℕ) (rest : List ℕ) → r.is_escaped ≡ false → c ≡ 92 → ahead r (encode_utf8 c ++ rest) ≡ ahead (record { value = r.value; is_escaped = true }) rest
+  ahead_backslash c rest no_escape is =
+      plain (encode_utf8 c ++ rest) no_escape ∙ ap (λ x. led r.value (unescaped (encode_utf8 x ++ rest))) is ∙ ap (λ x. led r.value (unescaped x)) (unescaped_backslash rest)
+
+  pub ahead_never : (c : ℕ) (rest : List ℕ) → r.is_escaped ≡ false → is_never_raw c ≡ true → ahead r (encode_utf8 c ++ rest) ≡ None
+  ahead_never c rest no_escape is = plain (encode_utf8 c ++ rest) no_escape ∙ ap (led r.value) (unescaped_raw_none c rest is)
+
+  pub ahead_raw : (c : ℕ) (value rest : List ℕ) → r.is_escaped ≡ false → (c ≡ 92 → ⊥) → is_never_raw c ≡ false → value ≡ r.value ++ encode_utf8 c
+      → ahead r (encode_utf8 c ++ rest) ≡ ahead (record { value = value; is_escaped = r.is_escaped }) rest
+  ahead_raw c value rest no_escape no_backslash is pushed =
+      plain (encode_utf8 c ++ rest) no_escape ∙ ap (led r.value) (unescaped_character c rest (unmarked c no_backslash is)) ∙ led_led r.value (encode_utf8 c) (unescaped rest)
+      ∙ ap (λ v. led v (unescaped rest)) (sym pushed) ∙ ap (λ t. led value (unescaped (cond t (92 ∷ rest) rest))) (sym no_escape)
+    where
+      unmarked : (c : ℕ) → (c ≡ 92 → ⊥) → is_never_raw c ≡ false → is_marked c ≡ false
+      unmarked c n h = grind arith
+
+  -- at the end
+  pub ahead_end_escaped : (rest : List ℕ) → length rest ≡ 0 → r.is_escaped ≡ true → ahead r rest ≡ None
+  ahead_end_escaped rest e is_so = escaped rest is_so ∙ ap (λ x. led r.value (unescaped (92 ∷ x))) (nil_from_length rest e)
+
+  pub ahead_end : (rest : List ℕ) → length rest ≡ 0 → r.is_escaped ≡ false → ahead r rest ≡ Some r.value
+  ahead_end rest e no_escape = plain rest no_escape ∙ ap (λ x. led r.value (unescaped x)) (nil_from_length rest e) ∙ ap Some (append-nil r.value)
+
+-- at the start
+pub ahead_first : (value text : List ℕ) → value ≡ [] → ahead (record { value = value; is_escaped = false }) text ≡ unescaped text
+ahead_first value text is = ap (λ v. led v (unescaped text)) is ∙ all (unescaped text)
+  where
+    all : (o : Option (List ℕ)) → led [] o ≡ o
+    all None = refl
+    all (Some bytes) = refl

@@ -1,0 +1,35 @@
+use Rattle.std.proofs.Common.{◌∙◌, false, sym, ap}
+use Rattle.orc_path.specs.inside.ValueReading.{ahead}
+use Rattle.orc_path.proofs.Bools.{if_so, if_not}
+use Rattle.orc_path.proofs.Values.{value_of-plain, value_of-not_plain}
+use Rattle.orc_path.proofs.ValueReads.{ahead_first, ahead_end, ahead_end_escaped}
+use Rattle.orc_path.proofs.value.read_value.Goals as goal
+
+pub returns-then-not-is_plain_text : goal.returns-then-not-is_plain_text
+returns-then-not-is_plain_text c = sym (value_of-not_plain c.args.text.now (sym c.if-not-is_plain_text.ensures))
+
+pub loop-character-init : goal.loop-character-init
+loop-character-init c =
+    ap (λ i. ahead (record { value = c.new.result; is_escaped = false }) i.rest.now) c.into_iter-character-iterator.ensures.into_iter_gives
+    ∙ ap (ahead (record { value = c.new.result; is_escaped = false })) c.chars-character-items.ensures.rest
+    ∙ ahead_first c.new.result c.args.text.now c.new.ensures
+
+pub returns-then-not-branch : goal.returns-then-not-branch
+returns-then-not-branch c =
+    let whole = c.loop-character.invariant ∙ sym (value_of-plain c.args.text.now (sym c.if-not-is_plain_text.ensures)) in
+    sym (sym whole ∙ ap (ahead c.loop-character.reader) c.in-Some.ensures.steps.0 ∙ if_not c.in_ok-take.field-0 _ _ c.in_ok-take.ensures c.if-not-branch.true c.next.new.self.rest.now)
+
+pub loop-character-preserved : goal.loop-character-preserved
+loop-character-preserved c =
+    sym (if_so c.in_ok-take.field-0 _ _ c.in_ok-take.ensures c.if-not-branch.false c.next.new.self.rest.now)
+    ∙ ap (ahead c.loop-character.reader) (sym c.in-Some.ensures.steps.0) ∙ c.loop-character.invariant
+
+pub returns-then-reader : goal.returns-then-reader
+returns-then-reader c =
+    let whole = c.loop-character.invariant ∙ sym (value_of-plain c.args.text.now (sym c.if-not-is_plain_text.ensures)) in
+    sym (sym whole ∙ ahead_end_escaped c.loop-character.reader c.loop-character.character-iterator.rest.now c.in-None.ensures.steps.0.0 c.if-reader.true)
+
+pub returns : goal.returns
+returns c =
+    let whole = c.loop-character.invariant ∙ sym (value_of-plain c.args.text.now (sym c.if-not-is_plain_text.ensures)) in
+    sym (sym whole ∙ ahead_end c.loop-character.reader c.loop-character.character-iterator.rest.now c.in-None.ensures.steps.0.0 c.if-reader.false)

@@ -1,0 +1,153 @@
+-- A call that a call block gives has an encoding.
+use Rattle.std.proofs.Common.{◌≡◌, ℕ, ◌<◌, ◌≤◌, ◌^◌, Bool, true, false, ◌&&◌, ◌||◌, ◌==◌, not, nat_le, nat_lt, List, [], ◌∷◌, length, None, suc, refl, sym, subst, arith, tests, append-nil, ltb-true, ltb-false, eqb-true, ◌⊎◌, inl, inr}
+use Rattle.std.specs.List.{list_all, list_any, flat_map}
+use Rattle.std.specs.Str.{IsUtf8}
+use Rattle.std.specs.Cmp.{first_so, second_so}
+use Rattle.std.specs.Cmp.Lexicographic.{bytes_decides}
+use Rattle.std.proofs.lemmas.Bool.{and_from, false≢true, leb-true, not-true, or_parts}
+use Rattle.std.proofs.lemmas.List.Elements.{All-cons, All-weaker}
+use Rattle.std.proofs.lemmas.List.Sums.{AllPass-from_list_all}
+use Rattle.std.proofs.lemmas.Str.{IsUtf8-from_ascii, IsUtf8-nil}
+use Rattle.std.proofs.lemmas.Str.Ascii.{IsAscii-from_all}
+use Rattle.orc_path.specs.Alphabet.{is_identifier, is_name_start, is_name_byte, is_value}
+use Rattle.orc_path.specs.Limits.{is_long_name, is_long_path, is_long_step, is_long_value}
+use Rattle.orc_path.specs.Steps.{PathStep, is_path}
+use Rattle.orc_path.specs.Texts.{path_text}
+use Rattle.orc_path.specs.Items.{fits}
+use Rattle.orc_path.specs.declared.item.Item.{Item}
+use Rattle.orc_path.specs.declared.item.Item.TheVariants.{Entry, Leaf}
+use Rattle.orc_path.specs.declared.limits.TheConstants.{PATH_STEPS, PATH_LEN}
+use Rattle.orc_path.proofs.Characters.{IsUtf8-path_text}
+use Rattle.orc_path.proofs.Plain.{plain_parts}
+use Rattle.orc_call.specs.Fields.{IsText, IsItem, IsPathAfter, AreLawful}
+use Rattle.orc_call.specs.Encoding.{device_put_fields, action_fields, IsCall}
+use Rattle.orc_call.specs.declared.call.Call.{Call}
+use Rattle.orc_call.specs.declared.call.Action.{Action}
+use Rattle.orc_call.specs.declared.call.Action.TheVariants.{Literal, Delete}
+use Rattle.orc_call.specs.declared.call.DevicePut.{DevicePut}
+use Rattle.orc_state.specs.States.{action_of, first_action, is_same_text, names_of}
+use Rattle.orc_state.specs.Calls.{is_action, is_call, is_device, is_item_at, is_lawful_item, is_lawful_name, is_put, is_write}
+use Rattle.orc_state.specs.Declarations.{AreDecls}
+use Rattle.orc_state.specs.declared.declarations.Decls.{Decls}
+use Rattle.orc_state.specs.declared.declarations.Device.{Device}
+use Rattle.orc_state.specs.declared.lawful.TheConstants.{MOST_WRITES}
+
+either : (a b : Bool) → (a || b) ≡ true → (a ≡ true) ⊎ (b ≡ true)
+either true b h = inl refl
+either false b h = inr h
+
+-- names
+
+name_byte_low : (b : ℕ) → is_name_byte b ≡ true → b < 128
+name_byte_low b h = grind (arith, tests)
+
+start_low : (b : ℕ) → is_name_start b ≡ true → b < 128
+start_low b h = grind (arith, tests)
+
+utf8_name : (name : List ℕ) → is_identifier name ≡ true → IsUtf8 name
+utf8_name [] h = IsUtf8-nil
+utf8_name (b ∷ rest) h =
+    IsUtf8-from_ascii (b ∷ rest) (IsAscii-from_all (b ∷ rest)
+    (All-cons (λ c. c < 128) b rest (start_low b (first_so (is_name_start b) (list_all is_name_byte rest) h))
+    (All-weaker (λ c. is_name_byte c ≡ true) (λ c. c < 128) (λ c. name_byte_low c) rest
+    (AllPass-from_list_all is_name_byte rest (second_so (is_name_start b) (list_all is_name_byte rest) h)))))
+
+name_text : (name : List ℕ) → is_lawful_name name ≡ true → IsText name
+name_text name h =
+    let short = ltb-false 64 (length name) (not-true (is_long_name name) (second_so (is_identifier name) (not (is_long_name name)) h)) in
+    (omega (arith, short), utf8_name name (first_so (is_identifier name) (not (is_long_name name)) h))
+
+-- items
+
+short_path : (p : List PathStep) → not (is_long_path p) ≡ true → length (path_text p) ≤ PATH_LEN
+short_path p h =
+    let none = or_parts (nat_lt PATH_STEPS (length p)) (nat_lt PATH_LEN (length (path_text p)) || list_any is_long_step p) (not-true (is_long_path p) h) in
+    ltb-false PATH_LEN (length (path_text p)) (or_parts (nat_lt PATH_LEN (length (path_text p))) (list_any is_long_step p) none.1).0
+
+path_lawful : (p : List PathStep) → is_path p ≡ true → not (is_long_path p) ≡ true → IsPathAfter None p
+path_lawful p h short = (h, (omega (arith, short_path p short), IsUtf8-path_text p h), tt)
+
+item_lawful : (i : Item) → is_lawful_item i ≡ true → IsItem i
+item_lawful Entry h = tt
+item_lawful (Leaf value) h =
+    let short = ltb-false 4096 (length value) (not-true (is_long_value value) (second_so (is_value value) (not (is_long_value value)) h)) in
+    (omega (arith, short), (plain_parts value (first_so (is_value value) (not (is_long_value value)) h)).0)
+
+-- writes
+
+-- what is one of lawful names is one
+known_name : (name : List ℕ) (names : List (List ℕ)) → list_all is_lawful_name names ≡ true → list_any (is_same_text name) names ≡ true → is_lawful_name name ≡ true
+known_name name [] h any = absurd (false≢true any)
+known_name name (n ∷ ns) h any =
+    on (known_name name ns (second_so (is_lawful_name n) (list_all is_lawful_name ns) h)) (either (is_same_text name n) (list_any (is_same_text name) ns) any)
+  where
+    on : (list_any (is_same_text name) ns ≡ true → is_lawful_name name ≡ true) → (is_same_text name n ≡ true) ⊎ (list_any (is_same_text name) ns ≡ true) → is_lawful_name name ≡ true
+    on later (inl here) = subst (λ (t : List ℕ). is_lawful_name t ≡ true) (sym ((bytes_decides name n).0 here)) (first_so (is_lawful_name n) (list_all is_lawful_name ns) h)
+    on later (inr there) = later there
+
+write_lawful : (names : List (List ℕ)) (w : DevicePut) → list_all is_lawful_name names ≡ true → is_write names w ≡ true → AreLawful (device_put_fields w)
+write_lawful names w h k =
+    let device = known_name w.device names h (first_so (list_any (is_same_text w.device) names) (is_item_at w.path w.item) k) in
+    let item = second_so (list_any (is_same_text w.device) names) (is_item_at w.path w.item) k in
+    let path = is_path w.path in
+    let short = not (is_long_path w.path) in
+    let lawful = is_lawful_item w.item in
+    let three = first_so (path && short && lawful) (fits w.path w.item) item in
+    let two = first_so (path && short) lawful three in (
+      name_text w.device device,
+      (
+        path_lawful w.path (first_so path short two) (second_so path short two),
+        ((second_so (path && short && lawful) (fits w.path w.item) item, item_lawful w.item (second_so (path && short) lawful three)), tt),
+      ),
+    )
+
+writes_lawful : (names : List (List ℕ)) (ws : List DevicePut) → list_all is_lawful_name names ≡ true → list_all (is_write names) ws ≡ true → AreLawful (flat_map device_put_fields ws)
+writes_lawful names [] h k = tt
+writes_lawful names (w ∷ ws) h k =
+    let here = write_lawful names w h (first_so (is_write names w) (list_all (is_write names) ws) k) in
+    (here.0, (here.1.0, (here.1.1.0, writes_lawful names ws h (second_so (is_write names w) (list_all (is_write names) ws) k))))
+
+-- calls
+
+action_lawful : (names : List (List ℕ)) (a : Action) → list_all is_lawful_name names ≡ true → is_action names a ≡ true → AreLawful (action_fields a)
+action_lawful names (Literal id writes) h k =
+    let few = nat_le (length writes) MOST_WRITES in
+    let two = first_so (is_lawful_name id && few) (list_all (is_write names) writes) k in
+    let count = leb-true (length writes) MOST_WRITES (second_so (is_lawful_name id) few two) in (
+      (omega arith, omega arith),
+      (
+        name_text id (first_so (is_lawful_name id) few two),
+        (omega (arith, count), writes_lawful names writes h (second_so (is_lawful_name id && few) (list_all (is_write names) writes) k)),
+      ),
+    )
+action_lawful names (Delete id) h k = ((omega arith, omega arith), (name_text id k, tt))
+action_lawful names other h k = absurd (false≢true k)
+
+one_action : (actions : List Action) → (length actions == 1) ≡ true → first_action actions ∷ [] ≡ actions
+one_action [] e = absurd (false≢true e)
+one_action (a ∷ []) e = refl
+one_action (a ∷ b ∷ more) e = let one : suc (suc (length more)) ≡ 1 = eqb-true (suc (suc (length more))) 1 e in absurd (omega arith)
+
+names_lawful : (devices : List Device) → list_all is_device devices ≡ true → list_all is_lawful_name (names_of devices) ≡ true
+names_lawful [] h = refl
+names_lawful (d ∷ ds) h =
+    and_from (is_lawful_name d.name) (list_all is_lawful_name (names_of ds))
+    (first_so (is_lawful_name d.name) (list_all is_put d.base) (first_so (is_device d) (list_all is_device ds) h))
+    (names_lawful ds (second_so (is_device d) (list_all is_device ds) h))
+
+call_lawful : (names : List (List ℕ)) (call : Call) → list_all is_lawful_name names ≡ true → is_call names call ≡ true → IsCall call
+call_lawful names call h k =
+    let caller = is_lawful_name call.caller in
+    let numbered = nat_lt call.number (2 ^ 64) in
+    let single = length call.actions == 1 in
+    let three = first_so (caller && numbered && single) (is_action names (action_of call)) k in
+    let two = first_so (caller && numbered) single three in
+    let fields = action_lawful names (action_of call) h (second_so (caller && numbered && single) (is_action names (action_of call)) k) in
+    subst (λ (actions : List Action). IsCall (record call { actions = actions })) (one_action call.actions (second_so (caller && numbered) single three)) (
+      name_text call.caller (first_so caller numbered two),
+      (ltb-true call.number (2 ^ 64) (second_so caller numbered two), ((omega arith, omega arith), subst AreLawful (sym (append-nil (action_fields (action_of call)))) fields)),
+    )
+
+pub encodable : (decls : Decls) (call : Call) → AreDecls decls → is_call decls.names call ≡ true → IsCall call
+encodable decls call are k =
+    call_lawful decls.names call (subst (λ (names : List (List ℕ)). list_all is_lawful_name names ≡ true) (sym are.named) (names_lawful decls.devices are.devices)) k

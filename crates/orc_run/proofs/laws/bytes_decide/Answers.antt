@@ -1,0 +1,5 @@
+use Rattle.orc_run.proofs.Decided.{bytes_decide}
+use Rattle.orc_run.proofs.laws.bytes_decide.Goals as goal
+
+pub returns : goal.returns
+returns g c = bytes_decide g.D.Disk.disk

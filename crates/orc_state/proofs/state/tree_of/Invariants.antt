@@ -1,8 +1,0 @@
-use Rattle.std.proofs.Common.{◌≡◌, drop}
-use Rattle.std.specs.FinMap.{empty}
-use Rattle.orc_state.specs.States.{put_all}
-use Rattle.orc_state.proofs.state.tree_of.Given as goal
-
--- to put the items that are left gives the whole
-abbrev pub invariant-loop-put : goal.invariant-loop-put
-invariant-loop-put l = put_all (drop l.put-index l.puts) l.tree ≡ put_all l.puts empty

@@ -1,0 +1,135 @@
+//! Paths, names and values: lines that are looked at one by one, but for the order of paths. In texts `%` and two
+//! digits stand for a byte.
+//!
+//! - `path TEXT`: it is read as a path, which is written so again, has as many bytes, is equal to its copy, and stands
+//!   behind the path of the line `path` before
+//! - `nopath N TEXT`, `noname N TEXT`: it is refused as a path or a name, at byte N
+//! - `name TEXT`: it is read as a name, which is so again
+//! - `entry LIST PATH`, `noentry LIST PATH`: the path is one of an entry of the list, or not
+//! - `value TEXT -> VALUE`: it is read as this value, which is written so again
+//! - `novalue TEXT`: it is no text of a value
+//! - `writes PATH NAME`: a write at the path comes before one of the service
+use crate::line::text_of;
+use crate::undone::Undone;
+use crate::words::first_word;
+use orc_path::{Name, Path, PathFault, Write, push_value, read_value};
+use orc_text::{Row, Text};
+use std::alloc::Global;
+use std::cmp::Ordering;
+
+/// The path of the last line `path`.
+#[derive(Drop)]
+pub(crate) struct Paths {
+    alloc: Global,
+    last: Path,
+}
+
+impl Paths {
+    /// No line was taken.
+    pub(crate) fn new(alloc: Global) -> Paths {
+        let steps = Row::new(alloc);
+        Paths {
+            alloc,
+            last: Path { steps },
+        }
+    }
+
+    /// Takes a line, and says whether it holds.
+    pub(crate) fn take(&mut self, line: &str) -> Result<bool, Undone> {
+        let (word, rest) = first_word(line);
+        match word {
+            "path" => self.is_next(rest),
+            "nopath" => is_no_path(self.alloc, rest),
+            "name" => is_name(self.alloc, rest),
+            "noname" => is_no_name(self.alloc, rest),
+            "entry" => is_entry(self.alloc, rest),
+            "noentry" => Ok(!is_entry(self.alloc, rest)?),
+            "value" => is_value(self.alloc, rest),
+            "novalue" => is_no_value(self.alloc, rest),
+            "writes" => is_earlier(self.alloc, rest),
+            _ => Err(Undone),
+        }
+    }
+
+    // Whether the path is one, and stands behind the last.
+    fn is_next(&mut self, text: &str) -> Result<bool, Undone> {
+        let text = text_in(self.alloc, text)?;
+        let path = Path::parse(self.alloc, text.as_str())?;
+        let written = path.text(self.alloc)?;
+        let copy = path.copy(self.alloc)?;
+        let len = text.as_str().len() as u64;
+        let holds = written == text && path.text_len() == len && copy == path;
+        let follows = self.last.cmp(&path) == Ordering::Less || text.as_str() == "/";
+        self.last = path;
+        Ok(holds && follows)
+    }
+}
+
+// The text that is spelled so.
+fn text_in(alloc: Global, spelling: &str) -> Result<Text, Undone> {
+    match text_of(alloc, spelling)? {
+        Some(text) => Ok(text),
+        None => Err(Undone),
+    }
+}
+
+// Where a text is refused.
+fn refused_at<T: Drop>(read: Result<T, PathFault>) -> Option<u64> {
+    match read {
+        Err(PathFault::BadPath { at }) => Some(at),
+        _ => None,
+    }
+}
+
+// Whether a text is refused as a path where the line says.
+fn is_no_path(alloc: Global, rest: &str) -> Result<bool, Undone> {
+    let (at, text) = first_word(rest);
+    let text = text_in(alloc, text)?;
+    let read = Path::parse(alloc, text.as_str());
+    Ok(refused_at(read) == Some(at.parse()?))
+}
+
+// Whether a text is refused as a name where the line says.
+fn is_no_name(alloc: Global, rest: &str) -> Result<bool, Undone> {
+    let (at, text) = first_word(rest);
+    let text = text_in(alloc, text)?;
+    let read = Name::new(alloc, text.as_str());
+    Ok(refused_at(read) == Some(at.parse()?))
+}
+
+// Whether a text is a name.
+fn is_name(alloc: Global, text: &str) -> Result<bool, Undone> {
+    let name = Name::new(alloc, text)?;
+    Ok(name.as_str() == text && name.copy(alloc)? == name)
+}
+
+// Whether the second path is one of an entry of the first.
+fn is_entry(alloc: Global, rest: &str) -> Result<bool, Undone> {
+    let (list, path) = first_word(rest);
+    let (list, path) = (Path::parse(alloc, list)?, Path::parse(alloc, path)?);
+    Ok(path.is_entry_of(&list))
+}
+
+// Whether a text is read as this value.
+fn is_value(alloc: Global, rest: &str) -> Result<bool, Undone> {
+    let (text, value) = rest.split_once(" -> ").unwrap_or((rest, ""));
+    let (text, value) = (text_in(alloc, text)?, text_in(alloc, value)?);
+    let mut written = String::new(alloc);
+    push_value(&mut written, value.as_str())?;
+    let read = read_value(alloc, text.as_str())?;
+    Ok(written.as_str() == text.as_str() && read == Some(value))
+}
+
+// Whether a text is that of no value.
+fn is_no_value(alloc: Global, rest: &str) -> Result<bool, Undone> {
+    let text = text_in(alloc, rest)?;
+    Ok(read_value(alloc, text.as_str())?.is_none())
+}
+
+// Whether a write at a path comes before one of a service.
+fn is_earlier(alloc: Global, rest: &str) -> Result<bool, Undone> {
+    let (path, name) = first_word(rest);
+    let at = Write::At(Path::parse(alloc, path)?);
+    let service = Write::Service(Text::from_str(alloc, name)?);
+    Ok(at.cmp(&service) == Ordering::Less && at.copy(alloc)? == at)
+}

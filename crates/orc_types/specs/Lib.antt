@@ -1,0 +1,11 @@
+pub mod Types
+pub mod BuiltIn
+pub mod Statements
+pub mod Ranges
+pub mod Numbers
+pub mod Enums
+pub mod Paths
+pub mod Defaults
+pub mod Laws
+pub mod Texts
+pub mod inside

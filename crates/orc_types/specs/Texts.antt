@@ -1,0 +1,5 @@
+-- Texts that are cut at a character.
+use Rattle.std.specs.Prelude.{ℕ, ◌==◌, Bool}
+
+abbrev pub is_char : ℕ → ℕ → Bool
+is_char c byte = byte == c

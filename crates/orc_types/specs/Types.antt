@@ -1,0 +1,186 @@
+-- What this crate gives to the builder of a schema, who knows what the name of a `type` statement stands for, a
+-- built-in type (`built_in`) or the type of a typedef, and wants to know what the whole statement makes of it.
+--
+--     built_in name            the built-in type of a name of RFC 7950, or none
+--     is_left_out name         a built-in type of RFC 7950 that this profile does not have
+--     type_of base stmt        the type that the statement makes of its base, or its first fault
+--     kind_of type             the type of orc_value whose values the leaf has; none for a leafref
+--     default_of kind text     the canonical text of a default, or none where it is no value
+--     is_leafref_path text     the form of a leafref's path; is_reference, that of a name with a prefix or none
+--     is_idle keyword          a statement without effect, wherever it stands; argument, is_a, has and first_of of
+--                              `Statements` read statements
+--
+-- `Base` is what a name stands for. `Known t` is a type that may be used as it is: each built-in type but three, and
+-- the type of a typedef, which is what `type_of` gave for the `type` below it. `Decimal64`, `Enumeration` and `Leafref`
+-- are the built-in types that have to say more. `LeafType` is the type of a leaf, with the values of an enumeration's
+-- names, which a derived enumeration keeps, and with the path of a leafref as its text.
+--
+-- A fault is at the first faulty statement in the order of the text, the `type` statement first; at one statement the
+-- variant of `TypeFault` that is listed first counts. What is not told here: that the name is known, that only one
+-- `type` stands below a leaf, and whether a leafref's path leads anywhere.
+--
+-- Each type has one statement that may restrict it, and no other may stand below `type`:
+--
+--     integer                  range                  parts as in `narrowed`
+--     string                   length                 parts as in `narrowed_lengths`
+--     enumeration              enum, any number       names and values as in `enums_of`; derived: a subset
+--     decimal64                fraction-digits        1 to 18, wanted; derived: nothing
+--     leafref                  path                   a form as in `is_leafref_path`, wanted; derived: nothing
+--     boolean, empty           nothing
+use Rattle.std.specs.Prelude.{ℕ, ◌≡◌, Bool, true, false, not, map, List, [], ◌∷◌, ◌++◌, Option, Some, None, Result, Ok, Err, codes, is_some, unwrap_or, option_map, if◌then◌else◌}
+use Rattle.std.specs.Option.{option_or}
+use Rattle.orc_value.specs.Canon.{same_text}
+use Rattle.orc_value.specs.declared.kind.IntKind.{IntKind}
+use Rattle.orc_value.specs.declared.kind.Kind.{Kind}
+use Rattle.orc_value.specs.declared.kind.Kind.TheVariants as kind
+use Rattle.orc_yang.specs.declared.statement.Stmt.{Stmt}
+use Rattle.orc_types.specs.declared.types.EnumName.{EnumName}
+use Rattle.orc_types.specs.declared.types.LeafType.{LeafType}
+use Rattle.orc_types.specs.declared.types.LeafType.TheVariants.{Int, Decimal, Str, Bool as Boolean, Enum, Empty, Leafref as Reference}
+use Rattle.orc_types.specs.declared.types.Base.{Base}
+use Rattle.orc_types.specs.declared.types.Base.TheVariants.{Known, Decimal64, Enumeration, Leafref}
+use Rattle.orc_types.specs.declared.fault.TypeFault.{TypeFault}
+use Rattle.orc_types.specs.declared.fault.TypeFault.TheVariants.{Unsupported, Duplicate, BadArgument, Memory}
+use Rattle.orc_types.specs.Numbers.{fraction_digits_of}
+use Rattle.orc_types.specs.Ranges.{Range, narrowed, narrowed_lengths}
+use Rattle.orc_types.specs.Statements.{keyword, subs, argument, has, first_of, is_idle, none_below}
+use Rattle.orc_types.specs.Enums.{enums_of, enum_fault}
+use Rattle.orc_types.specs.Paths.{is_leafref_path}
+
+-- the statement that may restrict a type
+abbrev pub restriction_of : LeafType → Option (List ℕ)
+restriction_of (Int kind) = Some (codes "range")
+restriction_of (Decimal digits) = None
+restriction_of (Str lengths) = Some (codes "length")
+restriction_of Boolean = None
+restriction_of (Enum names) = Some (codes "enum")
+restriction_of Empty = None
+restriction_of (Reference path) = None
+
+abbrev pub restriction : Base → Option (List ℕ)
+restriction (Known t) = restriction_of t
+restriction Decimal64 = Some (codes "fraction-digits")
+restriction Enumeration = Some (codes "enum")
+restriction Leafref = Some (codes "path")
+
+abbrev pub may_stand : List ℕ → Option (List ℕ) → Bool
+may_stand word None = false
+may_stand word (Some allowed) = same_text word allowed
+
+-- the statement that a built-in type wants
+abbrev pub wanted : Base → Option (List ℕ)
+wanted (Known t) = None
+wanted base = restriction base
+
+-- the names of an enumeration that may be restricted
+abbrev pub enumerated_in : LeafType → Option (List EnumName)
+enumerated_in (Enum names) = Some names
+enumerated_in _ = None
+
+abbrev pub enumerated : Base → Option (List EnumName)
+enumerated (Known t) = enumerated_in t
+enumerated _ = None
+
+-- the argument of a restriction has its form
+abbrev pub restricts : LeafType → List ℕ → Bool
+restricts (Int kind) text = is_some (narrowed kind.ranges text)
+restricts (Str lengths) text = is_some (narrowed_lengths lengths text)
+restricts _ text = true
+
+abbrev pub argument_fits : Base → List ℕ → Bool
+argument_fits (Known t) text = restricts t text
+argument_fits Decimal64 text = is_some (fraction_digits_of text)
+argument_fits Enumeration text = true
+argument_fits Leafref text = is_leafref_path text
+
+-- what is at fault at the one restriction of a type and below it, behind other statements
+abbrev pub restriction_fault : Base → List Stmt → Stmt → Option TypeFault
+restriction_fault base before s = if has (keyword s) before then Some (Duplicate (keyword s))
+    else (if argument_fits base (argument s) then none_below s else Some (BadArgument (keyword s)))
+
+-- what is at fault at a statement below `type` and below that one, behind others
+abbrev pub fault_at : Base → List Stmt → Stmt → Option TypeFault
+fault_at base before s = if is_idle (keyword s) then None
+    else (if not (may_stand (keyword s) (restriction base)) then Some (Unsupported (keyword s))
+    else (if same_text (keyword s) (codes "enum")
+    then enum_fault (enumerated base) (enums_of (enumerated base) before) s
+    else restriction_fault base before s))
+
+-- the first fault below `type`
+abbrev pub first_fault : Base → List Stmt → List Stmt → Option TypeFault
+first_fault base before [] = None
+first_fault base before (s ∷ ss) = option_or (fault_at base before s) (first_fault base (before ++ s ∷ []) ss)
+
+-- what is at fault at `type` itself: it lacks what its base wants
+abbrev pub lacks : Option (List ℕ) → List Stmt → Bool
+lacks None ss = false
+lacks (Some word) ss = not (has word ss)
+
+abbrev pub own_fault : Base → Stmt → Option TypeFault
+own_fault base s = if lacks (wanted base) (subs s) then Some (BadArgument (keyword s)) else None
+
+abbrev pub type_fault : Base → Stmt → Option TypeFault
+type_fault base s = option_or (own_fault base s) (first_fault base [] (subs s))
+
+-- the argument of the statement with this keyword, where there is one
+abbrev pub argument_given : List ℕ → List Stmt → Option (List ℕ)
+argument_given word ss = option_map argument (first_of word ss)
+
+-- What statements without a fault make of a type. A default of `unwrap_or` stands where there is a fault.
+abbrev pub ranges_left : List Range → Option (List ℕ) → List Range
+ranges_left base None = base
+ranges_left base (Some text) = unwrap_or (narrowed base text) base
+
+abbrev pub lengths_left : List (ℕ × ℕ) → Option (List ℕ) → List (ℕ × ℕ)
+lengths_left base None = base
+lengths_left base (Some text) = unwrap_or (narrowed_lengths base text) base
+
+abbrev pub ranged : IntKind → List Range → IntKind
+ranged kind ranges = record { ranges = ranges; quoted = kind.quoted }
+
+-- a derived enumeration without `enum` keeps all names
+abbrev pub names_left : List EnumName → List EnumName → List Stmt → List EnumName
+names_left base enums ss = if has (codes "enum") ss then enums else base
+
+abbrev pub restricted : LeafType → List EnumName → List Stmt → LeafType
+restricted (Int kind) enums ss = Int (ranged kind (ranges_left kind.ranges (argument_given (codes "range") ss)))
+restricted (Str lengths) enums ss = Str (lengths_left lengths (argument_given (codes "length") ss))
+restricted (Enum names) enums ss = Enum (names_left names enums ss)
+restricted (Decimal digits) enums ss = Decimal digits
+restricted Boolean enums ss = Boolean
+restricted Empty enums ss = Empty
+restricted (Reference path) enums ss = Reference path
+
+abbrev pub digits_given : Option (List ℕ) → ℕ
+digits_given None = 0
+digits_given (Some text) = unwrap_or (fraction_digits_of text) 0
+
+abbrev pub made : Base → List EnumName → List Stmt → LeafType
+made (Known t) enums ss = restricted t enums ss
+made Decimal64 enums ss = Decimal (digits_given (argument_given (codes "fraction-digits") ss))
+made Enumeration enums ss = Enum enums
+made Leafref enums ss = Reference (unwrap_or (argument_given (codes "path") ss) [])
+
+abbrev pub fault_or : Option TypeFault → LeafType → Result LeafType TypeFault
+fault_or None t = Ok t
+fault_or (Some fault) t = Err fault
+
+-- the type that a `type` statement makes of its base, or its first fault
+unfoldable pub type_of : Base → Stmt → Result LeafType TypeFault
+type_of base s = fault_or (type_fault base s) (made base (enums_of (enumerated base) (subs s)) (subs s))
+
+-- that type or that fault; or want of memory
+abbrev pub GivesType : Result LeafType TypeFault → Result LeafType TypeFault → Type 0
+GivesType verdict (Ok t) = verdict ≡ Ok t
+GivesType verdict (Err Memory) = Unit {0}
+GivesType verdict (Err fault) = verdict ≡ Err fault
+
+-- the type of a leaf's values, where it is told without another leaf
+abbrev pub kind_of : LeafType → Option Kind
+kind_of (Int k) = Some (kind.Int k)
+kind_of (Decimal digits) = Some (kind.Decimal digits)
+kind_of (Str lengths) = Some (kind.Str lengths)
+kind_of Boolean = Some kind.Bool
+kind_of (Enum names) = Some (kind.Enum (map (λ e. e.name) names))
+kind_of Empty = Some kind.Empty
+kind_of (Reference path) = None
