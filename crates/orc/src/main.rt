@@ -16,13 +16,15 @@ use std::{env, io};
 const JOURNAL_ROOM: u64 = 67_108_864;
 
 // Ends with the status of the run. A fault is named on standard error, and one of the bundle is
-// explained there too, in a line of its own.
+// explained there too, in a line of its own, unless memory was wanting to keep the bundle's bytes.
 fn main(rt: HostRuntime) -> ExitCode {
     let mut source = KeptSource::new(rt.alloc(), StdSource::new(rt.reader()));
     let ended = run(&rt, &mut source);
     if let Err(stop) = &ended {
         let _ = eprintln!(rt; "orc: {stop}");
-        explain(&rt, source.kept(), stop);
+        if source.is_all() {
+            explain(&rt, source.kept(), stop);
+        }
     }
     ExitCode::from(status(&ended))
 }

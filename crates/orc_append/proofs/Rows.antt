@@ -9,9 +9,10 @@ use Rattle.orc_disk.specs.Meanings.{DiskMeaning}
 use Rattle.orc_disk.specs.Moments.{LeavesOnly}
 use Rattle.orc_disk.proofs.Courses.{row-trans}
 use Rattle.orc_disk.proofs.Moments as moments
-use Rattle.orc_journal.specs.Journals.{IsGated}
+use Rattle.orc_journal.specs.Journals.{IsGated, journal_length}
 use Rattle.orc_journal.specs.Appends.{IsBeforeOrAfter}
 use Rattle.orc_journal.specs.declared.entry.Entry.{Entry}
+use Rattle.orc_journal.proofs.Puts.{journal_length-push}
 use Rattle.orc_append.specs.Views.{JournalView}
 use Rattle.orc_append.specs.Appends.{ops_to_append, ComesNearer, Did, LeavesOldOrNew, IsAppendedTo, StopsAppend, FailsAppend}
 use Rattle.orc_append.specs.Rows.{HasSomeOf, AppendsEach}
@@ -76,6 +77,7 @@ pub AppendsEach-one : {D : Type 0} (disk : DiskMeaning D) (decls : List ℕ) (a 
 AppendsEach-one disk decls a b entry is = record {
   known = is.known;
   limit = is.limit;
+  fits = omega (arith, is.fits, journal_length-push decls a.entries entry);
   nearer = is.nearer;
   did = is.did;
   reads = is.reads;
@@ -98,6 +100,7 @@ module _ {D : Type 0} (disk : DiskMeaning D)
         reads = subst (λ (l : List Entry). IfSome (disk.content c.disk) (λ file. IsGated file decls l)) all is.reads;
         durable = is.durable;
         limit = is.limit ∙ each.limit;
+        fits = omega (arith, is.fits, each.limit, journal_length-push decls b.entries entry, ap (journal_length decls) all);
         nearer = subst (λ (n : ℕ). ComesNearer n a c) count (ComesNearer-trans (ops_to_append * length added) ops_to_append a b c each.nearer is.nearer);
         did = subst (λ (n : ℕ). Did disk n false a.disk c.disk) count
             (Did-trans disk goes_on counts counts_ops (ops_to_append * length added) ops_to_append false false a.disk b.disk c.disk each.did is.did);

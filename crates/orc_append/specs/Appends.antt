@@ -10,7 +10,7 @@ use Rattle.orc_disk.specs.Meanings.{DiskMeaning}
 use Rattle.orc_disk.specs.Moments.{LeavesOnly}
 use Rattle.orc_journal.specs.Entries.{is_intent}
 use Rattle.orc_journal.specs.Journals.{IsGated, journal_length}
-use Rattle.orc_journal.specs.Appends.{block_bytes, with_entry, IsBeforeOrAfter, IsLeftBehind, opens_gate}
+use Rattle.orc_journal.specs.Appends.{block_bytes, with_entry, IsBeforeOrAfter, IsLeftBehind, PutsShort, opens_gate}
 use Rattle.orc_journal.specs.declared.entry.Entry.{Entry}
 use Rattle.orc_append.specs.Views.{JournalView, length_with}
 use Rattle.orc_append.specs.declared.outcome.Appended.{Appended}
@@ -95,7 +95,7 @@ module _ {D : Type 0} (disk : DiskMeaning D) where
 
     -- The armed operation was one of the four. The disk did those before it, none of which failed, and that one too
     -- where it still put a byte, and else is as it was before. Where that one failed in the disk inside, the truth
-    -- value is true.
+    -- value is true. A sync that it still did makes what is there outlive crashes.
     pub record StopsAppend (old : JournalView D) (entry : Entry) (new : JournalView D) : Type 0 where
       pub known : new.entries ≡ old.entries
       pub limit : new.limit ≡ old.limit
@@ -115,9 +115,12 @@ module _ {D : Type 0} (disk : DiskMeaning D) where
           → BecomesUntil old.armed old.bytes (journal_length decls old.entries) entry
           (disk.content old.disk) (disk.content new.disk)
       pub reads : IfSome (disk.content new.disk) (IsStoppedAt old.armed old.bytes failed decls old.entries entry)
+      pub synced : failed ≡ false → 1 ≤ old.bytes → (old.armed ≡ 2) ⊎ (old.armed ≡ ops_to_append)
+          → LeavesAsRead (disk.content new.disk) (disk.may_leave new.disk)
       pub leaves : LeavesOldOrNew old entry new
 
-    -- So many of the four were done, fewer than all, and the next one failed. No armed stop came.
+    -- So many of the four were done, fewer than all, and the next one failed. No armed stop came. What was put is told
+    -- as a journal on the disk itself tells it.
     pub record FailsAppend (old : JournalView D) (entry : Entry) (new : JournalView D) : Type 0 where
       pub known : new.entries ≡ old.entries
       pub limit : new.limit ≡ old.limit
@@ -127,6 +130,7 @@ module _ {D : Type 0} (disk : DiskMeaning D) where
       pub nearer : ComesNearer (done + 1) old new
       pub fails : FailsBehind disk done old.disk new.disk
       pub did : Did (done + 1) true old.disk new.disk
+      pub puts : PutsShort disk done (journal_length decls old.entries) entry old.disk new.disk
       pub reads : IfSome (disk.content new.disk) (IsLeftBehind done decls old.entries entry)
       pub leaves : LeavesOldOrNew old entry new
 

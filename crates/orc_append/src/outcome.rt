@@ -1,7 +1,7 @@
 //! What comes of an append.
 
 /// What came of an append.
-#[derive(Clone, Copy, Debug, PartialEq, Eq)]
+#[derive(Clone, Copy)]
 pub enum Appended {
     /// The entry is in the journal.
     Done,

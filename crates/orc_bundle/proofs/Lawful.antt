@@ -86,6 +86,10 @@ pub on_ok_more : {T E : Type 0} (r : Result T E) (P Q : Type 0) → (P → Q) �
 on_ok_more (Ok x) P Q f h = f h
 on_ok_more (Err e) P Q f h = h
 
+pub both_ok : {T E : Type 0} (r : Result T E) (P Q S : Type 0) → (P → Q → S) → OnOk r P → OnOk r Q → OnOk r S
+both_ok (Ok x) P Q S f h k = f h k
+both_ok (Err e) P Q S f h k = h
+
 pub pushed : {E : Type 0} (n : ℕ) (put : Put) (ds : List Device) (d : Device) (base : List Put) (r : Result (Unit {0}) E) → n < length ds
     → OnOk r (base ≡ (get_or ds n d).base ++ put ∷ [])
     → OnOk r (slice_set ds n (record { name = (get_or ds n d).name; base = base }) ≡ with_base n put ds)

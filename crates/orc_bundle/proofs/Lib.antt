@@ -1,10 +1,16 @@
 mod BlockLines
+mod Costs
 mod Cuts
+mod DeclaredLines
+mod Grown
+mod Keywords
 mod Lawful
 mod LinesOf
 mod Numbers
-mod OneMeaning
+mod Rules
+mod ScriptLines
 mod Skipped
+mod SkippedLines
 mod Statements
 mod Texts
 mod Utf8

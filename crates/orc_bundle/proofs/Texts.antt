@@ -18,7 +18,7 @@ use Rattle.orc_path.specs.Texts.{escape, key_text, path_text, step_text, value_e
 use Rattle.orc_path.specs.declared.item.Item.{Item}
 use Rattle.orc_path.specs.declared.item.Item.TheVariants.{Entry, Leaf}
 use Rattle.orc_path.proofs.Characters.{IsUtf8-path_text, is_plain_text-value_text}
-use Rattle.orc_path.proofs.Plain.{plain_parts}
+use Rattle.orc_text.proofs.Plain.{plain_parts}
 use Rattle.orc_state.specs.Calls.{is_item_at, is_lawful_item, is_lawful_name}
 use Rattle.orc_bundle.proofs.Numbers.{own}
 

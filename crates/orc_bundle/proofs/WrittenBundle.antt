@@ -1,20 +1,22 @@
 -- The spellings of a bundle are read as that bundle.
-use Rattle.std.proofs.Common.{◌≡◌, ℕ, ◌≤◌, ◌+◌, true, List, [], ◌∷◌, ◌++◌, codes, length, length-append, map, take, refl, ap, ap₂, sym, ◌∙◌, subst, arith, append_assoc, append-nil, Result, Ok}
+use Rattle.std.proofs.Common.{◌≡◌, ℕ, ◌≤◌, ◌+◌, Bool, true, false, cond, List, [], ◌∷◌, ◌++◌, codes, length, length-append, map, take, refl, ap, ap₂, sym, ◌∙◌, subst, arith, append_assoc, append-nil, Result, Ok, Err, Some}
 use Rattle.std.specs.List.{IsDistinct, concat, flat_map, list_all}
+use Rattle.std.specs.Option.{is_none}
 use Rattle.std.proofs.lemmas.Bool.{and_parts, and_from}
+use Rattle.std.proofs.lemmas.List.{take_all}
 use Rattle.std.proofs.Math.Seq.{take-append_seam}
 use Rattle.orc_state.specs.States.{is_same_text, names_of}
 use Rattle.orc_state.specs.Calls.{is_device, is_lawful_name, is_put}
 use Rattle.orc_state.specs.declared.declarations.Device.{Device}
 use Rattle.orc_state.specs.declared.declarations.TheConstants.{MOST_DEVICES}
 use Rattle.orc_state.specs.declared.rule.Rule.{Rule}
-use Rattle.orc_bundle.specs.Bundles.{Front, IsBundle, bundle_of, declarations_of, decls_of, script_of, script_steps}
+use Rattle.orc_bundle.specs.Bundles.{Front, IsBundle, bundle_in, bundle_of, declarations_of, decls_of, header_rule, lacks_header, script_of, script_steps}
 use Rattle.orc_bundle.specs.Declarations.{nothing_declared}
 use Rattle.orc_bundle.specs.Laws.{SpelledIsRead, WrittenIsRead}
-use Rattle.orc_bundle.specs.Lines.{as_line, lines_of}
+use Rattle.orc_bundle.specs.Lines.{as_line, lines_of, seen}
 use Rattle.orc_bundle.specs.Rules.{on_ok}
 use Rattle.orc_bundle.specs.Scripts.{no_steps}
-use Rattle.orc_bundle.specs.Written.{AreLinesOf, IsLineOf, IsScript, IsSpelling, bundle_text, declared_lines, device_lines, one, script_lines, text_of_lines}
+use Rattle.orc_bundle.specs.Written.{AreLinesOf, IsLineOf, IsSpelling, bundle_text, declared_lines, device_lines, one, script_lines, text_of_lines}
 use Rattle.orc_bundle.specs.declared.bundle.Bundle.{Bundle}
 use Rattle.orc_bundle.specs.declared.bundle.ScriptStep.{ScriptStep}
 use Rattle.orc_bundle.specs.declared.bundle.TheConstants.{LARGEST_BUNDLE}
@@ -24,7 +26,7 @@ use Rattle.orc_bundle.proofs.Texts.{part_known}
 use Rattle.orc_bundle.proofs.WrittenBases.{devices_read}
 use Rattle.orc_bundle.proofs.WrittenDeclarations.{Fronts, bytes_of, one_declaration, script_line}
 use Rattle.orc_bundle.proofs.WrittenDevices.{at_devices, header_read}
-use Rattle.orc_bundle.proofs.WrittenLines.{IsText, lines_of_joined, plain_line, plain_lines}
+use Rattle.orc_bundle.proofs.WrittenLines.{IsText, kept_in_front, lines_of_joined, plain_line, plain_lines}
 use Rattle.orc_bundle.proofs.WrittenSteps.{steps_read}
 use Rattle.orc_bundle.proofs.WrittenTexts.{devices_clean, steps_clean}
 
@@ -71,7 +73,7 @@ with_front bytes r f steps is script =
     ap (λ (x : Result Front (ℕ × Rule)). on_ok x (λ front. on_ok (script_of front) (with_steps bytes front))) is
     ∙ ap (λ (x : Result (List ScriptStep) (ℕ × Rule)). on_ok x (with_steps bytes f)) script
 
-module _ (b : Bundle) (front : List (List ℕ)) (line : List ℕ) (later : List (List ℕ)) (is : IsBundle b) (can : IsScript b.steps) (w : IsSpelling b front line later) where
+module _ (b : Bundle) (front : List (List ℕ)) (line : List ℕ) (later : List (List ℕ)) (is : IsBundle b) (w : IsSpelling b front line later) where
   abbrev bytes : List ℕ
   bytes = concat (front ++ line ∷ later)
 
@@ -106,14 +108,14 @@ module _ (b : Bundle) (front : List (List ℕ)) (line : List ℕ) (later : List 
 
   script_is : script_of parted ≡ Ok b.steps
   script_is =
-      let few = can.few in
+      let few = is.few in
       let small = w.small in
       let whole = bytes_joined (front ++ line ∷ later) in
       let one_size = bytes_joined front in
       let rest_size = bytes_joined (line ∷ later) in
       let sizes = ap (λ (x : List ℕ). length x) (concat_joined front (line ∷ later)) ∙ length-append (concat front) (concat (line ∷ later)) in
       subst (λ (ns : List (List ℕ)). script_steps ns no_steps (0 + size + length line) found.0 later ≡ Ok b.steps) is.decls.named
-      (steps_read b.decls.names names_good is.decls.distinct [] [] b.steps 0 is.steps can.settled (omega arith) can.callers later w.steps (0 + size + length line) found.0 (omega arith))
+      (steps_read b.decls.names names_good is.decls.distinct [] [] b.steps 0 is.steps is.settled (omega arith) is.callers later w.steps (0 + size + length line) found.0 (omega arith))
 
   text_kept : take (0 + size) bytes ≡ b.decls.text
   text_kept =
@@ -121,13 +123,22 @@ module _ (b : Bundle) (front : List (List ℕ)) (line : List ℕ) (later : List 
       let same : 0 + size ≡ length (concat front) = omega arith in
       ap₂ (λ (n : ℕ) (x : List ℕ). take n x) same (concat_joined front (line ∷ later)) ∙ take-append_seam (concat front) (concat (line ∷ later)) ∙ sym w.text
 
+  -- the header is no line that is skipped
+  has_header : lacks_header (lines_of bytes) ≡ false
+  has_header = ap lacks_header lines_are ∙ ap is_none (kept_in_front (codes "orc 1") (flat_map device_lines b.decls.devices) front (line ∷ later) refl w.declared)
+
+  all_seen : seen bytes ≡ bytes
+  all_seen = take_all (LARGEST_BUNDLE + 1) bytes (let small = w.small in omega arith)
+
   pub again : bundle_of bytes ≡ Ok b
   again =
-      with_front bytes (declarations_of nothing_declared 0 0 (lines_of bytes)) parted b.steps (ap (declarations_of nothing_declared 0 0) lines_are ∙ found.1) script_is
+      ap (λ (x : List ℕ). bundle_in x (lines_of x)) all_seen
+      ∙ ap (λ (none : Bool). cond none (Err (1, header_rule (lines_of bytes))) (on_ok (declarations_of nothing_declared 0 0 (lines_of bytes)) (λ f. on_ok (script_of f) (with_steps bytes f)))) has_header
+      ∙ with_front bytes (declarations_of nothing_declared 0 0 (lines_of bytes)) parted b.steps (ap (declarations_of nothing_declared 0 0) lines_are ∙ found.1) script_is
       ∙ ap₂ (λ (text : List ℕ) (ns : List (List ℕ)). Ok (record { decls = record { text = text; names = ns; devices = b.decls.devices }; steps = b.steps })) text_kept (sym is.decls.named)
 
 pub spelled_is_read : SpelledIsRead
-spelled_is_read b front line later is can w = again b front line later is can w
+spelled_is_read b front line later is w = again b front line later is w
 
 -- the plainest spelling
 
@@ -136,7 +147,7 @@ joined_lines [] = refl
 joined_lines (t ∷ ts) = ap (λ (x : List ℕ). as_line t ++ x) (joined_lines ts)
 
 pub written_is_read : WrittenIsRead
-written_is_read b is can text small =
+written_is_read b is text small =
     let names = b.decls.names in
     let front = map as_line (declared_lines b.decls.devices) in
     let later = map as_line (script_lines names b.steps) in
@@ -145,7 +156,7 @@ written_is_read b is can text small =
     concat_joined front (as_line (codes "script") ∷ later)
     ∙ ap₂ (λ (x y : List ℕ). x ++ y) (joined_lines (declared_lines b.decls.devices)) (joined_lines (codes "script" ∷ script_lines names b.steps)) in
     subst (λ (x : List ℕ). bundle_of x ≡ Ok b) bytes
-    (again b front (as_line (codes "script")) later is can (record {
+    (again b front (as_line (codes "script")) later is (record {
       declared = plain_lines (declared_lines b.decls.devices) (devices_clean b.decls.devices is.decls.devices);
       script = plain_line (codes "script") refl;
       steps = plain_lines (script_lines names b.steps) (steps_clean names good b.steps is.steps);

@@ -14,7 +14,7 @@ use Rattle.orc_state.specs.declared.rule.Rule.{Rule}
 use Rattle.orc_bundle.specs.Keywords.{keyword_of}
 use Rattle.orc_bundle.specs.Lines.{is_settled}
 use Rattle.orc_bundle.specs.Names.{is_among}
-use Rattle.orc_bundle.specs.Scripts.{a_write, after_end, after_write, an_action, behind_action, step_words, word_at, words_at, write_words}
+use Rattle.orc_bundle.specs.Scripts.{a_write, after_end, after_step, after_write, an_action, behind_action, is_followed, word_at, words_at, write_words}
 use Rattle.orc_bundle.specs.Words.{cut_at}
 use Rattle.orc_bundle.specs.Written.{AreLinesOf, lines_of_action, line_of_write}
 use Rattle.orc_bundle.specs.declared.bundle.ScriptStep.{ScriptStep}
@@ -89,8 +89,8 @@ module _ (callers : List (List ℕ)) (done : List ScriptStep) (caller : List ℕ
 
   module _ (names : List (List ℕ)) (rest : List (List ℕ)) (r : Result (List ScriptStep) (ℕ × Rule)) where
     end_literal_reads : (later : List (List ℕ)) (id : List ℕ) (writes : List DevicePut) → is_settled later ≡ true
-        → step_words names (literal id writes) (codes "end") later None ≡ Ok (served (action.Literal id writes))
-    unfolding word_at behind_action keyword_of after_end
+        → after_step names (literal id writes) (codes "end") later ≡ Ok (served (action.Literal id writes))
+    unfolding after_step word_at behind_action keyword_of after_end is_followed
     end_literal_reads later id writes settled = rw settled refl
 
     pub end_literal : (id : List ℕ) (writes : List DevicePut) → IsFollowed rest
@@ -100,8 +100,8 @@ module _ (callers : List (List ℕ)) (done : List ScriptStep) (caller : List ℕ
         (λ later are. end_literal_reads later id writes (settled later are))
 
     end_deletion_reads : (later : List (List ℕ)) (id : List ℕ) → is_settled later ≡ true
-        → step_words names (deletion id) (codes "end") later None ≡ Ok (served (action.Delete id))
-    unfolding word_at behind_action keyword_of after_end
+        → after_step names (deletion id) (codes "end") later ≡ Ok (served (action.Delete id))
+    unfolding after_step word_at behind_action keyword_of after_end is_followed
     end_deletion_reads later id settled = rw settled refl
 
     pub end_deletion : (id : List ℕ) → IsFollowed rest
@@ -110,23 +110,23 @@ module _ (callers : List (List ℕ)) (done : List ScriptStep) (caller : List ℕ
         one_line names (deletion id) (served (action.Delete id)) (codes "end") rest r end_text
         (λ later are. end_deletion_reads later id (settled later are))
 
-    literal_reads : (later : List (List ℕ)) (id : List ℕ) → IsLawfulName id → step_words names opened (codes "literal " ++ id) later (Some (codes "literal", id)) ≡ Ok (literal id [])
-    unfolding words_at an_action keyword_of
+    literal_reads : (later : List (List ℕ)) (id : List ℕ) → IsLawfulName id → after_step names opened (codes "literal " ++ id) later ≡ Ok (literal id [])
+    unfolding after_step words_at an_action keyword_of
     literal_reads later id l = let ident = l.identifier in let short = l.short in rw ident (rw short refl)
 
     pub literal_line : (id : List ℕ) → IsLawfulName id → Ends names (literal id []) rest r → Ends names opened ((codes "literal " ++ id) ∷ rest) r
     literal_line id l = one_line names opened (literal id []) (codes "literal " ++ id) rest r (literal_text id l) (λ later are. literal_reads later id l)
 
-    delete_reads : (later : List (List ℕ)) (id : List ℕ) → IsLawfulName id → step_words names opened (codes "delete " ++ id) later (Some (codes "delete", id)) ≡ Ok (deletion id)
-    unfolding words_at an_action keyword_of
+    delete_reads : (later : List (List ℕ)) (id : List ℕ) → IsLawfulName id → after_step names opened (codes "delete " ++ id) later ≡ Ok (deletion id)
+    unfolding after_step words_at an_action keyword_of
     delete_reads later id l = let ident = l.identifier in let short = l.short in rw ident (rw short refl)
 
     pub delete_line : (id : List ℕ) → IsLawfulName id → Ends names (deletion id) rest r → Ends names opened ((codes "delete " ++ id) ∷ rest) r
     delete_line id l = one_line names opened (deletion id) (codes "delete " ++ id) rest r (delete_text id l) (λ later are. delete_reads later id l)
 
     write_reads : (later : List (List ℕ)) (id : List ℕ) (writes : List DevicePut) (w : DevicePut) → IsLawfulName w.device → is_among names w.device ≡ true → IsLawfulAt w.path w.item
-        → step_words names (literal id writes) (line_of_write w) later (Some (codes "write", w.device ++ codes " " ++ item_text w.path w.item)) ≡ Ok (literal id (writes ++ w ∷ []))
-    unfolding words_at a_write keyword_of after_write
+        → after_step names (literal id writes) (line_of_write w) later ≡ Ok (literal id (writes ++ w ∷ []))
+    unfolding after_step words_at a_write keyword_of after_write
     write_reads later id writes w l named at =
         let item = item_text w.path w.item in
         let ident = l.identifier in

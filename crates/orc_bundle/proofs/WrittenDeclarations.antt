@@ -13,7 +13,7 @@ use Rattle.orc_bundle.specs.declared.declarations.Section.TheVariants as section
 use Rattle.std.proofs.lemmas.Str.{is_utf8-from_IsUtf8}
 use Rattle.orc_bundle.specs.Written.{AreLinesOf, IsLineOf, none, one, skipped}
 use Rattle.orc_bundle.specs.declared.lines.TheConstants.{LONGEST_LINE}
-use Rattle.orc_bundle.proofs.Skipped.{declarations}
+use Rattle.orc_bundle.proofs.Skipped.{IsPassed, declarations}
 use Rattle.orc_bundle.proofs.Texts.{part_known}
 use Rattle.orc_bundle.proofs.WrittenLines.{IsText, not_large}
 

@@ -9,7 +9,7 @@ use Rattle.orc_bundle.specs.Bundles.{on_line, script_steps}
 use Rattle.orc_bundle.specs.Keywords.{keyword_of}
 use Rattle.orc_bundle.specs.Lines.{is_skipped, text_of}
 use Rattle.orc_bundle.specs.Names.{place_of}
-use Rattle.orc_bundle.specs.Scripts.{a_step, after_show, after_stop, bare_step, scripted_at, step_words, stop_words, word_at, words_at}
+use Rattle.orc_bundle.specs.Scripts.{a_step, after_show, after_step, after_stop, bare_step, scripted_at, stop_words, word_at, words_at}
 use Rattle.orc_bundle.specs.Words.{cut_at}
 use Rattle.orc_bundle.specs.declared.bundle.ScriptStep.{ScriptStep}
 use Rattle.orc_bundle.specs.declared.bundle.ScriptStep.TheVariants.{Show, Settle, Stop, StopAt, Recover, History}
@@ -20,23 +20,23 @@ use Rattle.orc_bundle.specs.declared.script.TheConstants.{MOST_STEPS}
 use Rattle.std.proofs.lemmas.Str.{is_utf8-from_IsUtf8}
 use Rattle.orc_bundle.specs.Written.{AreLinesOf, IsLineOf, none, one, skipped}
 use Rattle.orc_bundle.specs.declared.lines.TheConstants.{LONGEST_LINE}
-use Rattle.orc_bundle.proofs.Skipped.{script}
+use Rattle.orc_bundle.proofs.Skipped.{IsPassed, script}
 use Rattle.orc_bundle.proofs.Texts.{is_line_byte, IsLawfulName, number_short, part_append, part_known, part_of_word, word_of_number}
 use Rattle.orc_bundle.proofs.WrittenDeclarations.{bytes_of}
 use Rattle.orc_bundle.proofs.WrittenLines.{IsText, cut_word, not_large, number_again}
 
 -- a line is looked at by its text
 scripted_by_text : (names : List (List ℕ)) (s : Script) (at : ℕ) (t line : List ℕ) (later : List (List ℕ)) → IsText t → IsLineOf t line → at + length line ≤ LARGEST_BUNDLE
-    → scripted_at names s at line later ≡ step_words names s t later (cut_at 32 t)
+    → scripted_at names s at line later ≡ after_step names s t later
 unfolding scripted_at
 scripted_by_text names s at t line later is spells within =
     let says = spells.says in
     let text = text_of line in
-    let looked : Result Script Rule = cond (is_skipped text) (Ok s) (step_words names s text later (cut_at 32 text)) in
+    let looked : Result Script Rule = cond (is_skipped text) (Ok s) (after_step names s text later) in
     ap (λ (b : Bool). cond b (Err rule.Size) (cond (not (is_utf8 text)) (Err rule.Utf8) looked)) (not_large t line at says is.short within)
     ∙ ap (λ (b : Bool). cond (not b) (Err rule.Utf8) looked) (ap is_utf8 says ∙ is_utf8-from_IsUtf8 t is.part.utf8)
-    ∙ ap (λ (b : Bool). cond b (Ok s) (step_words names s text later (cut_at 32 text))) (ap is_skipped says ∙ is.kept)
-    ∙ ap (λ (x : List ℕ). step_words names s x later (cut_at 32 x)) says
+    ∙ ap (λ (b : Bool). cond b (Ok s) (after_step names s text later)) (ap is_skipped says ∙ is.kept)
+    ∙ ap (λ (x : List ℕ). after_step names s x later) says
 
 passed_over : (names : List (List ℕ)) (s : Script) (at : ℕ) (t line : List ℕ) (later : List (List ℕ)) → IsLineOf t line → is_skipped t ≡ true → is_utf8 t ≡ true → length t ≤ LONGEST_LINE
     → at + length line ≤ LARGEST_BUNDLE → scripted_at names s at line later ≡ Ok s
@@ -58,7 +58,7 @@ no_line names s ls (skipped text l texts more spells over utf8 short are) at n w
 
 -- a text more in front
 pub one_line : (names : List (List ℕ)) (s u : Script) (t : List ℕ) (ts : List (List ℕ)) (r : Result (List ScriptStep) (ℕ × Rule))
-    → IsText t → ((later : List (List ℕ)) → AreLinesOf ts later → step_words names s t later (cut_at 32 t) ≡ Ok u)
+    → IsText t → ((later : List (List ℕ)) → AreLinesOf ts later → after_step names s t later ≡ Ok u)
     → Ends names u ts r → Ends names s (t ∷ ts) r
 one_line names s u t ts r is reads behind = ends where
   ends : Ends names s (t ∷ ts) r
@@ -113,20 +113,20 @@ module _ (names callers : List (List ℕ)) (done : List ScriptStep) (number : �
   abbrev behind : ScriptStep → Script
   behind step = resting callers (done ++ step ∷ []) number
 
-  settle_reads : (later : List (List ℕ)) → step_words names here (codes "settle") later None ≡ Ok (behind Settle)
-  unfolding word_at bare_step keyword_of
+  settle_reads : (later : List (List ℕ)) → after_step names here (codes "settle") later ≡ Ok (behind Settle)
+  unfolding after_step word_at bare_step keyword_of
   settle_reads later = let full = room done few in rw full refl
 
-  stop_reads : (later : List (List ℕ)) → step_words names here (codes "stop") later None ≡ Ok (behind Stop)
-  unfolding word_at bare_step keyword_of
+  stop_reads : (later : List (List ℕ)) → after_step names here (codes "stop") later ≡ Ok (behind Stop)
+  unfolding after_step word_at bare_step keyword_of
   stop_reads later = let full = room done few in rw full refl
 
-  recover_reads : (later : List (List ℕ)) → step_words names here (codes "recover") later None ≡ Ok (behind Recover)
-  unfolding word_at bare_step keyword_of
+  recover_reads : (later : List (List ℕ)) → after_step names here (codes "recover") later ≡ Ok (behind Recover)
+  unfolding after_step word_at bare_step keyword_of
   recover_reads later = let full = room done few in rw full refl
 
-  history_reads : (later : List (List ℕ)) → step_words names here (codes "history") later None ≡ Ok (behind History)
-  unfolding word_at bare_step keyword_of
+  history_reads : (later : List (List ℕ)) → after_step names here (codes "history") later ≡ Ok (behind History)
+  unfolding after_step word_at bare_step keyword_of
   history_reads later = let full = room done few in rw full refl
 
   pub settle_line : Ends names (behind Settle) rest r → Ends names here (codes "settle" ∷ rest) r
@@ -144,8 +144,8 @@ module _ (names callers : List (List ℕ)) (done : List ScriptStep) (number : �
   -- steps of more words
 
   show_reads : (later : List (List ℕ)) (name : List ℕ) (device : ℕ) → IsLawfulName name → place_of names name ≡ Some device
-      → step_words names here (codes "show " ++ name) later (Some (codes "show", name)) ≡ Ok (behind (Show device))
-  unfolding words_at a_step keyword_of after_show
+      → after_step names here (codes "show " ++ name) later ≡ Ok (behind (Show device))
+  unfolding after_step words_at a_step keyword_of after_show
   show_reads later name device l place =
       let full = room done few in
       let ident = l.identifier in
@@ -158,9 +158,9 @@ module _ (names callers : List (List ℕ)) (done : List ScriptStep) (number : �
       one_line names here (behind (Show device)) (codes "show " ++ name) rest r (show_text name l) (λ later are. show_reads later name device l place)
 
   stop_at_reads : (later : List (List ℕ)) (count bytes : ℕ) → count < 2 ^ 64 → bytes < 2 ^ 64
-      → step_words names here (codes "stop " ++ decimal count ++ codes " " ++ decimal bytes) later (Some (codes "stop", decimal count ++ codes " " ++ decimal bytes))
+      → after_step names here (codes "stop " ++ decimal count ++ codes " " ++ decimal bytes) later
       ≡ Ok (behind (StopAt count bytes))
-  unfolding words_at a_step keyword_of after_stop
+  unfolding after_step words_at a_step keyword_of after_stop
   stop_at_reads later count bytes c b =
       let full = room done few in
       let one = number_again count c in

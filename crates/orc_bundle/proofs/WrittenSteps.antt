@@ -8,13 +8,13 @@ use Rattle.orc_call.specs.declared.call.Call.{Call}
 use Rattle.orc_state.specs.States.{action_of, first_action, is_same_text, name_of}
 use Rattle.orc_state.specs.Calls.{is_action, is_call, is_lawful_name}
 use Rattle.orc_state.specs.declared.rule.Rule.{Rule}
-use Rattle.orc_bundle.specs.Bundles.{is_step}
+use Rattle.orc_bundle.specs.Bundles.{are_settled, begins_settled, callers_behind, is_step}
 use Rattle.orc_bundle.specs.Keywords.{keyword_of}
 use Rattle.orc_bundle.specs.Lines.{is_end, is_settled, text_of}
 use Rattle.orc_bundle.specs.Names.{is_among, place_of, with_name}
-use Rattle.orc_bundle.specs.Scripts.{a_step, after_call, call_words, is_caller_more, step_words, words_at}
+use Rattle.orc_bundle.specs.Scripts.{a_step, after_call, after_step, call_words, is_caller_more, is_followed, words_at}
 use Rattle.orc_bundle.specs.Words.{cut_at, is_text}
-use Rattle.orc_bundle.specs.Written.{AreLinesOf, lines_of_action, are_settled, begins_settled, callers_behind, step_lines}
+use Rattle.orc_bundle.specs.Written.{AreLinesOf, lines_of_action, step_lines}
 use Rattle.orc_bundle.specs.declared.bundle.ScriptStep.{ScriptStep}
 use Rattle.orc_bundle.specs.declared.bundle.ScriptStep.TheVariants.{Show, Serve, Settle, Stop, StopAt, Recover, History}
 use Rattle.orc_bundle.specs.declared.script.Script.{Script}
@@ -36,9 +36,9 @@ no_caller_more callers done number caller h = on (is_among callers caller) h whe
 
 call_reads : (names callers : List (List ℕ)) (done : List ScriptStep) (before : ℕ) (caller : List ℕ) (number : ℕ) (later : List (List ℕ))
     → length done < MOST_STEPS → IsLawfulName caller → number < 2 ^ 64 → length (with_name callers caller) ≤ MOST_CALLERS → list_any is_end later ≡ true
-    → step_words names (resting callers done before) (codes "call " ++ caller ++ codes " " ++ decimal number) later (Some (codes "call", caller ++ codes " " ++ decimal number))
+    → after_step names (resting callers done before) (codes "call " ++ caller ++ codes " " ++ decimal number) later
     ≡ Ok (opened (with_name callers caller) done caller number)
-unfolding words_at a_step keyword_of after_call
+unfolding after_step words_at a_step keyword_of after_call is_followed
 call_reads names callers done before caller number later few l fits known ends =
     let s = resting callers done before in
     let full = room done few in
@@ -46,8 +46,8 @@ call_reads names callers done before caller number later few l fits known ends =
     let short = l.short in
     let again = number_again number fits in
     let more = no_caller_more callers done before caller known in
-    ap (λ (x : List ℕ). call_words s later (cut_at 32 x)) (append_assoc caller (codes " ") (decimal number))
-    ∙ ap (call_words s later) (cut_word caller (decimal number) l.word)
+    ap (λ (x : List ℕ). call_words s (list_any is_end later) (cut_at 32 x)) (append_assoc caller (codes " ") (decimal number))
+    ∙ ap (call_words s (list_any is_end later)) (cut_word caller (decimal number) l.word)
     ∙ rw again (rw ident (rw short (rw full (rw more (rw ends refl)))))
 
 pub call_text : (caller : List ℕ) (number : ℕ) → IsLawfulName caller → number < 2 ^ 64 → IsText (codes "call " ++ caller ++ codes " " ++ decimal number)

@@ -1,15 +1,18 @@
 -- The bundle of bytes, or the first line at fault with the first rule that it breaks.
-use Rattle.std.specs.Prelude.{ℕ, ◌^◌, ◌+◌, Bool, true, false, ◌&&◌, nat_lt, List, [], ◌∷◌, length, take, IsTrue, Result, if◌then◌else◌}
+use Rattle.std.specs.Prelude.{ℕ, ◌≤◌, ◌^◌, ◌+◌, Bool, true, false, ◌&&◌, nat_lt, List, [], ◌∷◌, length, take, IsTrue, Result, if◌then◌else◌}
 use Rattle.std.specs.declared.result.Result.TheVariants.{Ok, Err}
 use Rattle.std.specs.List.{list_all}
+use Rattle.std.specs.Option.{is_none}
+use Rattle.std.specs.Str.{is_utf8}
 use Rattle.orc_state.specs.Calls.{is_call}
 use Rattle.orc_state.specs.Declarations.{AreDecls}
 use Rattle.orc_state.specs.declared.declarations.Decls.{Decls}
 use Rattle.orc_state.specs.declared.rule.Rule.{Rule}
 use Rattle.orc_state.specs.declared.rule.Rule.TheVariants as rule
 use Rattle.orc_bundle.specs.Rules.{on_ok}
-use Rattle.orc_bundle.specs.Lines.{lines_of}
-use Rattle.orc_bundle.specs.Declarations.{declared_at, is_header, nothing_declared}
+use Rattle.orc_bundle.specs.Lines.{first_kept, is_large, lines_of, seen, text_of}
+use Rattle.orc_bundle.specs.Names.{with_name}
+use Rattle.orc_bundle.specs.Declarations.{declared_at, nothing_declared}
 use Rattle.orc_bundle.specs.Scripts.{no_steps, scripted_at}
 use Rattle.orc_bundle.specs.declared.bundle.Bundle.{Bundle}
 use Rattle.orc_bundle.specs.declared.bundle.ScriptStep.{ScriptStep}
@@ -18,6 +21,7 @@ use Rattle.orc_bundle.specs.declared.declarations.Declared.{Declared}
 use Rattle.orc_bundle.specs.declared.declarations.Section.{Section}
 use Rattle.orc_bundle.specs.declared.declarations.Section.TheVariants as section
 use Rattle.orc_bundle.specs.declared.script.Script.{Script}
+use Rattle.orc_bundle.specs.declared.script.TheConstants.{MOST_CALLERS, MOST_STEPS}
 
 -- reading line by line
 
@@ -40,16 +44,9 @@ abbrev pub is_script : Section → Bool
 is_script section.Script = true
 is_script _ = false
 
--- all lines were read: there must have been a header
-abbrev pub all_declared : Declared → ℕ → ℕ → Result Front (ℕ × Rule)
-all_declared d at n =
-    if is_header d.section
-    then Err (1, rule.Header)
-    else Ok (record { declared = d; size = at; at = at; number = n; later = [] })
-
 -- the declarations in lines, in front of which stand so many bytes and so many lines
 abbrev pub declarations_of : Declared → ℕ → ℕ → List (List ℕ) → Result Front (ℕ × Rule)
-declarations_of d at n [] = all_declared d at n
+declarations_of d at n [] = Ok (record { declared = d; size = at; at = at; number = n; later = [] })
 declarations_of d at n (line ∷ later) =
     on_line (n + 1) (declared_at d at line later) (λ e.
     if is_script e.section
@@ -70,12 +67,27 @@ decls_of bytes front =
 abbrev pub script_of : Front → Result (List ScriptStep) (ℕ × Rule)
 script_of front = script_steps front.declared.names no_steps front.at front.number front.later
 
--- the bundle, or the first line at fault, counted from 1, and the first rule that it breaks
-abbrev pub bundle_of : List ℕ → Result Bundle (ℕ × Rule)
-bundle_of bytes =
-    on_ok (declarations_of nothing_declared 0 0 (lines_of bytes)) (λ front.
+-- no line is the header: each is empty or a comment, or there is none
+abbrev pub lacks_header : List (List ℕ) → Bool
+lacks_header lines = is_none (first_kept lines)
+
+-- the rule that line 1 breaks then: `size` or `utf8`, else `header`
+abbrev pub header_rule : List (List ℕ) → Rule
+header_rule [] = rule.Header
+header_rule (line ∷ later) =
+    if is_large 0 line then rule.Size else if is_utf8 (text_of line) then rule.Header else rule.Utf8
+
+-- the bundle of these bytes, which are these lines
+abbrev pub bundle_in : List ℕ → List (List ℕ) → Result Bundle (ℕ × Rule)
+bundle_in bytes lines =
+    if lacks_header lines then Err (1, header_rule lines) else
+    on_ok (declarations_of nothing_declared 0 0 lines) (λ front.
     on_ok (script_of front) (λ steps.
     Ok (record { decls = decls_of bytes front; steps = steps })))
+
+-- the bundle, or the first line at fault, counted from 1, and the first rule that it breaks
+abbrev pub bundle_of : List ℕ → Result Bundle (ℕ × Rule)
+bundle_of bytes = bundle_in (seen bytes) (lines_of (seen bytes))
 
 -- what a bundle has
 
@@ -89,7 +101,28 @@ is_step names (StopAt count bytes) = nat_lt count (2 ^ 64) && nat_lt bytes (2 ^ 
 is_step names Recover = true
 is_step names History = true
 
--- lawful declarations, and steps that speak of them
+-- these steps begin with `settle`
+abbrev pub begins_settled : List ScriptStep → Bool
+begins_settled (Settle ∷ steps) = true
+begins_settled _ = false
+
+-- behind each call stands `settle`
+abbrev pub are_settled : List ScriptStep → Bool
+are_settled [] = true
+are_settled (Serve call ∷ steps) = begins_settled steps && are_settled steps
+are_settled (_ ∷ steps) = are_settled steps
+
+-- these callers and those of steps, each once
+abbrev pub callers_behind : List (List ℕ) → List ScriptStep → List (List ℕ)
+callers_behind callers [] = callers
+callers_behind callers (Serve call ∷ steps) = callers_behind (with_name callers call.caller) steps
+callers_behind callers (_ ∷ steps) = callers_behind callers steps
+
+-- Declarations are lawful, and each step is one that these devices allow; behind each call stands `settle`, and there
+-- are no more steps and callers than can be.
 pub record IsBundle (bundle : Bundle) : Type 0 where
   pub decls : AreDecls bundle.decls
   pub steps : IsTrue (list_all (is_step bundle.decls.names) bundle.steps)
+  pub settled : IsTrue (are_settled bundle.steps)
+  pub few : length bundle.steps ≤ MOST_STEPS
+  pub callers : length (callers_behind [] bundle.steps) ≤ MOST_CALLERS

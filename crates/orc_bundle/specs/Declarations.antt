@@ -2,6 +2,7 @@
 use Rattle.std.specs.Prelude.{ℕ, zero, suc, Bool, true, false, not, ◌&&◌, ◌||◌, ◌-◌, nat_le, nat_lt, List, [], ◌∷◌, ◌++◌, codes, length, Option, Result, if◌then◌else◌}
 use Rattle.std.specs.declared.option.Option.TheVariants.{None, Some}
 use Rattle.std.specs.declared.result.Result.TheVariants.{Ok, Err}
+use Rattle.std.specs.Option.{option_map_or}
 use Rattle.std.specs.Str.{is_utf8}
 use Rattle.orc_path.specs.Alphabet.{is_identifier}
 use Rattle.orc_path.specs.Limits.{is_long_name}
@@ -86,6 +87,21 @@ after_yang d rest later =
     on_ok (module_of text) (λ name.
     checked ((is_taken d name, rule.Duplicate) ∷ [])
     (Ok (record d { modules = d.modules ++ name ∷ []; skip = n })))))
+
+-- how many lines a line takes for its block: `yang N` takes N, any other none
+abbrev pub block_size : Option ℕ → ℕ
+block_size number = option_map_or (λ n. n) number 0
+
+unfoldable pub taken_by : Keyword → List ℕ → ℕ
+taken_by keyword.Yang rest = block_size (number_in rest)
+taken_by _ rest = 0
+
+abbrev pub words_take : Option (List ℕ × List ℕ) → ℕ
+words_take None = 0
+words_take (Some words) = taken_by (keyword_of words.0) words.1
+
+abbrev pub lines_taken : List ℕ → ℕ
+lines_taken text = words_take (cut_at 32 text)
 
 -- `script`
 unfoldable pub after_script : Declared → Result Declared Rule

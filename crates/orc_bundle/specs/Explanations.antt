@@ -7,8 +7,8 @@ use Rattle.std.specs.Fmt.{digits}
 use Rattle.std.specs.Str.{chars}
 use Rattle.std.specs.Str.Lossy.{utf8_lossy}
 use Rattle.orc_bundle.specs.Keywords.{keyword_of}
-use Rattle.orc_bundle.specs.Lines.{is_end, lines_of, text_of}
-use Rattle.orc_bundle.specs.Words.{cut_at}
+use Rattle.orc_bundle.specs.Lines.{is_end, lines_of, seen, text_of}
+use Rattle.orc_bundle.specs.Words.{first_word}
 use Rattle.orc_bundle.specs.declared.explanations.TheConstants.{LOOKED_AT, SHOWN}
 use Rattle.orc_bundle.specs.declared.keyword.Keyword.{Keyword}
 use Rattle.orc_bundle.specs.declared.keyword.Keyword.TheVariants as keyword
@@ -106,7 +106,7 @@ abbrev pub allowed_words : Rule → Keyword → Bool → List ℕ
 allowed_words rule.Line word ends = line_words word ends
 allowed_words rule _ _ = rule_words rule
 
--- letters, digits and marks; no control character, no space but the plain one, nothing that is not seen
+-- printable ASCII, and blocks of which most characters are seen; no control character, no noncharacter
 abbrev pub is_visible : ℕ → Bool
 is_visible c =
     (nat_le 32 c && nat_le c 126)
@@ -132,19 +132,11 @@ quoted text = first_shown SHOWN (chars text)
 abbrev pub looked_at : List ℕ → List ℕ
 looked_at text = utf8_lossy (take LOOKED_AT text)
 
--- the first word of a line
-abbrev pub word_before : List ℕ → Option (List ℕ × List ℕ) → List ℕ
-word_before text None = text
-word_before text (Some words) = words.0
-
-abbrev pub first_word : List ℕ → List ℕ
-first_word text = word_before text (cut_at 32 text)
-
--- what is said of a rule and a line, with the lines behind it
-abbrev pub line_explained : List ℕ → List (List ℕ) → ℕ → Rule → List ℕ
-line_explained text later line rule =
+-- what is said of a rule and a line, behind which one is `end` or not
+abbrev pub line_explained : List ℕ → Bool → ℕ → Rule → List ℕ
+line_explained text ends line rule =
     codes "Line " ++ digits 10 false line ++ codes " is \"" ++ quoted text ++ codes "\". "
-    ++ allowed_words rule (keyword_of (first_word text)) (list_any is_end later)
+    ++ allowed_words rule (keyword_of (first_word text)) ends
 
 abbrev pub no_line_explained : ℕ → Rule → List ℕ
 no_line_explained line rule =
@@ -152,8 +144,8 @@ no_line_explained line rule =
 
 abbrev pub explained : List (List ℕ) → ℕ → Rule → List ℕ
 explained [] line rule = no_line_explained line rule
-explained (l ∷ later) line rule = line_explained (looked_at (text_of l)) later line rule
+explained (l ∷ later) line rule = line_explained (looked_at (text_of l)) (list_any is_end later) line rule
 
 -- what is said of a fault: what stands in its line, and what may stand there
 abbrev pub explanation_of : List ℕ → ℕ → Rule → List ℕ
-explanation_of bytes line rule = explained (drop (line - 1) (lines_of bytes)) line rule
+explanation_of bytes line rule = explained (drop (line - 1) (lines_of (seen bytes))) line rule

@@ -1,10 +1,14 @@
 -- The lines of bytes.
-use Rattle.std.specs.Prelude.{ℕ, zero, suc, Bool, true, false, ◌+◌, ◌==◌, ◌||◌, nat_lt, List, [], ◌∷◌, ◌++◌, codes, length, reverse, Option, if◌then◌else◌}
+use Rattle.std.specs.Prelude.{ℕ, zero, suc, Bool, true, false, ◌+◌, ◌==◌, ◌||◌, nat_lt, List, [], ◌∷◌, ◌++◌, codes, length, reverse, take, Option, if◌then◌else◌}
 use Rattle.std.specs.declared.option.Option.TheVariants.{None, Some}
-use Rattle.std.specs.Option.{option_map}
+use Rattle.std.specs.Option.{option_map, option_map_or}
 use Rattle.orc_bundle.specs.Words.{is_text}
 use Rattle.orc_bundle.specs.declared.bundle.TheConstants.{LARGEST_BUNDLE}
 use Rattle.orc_bundle.specs.declared.lines.TheConstants.{LONGEST_LINE}
+
+-- what is seen of bytes: as many as a bundle can have, and one more
+abbrev pub seen : List ℕ → List ℕ
+seen bytes = take (LARGEST_BUNDLE + 1) bytes
 
 -- a byte in front of the first line
 abbrev pub led_by : ℕ → List (List ℕ) → List (List ℕ)
@@ -44,7 +48,7 @@ is_large at line = nat_lt LARGEST_BUNDLE (at + length line) || nat_lt LONGEST_LI
 abbrev pub as_line : List ℕ → List ℕ
 as_line text = text ++ 10 ∷ []
 
--- the texts of the first lines, each as_line by a line feed, where there are so many lines
+-- the texts of the first lines, each ended by a line feed, where there are so many lines
 abbrev pub block_of : ℕ → List (List ℕ) → Option (List ℕ)
 block_of zero later = Some []
 block_of (suc n) [] = None
@@ -54,8 +58,11 @@ block_of (suc n) (line ∷ later) = option_map (λ block. as_line (text_of line)
 abbrev pub is_end : List ℕ → Bool
 is_end line = is_text (text_of line) (codes "end")
 
--- the first line that is not skipped is `settle`
+-- the text of the first line that is not skipped
+abbrev pub first_kept : List (List ℕ) → Option (List ℕ)
+first_kept [] = None
+first_kept (line ∷ later) = if is_skipped (text_of line) then first_kept later else Some (text_of line)
+
+-- that is `settle`
 abbrev pub is_settled : List (List ℕ) → Bool
-is_settled [] = false
-is_settled (line ∷ later) =
-    if is_skipped (text_of line) then is_settled later else is_text (text_of line) (codes "settle")
+is_settled lines = option_map_or (λ text. is_text text (codes "settle")) (first_kept lines) false

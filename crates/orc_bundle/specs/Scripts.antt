@@ -1,5 +1,5 @@
 -- What each form of a script's line makes of the steps so far.
-use Rattle.std.specs.Prelude.{ℕ, Bool, not, ◌&&◌, ◌||◌, nat_le, List, [], ◌∷◌, ◌++◌, length, Option, Result, if◌then◌else◌}
+use Rattle.std.specs.Prelude.{ℕ, Bool, true, not, ◌&&◌, ◌||◌, nat_le, List, [], ◌∷◌, ◌++◌, length, Option, Result, if◌then◌else◌}
 use Rattle.std.specs.declared.option.Option.TheVariants.{None, Some}
 use Rattle.std.specs.declared.result.Result.TheVariants.{Ok, Err}
 use Rattle.std.specs.List.{list_any}
@@ -12,7 +12,7 @@ use Rattle.orc_state.specs.declared.rule.Rule.{Rule}
 use Rattle.orc_state.specs.declared.rule.Rule.TheVariants as rule
 use Rattle.orc_bundle.specs.Rules.{checked, or_rule, on_ok}
 use Rattle.orc_bundle.specs.Lines.{is_end, is_large, is_settled, is_skipped, text_of}
-use Rattle.orc_bundle.specs.Words.{cut_at, number_in}
+use Rattle.orc_bundle.specs.Words.{cut_at, first_word, number_in}
 use Rattle.orc_bundle.specs.Keywords.{keyword_of}
 use Rattle.orc_bundle.specs.Names.{is_among, place_of, with_name}
 use Rattle.orc_bundle.specs.Items.{put_of}
@@ -65,15 +65,22 @@ after_stop s rest = stop_words s (cut_at 32 rest)
 abbrev pub is_caller_more : Script → List ℕ → Bool
 is_caller_more s name = not (is_among s.callers name) && nat_le MOST_CALLERS (length s.callers)
 
--- `call C N`, behind which a line is `end`
-abbrev pub call_words : Script → List (List ℕ) → Option (List ℕ × List ℕ) → Result Script Rule
-call_words s later None = Err rule.Line
-call_words s later (Some words) =
+-- What the line with this first word wants of the lines behind it: `call`, that one is `end`; `end`, that the next one
+-- is `settle`; any other, nothing.
+unfoldable pub is_followed : Keyword → List (List ℕ) → Bool
+is_followed keyword.Call later = list_any is_end later
+is_followed keyword.End later = is_settled later
+is_followed _ later = true
+
+-- `call C N`, followed or not
+abbrev pub call_words : Script → Bool → Option (List ℕ × List ℕ) → Result Script Rule
+call_words s followed None = Err rule.Line
+call_words s followed (Some words) =
     or_rule (number_in words.1) rule.Line (λ number.
     checked (
     (not (is_identifier words.0), rule.Line)
     ∷ (is_long_name words.0 || is_full s || is_caller_more s words.0, rule.Size)
-    ∷ (not (list_any is_end later), rule.Line)
+    ∷ (not followed, rule.Line)
     ∷ [])
     (Ok (record s {
       part = part.Call;
@@ -82,8 +89,8 @@ call_words s later (Some words) =
       number = number;
     })))
 
-unfoldable pub after_call : Script → List ℕ → List (List ℕ) → Result Script Rule
-after_call s rest later = call_words s later (cut_at 32 rest)
+unfoldable pub after_call : Script → List ℕ → Bool → Result Script Rule
+after_call s rest followed = call_words s followed (cut_at 32 rest)
 
 -- an action of this kind on the service of this name, which the call gets
 abbrev pub begun : Script → Part → List ℕ → Result Script Rule
@@ -115,18 +122,18 @@ with_call s action = record s {
   writes = [];
 }
 
--- `end`, behind an action; the first line behind it that is not skipped is `settle`
-unfoldable pub after_end : Script → Action → List (List ℕ) → Result Script Rule
-after_end s action later = checked ((not (is_settled later), rule.Line) ∷ []) (Ok (with_call s action))
+-- `end`, behind an action, followed or not
+unfoldable pub after_end : Script → Action → Bool → Result Script Rule
+after_end s action followed = checked ((not followed, rule.Line) ∷ []) (Ok (with_call s action))
 
 -- which forms stand where
 
 -- of more than one word, where no call is open
-unfoldable pub a_step : Keyword → List (List ℕ) → Script → List ℕ → List (List ℕ) → Result Script Rule
-a_step keyword.Show names s rest later = after_show names s rest
-a_step keyword.Stop names s rest later = after_stop s rest
-a_step keyword.Call names s rest later = after_call s rest later
-a_step _ names s rest later = Err rule.Line
+unfoldable pub a_step : Keyword → List (List ℕ) → Script → List ℕ → Bool → Result Script Rule
+a_step keyword.Show names s rest followed = after_show names s rest
+a_step keyword.Stop names s rest followed = after_stop s rest
+a_step keyword.Call names s rest followed = after_call s rest followed
+a_step _ names s rest followed = Err rule.Line
 
 -- of one word
 unfoldable pub bare_step : Keyword → Script → Result Script Rule
@@ -148,31 +155,37 @@ a_write keyword.Write names s rest = after_write names s rest
 a_write _ names s rest = Err rule.Line
 
 -- the line behind an action
-unfoldable pub behind_action : Keyword → Script → Action → List (List ℕ) → Result Script Rule
-behind_action keyword.End s action later = after_end s action later
-behind_action _ s action later = Err rule.Line
+unfoldable pub behind_action : Keyword → Script → Action → Bool → Result Script Rule
+behind_action keyword.End s action followed = after_end s action followed
+behind_action _ s action followed = Err rule.Line
 
 -- a line of more than one word
-unfoldable pub words_at : Part → List (List ℕ) → Script → List ℕ → List ℕ → List (List ℕ) → Result Script Rule
-words_at part.Steps names s word rest later = a_step (keyword_of word) names s rest later
-words_at part.Call names s word rest later = an_action (keyword_of word) s rest
-words_at part.Literal names s word rest later = a_write (keyword_of word) names s rest
-words_at part.Delete names s word rest later = Err rule.Line
+unfoldable pub words_at : Part → Keyword → List (List ℕ) → Script → List ℕ → Bool → Result Script Rule
+words_at part.Steps word names s rest followed = a_step word names s rest followed
+words_at part.Call word names s rest followed = an_action word s rest
+words_at part.Literal word names s rest followed = a_write word names s rest
+words_at part.Delete word names s rest followed = Err rule.Line
 
 -- a line of one word
-unfoldable pub word_at : Part → Script → List ℕ → List (List ℕ) → Result Script Rule
-word_at part.Steps s word later = bare_step (keyword_of word) s
-word_at part.Call s word later = Err rule.Line
-word_at part.Literal s word later = behind_action (keyword_of word) s (action.Literal s.name s.writes) later
-word_at part.Delete s word later = behind_action (keyword_of word) s (action.Delete s.name) later
+unfoldable pub word_at : Part → Keyword → Script → Bool → Result Script Rule
+word_at part.Steps word s followed = bare_step word s
+word_at part.Call word s followed = Err rule.Line
+word_at part.Literal word s followed = behind_action word s (action.Literal s.name s.writes) followed
+word_at part.Delete word s followed = behind_action word s (action.Delete s.name) followed
 
--- a line that is not skipped
-abbrev pub step_words : List (List ℕ) → Script → List ℕ → List (List ℕ) → Option (List ℕ × List ℕ) → Result Script Rule
-step_words names s text later None = word_at s.part s text later
-step_words names s text later (Some words) = words_at s.part names s words.0 words.1 later
+-- a line with this first word
+abbrev pub step_words : List (List ℕ) → Script → Keyword → Bool → Option (List ℕ × List ℕ) → Result Script Rule
+step_words names s word followed None = word_at s.part word s followed
+step_words names s word followed (Some words) = words_at s.part word names s words.1 followed
+
+-- a line that is not skipped, with the lines behind it
+unfoldable pub after_step : List (List ℕ) → Script → List ℕ → List (List ℕ) → Result Script Rule
+after_step names s text later =
+    step_words names s (keyword_of (first_word text)) (is_followed (keyword_of (first_word text)) later)
+    (cut_at 32 text)
 
 -- a line with the lines behind it; so many bytes stand in front of it
 unfoldable pub scripted_at : List (List ℕ) → Script → ℕ → List ℕ → List (List ℕ) → Result Script Rule
 scripted_at names s at line later =
     checked ((is_large at line, rule.Size) ∷ (not (is_utf8 (text_of line)), rule.Utf8) ∷ [])
-    (if is_skipped (text_of line) then Ok s else step_words names s (text_of line) later (cut_at 32 (text_of line)))
+    (if is_skipped (text_of line) then Ok s else after_step names s (text_of line) later)

@@ -11,6 +11,14 @@ abbrev pub cut_at : ℕ → List ℕ → Option (List ℕ × List ℕ)
 cut_at c [] = None
 cut_at c (b ∷ bs) = if b == c then Some ([], bs) else option_map (λ parts. (b ∷ parts.0, parts.1)) (cut_at c bs)
 
+-- the first word of a text
+abbrev pub word_before : List ℕ → Option (List ℕ × List ℕ) → List ℕ
+word_before text None = text
+word_before text (Some words) = words.0
+
+abbrev pub first_word : List ℕ → List ℕ
+first_word text = word_before text (cut_at 32 text)
+
 -- a text is this one
 abbrev pub is_text : List ℕ → List ℕ → Bool
 is_text = pointwise nat_eq

@@ -11,13 +11,11 @@ use Rattle.orc_call.specs.declared.call.Put.{Put}
 use Rattle.orc_state.specs.States.{action_of, name_of}
 use Rattle.orc_state.specs.declared.declarations.Device.{Device}
 use Rattle.orc_bundle.specs.Lines.{as_line, is_skipped, text_of}
-use Rattle.orc_bundle.specs.Names.{with_name}
 use Rattle.orc_bundle.specs.declared.bundle.Bundle.{Bundle}
 use Rattle.orc_bundle.specs.declared.bundle.ScriptStep.{ScriptStep}
 use Rattle.orc_bundle.specs.declared.bundle.ScriptStep.TheVariants.{Show, Serve, Settle, Stop, StopAt, Recover, History}
 use Rattle.orc_bundle.specs.declared.bundle.TheConstants.{LARGEST_BUNDLE}
 use Rattle.orc_bundle.specs.declared.lines.TheConstants.{LONGEST_LINE}
-use Rattle.orc_bundle.specs.declared.script.TheConstants.{MOST_CALLERS, MOST_STEPS}
 
 -- lines, without their line feeds
 
@@ -83,30 +81,6 @@ pub record IsSpelling (bundle : Bundle) (front : List (List ℕ)) (line : List �
   pub steps : AreLinesOf (script_lines bundle.decls.names bundle.steps) later
   pub text : bundle.decls.text ≡ concat front
   pub small : length (concat (front ++ line ∷ later)) ≤ LARGEST_BUNDLE
-
--- which scripts can be spelled
-
-abbrev pub begins_settled : List ScriptStep → Bool
-begins_settled (Settle ∷ steps) = true
-begins_settled _ = false
-
--- behind each call stands `settle`
-abbrev pub are_settled : List ScriptStep → Bool
-are_settled [] = true
-are_settled (Serve call ∷ steps) = begins_settled steps && are_settled steps
-are_settled (_ ∷ steps) = are_settled steps
-
--- these callers and those of steps, each once
-abbrev pub callers_behind : List (List ℕ) → List ScriptStep → List (List ℕ)
-callers_behind callers [] = callers
-callers_behind callers (Serve call ∷ steps) = callers_behind (with_name callers call.caller) steps
-callers_behind callers (_ ∷ steps) = callers_behind callers steps
-
--- calls are settled, and the limits of a script are kept
-pub record IsScript (steps : List ScriptStep) : Type 0 where
-  pub settled : IsTrue (are_settled steps)
-  pub few : length steps ≤ MOST_STEPS
-  pub callers : length (callers_behind [] steps) ≤ MOST_CALLERS
 
 -- the plainest spelling
 

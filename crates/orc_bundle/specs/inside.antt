@@ -1,3 +1,4 @@
 pub mod Blocks
+pub mod Costs
 pub mod Lawful
 pub mod Readers

@@ -7,7 +7,7 @@ use orc_text::Row;
 pub const LARGEST_BUNDLE: usize = 16_777_216;
 
 /// A step of a script. A device is given by its number, its place in the declarations from 0 on.
-#[derive(Debug, Drop)]
+#[derive(Drop)]
 pub enum ScriptStep {
     /// Print the tree of a device.
     Show(u32),

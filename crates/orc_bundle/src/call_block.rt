@@ -4,17 +4,14 @@ ghost use Rattle.std.specs.List.{list_all};
 ghost use Rattle.orc_state.specs.Calls.{is_action};
 ghost use Rattle.orc_state.specs.declared.lawful.TheConstants.{MOST_WRITES};
 ghost use Rattle.orc_bundle.specs.Bundles.{is_step};
-ghost use Rattle.orc_bundle.specs.Keywords.{keyword_of};
-ghost use Rattle.orc_bundle.specs.Lines.{lines_of};
 ghost use Rattle.orc_bundle.specs.Scripts.{a_write, after_end, after_write, an_action, begun, behind_action};
 ghost use Rattle.orc_bundle.specs.inside.Lawful.{AreSteps, has_caller};
-ghost use Rattle.orc_bundle.specs.inside.Readers.{Steps};
+ghost use Rattle.orc_bundle.specs.inside.Readers.{Takes};
 
 use crate::bundle::ScriptStep;
 use crate::fault::{LineFault, breaks};
 use crate::items::read_put;
-use crate::keyword::{Keyword, keyword_of};
-use crate::lines::is_settled;
+use crate::keyword::Keyword;
 use crate::names::Names;
 use crate::script::{Part, Script};
 use crate::words::cut;
@@ -28,7 +25,7 @@ use std::mem::replace;
 impl Script {
     // An action of this kind on the service of this name.
     fn begin(&mut self, alloc: Global, part: Part, name: &str) -> Result<(), LineFault>
-        ensures steps { Steps (begun self.old part name.now) self.new result }
+        ensures takes { Takes (begun self.old part name.now) self.new result }
         ensures lawful { (names : List (List ℕ)) (most : ℕ) → AreSteps names most self.old
             → self.old.part ≡ Part.Call → OnOk result (AreSteps names most self.new) }
     {
@@ -47,7 +44,7 @@ impl Script {
     // `write D ITEM`.
     #[tactic(auto, unfolding(crate::specs::Scripts::after_write))]
     fn take_write(&mut self, alloc: Global, names: &Names, rest: &str) -> Result<(), LineFault>
-        ensures steps { Steps (after_write names.now self.old rest.now) self.new result }
+        ensures takes { Takes (after_write names.now self.old rest.now) self.new result }
         ensures lawful { (most : ℕ) → AreSteps names.now most self.old → self.old.part ≡ Part.Literal
             → OnOk result (AreSteps names.now (most + 1) self.new) }
     {
@@ -70,15 +67,15 @@ impl Script {
         Ok(())
     }
 
-    // `end` behind an action, with the bytes behind the line.
+    // `end` behind an action, followed or not.
     #[tactic(auto, unfolding(crate::specs::Scripts::after_end))]
-    fn take_end(&mut self, alloc: Global, action: Action, later: &[u8]) -> Result<(), LineFault>
-        ensures steps { Steps (after_end self.old action (lines_of later.now)) self.new result }
+    fn take_end(&mut self, alloc: Global, action: Action, followed: bool) -> Result<(), LineFault>
+        ensures takes { Takes (after_end self.old action followed) self.new result }
         ensures lawful { (names : List (List ℕ)) (most : ℕ) → IsTrue (list_all (is_step names) self.old.steps)
             → IsTrue (has_caller self.old) → IsTrue (is_action names action)
             → OnOk result (AreSteps names most self.new) }
     {
-        if !is_settled(later) {
+        if !followed {
             return breaks(Rule::Line);
         }
         let mut actions = Row::new(alloc);
@@ -100,14 +97,14 @@ impl Script {
     pub(crate) fn take_action(
         &mut self,
         alloc: Global,
-        word: &str,
+        word: Keyword,
         rest: &str,
     ) -> Result<(), LineFault>
-        ensures steps { Steps (an_action (keyword_of word.now) self.old rest.now) self.new result }
+        ensures takes { Takes (an_action word self.old rest.now) self.new result }
         ensures lawful { (names : List (List ℕ)) (most : ℕ) → AreSteps names most self.old
             → self.old.part ≡ Part.Call → OnOk result (AreSteps names most self.new) }
     {
-        match keyword_of(word) {
+        match word {
             Keyword::Literal => self.begin(alloc, Part::Literal, rest),
             Keyword::Delete => self.begin(alloc, Part::Delete, rest),
             _ => breaks(Rule::Line),
@@ -120,14 +117,14 @@ impl Script {
         &mut self,
         alloc: Global,
         names: &Names,
-        word: &str,
+        word: Keyword,
         rest: &str,
     ) -> Result<(), LineFault>
-        ensures steps { Steps (a_write (keyword_of word.now) names.now self.old rest.now) self.new result }
+        ensures takes { Takes (a_write word names.now self.old rest.now) self.new result }
         ensures lawful { (most : ℕ) → AreSteps names.now most self.old → self.old.part ≡ Part.Literal
             → OnOk result (AreSteps names.now (most + 1) self.new) }
     {
-        match keyword_of(word) {
+        match word {
             Keyword::Write => self.take_write(alloc, names, rest),
             _ => breaks(Rule::Line),
         }
@@ -138,21 +135,20 @@ impl Script {
     pub(crate) fn end_literal(
         &mut self,
         alloc: Global,
-        word: &str,
-        later: &[u8],
+        word: Keyword,
+        followed: bool,
     ) -> Result<(), LineFault>
-        ensures steps { Steps
-            (behind_action (keyword_of word.now) self.old (Action.Literal self.old.name self.old.writes)
-            (lines_of later.now))
+        ensures takes { Takes
+            (behind_action word self.old (Action.Literal self.old.name self.old.writes) followed)
             self.new result }
         ensures lawful { (names : List (List ℕ)) (most : ℕ) → AreSteps names most self.old
             → self.old.part ≡ Part.Literal → most ≤ MOST_WRITES → OnOk result (AreSteps names most self.new) }
     {
-        match keyword_of(word) {
+        match word {
             Keyword::End => {
                 let name = replace(&mut self.name, Text::new(alloc));
                 let writes = replace(&mut self.writes, Row::new(alloc));
-                self.take_end(alloc, Action::Literal(name, writes), later)
+                self.take_end(alloc, Action::Literal(name, writes), followed)
             }
             _ => breaks(Rule::Line),
         }
@@ -163,19 +159,17 @@ impl Script {
     pub(crate) fn end_delete(
         &mut self,
         alloc: Global,
-        word: &str,
-        later: &[u8],
+        word: Keyword,
+        followed: bool,
     ) -> Result<(), LineFault>
-        ensures steps { Steps
-            (behind_action (keyword_of word.now) self.old (Action.Delete self.old.name) (lines_of later.now))
-            self.new result }
+        ensures takes { Takes (behind_action word self.old (Action.Delete self.old.name) followed) self.new result }
         ensures lawful { (names : List (List ℕ)) (most : ℕ) → AreSteps names most self.old
             → self.old.part ≡ Part.Delete → OnOk result (AreSteps names most self.new) }
     {
-        match keyword_of(word) {
+        match word {
             Keyword::End => {
                 let name = replace(&mut self.name, Text::new(alloc));
-                self.take_end(alloc, Action::Delete(name), later)
+                self.take_end(alloc, Action::Delete(name), followed)
             }
             _ => breaks(Rule::Line),
         }

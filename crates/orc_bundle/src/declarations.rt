@@ -1,9 +1,10 @@
 //! What was declared so far, and what each form of a declaration makes of it.
 ghost use Rattle.std.specs.Prelude.{◌≡◌, ◌<◌, ◌≤◌, ◌+◌, ◌^◌, OnOk, length};
 ghost use Rattle.orc_bundle.specs.Lines.{lines_of};
-ghost use Rattle.orc_bundle.specs.Keywords.{keyword_of};
-ghost use Rattle.orc_bundle.specs.Declarations.{nothing_declared, with_base, after_header, after_device, after_base, after_yang, after_script, declaration, bare_declaration, after_text, declared_at};
-ghost use Rattle.orc_bundle.specs.inside.Readers.{Steps};
+ghost use Rattle.orc_bundle.specs.Words.{number_in};
+ghost use Rattle.orc_bundle.specs.Declarations.{nothing_declared, with_base, after_header, after_device, after_base, after_yang, after_script, block_size, taken_by, lines_taken, declaration, bare_declaration, after_text, declared_at};
+ghost use Rattle.orc_bundle.specs.inside.Readers.{Takes};
+ghost use Rattle.orc_bundle.specs.inside.Costs.{bytes_of_first, declared_looks_at};
 ghost use Rattle.orc_bundle.specs.inside.Lawful.{AreDeclared};
 ghost use Rattle.orc_bundle.specs.declared.bundle.TheConstants.{LARGEST_BUNDLE};
 
@@ -15,14 +16,16 @@ use crate::module::module_of;
 use crate::names::Names;
 use crate::words::{cut, number_of, read_text};
 use orc_call::Put;
+use orc_io::Steps;
 use orc_path::{is_identifier, is_long_name};
 use orc_state::{Device, MOST_DEVICES, Rule};
 use orc_text::{Memory, Row, Text};
 use std::alloc::Global;
 use std::mem::replace;
+use std::sync::ledger::Ledger;
 
 /// Which lines may stand.
-#[derive(Clone, Copy, Debug, PartialEq, Eq)]
+#[derive(Clone, Copy, PartialEq, Eq)]
 pub enum Section {
     /// The header alone.
     Header,
@@ -33,7 +36,7 @@ pub enum Section {
 }
 
 /// What was declared so far.
-#[derive(Debug, Drop)]
+#[derive(Drop)]
 pub struct Declared {
     pub section: Section,
     /// How many lines of a block are still to come.
@@ -84,7 +87,7 @@ impl Declared {
     // `orc 1`.
     #[tactic(auto, unfolding(crate::specs::Declarations::after_header))]
     fn take_header(&mut self, text: &str) -> Result<(), LineFault>
-        ensures steps { Steps (after_header self.old text.now) self.new result }
+        ensures takes { Takes (after_header self.old text.now) self.new result }
         ensures lawful { AreDeclared self.old → OnOk result (AreDeclared self.new) }
     {
         if text != "orc 1" {
@@ -97,7 +100,7 @@ impl Declared {
     // `device D plain`.
     #[tactic(auto, unfolding(crate::specs::Declarations::after_device))]
     fn take_device(&mut self, alloc: Global, rest: &str) -> Result<(), LineFault>
-        ensures steps { Steps (after_device self.old rest.now) self.new result }
+        ensures takes { Takes (after_device self.old rest.now) self.new result }
         ensures lawful { AreDeclared self.old → OnOk result (AreDeclared self.new) }
     {
         let Some((name, kind)) = cut(rest) else {
@@ -128,7 +131,7 @@ impl Declared {
     // `base D ITEM`.
     #[tactic(auto, unfolding(crate::specs::Declarations::after_base))]
     fn take_base(&mut self, alloc: Global, rest: &str) -> Result<(), LineFault>
-        ensures steps { Steps (after_base self.old rest.now) self.new result }
+        ensures takes { Takes (after_base self.old rest.now) self.new result }
         ensures lawful { AreDeclared self.old → OnOk result (AreDeclared self.new) }
     {
         let Some((name, item)) = cut(rest) else {
@@ -148,14 +151,22 @@ impl Declared {
 
     // `yang N`, with the bytes behind the line.
     #[tactic(auto, unfolding(crate::specs::Declarations::after_yang))]
-    fn take_yang(&mut self, alloc: Global, rest: &str, later: &[u8]) -> Result<(), LineFault>
-        ensures steps { Steps (after_yang self.old rest.now (lines_of later.now)) self.new result }
+    fn take_yang<L: Ledger>(
+        &mut self,
+        alloc: Global,
+        rest: &str,
+        later: &[u8],
+        steps: &mut Steps<L>,
+    ) -> Result<(), LineFault>
+        ensures takes { Takes (after_yang self.old rest.now (lines_of later.now)) self.new result }
         ensures lawful { AreDeclared self.old → OnOk result (AreDeclared self.new) }
+        ensures counts { steps.old ≤ steps.new }
+        ensures cost { steps.new ≤ steps.old + bytes_of_first (block_size (number_in rest.now)) (lines_of later.now) }
     {
         let Some(count) = number_of(rest) else {
             return breaks(Rule::Line);
         };
-        let Some(text) = block_of(alloc, later, count)? else {
+        let Some(text) = block_of(alloc, later, count, steps)? else {
             return breaks(Rule::Line);
         };
         let name = module_of(alloc, text.as_slice())?;
@@ -170,7 +181,7 @@ impl Declared {
     // `script`.
     #[tactic(auto, unfolding(crate::specs::Declarations::after_script))]
     fn take_script(&mut self) -> Result<(), LineFault>
-        ensures steps { Steps (after_script self.old) self.new result }
+        ensures takes { Takes (after_script self.old) self.new result }
         ensures lawful { AreDeclared self.old → OnOk result (AreDeclared self.new) }
     {
         self.section = Section::Script;
@@ -178,34 +189,35 @@ impl Declared {
     }
 
     // A declaration of more than one word.
-    #[tactic(auto, unfolding(crate::specs::Declarations::declaration))]
-    fn take_words(
+    #[tactic(auto, unfolding(crate::specs::Declarations::declaration, crate::specs::Declarations::taken_by))]
+    fn take_words<L: Ledger>(
         &mut self,
         alloc: Global,
-        word: &str,
+        word: Keyword,
         rest: &str,
         later: &[u8],
+        steps: &mut Steps<L>,
     ) -> Result<(), LineFault>
-        ensures steps { Steps
-            (declaration (keyword_of word.now) self.old rest.now (lines_of later.now))
-            self.new result }
+        ensures takes { Takes (declaration word self.old rest.now (lines_of later.now)) self.new result }
         ensures lawful { AreDeclared self.old → OnOk result (AreDeclared self.new) }
+        ensures counts { steps.old ≤ steps.new }
+        ensures cost { steps.new ≤ steps.old + bytes_of_first (taken_by word rest.now) (lines_of later.now) }
     {
-        match keyword_of(word) {
+        match word {
             Keyword::Device => self.take_device(alloc, rest),
             Keyword::Base => self.take_base(alloc, rest),
-            Keyword::Yang => self.take_yang(alloc, rest, later),
+            Keyword::Yang => self.take_yang(alloc, rest, later, steps),
             _ => breaks(Rule::Line),
         }
     }
 
     // A declaration of one word.
     #[tactic(auto, unfolding(crate::specs::Declarations::bare_declaration))]
-    fn take_word(&mut self, word: &str) -> Result<(), LineFault>
-        ensures steps { Steps (bare_declaration (keyword_of word.now) self.old) self.new result }
+    fn take_word(&mut self, word: Keyword) -> Result<(), LineFault>
+        ensures takes { Takes (bare_declaration word self.old) self.new result }
         ensures lawful { AreDeclared self.old → OnOk result (AreDeclared self.new) }
     {
-        match keyword_of(word) {
+        match word {
             Keyword::Script => self.take_script(),
             _ => breaks(Rule::Line),
         }
@@ -213,32 +225,43 @@ impl Declared {
 
     // A line that is not skipped.
     #[tactic(auto, unfolding(crate::specs::Declarations::after_text))]
-    fn take_text(&mut self, alloc: Global, text: &str, later: &[u8]) -> Result<(), LineFault>
-        ensures steps { Steps (after_text self.old text.now (lines_of later.now)) self.new result }
+    fn take_text<L: Ledger>(
+        &mut self,
+        alloc: Global,
+        text: &str,
+        later: &[u8],
+        steps: &mut Steps<L>,
+    ) -> Result<(), LineFault>
+        ensures takes { Takes (after_text self.old text.now (lines_of later.now)) self.new result }
         ensures lawful { AreDeclared self.old → OnOk result (AreDeclared self.new) }
+        ensures counts { steps.old ≤ steps.new }
+        ensures cost { steps.new ≤ steps.old + bytes_of_first (lines_taken text.now) (lines_of later.now) }
     {
         if self.section == Section::Header {
             return self.take_header(text);
         }
         match cut(text) {
-            Some((word, rest)) => self.take_words(alloc, word, rest, later),
-            None => self.take_word(text),
+            Some((word, rest)) => self.take_words(alloc, keyword_of(word), rest, later, steps),
+            None => self.take_word(keyword_of(text)),
         }
     }
 
     /// A line, with the bytes behind it. So many bytes stand in front of it.
     #[tactic(auto, unfolding(crate::specs::Declarations::declared_at))]
-    pub(crate) fn take(
+    pub(crate) fn take<L: Ledger>(
         &mut self,
         alloc: Global,
         at: u64,
         line: &[u8],
         later: &[u8],
+        steps: &mut Steps<L>,
     ) -> Result<(), LineFault>
         requires { at + length line.now < 2 ^ 63 }
-        ensures steps { Steps (declared_at self.old at line.now (lines_of later.now)) self.new result }
+        ensures takes { Takes (declared_at self.old at line.now (lines_of later.now)) self.new result }
         ensures lawful { AreDeclared self.old → OnOk result (AreDeclared self.new) }
         ensures small { OnOk result (at + length line.now ≤ LARGEST_BUNDLE) }
+        ensures counts { steps.old ≤ steps.new }
+        ensures cost { steps.new ≤ steps.old + declared_looks_at self.old line.now (lines_of later.now) }
     {
         if is_large(at, line) {
             return breaks(Rule::Size);
@@ -253,6 +276,6 @@ impl Declared {
         if is_skipped(text.as_bytes()) {
             return Ok(());
         }
-        self.take_text(alloc, text, later)
+        self.take_text(alloc, text, later, steps)
     }
 }

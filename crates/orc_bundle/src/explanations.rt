@@ -1,18 +1,21 @@
 //! A bundle's fault in words, for the one who mends it.
-ghost use Rattle.std.specs.Prelude.{◌≡◌, ◌++◌, ◌-◌, codes, drop, take, length, IfOk, OnOk};
+ghost use Rattle.std.specs.Prelude.{◌≡◌, ◌<◌, ◌++◌, ◌-◌, codes, drop, take, length, IfOk, OnOk};
 ghost use Rattle.std.specs.List.{list_any};
 ghost use Rattle.std.specs.String.{string_bytes};
-ghost use Rattle.orc_bundle.specs.Explanations.{explanation_of, first_word, line_explained, looked_at};
+ghost use Rattle.orc_bundle.specs.Explanations.{explained, explanation_of, line_explained, looked_at};
 ghost use Rattle.orc_bundle.specs.Explanations.{is_visible, no_line_explained, quoted, shown_character};
 ghost use Rattle.orc_bundle.specs.Explanations.{allowed_words, call_explained, form_words, line_words, rule_words, whole_form};
 ghost use Rattle.orc_bundle.specs.Lines.{is_end, lines_of};
 
 use crate::keyword::{Keyword, keyword_of};
-use crate::lines::{ends_later, first_line, line_text};
-use crate::words::cut;
+use crate::lines::{ends_later, first_line, line_text, seen};
+use crate::words::first_word;
+use orc_io::Steps;
 use orc_state::Rule;
 use orc_text::{Memory, Text};
 use std::alloc::Global;
+use std::marker::Brand;
+use std::sync::ledger::{Blank, Ledger};
 
 // The most characters of a line that are shown.
 const SHOWN: u64 = 100;
@@ -30,23 +33,41 @@ const WORDS: &str =
 pub fn explanation(alloc: Global, bytes: &[u8], line: u64, rule: Rule) -> Result<Text, Memory>
     ensures { IfOk result (λ text. text ≡ explanation_of bytes.now line rule) }
 {
-    let rest = lines_from(bytes, line);
+    explained::<Brand>(alloc, seen(bytes), line, rule, Blank::new(1))
+}
+
+// The same of all these bytes.
+fn explained<L: Ledger>(
+    alloc: Global,
+    bytes: &[u8],
+    line: u64,
+    rule: Rule,
+    blank: Blank,
+) -> Result<Text, Memory>
+    requires name { blank.name ≡ L.name }
+    requires parts { blank.parts ≡ L.parts }
+    requires some { 0 < blank.parts }
+    ensures { IfOk result (λ text. text ≡ explained (drop (line - 1) (lines_of bytes.now)) line rule) }
+{
+    let mut steps = Steps::<L>::new(blank);
+    let rest = lines_from(bytes, line, &mut steps);
     if rest.is_empty() {
         return no_line_explained(alloc, line, rule);
     }
-    let (first, later) = first_line(rest);
+    let (first, later) = first_line(rest, &mut steps);
+    let ends = ends_later(later, &mut steps);
     let text = String::from_utf8_lossy(alloc, looked_at(line_text(first)))?;
-    line_explained(alloc, text.as_str(), later, line, rule)
+    line_explained(alloc, text.as_str(), ends, line, rule)
 }
 
 // The bytes from the line of this number on.
-fn lines_from(bytes: &[u8], line: u64) -> &[u8]
+fn lines_from<'a, L: Ledger>(bytes: &'a [u8], line: u64, steps: &mut Steps<L>) -> &'a [u8]
     ensures { lines_of result.now ≡ drop (line - 1) (lines_of bytes.now) }
 {
     let mut rest = bytes;
     let mut left = line.saturating_sub(1);
     'lines: while left > 0 && !rest.is_empty() {
-        let (_, behind) = first_line(rest);
+        let (_, behind) = first_line(rest, steps);
         rest = behind;
         left -= 1;
     }
@@ -78,34 +99,19 @@ fn no_line_explained(alloc: Global, line: u64, rule: Rule) -> Result<Text, Memor
 fn line_explained(
     alloc: Global,
     text: &str,
-    later: &[u8],
+    ends: bool,
     line: u64,
     rule: Rule,
 ) -> Result<Text, Memory>
-    ensures { IfOk result (λ said. said ≡ line_explained text.now (lines_of later.now) line rule) }
+    ensures { IfOk result (λ said. said ≡ line_explained text.now ends line rule) }
 {
     let mut out = String::from_str(alloc, "Line ")?;
     out.push_str(line.to_string(alloc)?.as_str())?;
     out.push_str(" is \"")?;
     push_quoted(&mut out, alloc, text)?;
     out.push_str("\". ")?;
-    push_allowed(
-        &mut out,
-        rule,
-        keyword_of(first_word(text)),
-        ends_later(later),
-    )?;
+    push_allowed(&mut out, rule, keyword_of(first_word(text)), ends)?;
     Ok(Text::from_string(out))
-}
-
-// The first word of a line.
-fn first_word(text: &str) -> &str
-    ensures { result.now ≡ first_word text.now }
-{
-    match cut(text) {
-        Some((first, _)) => first,
-        None => text,
-    }
 }
 
 // A text as it is shown.

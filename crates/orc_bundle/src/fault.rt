@@ -5,7 +5,7 @@ use orc_state::Rule;
 use orc_text::Memory;
 
 /// Why a line was not taken.
-#[derive(Clone, Copy, Debug, PartialEq, Eq)]
+#[derive(Clone, Copy)]
 pub(crate) enum LineFault {
     /// It breaks this rule, and none before it.
     Breaks(Rule),

@@ -1,15 +1,10 @@
 //! What users rely on. Each function does nothing: its contract is the law.
-ghost use Rattle.orc_bundle.specs.Laws.{BytesHaveOneMeaning, SkippedLinesChangeNothing, SpelledIsRead, WrittenIsRead};
+ghost use Rattle.orc_bundle.specs.Laws.{SkippedLinesChangeNothing, SpelledIsRead, WrittenIsRead};
 
 /// An empty line or a comment outside a block changes neither the declarations nor the steps, so it
 /// only moves the numbers of the lines behind it.
 pub fn skipped_lines_change_nothing()
     ensures { SkippedLinesChangeNothing }
-{}
-
-/// Bytes are one bundle, or have one line at fault with one rule.
-pub fn bytes_have_one_meaning()
-    ensures { BytesHaveOneMeaning }
 {}
 
 /// The text of a bundle is read as that bundle.

@@ -20,9 +20,7 @@ mod words;
 
 pub use bundle::{Bundle, LARGEST_BUNDLE, ScriptStep};
 pub use explanations::explanation;
-pub use laws::{
-    bytes_have_one_meaning, skipped_lines_change_nothing, spelled_is_read, written_is_read,
-};
+pub use laws::{skipped_lines_change_nothing, spelled_is_read, written_is_read};
 pub use lines::LONGEST_LINE;
-pub use read::read_bundle;
+pub use read::{read_bundle, read_counted};
 pub use script::{MOST_CALLERS, MOST_STEPS};

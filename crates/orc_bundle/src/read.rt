@@ -1,29 +1,34 @@
 //! Reading of a bundle line by line.
-ghost use Rattle.std.specs.Prelude.{◌≡◌, ◌<◌, ◌≤◌, ◌+◌, ◌^◌, IfOk, OnOk, IsTrue, length};
+ghost use Rattle.std.specs.Prelude.{◌≡◌, ◌<◌, ◌≤◌, ◌+◌, ◌*◌, ◌^◌, IfOk, OnOk, IsTrue, length};
 ghost use Rattle.std.specs.List.{list_all, IsDistinct};
 ghost use Rattle.orc_state.specs.States.{is_same_text};
 ghost use Rattle.orc_state.specs.declared.declarations.TheConstants.{MOST_DEVICES};
-ghost use Rattle.orc_bundle.specs.Lines.{lines_of};
-ghost use Rattle.orc_bundle.specs.Bundles.{IsBundle, bundle_of, declarations_of, is_step, script_steps};
+ghost use Rattle.orc_bundle.specs.Lines.{lines_of, seen};
+ghost use Rattle.orc_bundle.specs.Bundles.{IsBundle, bundle_in, bundle_of, declarations_of, header_rule, is_step, script_steps};
 ghost use Rattle.orc_bundle.specs.Answers.{Gives};
 ghost use Rattle.orc_bundle.specs.Declarations.{nothing_declared};
 ghost use Rattle.orc_bundle.specs.Scripts.{no_steps};
-ghost use Rattle.orc_bundle.specs.inside.Lawful.{AreDeclared, IsWithin};
+ghost use Rattle.orc_bundle.specs.inside.Costs.{bytes_to, is_kept};
+ghost use Rattle.orc_bundle.specs.inside.Lawful.{AreDeclared, IsWithin, left_of};
 ghost use Rattle.orc_bundle.specs.inside.Readers.{Declares, in_line};
 ghost use Rattle.orc_bundle.specs.declared.bundle.TheConstants.{LARGEST_BUNDLE};
 
 use crate::bundle::{Bundle, ScriptStep};
 use crate::declarations::{Declared, Section};
 use crate::fault::LineFault;
-use crate::lines::first_line;
+use crate::lines::{first_line, is_large, lacks_header, line_text, seen};
 use crate::names::Names;
 use crate::script::Script;
+use crate::words::read_text;
+use orc_io::Steps;
 use orc_state::{BundleFault, Decls, Rule};
 use orc_text::{Memory, Row, Text};
 use std::alloc::Global;
+use std::marker::Brand;
+use std::sync::ledger::{Blank, Ledger};
 
 /// What is left where the declarations end.
-#[derive(Debug, Drop)]
+#[derive(Drop)]
 pub struct Behind<'a> {
     /// The bytes in front of the line `script`, or all of them where there is none.
     pub size: usize,
@@ -45,23 +50,27 @@ fn in_line(number: u64, fault: LineFault) -> BundleFault
 }
 
 // Reads the declarations.
-fn read_declarations<'a>(
+fn read_declarations<'a, L: Ledger>(
     alloc: Global,
     bytes: &'a [u8],
     declared: &mut Declared,
+    steps: &mut Steps<L>,
 ) -> Result<Behind<'a>, BundleFault>
     requires { declared.old ≡ nothing_declared }
     ensures answer { Declares (declarations_of declared.old 0 0 (lines_of bytes.now)) declared.new result }
     ensures lawful { OnOk result (AreDeclared declared.new) }
     ensures within { IfOk result (IsWithin bytes.now) }
+    ensures cost { steps.new + bytes_to is_kept (lines_of bytes.now) + 2 * left_of result
+        ≤ steps.old + 2 * length bytes.now }
+    ensures counts { IfOk result (λ behind. steps.old + length bytes.now ≤ steps.new + length behind.later.now) }
 {
     let mut rest = bytes;
     let mut at = 0;
     let mut number = 0;
     'lines: while !rest.is_empty() {
-        let (line, later) = first_line(rest);
+        let (line, later) = first_line(rest, steps);
         number += 1;
-        if let Err(fault) = declared.take(alloc, at, line, later) {
+        if let Err(fault) = declared.take(alloc, at, line, later, steps) {
             return Err(in_line(number, fault));
         }
         let begin = at;
@@ -76,12 +85,6 @@ fn read_declarations<'a>(
             });
         }
     }
-    if declared.section == Section::Header {
-        return Err(BundleFault::At {
-            line: 1,
-            rule: Rule::Header,
-        });
-    }
     Ok(Behind {
         size: bytes.len(),
         at,
@@ -91,12 +94,13 @@ fn read_declarations<'a>(
 }
 
 // Reads the steps of the script, in front of which stand so many bytes and so many lines.
-fn read_steps(
+fn read_steps<L: Ledger>(
     alloc: Global,
     names: &Names,
     at: u64,
     number: u64,
     bytes: &[u8],
+    steps: &mut Steps<L>,
 ) -> Result<Row<ScriptStep>, BundleFault>
     requires few { length names.now ≤ MOST_DEVICES }
     requires small { at ≤ LARGEST_BUNDLE }
@@ -105,15 +109,17 @@ fn read_steps(
     ensures answer { Gives (script_steps names.now no_steps at number (lines_of bytes.now)) result }
     ensures lawful { IfOk result (λ steps. IsTrue (list_all (is_step names.now) steps)) }
     ensures small { OnOk result (at + length bytes.now ≤ LARGEST_BUNDLE) }
+    ensures cost { steps.new ≤ steps.old + 2 * length bytes.now }
+    ensures counts { OnOk result (steps.old + length bytes.now ≤ steps.new) }
 {
     let mut script = Script::new(alloc);
     let mut rest = bytes;
     let mut at = at;
     let mut number = number;
     'lines: while !rest.is_empty() {
-        let (line, later) = first_line(rest);
+        let (line, later) = first_line(rest, steps);
         number += 1;
-        if let Err(fault) = script.take(alloc, names, at, line, later) {
+        if let Err(fault) = script.take(alloc, names, at, line, later, steps) {
             return Err(in_line(number, fault));
         }
         at += line.len() as u64;
@@ -131,13 +137,90 @@ fn text_of(alloc: Global, bytes: &[u8]) -> Result<Row<u8>, Memory>
 
 // The names as a row.
 fn row_of(alloc: Global, names: &Names) -> Result<Row<Text>, Memory>
-    ensures { IfOk result (λ row. row ≡ names.now) }
+    ensures row { IfOk result (λ row. row ≡ names.now) }
+    ensures distinct { OnOk result (IsDistinct is_same_text names.now) }
 {
     let mut row = Row::new(alloc);
     for name in names.as_slice() {
         row.push(name.copy(alloc)?)?;
     }
     Ok(row)
+}
+
+// The rule that line 1 breaks where no line is the header.
+fn header_rule<L: Ledger>(bytes: &[u8], steps: &mut Steps<L>) -> Rule
+    requires { length bytes.now < 2 ^ 63 }
+    ensures rule { result ≡ header_rule (lines_of bytes.now) }
+    ensures cost { steps.new ≤ steps.old + length bytes.now }
+{
+    if bytes.is_empty() {
+        return Rule::Header;
+    }
+    let (line, _) = first_line(bytes, steps);
+    if is_large(0, line) {
+        return Rule::Size;
+    }
+    match read_text(line_text(line)) {
+        Some(_) => Rule::Header,
+        None => Rule::Utf8,
+    }
+}
+
+// The bundle of these bytes.
+fn read_seen<L: Ledger>(
+    alloc: Global,
+    bytes: &[u8],
+    steps: &mut Steps<L>,
+) -> Result<Bundle, BundleFault>
+    ensures gives { Gives (bundle_in bytes.now (lines_of bytes.now)) result }
+    ensures lawful { IfOk result IsBundle }
+    ensures small { OnOk result (length bytes.now ≤ LARGEST_BUNDLE) }
+    ensures cost { steps.new ≤ steps.old + 2 * length bytes.now }
+    ensures counts { OnOk result (steps.old + length bytes.now ≤ steps.new) }
+{
+    if lacks_header(bytes, steps) {
+        return Err(BundleFault::At {
+            line: 1,
+            rule: header_rule(bytes, steps),
+        });
+    }
+    let mut declared = Declared::new(alloc);
+    let behind = read_declarations(alloc, bytes, &mut declared, steps)?;
+    let text = text_of(alloc, &bytes[..behind.size])?;
+    let names = row_of(alloc, &declared.names)?;
+    let script = read_steps(
+        alloc,
+        &declared.names,
+        behind.at,
+        behind.number,
+        behind.later,
+        steps,
+    )?;
+    Ok(Bundle {
+        decls: Decls {
+            text,
+            names,
+            devices: declared.devices,
+        },
+        steps: script,
+    })
+}
+
+// The bundle of bytes, where nothing is counted.
+fn read_uncounted<L: Ledger>(
+    alloc: Global,
+    bytes: &[u8],
+    blank: Blank,
+) -> Result<Bundle, BundleFault>
+    requires name { blank.name ≡ L.name }
+    requires parts { blank.parts ≡ L.parts }
+    requires some { 0 < blank.parts }
+    ensures gives { Gives (bundle_of bytes.now) result }
+    ensures lawful { IfOk result IsBundle }
+    ensures small { OnOk result (length bytes.now ≤ LARGEST_BUNDLE) }
+{
+    let mut steps = Steps::<L>::new(blank);
+    read_counted(alloc, bytes, &mut steps)
 }
 
 /// The bundle of these bytes, or the first line at fault, counted from 1, and the first rule that it
@@ -149,23 +232,25 @@ pub fn read_bundle(alloc: Global, bytes: &[u8]) -> Result<Bundle, BundleFault>
     ensures lawful { IfOk result IsBundle }
     ensures small { OnOk result (length bytes.now ≤ LARGEST_BUNDLE) }
 {
-    let mut declared = Declared::new(alloc);
-    let behind = read_declarations(alloc, bytes, &mut declared)?;
-    let text = text_of(alloc, &bytes[..behind.size])?;
-    let names = row_of(alloc, &declared.names)?;
-    let steps = read_steps(
-        alloc,
-        &declared.names,
-        behind.at,
-        behind.number,
-        behind.later,
-    )?;
-    Ok(Bundle {
-        decls: Decls {
-            text,
-            names,
-            devices: declared.devices,
-        },
-        steps,
-    })
+    read_uncounted::<Brand>(alloc, bytes, Blank::new(1))
+}
+
+/// The same, with its steps counted. A step is a byte at which a loop over lines looks for a line
+/// feed. What else is done with a line looks at that line alone, or at the block behind it where it
+/// is `yang N`, and isn't counted; names are looked up by their hashes, and the declarations' bytes
+/// are copied once.
+pub fn read_counted<L: Ledger>(
+    alloc: Global,
+    bytes: &[u8],
+    steps: &mut Steps<L>,
+) -> Result<Bundle, BundleFault>
+    ensures gives { Gives (bundle_of bytes.now) result }
+    ensures lawful { IfOk result IsBundle }
+    ensures small { OnOk result (length bytes.now ≤ LARGEST_BUNDLE) }
+    // Loops over lines look at each byte twice at most, as part of its line and ahead of it, and once
+    // at least where a bundle is read.
+    ensures cost { steps.new ≤ steps.old + 2 * length bytes.now }
+    ensures counts { OnOk result (steps.old + length bytes.now ≤ steps.new) }
+{
+    read_seen(alloc, seen(bytes), steps)
 }

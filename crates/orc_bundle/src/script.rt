@@ -1,10 +1,11 @@
 //! The steps so far, and what each form of a script's line makes of them.
 ghost use Rattle.std.specs.Prelude.{◌≡◌, ◌<◌, ◌≤◌, ◌+◌, ◌^◌, ℕ, List, IsTrue, OnOk, length};
-ghost use Rattle.orc_bundle.specs.Lines.{lines_of};
 ghost use Rattle.orc_bundle.specs.Keywords.{keyword_of};
-ghost use Rattle.orc_bundle.specs.Words.{cut_at};
-ghost use Rattle.orc_bundle.specs.Scripts.{no_steps, is_full, is_caller_more, after_bare, after_show, after_stop, after_call, step_words, a_step, bare_step, words_at, word_at, scripted_at};
-ghost use Rattle.orc_bundle.specs.inside.Readers.{Steps};
+ghost use Rattle.orc_bundle.specs.Lines.{lines_of};
+ghost use Rattle.orc_bundle.specs.Words.{first_word};
+ghost use Rattle.orc_bundle.specs.Scripts.{no_steps, is_full, is_caller_more, after_bare, after_show, after_stop, after_call, after_step, a_step, bare_step, is_followed, words_at, word_at, scripted_at};
+ghost use Rattle.orc_bundle.specs.inside.Readers.{Takes};
+ghost use Rattle.orc_bundle.specs.inside.Costs.{scripted_looks_at, step_looks_at};
 ghost use Rattle.orc_bundle.specs.inside.Lawful.{AreSteps};
 ghost use Rattle.orc_bundle.specs.Bundles.{is_step};
 ghost use Rattle.orc_state.specs.declared.declarations.TheConstants.{MOST_DEVICES};
@@ -14,14 +15,16 @@ ghost use Rattle.orc_bundle.specs.declared.bundle.TheConstants.{LARGEST_BUNDLE};
 use crate::bundle::ScriptStep;
 use crate::fault::{LineFault, breaks};
 use crate::keyword::{Keyword, keyword_of};
-use crate::lines::{ends_later, is_large, is_skipped, line_text};
+use crate::lines::{ends_later, is_large, is_settled, is_skipped, line_text};
 use crate::names::Names;
-use crate::words::{cut, number_of, read_text};
+use crate::words::{cut, first_word, number_of, read_text};
 use orc_call::DevicePut;
+use orc_io::Steps;
 use orc_path::{is_identifier, is_long_name};
 use orc_state::Rule;
 use orc_text::{Row, Text};
 use std::alloc::Global;
+use std::sync::ledger::Ledger;
 
 /// The most callers of a script.
 pub const MOST_CALLERS: usize = 256;
@@ -30,7 +33,7 @@ pub const MOST_CALLERS: usize = 256;
 pub const MOST_STEPS: usize = 100_000;
 
 /// Which lines may stand.
-#[derive(Clone, Copy, Debug, PartialEq, Eq)]
+#[derive(Clone, Copy)]
 pub enum Part {
     /// Steps: no call is open.
     Steps,
@@ -43,7 +46,7 @@ pub enum Part {
 }
 
 /// The steps so far, with the callers that they name, and the parts of the open call.
-#[derive(Debug, Drop)]
+#[derive(Drop)]
 pub struct Script {
     pub part: Part,
     pub callers: Names,
@@ -53,6 +56,19 @@ pub struct Script {
     /// The service that the action names.
     pub name: Text,
     pub writes: Row<DevicePut>,
+}
+
+// Whether the lines behind are as the line with this first word wants them.
+#[tactic(auto, unfolding(crate::specs::Scripts::is_followed, crate::specs::inside::Costs::step_looks_at))]
+fn is_followed<L: Ledger>(word: Keyword, later: &[u8], steps: &mut Steps<L>) -> bool
+    ensures followed { result ≡ is_followed word (lines_of later.now) }
+    ensures cost { steps.new ≡ steps.old + step_looks_at word (lines_of later.now) }
+{
+    match word {
+        Keyword::Call => ends_later(later, steps),
+        Keyword::End => is_settled(later, steps),
+        _ => true,
+    }
 }
 
 impl Script {
@@ -80,7 +96,7 @@ impl Script {
 
     // A step of one word.
     fn take_bare(&mut self, step: ScriptStep) -> Result<(), LineFault>
-        ensures steps { Steps (after_bare self.old step) self.new result }
+        ensures takes { Takes (after_bare self.old step) self.new result }
         ensures lawful { (names : List (List ℕ)) (most : ℕ) → AreSteps names most self.old
             → IsTrue (is_step names step) → OnOk result (AreSteps names most self.new) }
     {
@@ -95,7 +111,7 @@ impl Script {
     #[tactic(auto, unfolding(crate::specs::Scripts::after_show))]
     fn take_show(&mut self, alloc: Global, names: &Names, rest: &str) -> Result<(), LineFault>
         requires { length names.now ≤ MOST_DEVICES }
-        ensures steps { Steps (after_show names.now self.old rest.now) self.new result }
+        ensures takes { Takes (after_show names.now self.old rest.now) self.new result }
         ensures lawful { (most : ℕ) → AreSteps names.now most self.old
             → OnOk result (AreSteps names.now most self.new) }
     {
@@ -116,7 +132,7 @@ impl Script {
     // `stop K B`.
     #[tactic(auto, unfolding(crate::specs::Scripts::after_stop))]
     fn take_stop(&mut self, rest: &str) -> Result<(), LineFault>
-        ensures steps { Steps (after_stop self.old rest.now) self.new result }
+        ensures takes { Takes (after_stop self.old rest.now) self.new result }
         ensures lawful { (names : List (List ℕ)) (most : ℕ) → AreSteps names most self.old
             → OnOk result (AreSteps names most self.new) }
     {
@@ -139,10 +155,10 @@ impl Script {
         !self.callers.has(name) && self.callers.len() >= MOST_CALLERS
     }
 
-    // `call C N`, with the bytes behind the line.
+    // `call C N`, followed or not.
     #[tactic(auto, unfolding(crate::specs::Scripts::after_call))]
-    fn take_call(&mut self, alloc: Global, rest: &str, later: &[u8]) -> Result<(), LineFault>
-        ensures steps { Steps (after_call self.old rest.now (lines_of later.now)) self.new result }
+    fn take_call(&mut self, alloc: Global, rest: &str, followed: bool) -> Result<(), LineFault>
+        ensures takes { Takes (after_call self.old rest.now followed) self.new result }
         ensures lawful { (names : List (List ℕ)) (most : ℕ) → AreSteps names most self.old
             → OnOk result (AreSteps names most self.new) }
     {
@@ -159,7 +175,7 @@ impl Script {
         if is_long_name(caller) || self.is_full() || self.is_caller_more(&name) {
             return breaks(Rule::Size);
         }
-        if !ends_later(later) {
+        if !followed {
             return breaks(Rule::Line);
         }
         self.callers.add(name.copy(alloc)?)?;
@@ -175,33 +191,31 @@ impl Script {
         &mut self,
         alloc: Global,
         names: &Names,
-        word: &str,
+        word: Keyword,
         rest: &str,
-        later: &[u8],
+        followed: bool,
     ) -> Result<(), LineFault>
         requires { length names.now ≤ MOST_DEVICES }
-        ensures steps { Steps
-            (a_step (keyword_of word.now) names.now self.old rest.now (lines_of later.now))
-            self.new result }
+        ensures takes { Takes (a_step word names.now self.old rest.now followed) self.new result }
         ensures lawful { (most : ℕ) → AreSteps names.now most self.old
             → OnOk result (AreSteps names.now most self.new) }
     {
-        match keyword_of(word) {
+        match word {
             Keyword::Show => self.take_show(alloc, names, rest),
             Keyword::Stop => self.take_stop(rest),
-            Keyword::Call => self.take_call(alloc, rest, later),
+            Keyword::Call => self.take_call(alloc, rest, followed),
             _ => breaks(Rule::Line),
         }
     }
 
     // A step of one word.
     #[tactic(auto, unfolding(crate::specs::Scripts::bare_step))]
-    fn take_bare_step(&mut self, word: &str) -> Result<(), LineFault>
-        ensures steps { Steps (bare_step (keyword_of word.now) self.old) self.new result }
+    fn take_bare_step(&mut self, word: Keyword) -> Result<(), LineFault>
+        ensures takes { Takes (bare_step word self.old) self.new result }
         ensures lawful { (names : List (List ℕ)) (most : ℕ) → AreSteps names most self.old
             → OnOk result (AreSteps names most self.new) }
     {
-        match keyword_of(word) {
+        match word {
             Keyword::Settle => self.take_bare(ScriptStep::Settle),
             Keyword::Stop => self.take_bare(ScriptStep::Stop),
             Keyword::Recover => self.take_bare(ScriptStep::Recover),
@@ -216,19 +230,19 @@ impl Script {
         &mut self,
         alloc: Global,
         names: &Names,
-        word: &str,
+        word: Keyword,
         rest: &str,
-        later: &[u8],
+        followed: bool,
     ) -> Result<(), LineFault>
         requires { length names.now ≤ MOST_DEVICES }
-        ensures steps { Steps
-            (words_at self.old.part names.now self.old word.now rest.now (lines_of later.now))
+        ensures takes { Takes
+            (words_at self.old.part word names.now self.old rest.now followed)
             self.new result }
         ensures lawful { (most : ℕ) → AreSteps names.now most self.old
             → OnOk result (AreSteps names.now (most + 1) self.new) }
     {
         match self.part {
-            Part::Steps => self.take_step(alloc, names, word, rest, later),
+            Part::Steps => self.take_step(alloc, names, word, rest, followed),
             Part::Call => self.take_action(alloc, word, rest),
             Part::Literal => self.take_literal_words(alloc, names, word, rest),
             Part::Delete => breaks(Rule::Line),
@@ -237,56 +251,62 @@ impl Script {
 
     // A line of one word.
     #[tactic(auto, unfolding(crate::specs::Scripts::word_at))]
-    fn take_word(&mut self, alloc: Global, word: &str, later: &[u8]) -> Result<(), LineFault>
-        ensures steps { Steps (word_at self.old.part self.old word.now (lines_of later.now)) self.new result }
+    fn take_word(&mut self, alloc: Global, word: Keyword, followed: bool) -> Result<(), LineFault>
+        ensures takes { Takes (word_at self.old.part word self.old followed) self.new result }
         ensures lawful { (names : List (List ℕ)) (most : ℕ) → AreSteps names most self.old → most ≤ MOST_WRITES
             → OnOk result (AreSteps names most self.new) }
     {
         match self.part {
             Part::Steps => self.take_bare_step(word),
             Part::Call => breaks(Rule::Line),
-            Part::Literal => self.end_literal(alloc, word, later),
-            Part::Delete => self.end_delete(alloc, word, later),
+            Part::Literal => self.end_literal(alloc, word, followed),
+            Part::Delete => self.end_delete(alloc, word, followed),
         }
     }
 
-    // A line that is not skipped.
-    fn take_text(
+    // A line that is not skipped, with the bytes behind it.
+    #[tactic(auto, unfolding(crate::specs::Scripts::after_step))]
+    fn take_text<L: Ledger>(
         &mut self,
         alloc: Global,
         names: &Names,
         text: &str,
         later: &[u8],
+        steps: &mut Steps<L>,
     ) -> Result<(), LineFault>
         requires { length names.now ≤ MOST_DEVICES }
-        ensures steps { Steps
-            (step_words names.now self.old text.now (lines_of later.now) (cut_at 32 text.now))
-            self.new result }
+        ensures takes { Takes (after_step names.now self.old text.now (lines_of later.now)) self.new result }
         ensures lawful { (most : ℕ) → AreSteps names.now most self.old → most ≤ MOST_WRITES
             → OnOk result (AreSteps names.now (most + 1) self.new) }
+        ensures cost { steps.new ≡ steps.old + step_looks_at (keyword_of (first_word text.now)) (lines_of later.now) }
     {
+        let word = keyword_of(first_word(text));
+        let followed = is_followed(word, later, steps);
         match cut(text) {
-            Some((word, rest)) => self.take_words(alloc, names, word, rest, later),
-            None => self.take_word(alloc, text, later),
+            Some((_, rest)) => self.take_words(alloc, names, word, rest, followed),
+            None => self.take_word(alloc, word, followed),
         }
     }
 
     /// A line, with the bytes behind it. So many bytes stand in front of it.
     #[tactic(auto, unfolding(crate::specs::Scripts::scripted_at))]
-    pub(crate) fn take(
+    pub(crate) fn take<L: Ledger>(
         &mut self,
         alloc: Global,
         names: &Names,
         at: u64,
         line: &[u8],
         later: &[u8],
+        steps: &mut Steps<L>,
     ) -> Result<(), LineFault>
         requires room { at + length line.now < 2 ^ 63 }
         requires few { length names.now ≤ MOST_DEVICES }
-        ensures steps { Steps (scripted_at names.now self.old at line.now (lines_of later.now)) self.new result }
+        ensures takes { Takes (scripted_at names.now self.old at line.now (lines_of later.now)) self.new result }
         ensures lawful { (most : ℕ) → AreSteps names.now most self.old → most ≤ MOST_WRITES
             → OnOk result (AreSteps names.now (most + 1) self.new) }
         ensures small { OnOk result (at + length line.now ≤ LARGEST_BUNDLE) }
+        ensures counts { steps.old ≤ steps.new }
+        ensures cost { steps.new ≤ steps.old + scripted_looks_at line.now (lines_of later.now) }
     {
         if is_large(at, line) {
             return breaks(Rule::Size);
@@ -297,6 +317,6 @@ impl Script {
         if is_skipped(text.as_bytes()) {
             return Ok(());
         }
-        self.take_text(alloc, names, text, later)
+        self.take_text(alloc, names, text, later, steps)
     }
 }

@@ -1,7 +1,7 @@
 //! The words of a line.
 ghost use Rattle.std.specs.Prelude.{◌≡◌, MatchOption, None, Some, true, false};
 ghost use Rattle.std.specs.Str.{is_utf8};
-ghost use Rattle.orc_bundle.specs.Words.{cut_at, is_padded, number_in};
+ghost use Rattle.orc_bundle.specs.Words.{cut_at, first_word, is_padded, number_in};
 
 use std::str;
 
@@ -19,6 +19,16 @@ pub(crate) fn cut_prefix(text: &str) -> Option<(&str, &str)>
         (λ parts. cut_at 58 text.now ≡ Some (parts.0.now, parts.1.now)) }
 {
     text.split_once(':')
+}
+
+/// The first word of a text.
+pub(crate) fn first_word(text: &str) -> &str
+    ensures { result.now ≡ first_word text.now }
+{
+    match cut(text) {
+        Some((first, _)) => first,
+        None => text,
+    }
 }
 
 // Whether a sign or a needless zero stands in front.

@@ -8,7 +8,7 @@ use std::alloc::Global;
 
 /// The answer to a call. A device is given by its number in order of declaration, a rule by its
 /// place in its list, counted from 1.
-#[derive(Debug, PartialEq, Eq, Drop)]
+#[derive(PartialEq, Eq, Drop)]
 pub enum Answer {
     /// The call is this entry of the history.
     Committed(u64),
@@ -82,7 +82,7 @@ impl Copied for Answer {
 }
 
 /// Why a device's state is not known: the first cause since its last reconciliation.
-#[derive(Clone, Copy, Debug, PartialEq, Eq)]
+#[derive(Clone, Copy, PartialEq, Eq)]
 pub enum Why {
     /// Its link failed, and its count of faults rose to this number.
     Fault(u64),
@@ -111,7 +111,7 @@ impl Copied for Why {
 
 /// What a device answers to an operation that it refuses, after the error tags of RFC 6241
 /// appendix A; `NoSession` has no counterpart there.
-#[derive(Clone, Copy, Debug, PartialEq, Eq)]
+#[derive(Clone, Copy, PartialEq, Eq)]
 pub enum Tag {
     LockDenied,
     InUse,
@@ -139,7 +139,7 @@ impl Copied for Tag {
 
 /// Why a reconciliation ended before its last device. A device is given by its number in order of
 /// declaration.
-#[derive(Clone, Copy, Debug, PartialEq, Eq)]
+#[derive(Clone, Copy, PartialEq, Eq)]
 pub enum RecFault {
     /// This device's link failed, and its count of faults rose to this number.
     LinkFault { device: u32, number: u64 },

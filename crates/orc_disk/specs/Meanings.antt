@@ -21,6 +21,7 @@ pub record DiskMeaning (D : Type 0) : Type 1 where
   -- A row of operations leads from one state to another, and this is its course. Code that knows only the trait says by
   -- it what it did, and a disk round another one which of that reached the one inside.
   pub leads : Course → D → D → Type 0
-  -- A write of these bytes at this offset failed between two states: what is known of the bytes that it put. A sync
-  -- that failed counts as one of no bytes.
+  -- a write of these bytes at this offset failed between two states: what is known of the bytes that it put
   pub cut : ℕ → List ℕ → D → D → Type 0
+  -- a sync failed between two states: what is known of it
+  pub cut_sync : D → D → Type 0

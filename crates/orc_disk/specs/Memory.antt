@@ -1,5 +1,5 @@
 -- What contracts see of a disk in memory, and what it tells of itself.
-use Rattle.std.specs.Prelude.{◌≡◌, ℕ, ◌+◌, List, [], ◌∷◌, ◌++◌, length, Some, None}
+use Rattle.std.specs.Prelude.{◌≡◌, ℕ, ◌+◌, List, ◌++◌, length, Some, None}
 use Rattle.orc_text.specs.Counts.{capped}
 use Rattle.orc_io.specs.Counts.{next_count}
 use Rattle.orc_disk.specs.Meanings.{DiskMeaning}
@@ -41,6 +41,7 @@ memory_disk = record {
   leads = λ course old new.
       Tallied course old.faults new.faults (memory_ops old) (memory_ops new) old.heard new.heard;
   cut = λ at bytes old new. disk_content new ≡ disk_content old;
+  cut_sync = λ old new. disk_content new ≡ disk_content old;
 }
 
 -- the disk after it was asked for its length
@@ -63,9 +64,9 @@ sync_came disk = record disk { syncs = next_count disk.syncs }
 abbrev pub op_failed : MemoryDisk → MemoryDisk
 op_failed disk = record disk { faults = next_count disk.faults }
 
--- the same where it was a read, which gave these bytes at this offset
-abbrev pub read_done : MemoryDisk → ℕ → List ℕ → MemoryDisk
-read_done disk at bytes = record disk { heard = disk.heard ++ (at, bytes) ∷ [] }
+-- the same where it was a read, which gave these bytes
+abbrev pub read_done : MemoryDisk → List (ℕ × List ℕ) → MemoryDisk
+read_done disk gave = record disk { heard = disk.heard ++ gave }
 
 -- the same where it was a write, which was done
 abbrev pub write_done : MemoryDisk → ℕ → List ℕ → MemoryDisk

@@ -1,5 +1,5 @@
 -- What a real file tells of itself.
-use Rattle.std.specs.Prelude.{ℕ, List, [], ◌∷◌, ◌++◌, None}
+use Rattle.std.specs.Prelude.{ℕ, List, ◌++◌, None}
 use Rattle.orc_text.specs.Counts.{capped}
 use Rattle.orc_io.specs.Counts.{next_count}
 use Rattle.orc_disk.specs.Meanings.{DiskMeaning}
@@ -12,7 +12,7 @@ pub record RealFile : Type 0 where
   pub ops : ℕ
   pub heard : List (ℕ × List ℕ)
 
--- It tells these. Of a write that fails nothing is known.
+-- It tells these. Of a write or a sync that fails nothing is known.
 abbrev pub file_disk : DiskMeaning RealFile
 file_disk = record {
   content = λ _. None;
@@ -25,11 +25,12 @@ file_disk = record {
   leads = λ course old new.
       Tallied course old.faults new.faults (capped old.ops) (capped new.ops) old.heard new.heard;
   cut = λ at bytes old new. Unit {0};
+  cut_sync = λ old new. Unit {0};
 }
 
--- a read at this offset gave these bytes
-abbrev pub file_gave : RealFile → ℕ → List ℕ → RealFile
-file_gave file at bytes = record file { heard = file.heard ++ (at, bytes) ∷ [] }
+-- a read gave these bytes
+abbrev pub file_gave : RealFile → List (ℕ × List ℕ) → RealFile
+file_gave file gave = record file { heard = file.heard ++ gave }
 
 -- it failed
 abbrev pub file_failed : RealFile → RealFile

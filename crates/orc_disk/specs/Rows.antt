@@ -1,5 +1,5 @@
 -- What a row of operations of a disk did.
-use Rattle.std.specs.Prelude.{ℕ, ◌+◌, Bool, ◌||◌, List, [], ◌∷◌, ◌++◌, take, Result, Ok, Err, is_err}
+use Rattle.std.specs.Prelude.{ℕ, ◌+◌, ◌==◌, Bool, ◌||◌, List, [], ◌∷◌, ◌++◌, length, take, Result, Ok, Err, is_err, if◌then◌else◌}
 
 -- how many writes and syncs were in it, whether one of its operations failed, and what its reads gave, in order: each
 -- offset with the bytes
@@ -20,9 +20,13 @@ joined first second = record {
 abbrev pub row : ℕ → Bool → Course
 row operations failed = record { operations = operations; failed = failed; gave = [] }
 
--- what a read at this offset gave: as many bytes of the buffer as it answers
+-- what a read at this offset gave that answered so many bytes of the buffer; one without room gave nothing
+abbrev pub read_piece : ℕ → List ℕ → ℕ → List (ℕ × List ℕ)
+read_piece at buf count = if length buf == 0 then [] else (at, take count buf) ∷ []
+
+-- what a read at this offset gave: as many bytes of the buffer as it answers, where the buffer has room
 abbrev pub given : {E : Type 0} → ℕ → List ℕ → Result ℕ E → List (ℕ × List ℕ)
-given at buf (Ok count) = (at, take count buf) ∷ []
+given at buf (Ok count) = read_piece at buf count
 given at buf (Err fault) = []
 
 -- the row of one read

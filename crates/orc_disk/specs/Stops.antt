@@ -4,6 +4,7 @@ use Rattle.std.specs.Option.{option_map}
 use Rattle.orc_text.specs.Counts.{capped}
 use Rattle.orc_io.specs.Counts.{Rose, HasCause, next_count}
 use Rattle.orc_disk.specs.Files.{written}
+use Rattle.orc_disk.specs.Crashes.{LeavesAsRead}
 use Rattle.orc_disk.specs.Rows.{Course, row}
 use Rattle.orc_disk.specs.Meanings.{DiskMeaning}
 
@@ -72,6 +73,19 @@ pub record CutShort {D : Type 0} (disk : DiskMeaning D) (at : ℕ) (bytes : List
   -- another one failed in the disk inside
   pub passed : old.stopped ≡ false → old.op ≢ 1 → disk.cut at bytes old.inner new.inner
 
+-- A sync failed in a disk that stops another one.
+pub record CutSync {D : Type 0} (disk : DiskMeaning D) (old new : Stopping D) : Type 0 where
+  -- it was stopped, and the disk inside did nothing
+  pub idle : old.stopped ≡ true → new.inner ≡ old.inner
+  -- the armed sync with no byte left did not reach the disk inside
+  pub undone : old.stopped ≡ false → old.op ≡ 1 → old.bytes ≡ 0 → new.inner ≡ old.inner
+  -- and with a byte left it was done
+  pub reached : old.stopped ≡ false → old.op ≡ 1 → 0 < old.bytes → Reached disk
+      (LeavesAsRead (disk.content new.inner) (disk.may_leave new.inner))
+      old.inner new.inner
+  -- another one failed in the disk inside
+  pub passed : old.stopped ≡ false → old.op ≢ 1 → disk.cut_sync old.inner new.inner
+
 -- What a row of operations may make of a disk that stops another one.
 pub record Led {D : Type 0} (disk : DiskMeaning D) (course : Course) (old new : Stopping D) : Type 0 where
   -- the disk inside went its own way, by a row of its own, whose reads gave what was given
@@ -114,4 +128,5 @@ inside disk = record {
   heard = λ stopping. disk.heard stopping.inner;
   leads = Led disk;
   cut = CutShort disk;
+  cut_sync = CutSync disk;
 }

@@ -1,5 +1,5 @@
 //! What a disk promises: its content, its failures and its crash images.
-ghost use Rattle.std.specs.Prelude.{◌≡◌, ◌≤◌, ◌+◌, ◌++◌, ℕ, List, length, IfOk, OnOk, OnErr, IfSome, true, false, [], is_some};
+ghost use Rattle.std.specs.Prelude.{◌≡◌, ◌≤◌, ◌+◌, ◌++◌, ℕ, List, length, IfOk, OnOk, OnErr, IfSome, true, false, is_some};
 ghost use Rattle.std.specs.Option.{ForSome, option_map};
 ghost use Rattle.std.specs.Io.{ReadsAtMost};
 ghost use Rattle.orc_text.specs.Counts.{capped};
@@ -28,7 +28,7 @@ pub enum DiskOp {
 /// gives.
 pub trait Disk: Drop {
     /// What the disk tells of itself: its content, the files that a crash may leave, how often it
-    /// failed, what its reads gave, where its operations led, and what a write that failed put.
+    /// failed, what its reads gave, where its operations led, and what one that failed did.
     ghost disk: { DiskMeaning Self };
 
     /// The length in bytes.
@@ -59,7 +59,7 @@ pub trait Disk: Drop {
     fn sync(&mut self) -> Result<(), Failed>
         ensures durable { OnOk result (LeavesAsRead (disk.content self.new) (disk.may_leave self.new)) }
         ensures unchanged { Unchanged disk self.old self.new }
-        ensures cut { OnErr result (disk.cut 0 [] self.old self.new) }
+        ensures cut { OnErr result (disk.cut_sync self.old self.new) }
         ensures performed { Performed disk 1 result self.old self.new };
 
     /// How often the disk failed. At its last value the count stays.

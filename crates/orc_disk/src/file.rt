@@ -1,7 +1,8 @@
 //! A real file as a disk, which tells nothing of its content.
-ghost use Rattle.std.specs.Prelude.{◌≡◌, Ok, MatchResult, IsErr, IfOk, OnOk, OnErr, [], take};
+ghost use Rattle.std.specs.Prelude.{◌≡◌, Ok, MatchResult, IsErr, IfOk, OnOk, OnErr, []};
 ghost use Rattle.std.specs.Io.{ReadsAtMost};
 ghost use Rattle.orc_io.specs.Counts.{HasCause};
+ghost use Rattle.orc_disk.specs.Rows.{read_piece};
 ghost use Rattle.orc_disk.specs.Course.{Performed, PerformedRead};
 ghost use Rattle.orc_disk.specs.RealFiles.{file_disk, file_failed, file_asked, file_gave};
 ghost use Rattle.orc_disk.specs.laws.Course.{Tallied-refl, Tallied-trans};
@@ -109,11 +110,11 @@ impl Disk for FileDisk {
         ensures bound { ReadsAtMost result buf.new }
         ensures performed { PerformedRead file_disk at buf.new result self.old self.new }
 
-        ensures still { IfOk result (λ n. self.new ≡ file_gave self.old at (take n buf.new)) }
+        ensures still { IfOk result (λ n. self.new ≡ file_gave self.old (read_piece at buf.new n)) }
         ensures rose { OnErr result (self.new ≡ file_failed self.old) }
     {
         let count = self.fill(at, buf)?;
-        self.heard.add(&at, &buf[..count]);
+        self.heard.note(at, buf, count);
         Ok(count)
     }
 
@@ -130,6 +131,7 @@ impl Disk for FileDisk {
     }
 
     fn sync(&mut self) -> Result<(), Failed>
+        ensures cut { OnErr result (file_disk.cut_sync self.old self.new) }
         ensures performed { Performed file_disk 1 result self.old self.new }
 
         ensures still { OnOk result (self.new ≡ file_asked self.old) }

@@ -4,6 +4,7 @@ ghost use Rattle.std.specs.Io.{ReadsAtMost};
 ghost use Rattle.orc_io.specs.Counts.{next_count};
 ghost use Rattle.orc_disk.specs.Files.{written, ReadsFrom};
 ghost use Rattle.orc_disk.specs.Crashes.{TearsAt, LeavesAsRead};
+ghost use Rattle.orc_disk.specs.Rows.{read_piece};
 ghost use Rattle.orc_disk.specs.Moments.{Elapses, Unchanged};
 ghost use Rattle.orc_disk.specs.Course.{Counted, Performed, PerformedRead};
 ghost use Rattle.orc_disk.specs.History.{content_of, synced_of, IsImage};
@@ -159,7 +160,7 @@ impl Disk for MemDisk {
 
         ensures exact { IsErr result ↔ Contains self.old.fails (DiskOp.Read, next_count self.old.reads) }
         ensures buffer { IfOk result (λ n. buf.new ≡ take n (drop at (disk_content self.old)) ++ drop n buf.old) }
-        ensures ok { IfOk result (λ n. self.new ≡ read_done (read_came self.old) at (take n buf.new)) }
+        ensures ok { IfOk result (λ n. self.new ≡ read_done (read_came self.old) (read_piece at buf.new n)) }
         ensures err { OnErr result (self.new ≡ op_failed (read_came self.old)) }
     {
         self.reads = self.reads.saturating_add(1);
@@ -167,7 +168,7 @@ impl Disk for MemDisk {
             return Err(self.fault());
         }
         let count = read_from(self.history.content(), at, buf);
-        self.heard.add(&at, &buf[..count]);
+        self.heard.note(at, buf, count);
         Ok(count)
     }
 

@@ -1,5 +1,5 @@
 //! A disk that stops another one inside a chosen write or sync.
-ghost use Rattle.std.specs.Prelude.{◌≡◌, ◌⊎◌, ◌-◌, ◌<◌, ◌≤◌, ◌↔◌, Bool, true, false, min, length, take, IfOk, OnOk, OnErr, IfSome, IsTrue, IsErr, is_some, []};
+ghost use Rattle.std.specs.Prelude.{◌≡◌, ◌⊎◌, ◌-◌, ◌<◌, ◌≤◌, ◌↔◌, Bool, true, false, min, length, take, IfOk, OnOk, OnErr, IfSome, IsTrue, IsErr, is_some};
 ghost use Rattle.std.specs.Option.{ForSome, option_map};
 ghost use Rattle.std.specs.Io.{ReadsAtMost};
 ghost use Rattle.orc_disk.specs.Files.{written, ReadsFrom};
@@ -7,7 +7,7 @@ ghost use Rattle.orc_disk.specs.Rows.{row};
 ghost use Rattle.orc_disk.specs.Crashes.{TearsAt, LeavesAsRead};
 ghost use Rattle.orc_disk.specs.Moments.{Elapses, Unchanged};
 ghost use Rattle.orc_disk.specs.Course.{Counted, Performed, PerformedRead};
-ghost use Rattle.orc_disk.specs.Stops.{inside, asked, refused, stopped_at, Refuses, HandsOn, PassesOn, Reached, CutShort};
+ghost use Rattle.orc_disk.specs.Stops.{inside, asked, refused, stopped_at, Refuses, HandsOn, PassesOn, Reached, CutShort, CutSync};
 
 use crate::Disk;
 use orc_io::Failed;
@@ -223,20 +223,15 @@ impl<D: Disk> Disk for StopDisk<D> {
     fn sync(&mut self) -> Result<(), Failed>
         ensures durable { OnOk result (LeavesAsRead (D.disk.content self.new.inner) (D.disk.may_leave self.new.inner)) }
         ensures unchanged { Unchanged (inside D.disk) self.old self.new }
-        ensures cut { OnErr result (CutShort D.disk 0 [] self.old self.new) }
+        // The armed sync is done where a byte is left, and else does not reach the disk inside. Where that disk fails
+        // it, its count of faults rose, and what it holds and may leave is as it was (`unchanged`).
+        ensures cut { OnErr result (CutSync D.disk self.old self.new) }
         ensures performed { Performed (inside D.disk) 1 result self.old self.new }
 
         ensures refused { Refuses result (asked self.old) self.new }
         ensures passed { PassesOn D.disk result self.old self.new }
         ensures armed { self.old.stopped ≡ false → self.old.op ≡ 1
             → IsErr result × (self.new ≡ stopped_at self.old self.new.inner) }
-        // The armed sync is done where a byte is left, and else does not reach the disk inside. Where that disk fails
-        // it, its count of faults rose, and what it holds and may leave is as it was (`unchanged`).
-        ensures undone { self.old.stopped ≡ false → self.old.op ≡ 1 → self.old.bytes ≡ 0
-            → self.new.inner ≡ self.old.inner }
-        ensures last { self.old.stopped ≡ false → self.old.op ≡ 1 → 0 < self.old.bytes → Reached D.disk
-            (LeavesAsRead (D.disk.content self.new.inner) (D.disk.may_leave self.new.inner))
-            self.old.inner self.new.inner }
     {
         self.ask();
         if self.stopped() {

@@ -27,16 +27,21 @@ pub(crate) fn text_of(
     Ok(found.then_some(text))
 }
 
-/// The text with these words in their places: the first at `$1`, the second at `$2`, and so on.
-pub(crate) fn filled(alloc: Global, text: &str, words: &[&str]) -> Result<String, AllocError> {
-    let mut filled = String::from_str(alloc, text)?;
+/// The text with the words of a line behind the first in their places: `$1`, `$2`, and so on.
+pub(crate) fn filled(alloc: Global, text: String, line: &str) -> Result<String, AllocError> {
+    let mut filled = text;
     let mut number: u64 = 0;
-    for word in words {
+    for word in line.split_whitespace().skip(1) {
         number = number.saturating_add(1);
-        let place = format!(in alloc; "${number}")?;
-        filled = filled.as_str().replace(alloc, place.as_str(), word)?;
+        filled = placed(alloc, filled.as_str(), number, word)?;
     }
     Ok(filled)
+}
+
+// The text with a word in the place of this number.
+fn placed(alloc: Global, text: &str, number: u64, word: &str) -> Result<String, AllocError> {
+    let place = format!(in alloc; "${number}")?;
+    text.replace(alloc, place.as_str(), word)
 }
 
 /// The bytes of a text, in which `\xHH` is the byte of these two digits, `\n` a line feed, and an end
@@ -44,39 +49,56 @@ pub(crate) fn filled(alloc: Global, text: &str, words: &[&str]) -> Result<String
 pub(crate) fn bytes_of(alloc: Global, text: &str) -> Result<Option<Vec<u8>>, AllocError> {
     let mut bytes = Vec::new(alloc);
     for line in text.lines() {
-        let mut pieces = line.split('\\');
-        if let Some(first) = pieces.next() {
-            bytes.extend_from_slice(first.as_bytes())?;
-        }
-        for piece in pieces {
-            let Some((byte, rest)) = escaped(piece) else {
-                return Ok(None);
-            };
-            bytes.push(byte)?;
-            bytes.extend_from_slice(rest.as_bytes())?;
+        if !push_line(&mut bytes, line)? {
+            return Ok(None);
         }
     }
     Ok(Some(bytes))
+}
+
+// Adds the bytes of a line, and says whether it is one of such.
+fn push_line(bytes: &mut Vec<u8>, line: &str) -> Result<bool, AllocError> {
+    let (first, rest) = line.split_once('\\').unwrap_or((line, ""));
+    bytes.extend_from_slice(first.as_bytes())?;
+    if first.len() == line.len() {
+        return Ok(true);
+    }
+    for piece in rest.split('\\') {
+        let Some((byte, rest)) = escaped(piece) else {
+            return Ok(false);
+        };
+        bytes.push(byte)?;
+        bytes.extend_from_slice(rest.as_bytes())?;
+    }
+    Ok(true)
 }
 
 /// The text in which each `\N{TEXT}` is written out: N times TEXT, where `%` is the number of the time, from 1 on.
 pub(crate) fn repeated(alloc: Global, text: &str) -> Result<Option<String>, AllocError> {
     let mut out = String::new(alloc);
     for piece in text.split('}') {
-        let Some((before, body)) = piece.split_once('{') else {
-            out.push_str(piece)?;
-            continue;
-        };
-        let Some((front, times)) = before.rsplit_once('\\') else {
+        if !push_piece(&mut out, alloc, piece)? {
             return Ok(None);
-        };
-        let Ok(times) = times.parse() else {
-            return Ok(None);
-        };
-        out.push_str(front)?;
-        push_times(&mut out, alloc, times, body)?;
+        }
     }
     Ok(Some(out))
+}
+
+// Adds a piece that ends in front of a closing bracket or at the end, and says whether it is one.
+fn push_piece(out: &mut String, alloc: Global, piece: &str) -> Result<bool, AllocError> {
+    let Some((before, body)) = piece.split_once('{') else {
+        out.push_str(piece)?;
+        return Ok(true);
+    };
+    let (front, times) = before.rsplit_once('\\').unwrap_or((before, ""));
+    match times.parse() {
+        Ok(times) => {
+            out.push_str(front)?;
+            push_times(out, alloc, times, body)?;
+            Ok(true)
+        }
+        Err(_) => Ok(false),
+    }
 }
 
 // Adds a text so many times.
@@ -108,14 +130,16 @@ fn escaped(piece: &str) -> Option<(u8, &str)> {
 pub(crate) fn spelled(alloc: Global, bytes: &[u8]) -> Result<String, AllocError> {
     let mut text = String::new(alloc);
     for byte in bytes {
-        let byte = *byte;
-        if byte == b'\n' {
-            text.push_str("\\n")?;
-        } else if byte < 32 || byte > 126 || byte == b'\\' {
-            text.push_str(format!(in alloc; "\\x{byte:02x}")?.as_str())?;
-        } else {
-            text.push(char::from(byte))?;
-        }
+        push_spelled(&mut text, alloc, *byte)?;
     }
     Ok(text)
+}
+
+// Adds a byte.
+fn push_spelled(text: &mut String, alloc: Global, byte: u8) -> Result<(), AllocError> {
+    match byte {
+        b'\n' => text.push_str("\\n"),
+        b'\\' | 0..32 | 127.. => text.push_str(format!(in alloc; "\\x{byte:02x}")?.as_str()),
+        _ => text.push(char::from(byte)),
+    }
 }

@@ -19,7 +19,7 @@
 
 use crate::block::{bytes_of, filled, spelled, text_of};
 use crate::row::{Rows, ending};
-use crate::run::{Ran, disk_of, run};
+use crate::run::{Ran, Streams, run};
 use crate::settings::Settings;
 use orc_bundle::explanation;
 use orc_disk::MemDisk;
@@ -77,90 +77,69 @@ impl<'a> Case<'a> {
         let mut settings = Settings::new(self.alloc)?;
         for line in self.text.lines() {
             number = number.saturating_add(1);
-            match self.take(&mut settings, line)? {
-                Verdict::Good => {}
-                Verdict::Unread => {
-                    println!(rt; "{name}, line {number}: no line of a case")?;
-                    good = false;
-                }
-                Verdict::Differs(is) => {
-                    println!(rt; "{name}, line {number}: {is}")?;
-                    good = false;
-                }
+            if !is_of_a_block(line) {
+                let verdict = self.take(&mut settings, line)?;
+                good = is_good(rt, name, number, &verdict)? && good;
             }
         }
         Ok(good)
     }
 
-    // Takes a line.
+    // Takes a line that stands in no block.
     fn take(&mut self, settings: &mut Settings, line: &str) -> io::Result<Verdict> {
-        if is_of_a_block(line) {
-            return Ok(Verdict::Good);
+        let (word, rest) = line.split_once(' ').unwrap_or((line, ""));
+        match word {
+            "run" => {
+                let set = replace(settings, Settings::new(self.alloc)?);
+                self.run_anew(set, rest)
+            }
+            "again" => {
+                let set = replace(settings, Settings::new(self.alloc)?);
+                self.run_again(set, rest)
+            }
+            "says" => self.says(rest),
+            "refused" => self.run_rows(rest, Rows::Refused),
+            "taken" => self.run_rows(rest, Rows::Taken),
+            "left" => self.left(rest),
+            _ => read_if(settings.take(self.alloc, self.text, word, rest)?),
         }
-        if let Some(given) = line.strip_prefix("run ") {
-            let set = replace(settings, Settings::new(self.alloc)?);
-            let disk = disk_of(self.alloc, set.holds, set.room, set.disk_fails)?;
-            let sink_fails = set.sink_fails;
-            return self.run(given, set.words, set.source_fails, sink_fails, disk);
-        }
-        if let Some(given) = line.strip_prefix("again ") {
-            let set = replace(settings, Settings::new(self.alloc)?);
-            return match self.disk.take() {
-                Some(disk) => { self.run(given, set.words, set.source_fails, set.sink_fails, disk) }
-                None => Ok(Verdict::Unread),
-            };
-        }
-        if let Some(words) = line.strip_prefix("says ") {
-            return self.says(words);
-        }
-        if let Some(rows) = line.strip_prefix("refused ") {
-            return self.run_rows(rows, Rows::Refused);
-        }
-        if let Some(rows) = line.strip_prefix("taken ") {
-            return self.run_rows(rows, Rows::Taken);
-        }
-        if let Some(name) = line.strip_prefix("left ") {
-            return self.left(name);
-        }
-        match settings.take(self.alloc, self.text, line)? {
-            true => Ok(Verdict::Good),
-            false => Ok(Verdict::Unread),
+    }
+
+    // Runs a bundle over a disk of its own.
+    fn run_anew(&mut self, settings: Settings, line: &str) -> io::Result<Verdict> {
+        let Settings { streams, disk } = settings;
+        let disk = disk.disk(self.alloc)?;
+        self.run(line, streams, disk)
+    }
+
+    // Runs a bundle over the disk that the run before left.
+    fn run_again(&mut self, settings: Settings, line: &str) -> io::Result<Verdict> {
+        match self.disk.take() {
+            Some(disk) => self.run(line, settings.streams, disk),
+            None => Ok(Verdict::Unread),
         }
     }
 
     // Runs a bundle as a line says, `BUNDLE WORD .. -> PRINTED STATUS FAULT`.
-    fn run(
-        &mut self,
-        line: &str,
-        command: Vec<String>,
-        source_fails: Vec<u64>,
-        sink_fails: Vec<u64>,
-        disk: MemDisk,
-    ) -> io::Result<Verdict> {
-        let alloc = self.alloc;
-        let Some((before, behind)) = line.split_once(" -> ") else {
-            return Ok(Verdict::Unread);
-        };
-        let Some((printed, ends)) = behind.split_once(" ") else {
-            return Ok(Verdict::Unread);
-        };
+    fn run(&mut self, line: &str, streams: Streams, disk: MemDisk) -> io::Result<Verdict> {
+        let (before, behind) = line.split_once(" -> ").unwrap_or((line, ""));
+        let (printed, ends) = behind.split_once(' ').unwrap_or((behind, ""));
         let Some(bundle) = self.bundle_in(before)? else {
             return Ok(Verdict::Unread);
         };
         let Some(printed) = self.text_in(before, printed)? else {
             return Ok(Verdict::Unread);
         };
-        let read = Vec::from_slice(alloc, bundle.as_slice())?;
-        let ran = run(
-            alloc,
-            command.as_slice(),
-            read,
-            source_fails,
-            sink_fails,
-            disk,
-        )?;
-        self.said = said_of(alloc, bundle.as_slice(), &ran)?;
+        let ran = self.done(bundle, streams, disk)?;
         self.judge(ran, printed.as_str(), ends)
+    }
+
+    // Runs a bundle, and keeps how its fault is explained.
+    fn done(&mut self, bundle: Vec<u8>, streams: Streams, disk: MemDisk) -> io::Result<Ran> {
+        let read = Vec::from_slice(self.alloc, bundle.as_slice())?;
+        let ran = run(self.alloc, streams, read, disk)?;
+        self.said = said_of(self.alloc, bundle.as_slice(), &ran)?;
+        Ok(ran)
     }
 
     // Compares what a run did with what it must do, and keeps its disk.
@@ -204,12 +183,16 @@ impl<'a> Case<'a> {
 
     // The bytes of the bundle that the first word of a line names.
     fn bundle_in(&self, line: &str) -> io::Result<Option<Vec<u8>>> {
-        let alloc = self.alloc;
-        if let Some(text) = self.text_in(line, first_word(line))? {
-            return Ok(Some(text.into_bytes()));
+        match self.text_in(line, first_word(line))? {
+            Some(text) => Ok(Some(text.into_bytes())),
+            None => self.bytes_in(first_word(line)),
         }
-        match text_of(alloc, self.text, "bytes", first_word(line))? {
-            Some(text) => Ok(bytes_of(alloc, text.as_str())?),
+    }
+
+    // The bytes of a block.
+    fn bytes_in(&self, name: &str) -> io::Result<Option<Vec<u8>>> {
+        match text_of(self.alloc, self.text, "bytes", name)? {
+            Some(text) => Ok(bytes_of(self.alloc, text.as_str())?),
             None => Ok(None),
         }
     }
@@ -219,45 +202,61 @@ impl<'a> Case<'a> {
         if name == "nothing" {
             return Ok(Some(String::new(self.alloc)));
         }
-        let mut words = Vec::new(self.alloc);
-        for word in line.split_whitespace().skip(1) {
-            words.push(word)?;
-        }
         match text_of(self.alloc, self.text, "text", name)? {
-            Some(text) => Ok(Some(filled(self.alloc, text.as_str(), words.as_slice())?)),
+            Some(text) => Ok(Some(filled(self.alloc, text, line)?)),
             None => Ok(None),
         }
     }
 
     // Compares what the disk of the run before now holds with the bytes of a block.
     fn left(&self, name: &str) -> io::Result<Verdict> {
-        let alloc = self.alloc;
-        let Some(disk) = &self.disk else {
-            return Ok(Verdict::Unread);
-        };
-        let Some(text) = text_of(alloc, self.text, "bytes", name)? else {
-            return Ok(Verdict::Unread);
-        };
-        let Some(wanted) = bytes_of(alloc, text.as_str())? else {
-            return Ok(Verdict::Unread);
-        };
-        let Ok(holds) = disk.image(alloc, CONTENT) else {
-            return Ok(Verdict::Unread);
-        };
-        if holds.as_slice() == wanted.as_slice() {
-            return Ok(Verdict::Good);
+        match (&self.disk, self.bytes_in(name)?) {
+            (Some(disk), Some(wanted)) => compared(self.alloc, disk, wanted.as_slice()),
+            _ => Ok(Verdict::Unread),
         }
-        Ok(Verdict::Differs(spelled(alloc, holds.as_slice())?))
+    }
+}
+
+// Compares what a disk holds with what it must.
+fn compared(alloc: Global, disk: &MemDisk, wanted: &[u8]) -> io::Result<Verdict> {
+    let Ok(holds) = disk.image(alloc, CONTENT) else {
+        return Ok(Verdict::Unread);
+    };
+    if holds.as_slice() == wanted {
+        return Ok(Verdict::Good);
+    }
+    Ok(Verdict::Differs(spelled(alloc, holds.as_slice())?))
+}
+
+// Whether a line does what it must; prints what else was so.
+fn is_good<R: Print>(rt: &R, name: &str, number: u64, verdict: &Verdict) -> io::Result<bool> {
+    match verdict {
+        Verdict::Good => return Ok(true),
+        Verdict::Unread => println!(rt; "{name}, line {number}: no line of a case")?,
+        Verdict::Differs(is) => println!(rt; "{name}, line {number}: {is}")?,
+    }
+    Ok(false)
+}
+
+// What a line came to that sets something, or else is none.
+fn read_if(sets: bool) -> io::Result<Verdict> {
+    match sets {
+        true => Ok(Verdict::Good),
+        false => Ok(Verdict::Unread),
     }
 }
 
 // Whether the line stands in a block, begins one, or says nothing.
 fn is_of_a_block(line: &str) -> bool {
-    line.is_empty()
-        || line.starts_with("#")
-        || line.starts_with("|")
-        || line.starts_with("text ")
-        || line.starts_with("bytes ")
+    match line.as_bytes().first() {
+        None => true,
+        Some(first) => *first == b'#' || *first == b'|' || begins_a_block(line),
+    }
+}
+
+// Whether the line begins a block.
+fn begins_a_block(line: &str) -> bool {
+    line.starts_with("text ") || line.starts_with("bytes ")
 }
 
 // The first word of a line.

@@ -4,7 +4,7 @@
 //! TEXT, where `%` is the number of the time.
 
 use crate::block::{bytes_of, repeated};
-use crate::run::run_alone;
+use crate::run::{Ran, run_alone};
 use orc_disk::MemDisk;
 use orc_run::{Done, Stop, status};
 use std::alloc::{AllocError, Global};
@@ -39,15 +39,20 @@ impl Rows {
 // Whether the bundle is refused at this line for this rule.
 fn is_refused(alloc: Global, line: &str, rule: &str, bundle: Vec<u8>) -> Result<bool, AllocError> {
     let wanted = format!(in alloc; "1 Bundle {line} {rule}")?;
-    for word in ["check", "run"] {
-        let ran = run_alone(alloc, word, Vec::from_slice(alloc, bundle.as_slice())?)?;
-        let ended = ending(alloc, &ran.status)?;
-        let is_so = ended.as_str() == wanted.as_str() && ran.printed.is_empty();
-        if !is_so || !is_empty(alloc, &ran.disk) {
-            return Ok(false);
-        }
+    let checked = run_alone(alloc, "check", Vec::from_slice(alloc, bundle.as_slice())?)?;
+    if !is_refusal(alloc, &checked, wanted.as_str())? {
+        return Ok(false);
     }
-    Ok(true)
+    let ran = run_alone(alloc, "run", bundle)?;
+    is_refusal(alloc, &ran, wanted.as_str())
+}
+
+// Whether a run ended so, printed nothing, and left its disk empty.
+fn is_refusal(alloc: Global, ran: &Ran, wanted: &str) -> Result<bool, AllocError> {
+    if !ran.printed.is_empty() || !is_empty(alloc, &ran.disk) {
+        return Ok(false);
+    }
+    Ok(ending(alloc, &ran.status)?.as_str() == wanted)
 }
 
 // Whether the bundle is checked with so many devices and steps, and runs to its end.
@@ -59,11 +64,15 @@ fn is_taken(
 ) -> Result<bool, AllocError> {
     let wanted = format!(in alloc; "ok {devices} {steps}\n")?;
     let checked = run_alone(alloc, "check", Vec::from_slice(alloc, bundle.as_slice())?)?;
-    let is_so = checked.status.is_ok() && checked.printed.as_slice() == wanted.as_bytes();
-    if !is_so || !is_empty(alloc, &checked.disk) {
+    if !is_checked(alloc, &checked, wanted.as_bytes()) {
         return Ok(false);
     }
     Ok(run_alone(alloc, "run", bundle)?.status.is_ok())
+}
+
+// Whether a run ended well, printed this, and left its disk empty.
+fn is_checked(alloc: Global, ran: &Ran, wanted: &[u8]) -> bool {
+    ran.status.is_ok() && ran.printed.as_slice() == wanted && is_empty(alloc, &ran.disk)
 }
 
 /// How a run ended: its status and, where it isn't 0, the fault.

@@ -12,6 +12,27 @@ const ROOM: usize = 65_536;
 /// The room of a run's journal, in bytes.
 pub(crate) const JOURNAL_ROOM: u64 = 65_536;
 
+/// The command words of a run, and the calls at which its source and its sink fail.
+#[derive(Drop)]
+pub(crate) struct Streams {
+    pub words: Vec<String>,
+    pub source_fails: Vec<u64>,
+    pub sink_fails: Vec<u64>,
+}
+
+impl Streams {
+    /// Those of a run with this command word, at which nothing fails.
+    pub(crate) fn of(alloc: Global, word: &str) -> Result<Streams, AllocError> {
+        let mut words = Vec::new(alloc);
+        words.push(String::from_str(alloc, word)?)?;
+        Ok(Streams {
+            words,
+            source_fails: Vec::new(alloc),
+            sink_fails: Vec::new(alloc),
+        })
+    }
+}
+
 /// How a run ended, and what it printed.
 #[derive(Drop)]
 pub(crate) struct Ran {
@@ -23,45 +44,62 @@ pub(crate) struct Ran {
 /// Runs a bundle over a source and a sink that fail at these calls, and over a disk.
 pub(crate) fn run(
     alloc: Global,
-    words: &[String],
+    streams: Streams,
     bundle: Vec<u8>,
-    source_fails: Vec<u64>,
-    sink_fails: Vec<u64>,
     disk: MemDisk,
 ) -> Result<Ran, AllocError> {
-    let mut source = MemSource::new(bundle, source_fails);
-    let mut sink = match MemSink::new(alloc, ROOM, sink_fails) {
-        Ok(sink) => sink,
-        Err(Memory) => return Err(AllocError),
-    };
-    let ended = orchestrate(alloc, words, &mut source, &mut sink, disk);
-    Ok(Ran {
-        disk: ended.disk,
-        printed: Vec::from_slice(alloc, sink.bytes())?,
-        status: ended.status,
-    })
+    let Streams {
+        words,
+        source_fails,
+        sink_fails,
+    } = streams;
+    let sink = sink_of(alloc, sink_fails)?;
+    run_over(
+        alloc,
+        words.as_slice(),
+        MemSource::new(bundle, source_fails),
+        sink,
+        disk,
+    )
 }
 
-/// A disk that holds these bytes, with room for more, and fails at these calls.
-pub(crate) fn disk_of(
-    alloc: Global,
-    bytes: Vec<u8>,
-    room: u64,
-    fails: Vec<(orc_disk::DiskOp, u64)>,
-) -> Result<MemDisk, AllocError> {
-    match MemDisk::new(alloc, bytes, room, fails) {
-        Ok(disk) => Ok(disk),
+// A sink that fails at these calls.
+fn sink_of(alloc: Global, fails: Vec<u64>) -> Result<MemSink, AllocError> {
+    match MemSink::new(alloc, ROOM, fails) {
+        Ok(sink) => Ok(sink),
         Err(Memory) => Err(AllocError),
     }
 }
 
+// Runs what a source holds.
+fn run_over(
+    alloc: Global,
+    words: &[String],
+    mut source: MemSource,
+    mut sink: MemSink,
+    disk: MemDisk,
+) -> Result<Ran, AllocError> {
+    let ended = orchestrate(alloc, words, &mut source, &mut sink, disk);
+    let printed = Vec::from_slice(alloc, sink.bytes())?;
+    Ok(Ran {
+        disk: ended.disk,
+        printed,
+        status: ended.status,
+    })
+}
+
 /// Runs a bundle over an empty disk, as this command word says.
 pub(crate) fn run_alone(alloc: Global, word: &str, bundle: Vec<u8>) -> Result<Ran, AllocError> {
-    let mut words = Vec::new(alloc);
-    words.push(String::from_str(alloc, word)?)?;
-    let disk = disk_of(alloc, Vec::new(alloc), JOURNAL_ROOM, Vec::new(alloc))?;
-    let none = Vec::new(alloc);
-    run(alloc, words.as_slice(), bundle, none, Vec::new(alloc), disk)
+    let disk = empty_disk(alloc)?;
+    run(alloc, Streams::of(alloc, word)?, bundle, disk)
+}
+
+// An empty disk at which nothing fails.
+fn empty_disk(alloc: Global) -> Result<MemDisk, AllocError> {
+    match MemDisk::new(alloc, Vec::new(alloc), JOURNAL_ROOM, Vec::new(alloc)) {
+        Ok(disk) => Ok(disk),
+        Err(Memory) => Err(AllocError),
+    }
 }
 
 /// Whether a bundle is run to its end over an empty disk and prints these bytes.

@@ -1,123 +1,152 @@
 //! What a line of a case sets for the next run.
 
 use crate::block::{bytes_of, text_of};
-use crate::run::JOURNAL_ROOM;
-use orc_disk::DiskOp;
+use crate::run::{JOURNAL_ROOM, Streams};
+use orc_disk::{DiskOp, MemDisk};
+use orc_text::Memory;
 use std::alloc::{AllocError, Global};
 
-/// The command words of a run, the calls at which its source, its sink and its disk fail, and what
-/// its disk holds before, with room for more.
+/// The command words of a run, the calls at which its source and its sink fail, and its disk.
 #[derive(Drop)]
 pub(crate) struct Settings {
-    pub words: Vec<String>,
-    pub source_fails: Vec<u64>,
-    pub sink_fails: Vec<u64>,
-    pub disk_fails: Vec<(DiskOp, u64)>,
-    pub holds: Vec<u8>,
-    pub room: u64,
+    pub streams: Streams,
+    pub disk: DiskSettings,
+}
+
+/// What the disk of a run holds before, its room for more, and the calls at which it fails.
+#[derive(Drop)]
+pub(crate) struct DiskSettings {
+    holds: Vec<u8>,
+    room: u64,
+    fails: Vec<(DiskOp, u64)>,
 }
 
 impl Settings {
     /// Those of a run over an empty disk at which nothing fails.
     pub(crate) fn new(alloc: Global) -> Result<Settings, AllocError> {
-        let mut words = Vec::new(alloc);
-        words.push(String::from_str(alloc, "run")?)?;
         Ok(Settings {
-            words,
-            source_fails: Vec::new(alloc),
-            sink_fails: Vec::new(alloc),
-            disk_fails: Vec::new(alloc),
-            holds: Vec::new(alloc),
-            room: JOURNAL_ROOM,
+            streams: Streams::of(alloc, "run")?,
+            disk: DiskSettings::new(alloc),
         })
     }
 
-    /// Takes a line, and says whether it is one that sets something.
+    /// Takes a word and what stands behind it, and says whether they set something.
     pub(crate) fn take(
         &mut self,
         alloc: Global,
         case: &str,
-        line: &str,
+        word: &str,
+        rest: &str,
     ) -> Result<bool, AllocError> {
-        if let Some(words) = line.strip_prefix("words") {
-            self.words = Vec::new(alloc);
-            for word in words.split_whitespace() {
-                self.words.push(String::from_str(alloc, word)?)?;
-            }
-            return Ok(true);
+        match word {
+            "words" => self.name_words(alloc, rest),
+            "source" => push_fail(&mut self.streams.source_fails, rest),
+            "sink" => push_fail(&mut self.streams.sink_fails, rest),
+            "disk" => self.disk.take(alloc, case, rest),
+            _ => Ok(false),
         }
-        if let Some(number) = line.strip_prefix("source fails ") {
-            return push_number(&mut self.source_fails, number);
-        }
-        if let Some(number) = line.strip_prefix("sink fails ") {
-            return push_number(&mut self.sink_fails, number);
-        }
-        if let Some(call) = line.strip_prefix("disk fails ") {
-            return self.fail_disk(call);
-        }
-        if let Some(name) = line.strip_prefix("disk holds ") {
-            return self.fill_disk(alloc, case, name);
-        }
-        if let Some(room) = line.strip_prefix("disk room ") {
-            let Ok(room) = room.parse() else {
-                return Ok(false);
-            };
-            self.room = room;
-            return Ok(true);
-        }
-        Ok(false)
     }
 
-    // The disk fails at a call: its kind, and its number among those of that kind.
-    fn fail_disk(&mut self, call: &str) -> Result<bool, AllocError> {
-        let Some((kind, number)) = call.split_once(" ") else {
-            return Ok(false);
-        };
-        let Some(kind) = operation(kind) else {
-            return Ok(false);
-        };
-        let Ok(number) = number.parse() else {
-            return Ok(false);
-        };
-        self.disk_fails.push((kind, number))?;
-        Ok(true)
-    }
-
-    // The disk holds the bytes of a block.
-    fn fill_disk(&mut self, alloc: Global, case: &str, name: &str) -> Result<bool, AllocError> {
-        let Some(text) = text_of(alloc, case, "bytes", name)? else {
-            return Ok(false);
-        };
-        let Some(bytes) = bytes_of(alloc, text.as_str())? else {
-            return Ok(false);
-        };
-        self.holds = bytes;
+    // The run has these command words.
+    fn name_words(&mut self, alloc: Global, words: &str) -> Result<bool, AllocError> {
+        self.streams.words = Vec::new(alloc);
+        for word in words.split_whitespace() {
+            self.streams.words.push(String::from_str(alloc, word)?)?;
+        }
         Ok(true)
     }
 }
 
-// Takes a number, and says whether it is one.
-fn push_number(numbers: &mut Vec<u64>, number: &str) -> Result<bool, AllocError> {
-    let Ok(number) = number.parse() else {
+impl DiskSettings {
+    // An empty disk at which nothing fails.
+    fn new(alloc: Global) -> DiskSettings {
+        DiskSettings {
+            holds: Vec::new(alloc),
+            room: JOURNAL_ROOM,
+            fails: Vec::new(alloc),
+        }
+    }
+
+    /// The disk.
+    pub(crate) fn disk(self, alloc: Global) -> Result<MemDisk, AllocError> {
+        match MemDisk::new(alloc, self.holds, self.room, self.fails) {
+            Ok(disk) => Ok(disk),
+            Err(Memory) => Err(AllocError),
+        }
+    }
+
+    // Takes what stands behind the word `disk`, and says whether it sets something.
+    fn take(&mut self, alloc: Global, case: &str, rest: &str) -> Result<bool, AllocError> {
+        let Some((word, rest)) = rest.split_once(' ') else {
+            return Ok(false);
+        };
+        match word {
+            "fails" => self.fail(rest),
+            "holds" => self.fill(alloc, case, rest),
+            "room" => Ok(self.make_room(rest)),
+            _ => Ok(false),
+        }
+    }
+
+    // The disk has so much room.
+    fn make_room(&mut self, number: &str) -> bool {
+        match number.parse() {
+            Ok(room) => {
+                self.room = room;
+                true
+            }
+            Err(_) => false,
+        }
+    }
+
+    // The disk fails at a call: its kind, and its number among those of that kind.
+    fn fail(&mut self, call: &str) -> Result<bool, AllocError> {
+        let (kind, number) = call.split_once(' ').unwrap_or((call, ""));
+        match (operation(kind), number.parse()) {
+            (Some(kind), Ok(number)) => {
+                self.fails.push((kind, number))?;
+                Ok(true)
+            }
+            _ => Ok(false),
+        }
+    }
+
+    // The disk holds the bytes of a block.
+    fn fill(&mut self, alloc: Global, case: &str, name: &str) -> Result<bool, AllocError> {
+        let Some(text) = text_of(alloc, case, "bytes", name)? else {
+            return Ok(false);
+        };
+        match bytes_of(alloc, text.as_str())? {
+            Some(bytes) => {
+                self.holds = bytes;
+                Ok(true)
+            }
+            None => Ok(false),
+        }
+    }
+}
+
+// Takes `fails N`, and says whether it is that.
+fn push_fail(numbers: &mut Vec<u64>, rest: &str) -> Result<bool, AllocError> {
+    let Some(number) = rest.strip_prefix("fails ") else {
         return Ok(false);
     };
-    numbers.push(number)?;
-    Ok(true)
+    match number.parse() {
+        Ok(number) => {
+            numbers.push(number)?;
+            Ok(true)
+        }
+        Err(_) => Ok(false),
+    }
 }
 
 // The operation of a disk with this name.
 fn operation(name: &str) -> Option<DiskOp> {
-    if name == "len" {
-        return Some(DiskOp::Len);
+    match name {
+        "len" => Some(DiskOp::Len),
+        "read" => Some(DiskOp::Read),
+        "write" => Some(DiskOp::Write),
+        "sync" => Some(DiskOp::Sync),
+        _ => None,
     }
-    if name == "read" {
-        return Some(DiskOp::Read);
-    }
-    if name == "write" {
-        return Some(DiskOp::Write);
-    }
-    if name == "sync" {
-        return Some(DiskOp::Sync);
-    }
-    None
 }

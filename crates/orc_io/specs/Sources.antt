@@ -1,5 +1,5 @@
 -- What contracts see of the sources of this crate, and what each tells of itself.
-use Rattle.std.specs.Prelude.{◌≡◌, ℕ, Bool, true, List, ◌++◌, drop, Option, Some, MatchBool}
+use Rattle.std.specs.Prelude.{◌≡◌, ℕ, Bool, true, List, [], ◌++◌, drop, Option, Some, MatchBool}
 use Rattle.orc_io.specs.Counts.{next_count}
 use Rattle.orc_io.specs.Meanings.{SourceMeaning}
 
@@ -43,7 +43,8 @@ pub record KeepingSource : Type 0 where
 abbrev pub keeping_source : SourceMeaning KeepingSource
 keeping_source = record { left = λ source. source.left; faults = λ source. source.faults }
 
--- the bytes that were given are kept behind those kept before; from the first want of memory on nothing more is kept
-abbrev pub Keeps : KeepingSource → KeepingSource → List ℕ → Type 0
-Keeps old new given =
-    MatchBool new.is_all ((old.is_all ≡ true) × (new.kept ≡ old.kept ++ given)) (new.kept ≡ old.kept)
+-- the bytes that were given are kept behind those kept before, where all are kept; from the first want of memory on,
+-- which comes only where bytes were given, nothing more is kept
+pub record Keeps (old new : KeepingSource) (given : List ℕ) : Type 0 where
+  pub kept : MatchBool new.is_all ((old.is_all ≡ true) × (new.kept ≡ old.kept ++ given)) (new.kept ≡ old.kept)
+  pub none : given ≡ [] → new.is_all ≡ old.is_all

@@ -10,8 +10,8 @@ use std::alloc::Global;
 use std::marker::Model;
 
 /// A source over another one, which keeps the bytes that it gave, so that they can be looked at once
-/// they were read. From the first want of memory on it keeps no more, and what it kept is a front of
-/// what it gave.
+/// they were read. From the first want of memory on it keeps no more: what it kept is then a front
+/// of what it gave, and `is_all` tells so.
 #[derive(Drop)]
 pub struct KeptSource<S: Source> {
     inner: S,
@@ -55,6 +55,13 @@ impl<S: Source> KeptSource<S> {
     {
         self.kept.as_slice()
     }
+
+    /// Whether these are all the bytes that it gave, since memory was never wanting.
+    pub fn is_all(&self) -> bool
+        ensures { result ≡ self.now.is_all }
+    {
+        self.is_all
+    }
 }
 
 impl<S: Source> Source for KeptSource<S> {
@@ -68,7 +75,7 @@ impl<S: Source> Source for KeptSource<S> {
         ensures still { OnErr result (Keeps self.old self.new []) }
     {
         let count = self.inner.read_some(buf)?;
-        if self.is_all {
+        if self.is_all && count > 0 {
             self.is_all = self.kept.extend_from_slice(&buf[..count]).is_ok();
         }
         Ok(count)

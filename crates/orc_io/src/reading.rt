@@ -2,7 +2,7 @@
 ghost use Rattle.std.specs.Prelude.{◌≤◌, ◌<◌, ◌+◌, ◌^◌, IfOk, OnErr, IsErrOf, vec_len};
 ghost use Rattle.std.specs.Io.KnownBytes.{IsAtEnd, Consumes};
 ghost use Rattle.orc_io.specs.Counts.{Rose};
-ghost use Rattle.orc_io.specs.Pieces.{GivesFront};
+ghost use Rattle.orc_io.specs.Pieces.{GivesUpTo};
 
 use crate::{Failed, Source};
 use std::alloc::Global;
@@ -21,7 +21,7 @@ pub enum WholeFault {
 
 /// Reads a source to its end, or its first `limit + 1` bytes where it has more: it takes no byte
 /// behind these, and returns also where a source never ends. After a refusal the bytes read are gone
-/// from the source.
+/// from the source, and no others.
 pub fn read_whole<S: Source>(
     alloc: Global,
     source: &mut S,
@@ -31,7 +31,7 @@ pub fn read_whole<S: Source>(
     ensures whole { IfOk result (λ v. Consumes (S.source.left source.old) (S.source.left source.new) v.items) }
     ensures most { IfOk result (λ v. vec_len v ≤ limit + 1) }
     ensures end { IfOk result (λ v. vec_len v ≤ limit → IsAtEnd (S.source.left source.new)) }
-    ensures begun { OnErr result (GivesFront (S.source.left source.old) (S.source.left source.new)) }
+    ensures begun { OnErr result (GivesUpTo (limit + 1) (S.source.left source.old) (S.source.left source.new)) }
     ensures later { S.source.faults source.old ≤ S.source.faults source.new }
     ensures failed { IsErrOf result WholeFault.Failed → Rose (S.source.faults source.old) (S.source.faults source.new) }
 {

@@ -59,20 +59,26 @@ module _ {D : Type 0} (disk : DiskMeaning D) (old new : OpenJournal D) (entry : 
       failed = fails.failed;
       known = λ decls entries holds. fails.known.left decls entries entry (puts decls entries holds);
     };
-    cut = λ none. subst (λ (b : List ℕ). disk.cut old.len b old.disk new.disk) is.bytes (fails.known.cut none);
-    syncing = fails.known.syncing;
-    put = λ one. fails.known.put one ∙ ap (λ (b : List ℕ). option_map (written old.len b) (disk.content old.disk)) is.bytes;
-    opened = λ three. with_entry-done (disk.content old.disk) (option_map (written old.len block) (disk.content old.disk)) (disk.content new.disk) old.len block entry is.bytes refl
-        (fails.known.opened three);
-    opening = λ third.
+    puts = record {
+      cut = λ none. subst (λ (b : List ℕ). disk.cut old.len b old.disk new.disk) is.bytes (fails.known.cut none);
+      syncing = fails.known.syncing;
+      put = λ one. fails.known.put one ∙ ap (λ (b : List ℕ). option_map (written old.len b) (disk.content old.disk)) is.bytes;
+      opened = λ three. with_entry-done (disk.content old.disk) (option_map (written old.len block) (disk.content old.disk)) (disk.content new.disk) old.len block entry is.bytes refl
+          (fails.known.opened three);
+      opening = λ third.
+          let short = fails.known.opening third in
+          record {
+            before = short.before;
+            ran = short.ran;
+            put = short.put ∙ ap (λ (b : List ℕ). option_map (written old.len b) (disk.content old.disk)) is.bytes;
+            cut = short.cut;
+          };
+    };
+    behind = λ third.
         let short = fails.known.opening third in
         record {
-          before = short.before;
-          ran = short.ran;
-          put = short.put ∙ ap (λ (b : List ℕ). option_map (written old.len b) (disk.content old.disk)) is.bytes;
           closed = λ decls entries holds. short.closed decls entries entry (puts decls entries holds);
           opened = λ decls entries holds. short.opened decls entries entry (puts decls entries holds);
-          cut = short.cut;
         };
   }
 

@@ -11,17 +11,17 @@ use Rattle.orc_disk.specs.Course.{Hears}
 use Rattle.orc_disk.specs.Moments.{Unchanged}
 use Rattle.orc_io.specs.declared.traits.Failed.{Failed}
 use Rattle.orc_journal.specs.Hearing.{none, WasSynced}
-use Rattle.orc_journal.specs.inside.Steps.{HeardAll, HasLoaded}
+use Rattle.orc_journal.specs.inside.Steps.{HeardAll, HasLoaded, reading}
 use Rattle.orc_journal.proofs.Changes.{Unchanged-trans}
 use Rattle.orc_journal.proofs.Operations.{does_more}
+use Rattle.orc_journal.proofs.Pieces.{led_piece}
 
 module _ {D : Type 0} (disk : DiskMeaning D) where
   -- a look at the first byte gave none
   pub loaded_empty : (old new : D) (buf : List ℕ) (count : ℕ) → 0 < length buf → count ≡ 0 → disk.leads (read_row {E = Failed} 0 buf (Ok count)) old new
       → IfSome (disk.content old) (λ file. ReadsFrom 0 buf file count) → Unchanged disk old new → HasLoaded disk old new []
   loaded_empty old new buf count room zero led reads row =
-      let gave : ℕ → Course = λ n. record { operations = 0; failed = false; gave = (0, take n buf) ∷ [] } in
-      let looked : Hears disk false ((0, []) ∷ []) old new = (0, subst (λ (n : ℕ). disk.leads (gave n) old new) zero led) in
+      let looked : Hears disk false ((0, []) ∷ []) old new = (0, subst (λ (n : ℕ). disk.leads (reading ((0, take n buf) ∷ [])) old new) zero (led_piece disk 0 buf count old new room led)) in
       let empty : IfSome (disk.content old) (λ held. held ≡ []) = IfSome_then (disk.content old) reads
       (λ file is. nil_from_length file (omega (arith, is.count, zero, room))) in
       record {
@@ -40,7 +40,7 @@ module _ {D : Type 0} (disk : DiskMeaning D) where
   was_synced goes_on counts_now old mid synced buf count room fits some look sync first second durable = record {
     first = take count buf;
     one = omega (arith, length-take-le count buf fits, room, fits, some);
-    looked = goes_on (read_row {E = Failed} 0 buf (Ok count)) (row 1 false) old mid synced look sync;
+    looked = goes_on (reading ((0, take count buf) ∷ [])) (row 1 false) old mid synced (led_piece disk 0 buf count old mid (omega (arith, room)) look) sync;
     unchanged = Unchanged-trans disk counts_now old mid synced first second;
     durable = durable;
   }

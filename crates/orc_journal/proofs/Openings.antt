@@ -24,7 +24,7 @@ use Rattle.orc_journal.proofs.Synced.{since_synced, Heard-later}
 module _ {D : Type 0} (disk : DiskMeaning D) (decls : List ℕ) (limit : ℕ) where
   -- it was not read
   pub refused_unread : (old new : D) (fault : OpenFault) → IsDiskFault disk old new fault → (fault ≡ Memory → HasGivenUp disk old new)
-      → LeavesOpening disk decls old new → FailsAfter disk 2 old new fault → HasRefused disk decls limit old new fault
+      → LeavesOpening disk decls old new → FailsAfter disk 2 2 old new fault → HasRefused disk decls limit old new fault
   refused_unread old new (Foreign at) cause given leaves fails = absurd cause
   refused_unread old new NotJournal cause given leaves fails = absurd cause
   refused_unread old new DiskFault cause given leaves fails = record {
@@ -34,7 +34,7 @@ module _ {D : Type 0} (disk : DiskMeaning D) (decls : List ℕ) (limit : ℕ) wh
     kept = λ other. absurd (other refl);
     leaves = leaves;
     course = λ other. absurd (other refl);
-    failed = λ is. fails_weaker disk 2 3 old new (omega arith) (fails is);
+    failed = λ is. fails_weaker disk 2 3 2 2 old new (omega arith) (omega arith) (fails is);
   }
   refused_unread old new Memory cause given leaves fails =
       let up = given refl in
@@ -60,7 +60,7 @@ module _ {D : Type 0} (disk : DiskMeaning D) (decls : List ℕ) (limit : ℕ) wh
 
     -- it was read, and then refused
     pub refused_read : ((course : Course) (a b : D) → disk.leads course a b → Counted course.failed (disk.faults a) (disk.faults b))
-        → (fault : OpenFault) → IsFileFault disk mid new file decls limit fault → IsUntouched disk mid new fault → FailsAfter disk 2 mid new fault
+        → (fault : OpenFault) → IsFileFault disk mid new file decls limit fault → IsUntouched disk mid new fault → FailsAfter disk 2 0 mid new fault
         → HasRefused disk decls limit old new fault
     refused_read counts fault cause untouched fails =
         let made = syncs disk loaded.looked in
@@ -74,8 +74,10 @@ module _ {D : Type 0} (disk : DiskMeaning D) (decls : List ℕ) (limit : ℕ) wh
           kept = λ other. subst (λ (d : D). Unchanged disk loaded.synced d) (sym (untouched other)) loaded.behind;
           leaves = LeavesOpening-later disk only_now decls old mid new behind leaves;
           course = λ other. (looked other).1;
-          failed = λ is. fails_weaker disk (made + 2) 3 old new (omega (arith, few_syncs disk old loaded.synced mid loaded.looked))
-              (fails_later disk goes_on made 2 old mid new loaded.course (fails is));
+          failed = λ is.
+              let few = few_syncs disk old loaded.synced mid loaded.looked in
+              fails_weaker disk (made + 2) 3 (made + 0) 2 old new (omega (arith, few)) (omega (arith, few))
+              (fails_later disk goes_on made 2 0 old mid new loaded.course (fails is));
         }
 
     -- it was read, and opened

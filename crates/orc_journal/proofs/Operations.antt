@@ -13,24 +13,25 @@ use Rattle.orc_journal.specs.inside.Steps.{EndsReading}
 
 module _ {D : Type 0} (disk : DiskMeaning D) where
   -- one operation failed at once
-  pub fails_now : (n : ℕ) (a b : D) → n ≤ 1 → disk.leads (row 0 false) a a → disk.leads (row n true) a b → FailsBefore disk 1 a b
+  pub fails_now : (n : ℕ) (a b : D) → n ≤ 1 → disk.leads (row 0 false) a a → disk.leads (row n true) a b → FailsBefore disk 1 1 a b
   fails_now n a b one stays led =
-      record { done = 0; fewer = omega arith; last = a; ran = ([], stays); operations = n; one = one; failed = led }
+      record { done = 0; fewer = omega arith; last = a; ran = ([], stays); operations = n; one = one; read = λ _. omega arith; failed = led }
 
   -- more are allowed
-  pub fails_weaker : (m n : ℕ) (a b : D) → m ≤ n → FailsBefore disk m a b → FailsBefore disk n a b
-  fails_weaker m n a b le fails = record {
+  pub fails_weaker : (m n r s : ℕ) (a b : D) → m ≤ n → r ≤ s → FailsBefore disk m r a b → FailsBefore disk n s a b
+  fails_weaker m n r s a b le less fails = record {
     done = fails.done;
     fewer = omega (arith, le, fails.fewer);
     last = fails.last;
     ran = fails.ran;
     operations = fails.operations;
     one = fails.one;
+    read = λ none. omega (arith, fails.read none, less);
     failed = fails.failed;
   }
 
   -- one of a row of writes and syncs failed
-  pub fails_among : (n : ℕ) (a b : D) (P : ℕ → Type 0) → FailsAmong disk n a b P → FailsBefore disk n a b
+  pub fails_among : (n : ℕ) (a b : D) (P : ℕ → Type 0) → FailsAmong disk n a b P → FailsBefore disk n 0 a b
   fails_among n a b P fails = record {
     done = fails.done;
     fewer = fails.fewer;
@@ -38,6 +39,7 @@ module _ {D : Type 0} (disk : DiskMeaning D) where
     ran = ([], fails.failed.1);
     operations = 1;
     one = omega arith;
+    read = λ none. absurd (omega (arith, none));
     failed = fails.failed.2;
   }
 
@@ -54,14 +56,15 @@ module _ {D : Type 0} (disk : DiskMeaning D) where
     )
 
     -- some were done, and then one failed of others
-    pub fails_later : (m n : ℕ) (a b c : D) → LedBy disk m a b → FailsBefore disk n b c → FailsBefore disk (m + n) a c
-    fails_later m n a b c first fails = record {
+    pub fails_later : (m n r : ℕ) (a b c : D) → LedBy disk m a b → FailsBefore disk n r b c → FailsBefore disk (m + n) (m + r) a c
+    fails_later m n r a b c first fails = record {
       done = m + fails.done;
       fewer = omega (arith, fails.fewer);
       last = fails.last;
       ran = does_more m fails.done a b fails.last first fails.ran;
       operations = fails.operations;
       one = fails.one;
+      read = λ none. omega (arith, fails.read none);
       failed = fails.failed;
     }
 
@@ -69,7 +72,7 @@ module _ {D : Type 0} (disk : DiskMeaning D) where
     pub ends_reading_later : (a b c : D) (fault : OpenFault) → LedBy disk 0 a b → EndsReading disk b c fault → EndsReading disk a c fault
     ends_reading_later a b c fault first ends = record {
       other = λ other. does_more 0 0 a b c first (ends.other other);
-      failed = λ is. fails_later 0 1 a b c first (ends.failed is);
+      failed = λ is. fails_later 0 1 1 a b c first (ends.failed is);
     }
 
     -- more writes and syncs behind the first sync, if any

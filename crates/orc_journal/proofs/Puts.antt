@@ -1,17 +1,21 @@
 -- What the two writes of an append leave, the entry behind the gate and then the gate.
-use Rattle.std.specs.Prelude.{◌≡◌, ℕ, ◌-◌, List, [], ◌∷◌, ◌++◌, length, Option, Some, None, IfSome}
+use Rattle.std.specs.Prelude.{◌≡◌, ℕ, ◌+◌, ◌-◌, List, [], ◌∷◌, ◌++◌, length, Option, Some, None, IfSome}
 use Rattle.std.specs.Option.{option_map}
-use Rattle.std.proofs.Common.{inl, refl, sym, ap, ◌∙◌, subst, arith}
+use Rattle.std.proofs.Common.{inl, refl, sym, ap, ◌∙◌, subst, arith, length-append}
 use Rattle.std.proofs.lemmas.Option.{MatchOption-at_some}
 use Rattle.orc_disk.specs.Files.{written}
 use Rattle.orc_disk.specs.Torn.{Torn}
 use Rattle.orc_disk.specs.Crashes.{LeavesAsRead}
 use Rattle.orc_journal.specs.Entries.{entry_bytes}
-use Rattle.orc_journal.specs.Journals.{journal_bytes, IsGated}
+use Rattle.orc_journal.specs.Journals.{gated, journal_bytes, journal_length, IsGated}
 use Rattle.orc_journal.specs.Appends.{block_bytes, with_entry, IsBeforeOrAfter}
 use Rattle.orc_journal.specs.inside.Blocks.{IsTornFrom, PutsEntry}
 use Rattle.orc_journal.specs.declared.entry.Entry.{Entry}
-use Rattle.orc_journal.proofs.TornFiles.{IsStaged, torn_behind, written_behind, torn_gate, written_gate}
+use Rattle.orc_journal.proofs.TornFiles.{IsStaged, journal_push, torn_behind, written_behind, torn_gate, written_gate}
+
+-- one entry more with its gate
+pub journal_length-push : (decls : List ℕ) (entries : List Entry) (entry : Entry) → journal_length decls (entries ++ entry ∷ []) ≡ journal_length decls entries + length (entry_bytes entry) + 1
+journal_length-push decls entries entry = omega (arith, ap length (journal_push decls entries entry), length-append (journal_bytes decls entries) (gated entry))
 
 -- what is so of the file after a write, where the disk tells it
 pub IfSome-mapped : (old new : Option (List ℕ)) (f : List ℕ → List ℕ) (P Q : List ℕ → Type 0) → new ≡ option_map f old → IfSome old P → ((file : List ℕ) → P file → Q (f file)) → IfSome new Q

@@ -61,36 +61,44 @@ module _ {D : Type 0} (disk : DiskMeaning D) where
     pub fits : new.len ≤ old.limit
     pub course : disk.leads (row 4 false) old.disk new.disk
 
-  -- The write that opens the gate failed. Before it the disk held the journal of the entries before, which that one
-  -- byte makes the journal of those and the new one, and what the disk tells of a cut write it tells of this one.
-  pub record FailsToOpen (old new : OpenJournal D) (entry : Entry) : Type 0 where
+  -- The write failed that opens the gate of a journal of this length. Before it the entry and a closed gate were put,
+  -- and what the disk tells of a cut write it tells of this one.
+  pub record FailsToOpen (len : ℕ) (entry : Entry) (old new : D) : Type 0 where
     pub before : D
-    pub ran : disk.leads (row (opens_gate - 1) false) old.disk before
-    pub put : disk.content before ≡ option_map (written old.len (block_bytes entry)) (disk.content old.disk)
+    pub ran : disk.leads (row (opens_gate - 1) false) old before
+    pub put : disk.content before ≡ option_map (written len (block_bytes entry)) (disk.content old)
+    pub cut : disk.cut (len - 1) (OPEN ∷ []) before new
+
+  -- A sync failed behind so many writes and syncs: what the disk tells of it.
+  pub record FailsToSync (done : ℕ) (old new : D) : Type 0 where
+    pub before : D
+    pub ran : disk.leads (row done false) old before
+    pub cut : disk.cut_sync before new
+
+  -- What an append to a journal of this length put of which so many writes and syncs were done and the next one failed:
+  -- of a write that failed what the disk tells of a cut one, and behind each write what that put.
+  pub record PutsShort (done len : ℕ) (entry : Entry) (old new : D) : Type 0 where
+    pub cut : done ≡ 0 → disk.cut len (block_bytes entry) old new
+    pub syncing : (done ≡ 1) ⊎ (done ≡ opens_gate) → FailsToSync done old new
+    pub put : done ≡ 1 → disk.content new ≡ option_map (written len (block_bytes entry)) (disk.content old)
+    pub opening : done + 1 ≡ opens_gate → FailsToOpen len entry old new
+    pub opened : done ≡ opens_gate → disk.content new ≡ option_map (with_entry len entry) (disk.content old)
+
+  -- Before the gate was opened the disk held the journal of the entries before, and that one byte makes it the journal
+  -- of those and the new one.
+  pub record IsPutBehind (old : OpenJournal D) (entry : Entry) (before : D) : Type 0 where
     pub closed : WhereHolds disk old (λ decls entries.
         IfSome (disk.content before) (λ file. IsGated file decls entries))
     pub opened : WhereHolds disk old (λ decls entries.
         IfSome (option_map (written (old.len - 1) (OPEN ∷ [])) (disk.content before))
         (λ file. IsGated file decls (entries ++ entry ∷ [])))
-    pub cut : disk.cut (old.len - 1) (OPEN ∷ []) before new.disk
-
-  -- A sync failed behind so many writes and syncs, and what the disk tells of that.
-  pub record FailsToSync (done : ℕ) (old new : D) : Type 0 where
-    pub before : D
-    pub ran : disk.leads (row done false) old before
-    pub cut : disk.cut 0 [] before new
 
   -- One of the four failed and was the last. How many were done before it tells which entries are there, and what was
-  -- put: of the first write what the disk tells of a cut one, and behind each write what that put.
+  -- put.
   pub record HasFailed (old new : OpenJournal D) (entry : Entry) : Type 0 where
     pub rose : Rose (disk.faults old.disk) (disk.faults new.disk)
     pub spent : new ≡ record old { disk = new.disk; spent = true }
     pub course : FailsAmong disk 4 old.disk new.disk (λ done. WhereHolds disk old
         (λ decls entries. IfSome (disk.content new.disk) (IsLeftBehind done decls entries entry)))
-    pub cut : course.done ≡ 0 → disk.cut old.len (block_bytes entry) old.disk new.disk
-    pub syncing : (course.done ≡ 1) ⊎ (course.done ≡ opens_gate) → FailsToSync course.done old.disk new.disk
-    pub put : course.done ≡ 1
-        → disk.content new.disk ≡ option_map (written old.len (block_bytes entry)) (disk.content old.disk)
-    pub opening : course.done + 1 ≡ opens_gate → FailsToOpen old new entry
-    pub opened : course.done ≡ opens_gate
-        → disk.content new.disk ≡ option_map (with_entry old.len entry) (disk.content old.disk)
+    pub puts : PutsShort course.done old.len entry old.disk new.disk
+    pub behind : (third : course.done + 1 ≡ opens_gate) → IsPutBehind old entry (puts.opening third).before

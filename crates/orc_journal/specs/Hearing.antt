@@ -1,15 +1,15 @@
 -- What a disk gave as all that it holds.
-use Rattle.std.specs.Prelude.{◌≡◌, ◌⊎◌, ℕ, false, List, [], ◌∷◌, ◌++◌, length, IfSome}
+use Rattle.std.specs.Prelude.{◌≡◌, ◌⊎◌, ℕ, ◌≤◌, false, List, [], ◌∷◌, ◌++◌, length, IfSome}
 use Rattle.std.proofs.Common.{inl, inr}
 use Rattle.orc_disk.specs.Crashes.{LeavesAsRead}
 use Rattle.orc_disk.specs.Meanings.{DiskMeaning}
 use Rattle.orc_disk.specs.Moments.{Unchanged}
 use Rattle.orc_disk.specs.Course.{Hears}
 
--- these reads, one behind the other from the start on, gave these bytes
+-- these reads, one behind the other from the start on, gave these bytes, each some of them
 pub data Gave : List (ℕ × List ℕ) → List ℕ → Type 0 where
   none : Gave [] []
-  more : (reads : List (ℕ × List ℕ)) (bytes piece : List ℕ) → Gave reads bytes
+  more : (reads : List (ℕ × List ℕ)) (bytes piece : List ℕ) → 1 ≤ length piece → Gave reads bytes
       → Gave (reads ++ (length bytes, piece) ∷ []) (bytes ++ piece)
 
 module _ {D : Type 0} (disk : DiskMeaning D) where

@@ -82,7 +82,8 @@ module _ {D : Type 0} (disk : DiskMeaning D) where
 
   -- It was refused, and the disk handed back. Where the fault is none of the disk, nothing changed, and it was synced
   -- unless it is empty: that sync, if any, was the only one. Where it is one of the disk, an operation failed before
-  -- the third write or sync was done; `synced` may then be any disk, and no clause reads it.
+  -- the third write or sync was done, and a read behind one sync at most; `synced` may then be any disk, and no clause
+  -- reads it.
   pub record HasRefused (decls : List ℕ) (limit : ℕ) (old new : D) (fault : OpenFault) : Type 0 where
     pub synced : D
     pub looked : (fault ≡ DiskFault → ⊥) → IsSynced disk old synced new
@@ -90,4 +91,4 @@ module _ {D : Type 0} (disk : DiskMeaning D) where
     pub kept : KeepsDisk synced new fault
     pub leaves : LeavesOpening decls old new
     pub course : (other : fault ≡ DiskFault → ⊥) → LedBy disk (syncs disk (looked other)) old new
-    pub failed : fault ≡ DiskFault → FailsBefore disk 3 old new
+    pub failed : fault ≡ DiskFault → FailsBefore disk 3 2 old new

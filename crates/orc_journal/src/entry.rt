@@ -7,7 +7,7 @@ use orc_call::{Call, encoded_len};
 use orc_text::{Counted, Row};
 
 /// What the journal records of a transaction, which is given by its number.
-#[derive(Debug, PartialEq, Eq, Drop)]
+#[derive(PartialEq, Eq, Drop)]
 pub enum Entry {
     /// The transaction begins: its call, and the numbers of the devices that it changes, ascending.
     Intent {

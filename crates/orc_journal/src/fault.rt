@@ -4,7 +4,7 @@ use orc_io::Failed;
 use orc_text::Memory;
 
 /// Why a journal was not opened.
-#[derive(Clone, Copy, Debug, PartialEq, Eq)]
+#[derive(Clone, Copy)]
 pub enum OpenFault {
     /// The file is a journal of other declarations, which differ first at this offset in them.
     Foreign { at: u64 },
@@ -22,7 +22,7 @@ pub enum OpenFault {
 }
 
 /// Why an entry was not appended.
-#[derive(Clone, Copy, Debug, PartialEq, Eq)]
+#[derive(Clone, Copy, PartialEq, Eq)]
 pub enum AppendFault {
     /// An operation of the disk failed. The journal is spent.
     DiskFault,

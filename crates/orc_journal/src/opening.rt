@@ -67,7 +67,7 @@ fn load<D: Disk>(alloc: Global, disk: &mut D) -> Result<Vec<u8>, OpenFault>
         → LeavesAsRead (D.disk.content disk.new) (D.disk.may_leave disk.new)) }
     ensures memory { IfErr result (λ fault. fault ≡ OpenFault.Memory → HasGivenUp D.disk disk.old disk.new) }
     ensures unchanged { Unchanged D.disk disk.old disk.new }
-    ensures failed { IfErr result (FailsAfter D.disk 2 disk.old disk.new) }
+    ensures failed { IfErr result (FailsAfter D.disk 2 2 disk.old disk.new) }
     ensures refused { IfErr result (IsDiskFault D.disk disk.old disk.new) }
 {
     let mut first = [0u8; 1];
@@ -92,7 +92,7 @@ fn begin<D: Disk>(
     ensures entries { IfOk result (λ begun. begun.entries.items ≡ []) }
     ensures room { OnOk result (length (header decls.now) + 1 ≤ limit) }
     ensures leaves { LeavesOpening D.disk decls.now disk.old disk.new }
-    ensures failed { IfErr result (FailsAfter D.disk 2 disk.old disk.new) }
+    ensures failed { IfErr result (FailsAfter D.disk 2 0 disk.old disk.new) }
     ensures refused { IfErr result (IsFileFault D.disk disk.old disk.new [] decls.now limit) }
     ensures kept { IfErr result (IsUntouched D.disk disk.old disk.new) }
 {
@@ -117,7 +117,7 @@ fn close<D: Disk>(disk: &mut D, bytes: &[u8], len: u64) -> Result<(), Failed>
         → OnOk result (IsStored D.disk disk.old disk.new bytes.now decls entries len) }
     ensures leaves { (decls : List ℕ) (entries : List Entry) → IsJournal bytes.now decls entries
         → len ≡ journal_length decls entries → LeavesOpening D.disk decls disk.old disk.new }
-    ensures failed { OnErr result (FailsBefore D.disk 2 disk.old disk.new) }
+    ensures failed { OnErr result (FailsBefore D.disk 2 0 disk.old disk.new) }
     ensures cause { HasCause (D.disk.faults disk.old) (D.disk.faults disk.new) result }
 {
     if len <= bytes.len() as u64 {
@@ -142,7 +142,7 @@ fn found<D: Disk>(
     ensures journal { IfOk result (λ found. IsJournal bytes.now decls.now found.entries.items) }
     ensures ordered { IfOk result (λ found. IsTrue (is_ordered found.entries.items)) }
     ensures leaves { LeavesOpening D.disk decls.now disk.old disk.new }
-    ensures failed { IfErr result (FailsAfter D.disk 2 disk.old disk.new) }
+    ensures failed { IfErr result (FailsAfter D.disk 2 0 disk.old disk.new) }
     ensures refused { (limit : ℕ) → IfErr result (IsFileFault D.disk disk.old disk.new bytes.now decls.now limit) }
     ensures kept { IfErr result (IsUntouched D.disk disk.old disk.new) }
 {

@@ -23,7 +23,7 @@ pub(crate) struct Contents {
 }
 
 /// Why bytes are no journal of the declarations.
-#[derive(Clone, Copy, Debug, PartialEq, Eq)]
+#[derive(Clone, Copy)]
 pub(crate) enum ReadFault {
     NotJournal,
     Foreign { at: u64 },

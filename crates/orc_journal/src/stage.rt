@@ -1,7 +1,7 @@
 //! The stages of a transaction.
 
 /// What the journal says of a transaction that has its intent.
-#[derive(Clone, Copy, Debug, PartialEq, Eq)]
+#[derive(Clone, Copy)]
 pub(crate) enum Stage {
     /// It has neither Decide nor Abort.
     Open,

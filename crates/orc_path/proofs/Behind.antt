@@ -8,7 +8,7 @@ use Rattle.std.specs.Char.{IsScalar}
 use Rattle.std.proofs.lemmas.Bool.{and_parts, leb-true, ltb-true, ltb-false}
 use Rattle.std.proofs.lemmas.Grind.{flat_map-append}
 use Rattle.std.proofs.lemmas.Str.{encode_ascii, length-encode, len_utf8_bounds}
-use Rattle.orc_path.specs.Alphabet.{is_plain_character, is_plain_text}
+use Rattle.orc_text.specs.Characters.{is_plain_character, is_plain_text}
 use Rattle.orc_path.specs.Steps.{PathStep}
 use Rattle.orc_path.specs.Texts.{escape}
 use Rattle.orc_path.specs.inside.Reading.{feed_at, feed, feed_all, at_start, FitsAt, Fits}
@@ -18,7 +18,8 @@ use Rattle.orc_path.specs.declared.mode.Mode.TheVariants.{Start, Slash, Module, 
 use Rattle.orc_path.specs.declared.reader.Reader.{Reader}
 use Rattle.orc_path.proofs.Parts.{none_given}
 use Rattle.orc_path.proofs.Encoded.{are_wide}
-use Rattle.orc_path.proofs.Plain.{is_plain_text-nil, is_plain_text-append, is_plain_text-encode, are_wide-encode}
+use Rattle.orc_text.proofs.Plain.{is_plain_text-nil, is_plain_text-append, is_plain_text-encode}
+use Rattle.orc_path.proofs.Plain.{are_wide-encode}
 use Rattle.orc_path.proofs.Written.{flat_wide, escape-wide}
 use Rattle.orc_path.proofs.Feeds.{front, read_at, read, feed_grows}
 use Rattle.orc_path.proofs.Again.{reader_at}

@@ -8,12 +8,14 @@ use Rattle.std.specs.Char.{IsScalar}
 use Rattle.std.proofs.lemmas.Bool.{and_parts, ltb-true, ltb-false, false≢true}
 use Rattle.std.proofs.lemmas.Grind.{flat_map-append}
 use Rattle.std.proofs.lemmas.Str.{encode_ascii}
-use Rattle.orc_path.specs.Alphabet.{is_plain_character, is_plain_text, is_name_start, is_name_byte, is_identifier, is_qualified, is_qualified_rest, is_key, is_value}
+use Rattle.orc_text.specs.Characters.{is_plain_character, is_plain_text}
+use Rattle.orc_path.specs.Alphabet.{is_name_start, is_name_byte, is_identifier, is_qualified, is_qualified_rest, is_key, is_value}
 use Rattle.orc_path.specs.Steps.{PathStep, is_first_step, is_later_step, is_path}
 use Rattle.orc_path.specs.Texts.{escape, key_text, step_text, path_text, value_escape, value_text}
 use Rattle.orc_path.specs.inside.Reading.{is_key_byte}
 use Rattle.orc_path.proofs.Parts.{start_is_name_byte}
-use Rattle.orc_path.proofs.Plain.{is_plain_text-nil, is_plain_text-append, is_plain_text-byte, is_plain_text-encode, is_key_byte-character, are_wide-encode, plain_parts, spelled}
+use Rattle.orc_text.proofs.Plain.{is_plain_text-nil, is_plain_text-append, is_plain_text-encode, plain_parts, spelled}
+use Rattle.orc_path.proofs.Plain.{is_plain_text-byte, is_key_byte-character, are_wide-encode}
 use Rattle.orc_path.proofs.Written.{flat_wide, escape-wide, value_escape-wide}
 
 abbrev IsPlain : List ℕ → Type 0

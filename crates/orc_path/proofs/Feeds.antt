@@ -13,7 +13,8 @@ use Rattle.orc_path.specs.declared.mode.Mode.{Mode}
 use Rattle.orc_path.specs.declared.mode.Mode.TheVariants.{Start, Slash, Module, Colon, Inside, Next, Key, Escape, Closed}
 use Rattle.orc_path.specs.declared.reader.Reader.{Reader}
 use Rattle.orc_path.proofs.Parts.{chosen, none_given, taken, list_all_more, name_step}
-use Rattle.orc_path.proofs.Plain.{is_plain_text-nil, is_plain_text-append, is_plain_text-byte}
+use Rattle.orc_text.proofs.Plain.{is_plain_text-nil, is_plain_text-append}
+use Rattle.orc_path.proofs.Plain.{is_plain_text-byte}
 
 -- a step behind others
 pub is_path_more : (done : List PathStep) (s : PathStep) → is_path done ≡ true → is_name_behind done s.node ≡ true → list_all is_key s.keys ≡ true → is_path (done ++ s ∷ []) ≡ true

@@ -2,6 +2,7 @@ pub mod Bools
 mod Last
 mod Encoded
 pub mod Plain
+mod Fronts
 pub mod Written
 mod Parts
 mod Runs
@@ -11,6 +12,7 @@ mod Stops
 mod Behind
 mod Refused
 mod Standing
+mod Modes
 mod Names
 pub mod Characters
 mod Cuts

@@ -9,7 +9,7 @@ use Rattle.std.proofs.lemmas.Bool.{and_parts, and_from, ltb-true, ltb-false, leb
 use Rattle.std.proofs.lemmas.Grind.{flat_map-append}
 use Rattle.std.proofs.lemmas.List.Folds.{list_all-append}
 use Rattle.std.proofs.lemmas.Str.{chars-append, chars-encodes, encode_ascii, IsUtf8-append, IsUtf8-encode}
-use Rattle.orc_path.specs.Alphabet.{is_plain_character}
+use Rattle.orc_text.specs.Characters.{is_plain_character}
 use Rattle.orc_path.specs.Steps.{PathStep, is_path}
 use Rattle.orc_path.specs.Texts.{step_text, path_text, IsPathText, CanBegin, IsBadAt}
 use Rattle.orc_path.specs.inside.Reading.{present_step, feed_all, feed_character, begun_in, at_start, whole_at, whole, IsStepRead, FitsAt}
@@ -20,7 +20,8 @@ use Rattle.orc_path.specs.declared.reader.Reader.{Reader}
 use Rattle.orc_path.proofs.Parts.{none_given}
 use Rattle.orc_path.proofs.Stops.{given_before, can_begin_front, bad_behind, bad_end}
 use Rattle.orc_path.proofs.Encoded.{are_wide, fellow, IsWide, is_wide}
-use Rattle.orc_path.proofs.Plain.{plain_parts, are_wide-encode, fellow_is_plain}
+use Rattle.orc_text.proofs.Plain.{plain_parts}
+use Rattle.orc_path.proofs.Plain.{are_wide-encode, fellow_is_plain}
 use Rattle.orc_path.proofs.Feeds.{front, read_at, blank_front, is_path_more}
 use Rattle.orc_path.proofs.Again.{reader_at, path_behind, path_again}
 use Rattle.orc_path.proofs.Characters.{is_plain_text-path_text}

@@ -5,7 +5,7 @@ use Rattle.std.specs.Str.{all_scalars}
 use Rattle.std.proofs.lemmas.Bool.{and_parts}
 use Rattle.std.proofs.lemmas.List.{nil_from_length}
 use Rattle.std.proofs.lemmas.Str.{IsUtf8-past_char, cons_from_encodes}
-use Rattle.orc_path.specs.Alphabet.{is_plain_character}
+use Rattle.orc_text.specs.Characters.{is_plain_character}
 use Rattle.orc_path.specs.Texts.{IsPathText, IsBadAt}
 use Rattle.orc_path.specs.inside.Reading.{feed_all, feed_character, begun_in, at_start}
 use Rattle.orc_path.specs.declared.reader.Reader.{Reader}

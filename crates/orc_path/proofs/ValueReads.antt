@@ -1,10 +1,49 @@
 -- Reading a value character by character.
-use Rattle.std.proofs.Common.{◌≡◌, ℕ, true, false, cond, List, [], ◌∷◌, ◌++◌, Some, None, Option, length, encode_utf8, refl, sym, ap, ◌∙◌, arith, append-nil}
+use Rattle.std.proofs.Common.{◌≡◌, ℕ, Bool, true, false, not, cond, List, [], ◌∷◌, ◌++◌, Some, None, Option, is_some, length, encode_utf8, refl, sym, ap, ◌∙◌, arith, append-nil}
 use Rattle.std.proofs.lemmas.List.{nil_from_length}
 use Rattle.std.proofs.lemmas.Str.{encode_ascii}
-use Rattle.orc_path.specs.inside.ValueReading.{value_unescape, is_never_raw, unescaped, led, ahead}
+use Rattle.orc_path.specs.inside.ValueReading.{value_unescape, is_never_raw, unescaped, led, behind, ahead}
 use Rattle.orc_path.specs.declared.value.ValueReader.{ValueReader}
 use Rattle.orc_path.proofs.Values.{is_marked, led_led, meaning_low, unescaped_character, unescaped_raw_none, unescaped_backslash, unescaped_meant, unescaped_none}
+
+-- whether a text goes on as one
+
+some_led : (xs : List ℕ) (o : Option (List ℕ)) → is_some (led xs o) ≡ is_some o
+some_led xs None = refl
+some_led xs (Some bytes) = refl
+
+unmarked : (c : ℕ) → (c ≡ 92 → ⊥) → is_never_raw c ≡ false → is_marked c ≡ false
+unmarked c n h = grind arith
+
+-- whether what is left means something
+abbrev GoesOn : Bool → List ℕ → Bool
+GoesOn is_escaped rest = is_some (behind is_escaped rest)
+
+module _ (t : Bool) (c : ℕ) (rest : List ℕ) where
+  pub next_meant : (m : ℕ) → t ≡ true → value_unescape c ≡ Some m → GoesOn t (encode_utf8 c ++ rest) ≡ GoesOn false rest
+  next_meant m is_so is =
+      ap (λ u. GoesOn u (encode_utf8 c ++ rest)) is_so ∙ ap is_some (unescaped_meant c m rest is) ∙ some_led (m ∷ []) (unescaped rest)
+
+  pub next_none : t ≡ true → value_unescape c ≡ None → GoesOn t (encode_utf8 c ++ rest) ≡ false
+  next_none is_so is = ap (λ u. GoesOn u (encode_utf8 c ++ rest)) is_so ∙ ap is_some (unescaped_none c rest is)
+
+  pub next_backslash : t ≡ false → c ≡ 92 → GoesOn t (encode_utf8 c ++ rest) ≡ GoesOn true rest
+  next_backslash no_escape is =
+      ap (λ u. GoesOn u (encode_utf8 c ++ rest)) no_escape
+      ∙ ap (λ x. is_some (unescaped (encode_utf8 x ++ rest))) is ∙ ap (λ x. is_some (unescaped x)) (unescaped_backslash rest)
+
+  pub next_never : t ≡ false → is_never_raw c ≡ true → GoesOn t (encode_utf8 c ++ rest) ≡ false
+  next_never no_escape is = ap (λ u. GoesOn u (encode_utf8 c ++ rest)) no_escape ∙ ap is_some (unescaped_raw_none c rest is)
+
+  pub next_raw : t ≡ false → (c ≡ 92 → ⊥) → is_never_raw c ≡ false → GoesOn t (encode_utf8 c ++ rest) ≡ GoesOn false rest
+  next_raw no_escape no_backslash is =
+      ap (λ u. GoesOn u (encode_utf8 c ++ rest)) no_escape
+      ∙ ap is_some (unescaped_character c rest (unmarked c no_backslash is)) ∙ some_led (encode_utf8 c) (unescaped rest)
+
+-- at the end
+pub nothing_left : (t : Bool) (rest : List ℕ) → length rest ≡ 0 → GoesOn t rest ≡ not t
+nothing_left true rest e = ap (λ x. GoesOn true x) (nil_from_length rest e)
+nothing_left false rest e = ap (λ x. GoesOn false x) (nil_from_length rest e)
 
 module _ (r : ValueReader) where
   escaped : (rest : List ℕ) → r.is_escaped ≡ true → ahead r rest ≡ led r.value (unescaped (92 ∷ rest))
@@ -36,9 +75,6 @@ module _ (r : ValueReader) where
   ahead_raw c value rest no_escape no_backslash is pushed =
       plain (encode_utf8 c ++ rest) no_escape ∙ ap (led r.value) (unescaped_character c rest (unmarked c no_backslash is)) ∙ led_led r.value (encode_utf8 c) (unescaped rest)
       ∙ ap (λ v. led v (unescaped rest)) (sym pushed) ∙ ap (λ t. led value (unescaped (cond t (92 ∷ rest) rest))) (sym no_escape)
-    where
-      unmarked : (c : ℕ) → (c ≡ 92 → ⊥) → is_never_raw c ≡ false → is_marked c ≡ false
-      unmarked c n h = grind arith
 
   -- at the end
   pub ahead_end_escaped : (rest : List ℕ) → length rest ≡ 0 → r.is_escaped ≡ true → ahead r rest ≡ None

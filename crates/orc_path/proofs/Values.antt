@@ -1,5 +1,5 @@
 -- A text is read as a value exactly where it is the text of that value.
-use Rattle.std.proofs.Common.{◌≡◌, ℕ, ◌<◌, ◌≤◌, Bool, true, false, ◌==◌, ◌||◌, ◌&&◌, nat_eq, cond, List, [], ◌∷◌, ◌++◌, Some, None, Option, encode_utf8, encode_utf8_all, chars, refl, sym, ap, ap₂, subst, ◌∙◌, arith, append_assoc}
+use Rattle.std.proofs.Common.{◌≡◌, ℕ, ◌<◌, ◌≤◌, Bool, true, false, ◌==◌, ◌||◌, ◌&&◌, nat_eq, cond, List, [], ◌∷◌, ◌++◌, Some, None, Option, is_some, IsSome, encode_utf8, encode_utf8_all, chars, refl, sym, ap, ap₂, subst, ◌∙◌, arith, append_assoc}
 use Rattle.std.proofs.Math.Dec.{ltb}
 use Rattle.std.specs.List.{flat_map, list_all}
 use Rattle.std.specs.Str.{all_scalars}
@@ -7,7 +7,8 @@ use Rattle.std.specs.Char.{IsScalar}
 use Rattle.std.proofs.lemmas.Bool.{and_parts, and_from, leb-true, ltb-true, ltb-false}
 use Rattle.std.proofs.lemmas.Grind.{flat_map-append}
 use Rattle.std.proofs.lemmas.Str.{encode_ascii}
-use Rattle.orc_path.specs.Alphabet.{is_plain_character, is_plain_text, is_value}
+use Rattle.orc_text.specs.Characters.{is_plain_character, is_plain_text}
+use Rattle.orc_path.specs.Alphabet.{is_value}
 use Rattle.orc_path.specs.Texts.{value_escape, value_text}
 use Rattle.orc_path.specs.Values.{value_bytes, value_with, value_of}
 use Rattle.orc_path.specs.inside.Reading.{is_key_byte}
@@ -15,7 +16,8 @@ use Rattle.orc_path.specs.inside.ValueReading.{value_unescape, led_by, led_by_me
 use Rattle.std.specs.Cmp.Lexicographic.{pointwise, bytes_decides}
 use Rattle.orc_path.proofs.Parts.{none_given}
 use Rattle.orc_path.proofs.Encoded.{are_wide}
-use Rattle.orc_path.proofs.Plain.{is_plain_text-nil, is_plain_text-append, is_plain_text-encode, is_plain_text-byte, are_wide-encode, spelled}
+use Rattle.orc_text.proofs.Plain.{is_plain_text-nil, is_plain_text-append, is_plain_text-encode, spelled}
+use Rattle.orc_path.proofs.Plain.{is_plain_text-byte, are_wide-encode}
 use Rattle.orc_path.proofs.Characters.{is_plain_text-value_text}
 use Rattle.orc_path.proofs.Written.{value_escaped_low, value_escaped_high}
 use Rattle.orc_path.proofs.Behind.{some_same, encode_some}
@@ -304,3 +306,14 @@ value_of-not_plain text h = value_of-read_as text ∙ ap (λ t. cond t (unescape
 
 pub value_of-plain : (text : List ℕ) → is_plain_text text ≡ true → value_of text ≡ unescaped text
 value_of-plain text h = value_of-read_as text ∙ ap (λ t. cond t (unescaped text) None) h
+
+-- a plain text is that of a value exactly where its escapes can be read
+pub value_of-escaped : (text : List ℕ) → is_plain_text text ≡ true → is_some (unescaped text) ≡ true → IsSome (value_of text)
+value_of-escaped text plain some = ap is_some (value_of-plain text plain) ∙ some
+
+pub value_of-unescaped : (text : List ℕ) → is_plain_text text ≡ true → is_some (unescaped text) ≡ false → value_of text ≡ None
+value_of-unescaped text plain none = value_of-plain text plain ∙ nothing (unescaped text) none
+  where
+    nothing : (o : Option (List ℕ)) → is_some o ≡ false → o ≡ None
+    nothing None h = refl
+    nothing (Some bytes) h = let not_so : ⊥ = cc in absurd not_so

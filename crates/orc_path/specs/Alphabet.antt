@@ -1,8 +1,7 @@
 -- What names, keys and values are made of.
-use Rattle.std.specs.Prelude.{ℕ, Bool, false, ◌&&◌, ◌||◌, ◌==◌, not, nat_le, List, [], ◌∷◌, if◌then◌else◌}
+use Rattle.std.specs.Prelude.{ℕ, Bool, false, ◌&&◌, ◌||◌, ◌==◌, nat_le, List, [], ◌∷◌, if◌then◌else◌}
 use Rattle.std.specs.List.{list_all}
-use Rattle.std.specs.Str.{chars, is_utf8}
-use Rattle.orc_text.specs.Characters.{is_noncharacter}
+use Rattle.orc_text.specs.Characters.{is_plain_text}
 
 abbrev pub is_letter : ℕ → Bool
 is_letter byte = (nat_le 65 byte && nat_le byte 90) || (nat_le 97 byte && nat_le byte 122)
@@ -33,14 +32,6 @@ is_qualified (byte ∷ rest) = is_name_start byte && is_qualified_rest rest
 -- an identifier, alone or behind a module's name and a colon
 abbrev pub is_node_name : List ℕ → Bool
 is_node_name bytes = is_identifier bytes || is_qualified bytes
-
--- a character of keys and values: tab, line feed, carriage return, and from the space on each that is no noncharacter
-abbrev pub is_plain_character : ℕ → Bool
-is_plain_character c = (c == 9) || (c == 10) || (c == 13) || (nat_le 32 c && not (is_noncharacter c))
-
--- UTF-8 of such characters alone
-unfoldable pub is_plain_text : List ℕ → Bool
-is_plain_text bytes = is_utf8 bytes && list_all is_plain_character (chars bytes)
 
 -- what may be a key
 abbrev pub is_key : List ℕ → Bool

@@ -55,6 +55,9 @@ pub record IsBadAt (IsText : List ℕ → Type 0) (bytes : List ℕ) (at : ℕ) 
   pub longest : (len : ℕ) → at < len → len ≤ length bytes → CanBegin IsText (take len bytes) → ⊥
   pub none : IsText bytes → ⊥
 
--- the text goes on from what stood there before
-abbrev pub GoesOn : List ℕ → List ℕ → Type 0
-GoesOn before now = (more : List ℕ) × (now ≡ before ++ more)
+-- of the bytes that are due a front stands behind what stood there before, and nothing else
+pub record AddsFront (due before now : List ℕ) : Type 0 where
+  pub front : List ℕ
+  pub rest : List ℕ
+  pub is_due : due ≡ front ++ rest
+  pub added : now ≡ before ++ front

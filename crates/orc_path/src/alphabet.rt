@@ -1,10 +1,9 @@
 //! What names, keys and values are made of.
 ghost use Rattle.std.specs.Prelude.{◌≡◌};
 ghost use Rattle.std.specs.List.{list_all};
-ghost use Rattle.std.specs.Str.{chars};
-ghost use Rattle.orc_path.specs.Alphabet.{is_name_start, is_name_byte, is_identifier, is_plain_character, is_plain_text, is_key, is_value};
+ghost use Rattle.orc_path.specs.Alphabet.{is_name_start, is_name_byte, is_identifier, is_key, is_value};
 
-use orc_text::is_noncharacter;
+use orc_text::is_plain_text;
 
 /// A letter or `_`.
 pub(crate) fn is_name_start(byte: u8) -> bool
@@ -35,32 +34,6 @@ pub fn is_identifier(text: &str) -> bool
         [] => false,
         [first, rest @ ..] => is_name_start(*first) && are_name_bytes(rest),
     }
-}
-
-/// Tab, line feed, carriage return, or a character from the space on that is no noncharacter of
-/// Unicode.
-pub(crate) fn is_plain_character(character: char) -> bool
-    ensures { result ≡ is_plain_character character }
-{
-    match character {
-        '\t' | '\n' | '\r' => true,
-        _ => character >= ' ' && !is_noncharacter(character),
-    }
-}
-
-// Whether all characters are plain.
-fn are_plain(text: &str) -> bool
-    ensures { result ≡ list_all is_plain_character (chars text.now) }
-{
-    text.chars().all(|character| is_plain_character(character))
-}
-
-/// Whether each character is a tab, a line feed, a carriage return, or one from the space on that is
-/// no noncharacter of Unicode.
-pub(crate) fn is_plain_text(text: &str) -> bool
-    ensures { result ≡ is_plain_text text.now }
-{
-    are_plain(text)
 }
 
 /// Whether the text may be a key of a step.

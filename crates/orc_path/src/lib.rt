@@ -16,6 +16,7 @@ mod mode;
 mod name;
 mod path;
 mod reader;
+mod reading;
 mod text;
 mod value;
 

@@ -1,5 +1,5 @@
 //! Steps and paths.
-ghost use Rattle.std.specs.Prelude.{◌≡◌, ◌≢◌, ◌≤◌, List, IfOk, IfErr, IsTrue, length, take, ◌++◌, ◌∷◌, []};
+ghost use Rattle.std.specs.Prelude.{◌≡◌, ◌≢◌, ◌≤◌, List, IfOk, IfErr, IsErrOf, IsTrue, length, take, ◌++◌, ◌∷◌, []};
 ghost use Rattle.std.specs.Cmp.{IsTotalOrder};
 ghost use Rattle.std.specs.declared.cmp.Ordering.TheVariants.{Less};
 ghost use Rattle.orc_path.specs.Order.{path_cmp, is_prefix};
@@ -10,7 +10,7 @@ ghost use Rattle.orc_path.specs.Reading.{path_of};
 
 use crate::Name;
 use crate::copies::copied_row;
-use crate::reader::Reader;
+use crate::reading::{bad_place, read_path};
 use orc_text::{Copied, Memory, Row, Text};
 use std::alloc::Global;
 use std::cmp::Ordering;
@@ -97,29 +97,20 @@ impl Model for Path {
 
 impl Path {
     /// The path of this text. `BadPath { at }` comes exactly where the text is no path text; `at`
-    /// is then the length in bytes of its longest prefix that is a prefix of some path text.
+    /// is then the length in bytes of its longest prefix that is a prefix of some path text. Memory
+    /// is wanted for a path's text alone.
     pub fn parse(alloc: Global, text: &str) -> Result<Path, PathFault>
         ensures ok { IfOk result (λ path. path_text path ≡ text.now) }
         // A path's text is read as that path.
         ensures again { (written : List PathStep) → IsTrue (is_path written) → path_text written ≡ text.now
             → IfOk result (λ path. path ≡ written) }
         ensures fault { IfErr result (IsPathFault IsPathText text.now) }
+        ensures memory { IsErrOf result PathFault.Memory → IsPathText text.now }
         ensures value { Reads (path_of text.now) result }
     {
-        let mut reader = Reader::new(alloc);
-        let mut at = 0;
-        for character in text.chars() {
-            let begun = reader.begun_in(character);
-            if !reader.take(alloc, character)? {
-                return Err(PathFault::BadPath {
-                    at: (at + begun) as u64,
-                });
-            }
-            at += character.len_utf8();
-        }
-        match reader.finish(alloc)? {
-            Some(path) => Ok(path),
-            None => Err(PathFault::BadPath { at: at as u64 }),
+        match bad_place(text) {
+            Some(at) => Err(PathFault::BadPath { at }),
+            None => Ok(read_path(alloc, text)?),
         }
     }
 

@@ -1,34 +1,12 @@
 //! Reads a path character by character.
 ghost use Rattle.std.specs.Prelude.{◌≡◌, ◌<◌, ◌≤◌, ◌++◌, ◌∷◌, [], encode_utf8, IfOk};
-ghost use Rattle.orc_path.specs.inside.Reading.{unescape, is_raw, feed_all, feed_character, begun_in, feed_end, feed_key, feed_escape, feed_mark, feed, at_start, whole, present_step, Fits, IsStepRead, Fed};
+ghost use Rattle.orc_path.specs.inside.Reading.{feed_all, feed_character, feed_end, feed_key, feed_escape, feed_mark, feed, at_start, whole, present_step, Fits, IsStepRead, Fed};
 
-use crate::alphabet::is_plain_character;
-use crate::mode::{Mode, name_mode};
+use crate::mode::{Mode, is_raw, name_mode, unescaped};
 use crate::{Name, Path, Step};
-use orc_text::{Memory, Row, Text};
+use orc_text::{Memory, Row, Text, is_plain_character};
 use std::alloc::Global;
 use std::mem;
-
-// The byte that this one means behind a backslash.
-fn unescaped(byte: u8) -> Option<u8>
-    ensures { result ≡ unescape byte }
-{
-    match byte {
-        b'\\' | b']' => Some(byte),
-        b's' => Some(b' '),
-        b't' => Some(b'\t'),
-        b'n' => Some(b'\n'),
-        b'r' => Some(b'\r'),
-        _ => None,
-    }
-}
-
-// Whether this byte of a key stands for itself.
-fn is_raw(byte: u8) -> bool
-    ensures { result ≡ is_raw byte }
-{
-    byte > b' ' && byte != b'\\' && byte != b']'
-}
 
 /// The steps that are whole, and the parts of the one that is being read.
 #[derive(Drop)]
@@ -183,17 +161,6 @@ impl Reader {
             return self.take_byte(alloc, u32::from(character) as u8);
         }
         self.take_wide(character)
-    }
-
-    /// How many bytes of a character that is refused here begin some path: a key may hold another
-    /// character that differs in its last byte.
-    pub(crate) fn begun_in(&self, character: char) -> usize
-        ensures { result ≡ begun_in self.now.mode character }
-    {
-        match self.mode {
-            Mode::Key => character.len_utf8() - 1,
-            _ => 0,
-        }
     }
 
     // The path with the step that was read.

@@ -1,10 +1,10 @@
 //! The text of a path, alone and with an item.
-ghost use Rattle.std.specs.Prelude.{◌≡◌, ◌<◌, ◌++◌, IfOk, OnOk, OnErr, IsTrue, encode_utf8};
+ghost use Rattle.std.specs.Prelude.{◌≡◌, ◌<◌, ◌++◌, IfOk, OnOk, OnErr, IsTrue, codes, encode_utf8};
 ghost use Rattle.std.specs.String.{string_bytes};
 ghost use Rattle.std.specs.List.{flat_map};
 ghost use Rattle.orc_path.specs.Items.{item_text};
 ghost use Rattle.orc_path.specs.Steps.{is_path};
-ghost use Rattle.orc_path.specs.Texts.{escape, key_text, step_text, path_text, GoesOn};
+ghost use Rattle.orc_path.specs.Texts.{escape, key_text, step_text, path_text, value_text, AddsFront};
 
 use crate::value::push_value;
 use crate::{Item, Path, Step};
@@ -76,19 +76,26 @@ impl Path {
     }
 }
 
+// Adds ` = ` and the text of a value.
+#[tactic(auto, using(crate::proofs::Fronts::front_of_none, crate::proofs::Fronts::front_behind))]
+fn push_leaf(out: &mut String, value: &str) -> Result<(), Memory>
+    ensures ok { OnOk result (string_bytes out.new ≡ string_bytes out.old ++ (codes " = " ++ value_text value.now)) }
+    ensures err { OnErr result
+        (AddsFront (codes " = " ++ value_text value.now) (string_bytes out.old) (string_bytes out.new)) }
+{
+    out.push_str(" = ")?;
+    push_value(out, value)
+}
+
 /// Adds an item to a text: its path, and behind it, where it is a leaf, ` = ` and its value with
-/// escapes. After want of memory a part of it may stand there.
+/// escapes. After want of memory a front of it may stand there.
 pub fn push_item(out: &mut String, alloc: Global, path: &Path, item: &Item) -> Result<(), Memory>
     ensures ok { OnOk result (string_bytes out.new ≡ string_bytes out.old ++ item_text path.now item.now) }
-    ensures err { OnErr result (GoesOn (string_bytes out.old) (string_bytes out.new)) }
+    ensures err { OnErr result (AddsFront (item_text path.now item.now) (string_bytes out.old) (string_bytes out.new)) }
 {
     out.push_str(path.text(alloc)?.as_str())?;
     match item {
-        Item::Entry => {}
-        Item::Leaf(value) => {
-            out.push_str(" = ")?;
-            push_value(out, value.as_str())?;
-        }
+        Item::Entry => Ok(()),
+        Item::Leaf(value) => push_leaf(out, value.as_str()),
     }
-    Ok(())
 }

@@ -1,13 +1,12 @@
 //! The text of a value, with escapes.
-ghost use Rattle.std.specs.Prelude.{◌≡◌, ◌<◌, ◌++◌, true, IfOk, OnOk, OnErr, encode_utf8};
+ghost use Rattle.std.specs.Prelude.{◌≡◌, ◌<◌, ◌++◌, true, IfOk, IsErr, IsSome, is_some, OnOk, OnErr, encode_utf8};
 ghost use Rattle.std.specs.String.{string_bytes};
 ghost use Rattle.std.specs.List.{flat_map};
-ghost use Rattle.orc_path.specs.Texts.{value_escape, value_text, GoesOn};
+ghost use Rattle.orc_path.specs.Texts.{value_escape, value_text, AddsFront};
 ghost use Rattle.orc_path.specs.Values.{value_of};
-ghost use Rattle.orc_path.specs.inside.ValueReading.{value_unescape, is_never_raw, Took};
+ghost use Rattle.orc_path.specs.inside.ValueReading.{value_unescape, is_never_raw, unescaped, MayCome, Took};
 
-use crate::alphabet::is_plain_text;
-use orc_text::{Memory, Text};
+use orc_text::{Memory, Text, is_plain_text};
 use std::alloc::{AllocError, Global};
 
 fn push_escaped(out: &mut String, byte: u8) -> Result<(), AllocError>
@@ -39,10 +38,10 @@ fn push_character(out: &mut String, character: char) -> Result<(), AllocError>
 }
 
 /// Adds the text of a value: backslash, tab, line feed and carriage return are escaped. After want
-/// of memory a part of it may stand there.
+/// of memory a front of it may stand there.
 pub fn push_value(out: &mut String, value: &str) -> Result<(), Memory>
     ensures ok { OnOk result (string_bytes out.new ≡ string_bytes out.old ++ value_text value.now) }
-    ensures err { OnErr result (GoesOn (string_bytes out.old) (string_bytes out.new)) }
+    ensures err { OnErr result (AddsFront (value_text value.now) (string_bytes out.old) (string_bytes out.new)) }
 {
     for character in value.chars() {
         push_character(out, character)?;
@@ -112,11 +111,48 @@ impl ValueReader {
     }
 }
 
-/// The value of a text, where it is the text of one.
+// Whether a backslash stands in front of what follows a character, where that may come here.
+fn next_escaped(is_escaped: bool, character: char) -> Option<bool>
+    ensures { MayCome is_escaped character result }
+{
+    if is_escaped {
+        return match unescaped(character) {
+            Some(_plain) => Some(false),
+            None => None,
+        };
+    }
+    if character == '\\' {
+        return Some(true);
+    }
+    if is_never_raw(character) {
+        return None;
+    }
+    Some(false)
+}
+
+// Whether each backslash begins an escape, and no character stands raw that may not.
+fn is_escaped_text(text: &str) -> bool
+    ensures { result ≡ is_some (unescaped text.now) }
+{
+    let mut is_escaped = false;
+    for character in text.chars() {
+        match next_escaped(is_escaped, character) {
+            Some(next) => is_escaped = next,
+            None => return false,
+        }
+    }
+    !is_escaped
+}
+
+/// The value of a text, where it is the text of one. Memory is wanted for such a text alone.
 pub fn read_value(alloc: Global, text: &str) -> Result<Option<Text>, Memory>
-    ensures { IfOk result (λ found. found ≡ value_of text.now) }
+    ensures value { IfOk result (λ found. found ≡ value_of text.now) }
+    ensures memory { IsErr result → IsSome (value_of text.now) }
 {
     if !is_plain_text(text) {
+        return Ok(None);
+    }
+    if !is_escaped_text(text) {
         return Ok(None);
     }
     let mut reader = ValueReader {

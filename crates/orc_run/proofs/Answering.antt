@@ -1,20 +1,21 @@
 -- What a call finds that is answered at once, or is to be committed.
-use Rattle.std.proofs.Common.{◌≡◌, ℕ, true, List, [], ◌∷◌, ◌++◌, take, Option, Result, Ok, Err, IfOk, OnErr, inl, refl, sym, ap, subst, arith}
+use Rattle.std.proofs.Common.{◌≡◌, ℕ, true, List, [], ◌∷◌, ◌++◌, take, None, Result, Ok, Err, IfOk, OnErr, refl, sym, ap, subst, ◌∙◌, arith}
 use Rattle.std.proofs.Math.Seq.{take-length}
+use Rattle.std.proofs.lemmas.Result.{IfOk-weaker}
 use Rattle.orc_call.specs.declared.call.Call.{Call}
 use Rattle.orc_call.specs.declared.answer.Answer.{Answer}
 use Rattle.orc_state.specs.Legal.{AnswersAtOnce, IsDue, IsLegal}
 use Rattle.orc_run.specs.inside.Pasts.{IsBehind}
-use Rattle.orc_run.specs.inside.Serving.{ComesShort, ServesTo, goes_on}
+use Rattle.orc_run.specs.Steps.{Serves}
+use Rattle.orc_print.specs.Printed.{answer_line}
+use Rattle.orc_run.specs.inside.Serving.{ServesTo}
 use Rattle.orc_run.specs.inside.Controllers.{known_of, view_of, IsCommitting, Knows, LeadsTo}
 use Rattle.orc_disk.specs.Meanings.{DiskMeaning}
 use Rattle.orc_journal.specs.declared.entry.Entry.{Entry}
 use Rattle.orc_run.specs.declared.controller.Controller.{Controller}
 use Rattle.orc_state.specs.declared.declarations.Decls.{Decls}
 use Rattle.orc_run.specs.declared.past.Past.{Past}
-use Rattle.orc_run.specs.declared.serving.CallOutcome.{CallOutcome}
-use Rattle.orc_run.specs.declared.serving.CallOutcome.TheVariants.{Answered, Broken}
-use Rattle.orc_run.specs.declared.stop.Stop.{Stop}
+use Rattle.orc_run.specs.declared.serving.Served.{Served}
 use Rattle.orc_run.specs.Views.{View}
 use Rattle.orc_text.specs.declared.memory.Memory.{Memory}
 use Rattle.orc_run.proofs.Outcomes.{AreLaws, no_calls, outlives_kept}
@@ -22,16 +23,15 @@ use Rattle.orc_state.specs.declared.state.State.{State}
 
 -- where serving a call led that left the controller as it was
 pub unchanged : {D : Type 0} (meaning : DiskMeaning D) → AreLaws meaning → (decls : Decls) (entries : List Entry) (old : Controller D) → Knows meaning decls entries old
-    → (call : Call) (result : Result CallOutcome Memory) (past : Past) → past ≡ old.past → IfOk result (λ served. ServesTo meaning decls (view_of old entries) call served (view_of old entries))
-    → ((given : Option Answer) (end : Stop) → result ≡ Ok (Broken given end) → ⊥)
+    → (call : Call) (result : Result Served Memory) (past : Past) → past ≡ old.past
+    → IfOk result (λ served. ServesTo meaning decls (view_of old entries) call served.text served.end (view_of old entries))
     → LeadsTo meaning decls (view_of old entries) call result (record old { past = past })
-unchanged {D} meaning laws decls entries old sound call result past kept serves unbroken =
+unchanged {D} meaning laws decls entries old sound call result past kept serves =
     subst (λ (p : Past). LeadsTo meaning decls (view_of old entries) call result (record old { past = p })) (sym kept) (record {
       entries = entries;
       serves = serves;
       sound = goes result;
-      broken = λ given end is. absurd (unbroken given end is);
-      memory = wants result;
+      same = wants result;
       rests = sound.rests;
       outlives = outlives_kept meaning decls w w (omega arith) (no_calls meaning laws decls w sound.rests) refl;
     })
@@ -39,7 +39,7 @@ unchanged {D} meaning laws decls entries old sound call result past kept serves 
     w : View D
     w = view_of old entries
 
-    goes : (r : Result CallOutcome Memory) → IfOk r (λ served. goes_on served ≡ true → Knows meaning decls entries (record old { past = old.past }))
+    goes : (r : Result Served Memory) → IfOk r (λ served. served.end ≡ None → Knows meaning decls entries (record old { past = old.past }))
     goes (Ok served) = λ on. record {
       within = sound.within;
       behind = sound.behind;
@@ -59,17 +59,30 @@ unchanged {D} meaning laws decls entries old sound call result past kept serves 
     }
     goes (Err memory) = tt
 
-    wants : (r : Result CallOutcome Memory) → OnErr r (ComesShort meaning decls (view_of old entries) call (view_of old entries))
+    wants : (r : Result Served Memory) → OnErr r (view_of (record old { past = old.past }) entries ≡ view_of old entries)
     wants (Ok served) = tt
-    wants (Err memory) = inl refl
+    wants (Err memory) = refl
 
 -- memory was wanting, and nothing is changed
 pub wanting : {D : Type 0} (meaning : DiskMeaning D) → AreLaws meaning → (decls : Decls) (entries : List Entry) (old : Controller D) → Knows meaning decls entries old
-    → (call : Call) (result : Result CallOutcome Memory) (memory : Memory) → result ≡ Err memory → (past : Past) → past ≡ old.past
+    → (call : Call) (result : Result Served Memory) (memory : Memory) → result ≡ Err memory → (past : Past) → past ≡ old.past
     → LeadsTo meaning decls (view_of old entries) call result (record old { past = past })
 wanting meaning laws decls entries old sound call result memory is past kept =
-    subst (λ (r : Result CallOutcome Memory). LeadsTo meaning decls (view_of old entries) call r (record old { past = past })) (sym is)
-    (unchanged meaning laws decls entries old sound call (Err memory) past kept tt (λ given end e. absurd cc))
+    subst (λ (r : Result Served Memory). LeadsTo meaning decls (view_of old entries) call r (record old { past = past })) (sym is)
+    (unchanged meaning laws decls entries old sound call (Err memory) past kept tt)
+
+-- a call that is answered at once
+pub says : {D : Type 0} (meaning : DiskMeaning D) → AreLaws meaning → (decls : Decls) (entries : List Entry) (old : Controller D) → Knows meaning decls entries old
+    → (call : Call) (given : Answer) (past : Past) → past ≡ old.past → (names : List (List ℕ)) → names ≡ decls.names
+    → Serves meaning decls (view_of old entries) call (answer_line decls.names call.caller call.number given) (view_of old entries)
+    → (result : Result Served Memory) → IfOk result (λ served. served ≡ record { text = answer_line names call.caller call.number given; end = None })
+    → LeadsTo meaning decls (view_of old entries) call result (record old { past = past })
+says {D} meaning laws decls entries old sound call given past kept names all serves result is =
+    unchanged meaning laws decls entries old sound call result past kept
+    (IfOk-weaker result (λ served. served ≡ record { text = answer_line names call.caller call.number given; end = None })
+    (λ served. ServesTo meaning decls (view_of old entries) call served.text served.end (view_of old entries))
+    (λ served e. subst (λ (s : Served). ServesTo meaning decls (view_of old entries) call s.text s.end (view_of old entries))
+    (sym (e ∙ ap (λ (ns : List (List ℕ)). record { text = answer_line ns call.caller call.number given; end = None }) all)) serves) is)
 
 module _ {D : Type 0} (meaning : DiskMeaning D)
     (decls : Decls) (entries : List Entry) (old : Controller D) (sound : Knows meaning decls entries old) where
@@ -81,11 +94,12 @@ module _ {D : Type 0} (meaning : DiskMeaning D)
     pub behind : IsBehind decls old.past old.past.history
     behind = subst (λ (l : List Call). IsBehind decls old.past l) knows_all sound.behind
 
-    pub at_once : AreLaws meaning → (call : Call) (given : Answer) (past : Past) → past ≡ old.past → AnswersAtOnce decls old.past.history call given
-        → LeadsTo meaning decls (view_of old entries) call (Ok (Answered given)) (record old { past = past })
-    at_once laws call given past kept answers =
-        unchanged meaning laws decls entries old sound call (Ok (Answered given)) past kept
-        (ServesTo.at_once given up (subst (λ (l : List Call). AnswersAtOnce decls l call given) (sym knows_all) answers)) (λ given end is. absurd cc)
+    pub at_once : AreLaws meaning → (call : Call) (given : Answer) (past : Past) → past ≡ old.past → (names : List (List ℕ)) → names ≡ decls.names → AnswersAtOnce decls old.past.history call given
+        → (result : Result Served Memory) → IfOk result (λ served. served ≡ record { text = answer_line names call.caller call.number given; end = None })
+        → LeadsTo meaning decls (view_of old entries) call result (record old { past = past })
+    at_once laws call given past kept names all answers result is =
+        says meaning laws decls entries old sound call given past kept names all
+        (Serves.at_once given up (subst (λ (l : List Call). AnswersAtOnce decls l call given) (sym knows_all) answers)) result is
 
     module _ (call : Call) (past : Past) (rest : past ≡ record old.past { state = past.state }) (due : IsDue decls old.past.history call) where
       pub is_due : IsDue decls (known_of old) call

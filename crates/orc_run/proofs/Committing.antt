@@ -1,5 +1,5 @@
 -- A call that is to be committed: what is so where its commit came to its end.
-use Rattle.std.proofs.Common.{◌≡◌, ◌⊎◌, ℕ, ◌<◌, ◌≤◌, Bool, true, false, List, [], ◌∷◌, ◌++◌, length, take, drop, All, IsTrue, Option, Some, None, IfSome, is_some, Result, Ok, Err, IfOk, inl, inr, ⊎_elim, refl, sym, ap, subst, ◌∙◌, arith}
+use Rattle.std.proofs.Common.{◌≡◌, ◌⊎◌, ℕ, ◌+◌, ◌<◌, ◌≤◌, Bool, true, false, List, [], ◌∷◌, ◌++◌, codes, length, take, drop, All, IsTrue, Option, Some, None, IfSome, is_some, Result, Ok, Err, inl, inr, ⊎_elim, refl, sym, ap, subst, ◌∙◌, arith}
 use Rattle.std.proofs.Math.Seq.{take-length, drop-length, take-append_seam, drop-append_seam}
 use Rattle.std.proofs.lemmas.List.{length-append}
 use Rattle.std.proofs.lemmas.Option.{IfSome_then}
@@ -10,7 +10,6 @@ use Rattle.orc_disk.specs.Stops.{Stopping}
 use Rattle.orc_disk.specs.Meanings.{DiskMeaning}
 use Rattle.orc_disk.proofs.Moments.{joined, started, weaker}
 use Rattle.orc_call.specs.declared.call.Call.{Call}
-use Rattle.orc_call.specs.declared.answer.Answer.{Answer}
 use Rattle.orc_journal.specs.Entries.{number_of}
 use Rattle.orc_journal.specs.Orders.{stage_of, follows}
 use Rattle.orc_journal.specs.Journals.{IsGated}
@@ -31,20 +30,19 @@ use Rattle.orc_state.proofs.Legality.{legal_more}
 use Rattle.orc_bundle.specs.declared.bundle.ScriptStep.TheVariants.{Serve}
 use Rattle.orc_run.specs.Touched.{devices_of}
 use Rattle.orc_run.specs.Views.{View, Decodes, IsKept, Rests, Outlives}
-use Rattle.orc_run.specs.Commits.{AppendsUpTo, Commits, answer_by, intent_of, is_named, is_up_behind, journal_at, known_by, known_then, pending_then}
-use Rattle.orc_run.specs.Steps.{EndsBecause}
+use Rattle.orc_run.specs.Commits.{AppendsUpTo, Commits, commit_end, commit_text, intent_of, is_named, is_up_behind, journal_at, known_by, known_then, pending_then}
+use Rattle.orc_run.specs.Steps.{Breaks, EndsBecause, Serves}
 use Rattle.orc_run.specs.declared.opening.TheConstants.{LARGEST_JOURNAL}
 use Rattle.orc_run.specs.inside.Pasts.{IsBehind}
 use Rattle.orc_run.specs.inside.Transactions.{is_taken, AreNamed, IsFilled}
-use Rattle.orc_run.specs.inside.Serving.{HasCome, ServesTo, goes_on, said_of, said_with, up_behind}
+use Rattle.orc_run.specs.inside.Serving.{ComesBehind, EndsBehind, ServesTo, count_then, kept_then, up_behind}
 use Rattle.orc_run.specs.inside.Controllers.{view_of, IsCommitting, IsUp, Knows, LeadsTo}
 use Rattle.orc_run.specs.inside.Deciding.{IsIntentOf, HaveHistory}
 use Rattle.orc_run.specs.declared.commit.Stage.{Stage}
 use Rattle.orc_run.specs.declared.commit.Stage.TheVariants.{Intent, Decide, Settled}
 use Rattle.orc_run.specs.declared.controller.Controller.{Controller}
 use Rattle.orc_run.specs.declared.past.Past.{Past}
-use Rattle.orc_run.specs.declared.serving.CallOutcome.{CallOutcome}
-use Rattle.orc_run.specs.declared.serving.CallOutcome.TheVariants.{Broken}
+use Rattle.orc_run.specs.declared.serving.Served.{Served}
 use Rattle.orc_run.specs.declared.stop.Stop.{Stop}
 use Rattle.orc_run.specs.declared.stop.Stop.TheVariants as ending
 use Rattle.orc_run.proofs.Pasts.{all_taken, named_more, named_taken}
@@ -138,22 +136,24 @@ module _ {D : Type 0} (meaning : DiskMeaning D) where
       rose_later (meaning.faults old.disk) (meaning.faults is.1.disk) (meaning.faults new.disk) (omega (arith, is.2.did.faults.later, is.3.did.faults.later)) (is.4.did.faults.rose refl)
 
 -- why a run ends behind an append
-cause_of : (Q : Stop → Type 0) (outcome : Appended) (said : Option Answer) (given : Option Answer) (end : Stop) → said_with outcome said ≡ Broken given end
+cause_by : (Q : Stop → Type 0) (outcome : Appended) (end : Stop) → commit_end outcome ≡ Some end
     → (outcome ≡ appended.Failed → Q ending.JournalFault) → ((len : ℕ) → Q (ending.Full len)) → Q ending.Memory → Q end
-cause_of Q appended.Done (Some answer) given end is fault full memory = absurd cc
-cause_of Q appended.Done None given end is fault full memory = let e : ending.Memory ≡ end = cc in subst Q e memory
-cause_of Q appended.Stopped said given end is fault full memory = absurd cc
-cause_of Q appended.Failed said given end is fault full memory = let e : ending.JournalFault ≡ end = cc in subst Q e (fault refl)
-cause_of Q (appended.Full len) said given end is fault full memory = let e : ending.Full len ≡ end = cc in subst Q e (full len)
-cause_of Q appended.Memory said given end is fault full memory = let e : ending.Memory ≡ end = cc in subst Q e memory
+cause_by Q appended.Done end is fault full memory = absurd cc
+cause_by Q appended.Stopped end is fault full memory = absurd cc
+cause_by Q appended.Failed end is fault full memory = let e : ending.JournalFault ≡ end = cc in subst Q e (fault refl)
+cause_by Q (appended.Full len) end is fault full memory = let e : ending.Full len ≡ end = cc in subst Q e (full len)
+cause_by Q appended.Memory end is fault full memory = let e : ending.Memory ≡ end = cc in subst Q e memory
 
 -- the run goes on where the entry was appended, or the disk stopped
-on_going : (P : Type 0) (outcome : Appended) (said : Option Answer) → goes_on (said_with outcome said) ≡ true → (outcome ≡ appended.Done → P) → (outcome ≡ appended.Stopped → P) → P
-on_going P appended.Done said on done stopped = done refl
-on_going P appended.Stopped said on done stopped = stopped refl
-on_going P appended.Failed said on done stopped = absurd cc
-on_going P (appended.Full len) said on done stopped = absurd cc
-on_going P appended.Memory said on done stopped = absurd cc
+goes_on : (outcome : Appended) → None ≡ commit_end outcome → (outcome ≡ appended.Done) ⊎ (outcome ≡ appended.Stopped)
+goes_on appended.Done on = inl refl
+goes_on appended.Stopped on = inr refl
+goes_on appended.Failed on = absurd cc
+goes_on (appended.Full len) on = absurd cc
+goes_on appended.Memory on = absurd cc
+
+goes_behind : (outcome : Appended) → EndsBehind outcome None → (outcome ≡ appended.Done) ⊎ (outcome ≡ appended.Stopped)
+goes_behind outcome ends = ⊎_elim (λ is. goes_on outcome is) (λ short. inr short.0) ends
 
 up_is : (outcome : Appended) (up : Bool) → up ≡ true → up_behind outcome up ≡ is_up_behind outcome
 up_is appended.Done up is = is
@@ -164,6 +164,27 @@ up_is appended.Memory up is = is
 
 down_is : (outcome : Appended) (up : Bool) → outcome ≡ appended.Stopped → up_behind outcome up ≡ false
 down_is outcome up is = ap (λ (o : Appended). up_behind o up) is
+
+-- what is printed of a call that was stopped before its decision
+stopped_text : (names : List (List ℕ)) (call : Call) (stage : Stage) (count : ℕ) → (stage ≡ Settled → ⊥) → commit_text names call stage appended.Stopped count ≡ codes "stopped\n"
+stopped_text names call Intent count other = refl
+stopped_text names call Decide count other = refl
+stopped_text names call Settled count other = absurd (other refl)
+
+-- the number of an entry is printed of a decided call alone
+unsettled_text : (names : List (List ℕ)) (call : Call) (outcome : Appended) (m n : ℕ)
+    → (commit_text names call Intent outcome m ≡ commit_text names call Intent outcome n) × (commit_text names call Decide outcome m ≡ commit_text names call Decide outcome n)
+unsettled_text names call appended.Done m n = (refl, refl)
+unsettled_text names call appended.Stopped m n = (refl, refl)
+unsettled_text names call appended.Failed m n = (refl, refl)
+unsettled_text names call (appended.Full len) m n = (refl, refl)
+unsettled_text names call appended.Memory m n = (refl, refl)
+
+text_of : (names : List (List ℕ)) (call : Call) (stage : Stage) (outcome : Appended) (before : List Call)
+    → commit_text names call stage outcome (length before + 1) ≡ commit_text names call stage outcome (length (known_then stage before call))
+text_of names call Intent outcome before = (unsettled_text names call outcome (length before + 1) (length before)).0
+text_of names call Decide outcome before = (unsettled_text names call outcome (length before + 1) (length before)).1
+text_of names call Settled outcome before = ap (commit_text names call Settled outcome) (sym (length-append before (call ∷ [])))
 
 module _ {D : Type 0} (meaning : DiskMeaning D) (only_now : (d : D) (c : List ℕ) → meaning.left_since d (meaning.moment d) c → meaning.may_leave d c)
     (decls : Decls) (call : Call) (es : List Entry) (old : Controller D)
@@ -196,6 +217,12 @@ module _ {D : Type 0} (meaning : DiskMeaning D) (only_now : (d : D) (c : List �
   HasAt Decide file = HasEither file
   HasAt Settled file = Decodes decls file behind
 
+  -- a file that was left on the way
+  abbrev HasDuring : Stage → List ℕ → Type 0
+  HasDuring Intent file = Decodes decls file before
+  HasDuring Decide file = HasEither file
+  HasDuring Settled file = HasEither file
+
   decodes : (entries : List Entry) (history : List Call) → HaveHistory decls entries history → (file : List ℕ) → IsGated file decls.text entries → Decodes decls file history
   decodes entries history have file gated = record { entries = entries; gated = gated; ordered = have.ordered; decided = have.decided; legal = have.legal }
 
@@ -213,18 +240,46 @@ module _ {D : Type 0} (meaning : DiskMeaning D) (only_now : (d : D) (c : List �
       has
   kept_at Settled w known pending file has = record { history = behind; decodes = has; within = inl (sym known) }
 
-  kept_behind : (stage : Stage) (w : View D) → w.known ≡ known_then stage before call → w.pending ≡ pending_then stage call → (file : List ℕ) → Decodes decls file behind → IsKept decls w file
-  kept_behind Intent w known pending file has =
-      record { history = behind; decodes = has; within = inr (sym (ap (λ (l : List Call). l ++ w.pending) known ∙ ap (λ (l : List Call). before ++ l) pending)) }
-  kept_behind Decide w known pending file has = kept_at Decide w known pending file (inr has)
-  kept_behind Settled w known pending file has = kept_at Settled w known pending file has
+  kept_before : (w : View D) → w.known ≡ before → (file : List ℕ) → Decodes decls file before → IsKept decls w file
+  kept_before w known file has = record { history = before; decodes = has; within = inl (sym known) }
+
+  -- what was left on the way is kept by the view before or by that behind
+  kept_either : (stage : Stage) (old_view w : View D) → old_view.known ≡ before → w.known ≡ known_then stage before call → w.pending ≡ pending_then stage call
+      → (file : List ℕ) → HasDuring stage file → IsKept decls old_view file ⊎ IsKept decls w file
+  kept_either Intent v w at known pending file has = inl (kept_before v at file has)
+  kept_either Decide v w at known pending file has = ⊎_elim (λ h. inl (kept_before v at file h)) (λ h. inr (kept_at Decide w known pending file (inr h))) has
+  kept_either Settled v w at known pending file has = ⊎_elim (λ h. inl (kept_before v at file h)) (λ h. inr (kept_at Settled w known pending file h)) has
+
+  -- what is known of the calls that are kept, and what is pending
+  opens : take (length before) behind ≡ before
+  opens = take-append_seam before (call ∷ [])
+
+  kept_known : (stage : Stage) → take (count_then stage (length before) (length behind)) (kept_then stage (length before) behind) ≡ known_then stage before call
+  kept_known Intent = ap (take (length before)) opens ∙ take-length before
+  kept_known Decide = opens
+  kept_known Settled = take-length behind
+
+  kept_pending : (stage : Stage) → drop (count_then stage (length before) (length behind)) (kept_then stage (length before) behind) ≡ pending_then stage call
+  kept_pending Intent = ap (drop (length before)) opens ∙ drop-length before
+  kept_pending Decide = drop-append_seam before (call ∷ [])
+  kept_pending Settled = drop-length behind
+
+  kept_within : (stage : Stage) → count_then stage (length before) (length behind) ≤ length (kept_then stage (length before) behind)
+  kept_within Intent = omega (arith, ap length opens)
+  kept_within Decide = omega (arith, length-append before (call ∷ []))
+  kept_within Settled = omega arith
+
+  known_unsettled : (stage : Stage) → (stage ≡ Settled → ⊥) → known_then stage before call ≡ before
+  known_unsettled Intent other = refl
+  known_unsettled Decide other = refl
+  known_unsettled Settled other = absurd (other refl)
 
   -- where memory was wanting before the intent was made
-  pub not_begun : (result : Result CallOutcome Memory) (memory : Memory) → result ≡ Err memory → (past : Past) → past.history ≡ old.past.history
+  pub not_begun : (result : Result Served Memory) (memory : Memory) → result ≡ Err memory → (past : Past) → past.history ≡ old.past.history
       → LeadsTo meaning decls (view_of old es) call result (record old { past = past })
   not_begun result memory is_err past same =
       let w = view_of old es in
-      let keeps : (file : List ℕ) → Decodes decls file before → IsKept decls w file = λ file h. record { history = before; decodes = h; within = inl (sym known_old) } in
+      let keeps : (file : List ℕ) → Decodes decls file before → IsKept decls w file = kept_before w known_old in
       let rests : Rests meaning decls w = record {
         reads = IfSome_then (meaning.content old.journal.disk.inner) stands_old.reads keeps;
         images = λ file left. keeps file (stands_old.images file left);
@@ -232,12 +287,11 @@ module _ {D : Type 0} (meaning : DiskMeaning D) (only_now : (d : D) (c : List �
       let alike : w ≡ view_of (record old { past = past }) es = ap (λ (h : List Call). record w { known = take old.known h; pending = drop old.known h }) (sym same) in
       let outlives : Outlives meaning decls w w =
       outlives_kept meaning decls w w (omega arith) (started meaning w.disk (IsKept decls w) (λ c left. rests.images c (only_now w.disk c left))) refl in
-      subst (λ (r : Result CallOutcome Memory). LeadsTo meaning decls w call r (record old { past = past })) (sym is_err) (record {
+      subst (λ (r : Result Served Memory). LeadsTo meaning decls w call r (record old { past = past })) (sym is_err) (record {
         entries = es;
         serves = tt;
         sound = tt;
-        broken = λ given end e. absurd cc;
-        memory = inl (sym alike);
+        same = sym alike;
         rests = subst (λ (v : View D). Rests meaning decls v) alike rests;
         outlives = subst (λ (v : View D). Outlives meaning decls w v) alike outlives;
       })
@@ -283,11 +337,9 @@ module _ {D : Type 0} (meaning : DiskMeaning D) (only_now : (d : D) (c : List �
 
     -- what a commit leaves, by its last stage
     commit_went : (stage : Stage) (outcome : Appended) (new : JournalView D) → AppendsUpTo meaning decls.text stage (journal_view old.journal es) intent t outcome new
-        → Went meaning HasEither old.journal.disk.inner new.disk × Stands meaning (HasAt stage) new.disk
+        → Went meaning (HasDuring stage) old.journal.disk.inner new.disk × Stands meaning (HasAt stage) new.disk
     commit_went Intent outcome new so =
-        let a = journal_view old.journal es in
-        let r = append_went meaning only_now decls.text a new intent (λ file. Decodes decls file before) keeps_first stands_old outcome so.1 in
-        (went_weaker meaning (λ file. Decodes decls file before) HasEither a.disk new.disk (λ file h. inl h) r.0, r.1)
+        append_went meaning only_now decls.text (journal_view old.journal es) new intent (λ file. Decodes decls file before) keeps_first stands_old outcome so.1
     commit_went Decide outcome new so =
         let a = journal_view old.journal es in
         let b = so.1.0 in
@@ -368,16 +420,10 @@ module _ {D : Type 0} (meaning : DiskMeaning D) (only_now : (d : D) (c : List �
           up = up_is;
         }
 
-        come : HasCome meaning decls (view_of old es) call (view_of now known_now)
-        come = record {
-          stage = stage;
-          outcome = outcome;
-          running = is.running;
-          due = subst (λ (l : List Call). IsDue decls l call) (sym known_old) is.due;
-          commits = commits;
-        }
+        due : IsDue decls (take old.known old.past.history) call
+        due = subst (λ (l : List Call). IsDue decls l call) (sym known_old) is.due
 
-        went : Went meaning HasEither old.journal.disk.inner j.disk.inner × Stands meaning (HasAt stage) j.disk.inner
+        went : Went meaning (HasDuring stage) old.journal.disk.inner j.disk.inner × Stands meaning (HasAt stage) j.disk.inner
         went = commit_went stage outcome (journal_view j (known_by stage outcome es intent t)) so
 
         rests_now : Rests meaning decls (view_of now known_now)
@@ -388,38 +434,59 @@ module _ {D : Type 0} (meaning : DiskMeaning D) (only_now : (d : D) (c : List �
         outlives_now : Outlives meaning decls (view_of old es) (view_of now known_now)
         outlives_now = record {
           later = went.0.later;
-          images = weaker meaning old.journal.disk.inner j.disk.inner HasEither (λ file. IsKept decls (view_of old es) file ⊎ IsKept decls (view_of now known_now) file)
-              (λ file. ⊎_elim (λ (h : Decodes decls file before). inl (record { history = before; decodes = h; within = inl (sym known_old) }))
-              (λ h. inr (kept_behind stage (view_of now known_now) known_is pending_is file h))) went.0.run;
+          images = weaker meaning old.journal.disk.inner j.disk.inner (HasDuring stage) (λ file. IsKept decls (view_of old es) file ⊎ IsKept decls (view_of now known_now) file)
+              (kept_either stage (view_of old es) (view_of now known_now) known_old known_is pending_is) went.0.run;
           still_tells = went.0.tells;
         }
 
-        cause_now : (given : Option Answer) (end : Stop) (count : ℕ) → said_of stage outcome count ≡ Broken given end → EndsBecause meaning decls (view_of old es) (Serve call) end (view_of now known_now)
-        cause_now given end count said =
-            cause_of (λ (x : Stop). EndsBecause meaning decls (view_of old es) (Serve call) x (view_of now known_now)) outcome (answer_by stage outcome count) given end said
+        -- why the run ends behind it
+        ended : (end : Stop) → commit_end outcome ≡ Some end → EndsBecause meaning decls (view_of old es) (Serve call) end (view_of now known_now)
+        ended end ends = cause_by (λ (x : Stop). EndsBecause meaning decls (view_of old es) (Serve call) x (view_of now known_now)) outcome end ends
             (λ failed. rose_by meaning decls.text stage (journal_view old.journal es) (journal_view j (known_by stage outcome es intent t)) intent t
             (subst (λ (o : Appended). AppendsUpTo meaning decls.text stage (journal_view old.journal es) intent t o (journal_view j (known_by stage outcome es intent t))) failed so))
             (λ len. inl (call, refl)) tt
 
-        -- what its contract says, for what was said of it
-        pub said_so : (result : Result CallOutcome Memory) (count : ℕ) → count ≡ length (take known past.history) → IfOk result (λ served. served ≡ said_of stage outcome count)
-            → IfOk result (λ served. goes_on served ≡ true → Knows meaning decls known_now now) → LeadsTo meaning decls (view_of old es) call result now
-        unfolding come
-        said_so (Ok served) count all said sound = record {
+        abbrev text_now : List ℕ
+        text_now = commit_text decls.names call stage outcome (length (take known past.history))
+
+        -- it is served, or the run ends, by the outcome
+        served_as : (end : Option Stop) → end ≡ commit_end outcome → ServesTo meaning decls (view_of old es) call text_now end (view_of now known_now)
+        served_as None e = Serves.commits stage outcome (view_of now known_now) is.running due commits (sym e)
+        served_as (Some end) e = (Breaks.commits call stage outcome end (view_of now known_now) is.running due commits (sym e), ended end (sym e))
+
+        -- or it was stopped before it was decided, and the run ends for want of memory
+        stopped_as : (stage ≡ Settled → ⊥) → outcome ≡ appended.Stopped → ServesTo meaning decls (view_of old es) call text_now (Some ending.Memory) (view_of now known_now)
+        stopped_as unsettled stops = (
+          subst (λ (text : List ℕ). Breaks meaning decls (view_of old es) (Serve call) text ending.Memory (view_of now known_now))
+              (sym (ap (λ (o : Appended). commit_text decls.names call stage o (length (take known past.history))) stops
+              ∙ stopped_text decls.names call stage (length (take known past.history)) unsettled))
+              (Breaks.stopped call stage (view_of now known_now) is.running due unsettled
+              (subst (λ (o : Appended). Commits meaning decls (view_of old es) call stage o (view_of now known_now)) stops commits)),
+          tt,
+        )
+
+        serves_now : (end : Option Stop) → EndsBehind outcome end → (stage ≡ Settled → end ≡ commit_end outcome)
+            → ServesTo meaning decls (view_of old es) call text_now end (view_of now known_now)
+        serves_now end ends settled_ends = on stage refl
+          where
+            undecided : (stage ≡ Settled → ⊥) → ServesTo meaning decls (view_of old es) call text_now end (view_of now known_now)
+            undecided unsettled = ⊎_elim (λ e. served_as end e)
+                (λ short. subst (λ (o : Option Stop). ServesTo meaning decls (view_of old es) call text_now o (view_of now known_now)) (sym short.1) (stopped_as unsettled short.0))
+                ends
+
+            on : (s : Stage) → stage ≡ s → ServesTo meaning decls (view_of old es) call text_now end (view_of now known_now)
+            on Intent e = undecided (λ h. let z : Intent ≡ Settled = sym e ∙ h in absurd cc)
+            on Decide e = undecided (λ h. let z : Decide ≡ Settled = sym e ∙ h in absurd cc)
+            on Settled e = served_as end (settled_ends e)
+
+        -- what its contract says
+        leads : (text : List ℕ) (end : Option Stop) → text ≡ text_now → EndsBehind outcome end → (stage ≡ Settled → end ≡ commit_end outcome)
+            → (end ≡ None → Knows meaning decls known_now now) → LeadsTo meaning decls (view_of old es) call (Ok (record { text = text; end = end })) now
+        leads text end says ends settled_ends sound = record {
           entries = known_now;
-          serves = ServesTo.came served (view_of now known_now) (record { come = come; said = said ∙ ap (said_of stage outcome) all });
+          serves = subst (λ (l : List ℕ). ServesTo meaning decls (view_of old es) call l end (view_of now known_now)) (sym says) (serves_now end ends settled_ends);
           sound = sound;
-          broken = λ given end same. cause_now given end count (sym said ∙ (let s : served ≡ Broken given end = cc in s));
-          memory = tt;
-          rests = rests_now;
-          outlives = outlives_now;
-        }
-        said_so (Err memory) count all said sound = record {
-          entries = known_now;
-          serves = tt;
-          sound = tt;
-          broken = λ given end same. absurd cc;
-          memory = inr come;
+          same = tt;
           rests = rests_now;
           outlives = outlives_now;
         }
@@ -428,13 +495,6 @@ module _ {D : Type 0} (meaning : DiskMeaning D) (only_now : (d : D) (c : List �
           (only : (u : ℕ) → is_taken past.numbers u ≡ true → (is_taken old.past.numbers u ≡ true) ⊎ (u ≡ t))
           (filled : IsFilled past.numbers) (more : past.history ≡ behind) (state : past.state ≡ old.past.state)
           (open_now : (outcome ≡ appended.Stopped → ⊥) → (outcome ≡ appended.Failed → ⊥) → IsOpen meaning j decls.text (known_by stage outcome es intent t)) where
-        behind_new : IsBehind decls past past.history
-        behind_new = record {
-          state = state ∙ is.behind.state ∙ ap (λ (l : List Call). state_of decls l) (sym more);
-          complete = subst IsComplete (sym state) is.behind.complete;
-          bases = ap (λ (s : State). length s.bases) state ∙ is.behind.bases;
-        }
-
         numbers_first : All (λ e. is_taken past.numbers (number_of e) ≡ true) (es ++ intent ∷ [])
         numbers_first = all_taken old.past.numbers past.numbers es intent is.up.numbers others
             (subst (λ (e : Entry). is_taken past.numbers (number_of e) ≡ true) (sym intended.is) taken)
@@ -452,100 +512,105 @@ module _ {D : Type 0} (meaning : DiskMeaning D) (only_now : (d : D) (c : List �
             (subst (λ (e : Entry). (u : ℕ) → is_taken past.numbers u ≡ true → (is_taken old.past.numbers u ≡ true) ⊎ (u ≡ number_of e)) (sym intended.is) only))
             (λ u h. inl h)) (λ u h. inl h)
 
-        whole : take (length past.history) past.history ≡ past.history
-        whole = take-length past.history
+        module _ (state_now : State) where
+          abbrev kept_past : Stage → Past
+          kept_past s = record { numbers = past.numbers; history = kept_then s old.known past.history; state = state_now }
 
-        up_settled : outcome ≡ appended.Done → stage ≡ Settled → IsUp meaning decls known_now (record { journal = j; up = up_behind outcome old.up; past = past; known = length past.history })
-        up_settled done last =
-            let open_there = open_now (λ e. let s = sym done ∙ e in absurd cc) (λ e. let s = sym done ∙ e in absurd cc) in
-            let held = subst (λ (o : Appended). IsOpen meaning j decls.text (known_by Settled o es intent t)) done
-            (subst (λ (s : Stage). IsOpen meaning j decls.text (known_by s outcome es intent t)) last open_there) in
-            let here : IsUp meaning decls (known_by Settled appended.Done es intent t) (record { journal = j; up = up_behind outcome old.up; past = past; known = length past.history }) = record {
-              holds = held.holds;
-              ordered = have_end.ordered;
-              decided = have_end.decided ∙ sym more;
-              numbers = numbers_all;
-              filled = filled;
-              named = named_all;
-              running = held.running;
-              limit = limit_of meaning decls.text stage (journal_view old.journal es) (journal_view j (known_by stage outcome es intent t)) intent t outcome so ∙ is.up.limit;
-              all = refl;
-            } in
-            subst (λ (s : Stage). IsUp meaning decls (known_by s outcome es intent t) (record { journal = j; up = up_behind outcome old.up; past = past; known = length past.history })) (sym last)
-            (subst (λ (o : Appended). IsUp meaning decls (known_by Settled o es intent t) (record { journal = j; up = up_behind outcome old.up; past = past; known = length past.history })) (sym done) here)
+          -- the controller behind the commit
+          abbrev at : Stage → Controller D
+          at s = record { journal = j; up = up_behind outcome old.up; past = kept_past s; known = count_then s old.known (length past.history) }
 
-        -- the decision was appended
-        pub settled : stage ≡ Settled → (served : CallOutcome) (new : Controller D)
-            → served ≡ said_of Settled outcome new.known → new ≡ record { journal = j; up = up_behind outcome old.up; past = past; known = length past.history }
-            → LeadsTo meaning decls (view_of old es) call (Ok served) new
-        settled last served new said made =
-            let n = length past.history in
-            let known_is : take n past.history ≡ known_then stage before call = whole ∙ more ∙ ap (λ (s : Stage). known_then s before call) (sym last) in
-            let pending_is : drop n past.history ≡ pending_then stage call = drop-length past.history ∙ ap (λ (s : Stage). pending_then s call) (sym last) in
-            let c : Controller D = record { journal = j; up = up_behind outcome old.up; past = past; known = n } in
-            let rests = rests_now (up_behind outcome old.up) past n known_is pending_is (up_is outcome old.up is.running) in
-            let sound : (outcome ≡ appended.Done) ⊎ (outcome ≡ appended.Stopped) → Knows meaning decls known_now c = λ which. record {
-              within = omega arith;
-              behind = subst (λ (l : List Call). IsBehind decls past l) (sym whole) behind_new;
-              legal = subst (λ (l : List Call). IsLegal decls l) (sym (whole ∙ more)) legal_new;
-              rests = rests;
-              up = λ on. ⊎_elim (λ done. up_settled done last) (λ stopped. let d = down_is outcome old.up stopped in absurd cc) which;
-            } in
-            let same : said_of Settled outcome new.known ≡ said_of stage outcome n =
-            ap (λ (s : Stage). said_of s outcome new.known) (sym last) ∙ ap (λ (k : Controller D). said_of stage outcome k.known) made in
-            subst (λ (k : Controller D). LeadsTo meaning decls (view_of old es) call (Ok served) k) (sym made)
-            (said_so (up_behind outcome old.up) past n known_is pending_is (up_is outcome old.up is.running) (Ok served) n (sym (ap length whole)) (said ∙ same)
-            (λ on. on_going (Knows meaning decls known_now c) outcome (answer_by stage outcome n) (sym (ap goes_on (said ∙ same)) ∙ on) (λ done. sound (inl done)) (λ stopped. sound (inr stopped))))
+          known_at : (s : Stage) → take (count_then s old.known (length past.history)) (kept_then s old.known past.history) ≡ known_then s before call
+          known_at s = ap (λ (h : List Call). take (count_then s old.known (length h)) (kept_then s old.known h)) more
+              ∙ ap (λ (n : ℕ). take (count_then s n (length behind)) (kept_then s n behind)) is.up.all ∙ kept_known s
 
-        -- it was not
-        pub undecided : (stage ≡ Settled → ⊥) → (result : Result CallOutcome Memory) (new : Controller D)
-            → IfOk result (λ served. served ≡ said_of stage outcome new.known)
-            → (outcome ≡ appended.Stopped → IfOk result (λ served. IsBehind decls new.past (take old.known past.history)))
-            → new ≡ record { journal = j; up = up_behind outcome old.up; past = record past { state = new.past.state }; known = old.known }
-            → LeadsTo meaning decls (view_of old es) call result new
-        undecided unsettled result new said state_of_new made =
-            let known_open : take old.known past.history ≡ before = subst (λ (h : List Call). take old.known h ≡ before) (sym more)
-            (subst (λ (n : ℕ). take n behind ≡ before) (sym is.up.all) (take-append_seam before (call ∷ []))) in
-            let pending_open : drop old.known past.history ≡ call ∷ [] = subst (λ (h : List Call). drop old.known h ≡ call ∷ []) (sym more)
-            (subst (λ (n : ℕ). drop n behind ≡ call ∷ []) (sym is.up.all) (drop-append_seam before (call ∷ []))) in
-            let up = up_behind outcome old.up in
-            let p : Past = record past { state = new.past.state } in
-            let k : Controller D = record { journal = j; up = up; past = p; known = old.known } in
-            let known_is : take old.known past.history ≡ known_then stage before call = known_open ∙ sym (known_unsettled stage unsettled) in
-            let pending_is : drop old.known past.history ≡ pending_then stage call = pending_open ∙ sym (pending_unsettled stage unsettled) in
-            let count : old.known ≡ length (take old.known past.history) = is.up.all ∙ sym (ap length known_open) in
-            let rests = rests_now up p old.known known_is pending_is (up_is outcome old.up is.running) in
-            let sound : outcome ≡ appended.Stopped → IsBehind decls new.past (take old.known past.history) → Knows meaning decls known_now k = λ stopped behind_it. record {
-              within = omega (arith, ap length more, length-append before (call ∷ []), is.up.all);
-              behind = record { state = behind_it.state; complete = behind_it.complete; bases = behind_it.bases };
-              legal = subst (λ (l : List Call). IsLegal decls l) (sym known_open) is.legal;
-              rests = rests;
-              up = λ on. let d = down_is outcome old.up stopped in absurd cc;
-            } in
-            subst (λ (x : Controller D). LeadsTo meaning decls (view_of old es) call result x) (sym made)
-            (said_so up p old.known known_is pending_is (up_is outcome old.up is.running) result old.known count
-            (counted result (ap (λ (x : Controller D). x.known) made) said)
-            (sound_by result (counted result (ap (λ (x : Controller D). x.known) made) said) sound state_of_new))
+          pending_at : (s : Stage) → drop (count_then s old.known (length past.history)) (kept_then s old.known past.history) ≡ pending_then s call
+          pending_at s = ap (λ (h : List Call). drop (count_then s old.known (length h)) (kept_then s old.known h)) more
+              ∙ ap (λ (n : ℕ). drop (count_then s n (length behind)) (kept_then s n behind)) is.up.all ∙ kept_pending s
+
+          within_at : (s : Stage) → count_then s old.known (length past.history) ≤ length (kept_then s old.known past.history)
+          within_at s = subst (λ (h : List Call). count_then s old.known (length h) ≤ length (kept_then s old.known h)) (sym more)
+              (subst (λ (n : ℕ). count_then s n (length behind) ≤ length (kept_then s n behind)) (sym is.up.all) (kept_within s))
+
+          rests_at : Rests meaning decls (view_of (at stage) known_now)
+          rests_at = rests_now (up_behind outcome old.up) (kept_past stage) (count_then stage old.known (length past.history)) (known_at stage) (pending_at stage)
+              (up_is outcome old.up is.running)
+
+          up_settled : outcome ≡ appended.Done → stage ≡ Settled → IsUp meaning decls known_now (at stage)
+          up_settled done last =
+              let open_there = open_now (λ e. let s = sym done ∙ e in absurd cc) (λ e. let s = sym done ∙ e in absurd cc) in
+              let held = subst (λ (o : Appended). IsOpen meaning j decls.text (known_by Settled o es intent t)) done
+              (subst (λ (s : Stage). IsOpen meaning j decls.text (known_by s outcome es intent t)) last open_there) in
+              let here : IsUp meaning decls (known_by Settled appended.Done es intent t) (at Settled) = record {
+                holds = held.holds;
+                ordered = have_end.ordered;
+                decided = have_end.decided ∙ sym more;
+                numbers = numbers_all;
+                filled = filled;
+                named = named_all;
+                running = held.running;
+                limit = limit_of meaning decls.text stage (journal_view old.journal es) (journal_view j (known_by stage outcome es intent t)) intent t outcome so ∙ is.up.limit;
+                all = refl;
+              } in
+              subst (λ (s : Stage). IsUp meaning decls (known_by s outcome es intent t) (at s)) (sym last)
+              (subst (λ (o : Appended). IsUp meaning decls (known_by Settled o es intent t) (at Settled)) (sym done) here)
+
+          -- the decision was appended, and the run goes on
+          knows_settled : stage ≡ Settled → (outcome ≡ appended.Done) ⊎ (outcome ≡ appended.Stopped) → state_now ≡ past.state → Knows meaning decls known_now (at stage)
+          knows_settled last which kept =
+              let same = kept ∙ state in
+              let known : take (count_then stage old.known (length past.history)) (kept_then stage old.known past.history) ≡ behind =
+              known_at stage ∙ ap (λ (s : Stage). known_then s before call) last in
+              record {
+                within = within_at stage;
+                behind = record {
+                  state = same ∙ is.behind.state ∙ ap (λ (l : List Call). state_of decls l) (sym known);
+                  complete = subst IsComplete (sym same) is.behind.complete;
+                  bases = ap (λ (s : State). length s.bases) same ∙ is.behind.bases;
+                };
+                legal = subst (λ (l : List Call). IsLegal decls l) (sym known) legal_new;
+                rests = rests_at;
+                up = λ on. ⊎_elim (λ done. up_settled done last) (λ stops. let d = down_is outcome old.up stops in absurd cc) which;
+              }
+
+          -- it was not, and the disk is stopped
+          knows_stopped : (stage ≡ Settled → ⊥) → outcome ≡ appended.Stopped → IsBehind decls (kept_past stage) (take old.known past.history) → Knows meaning decls known_now (at stage)
+          knows_stopped unsettled stops has =
+              let opened : take old.known past.history ≡ before = ap (take old.known) more ∙ ap (λ (n : ℕ). take n behind) is.up.all ∙ opens in
+              let known : take (count_then stage old.known (length past.history)) (kept_then stage old.known past.history) ≡ before = known_at stage ∙ known_unsettled stage unsettled in
+              record {
+                within = within_at stage;
+                behind = record {
+                  state = has.state ∙ ap (λ (l : List Call). state_of decls l) (opened ∙ sym known);
+                  complete = has.complete;
+                  bases = has.bases;
+                };
+                legal = subst (λ (l : List Call). IsLegal decls l) (sym known) is.legal;
+                rests = rests_at;
+                up = λ on. let d = down_is outcome old.up stops in absurd cc;
+              }
+
+        -- how the controller came behind the commit
+        pub came : (text : List ℕ) (end : Option Stop) (new : Controller D) → text ≡ commit_text decls.names call stage outcome (length before + 1)
+            → ComesBehind decls stage outcome (record { journal = j; up = old.up; past = past; known = old.known }) end new
+            → LeadsTo meaning decls (view_of old es) call (Ok (record { text = text; end = end })) new
+        came text end new says comes =
+            let q = new.past.state in
+            let n = count_then stage old.known (length past.history) in
+            subst (λ (x : Controller D). LeadsTo meaning decls (view_of old es) call (Ok (record { text = text; end = end })) x) (sym comes.is)
+            (leads (up_behind outcome old.up) (kept_past q stage) n (known_at q stage) (pending_at q stage) (up_is outcome old.up is.running) text end
+            (says ∙ text_of decls.names call stage outcome before ∙ ap (λ (l : List Call). commit_text decls.names call stage outcome (length l)) (sym (known_at q stage)))
+            comes.ends comes.settled_ends (λ none. on stage refl none))
           where
-            known_unsettled : (s : Stage) → (s ≡ Settled → ⊥) → known_then s before call ≡ before
-            known_unsettled Intent other = refl
-            known_unsettled Decide other = refl
-            known_unsettled Settled other = absurd (other refl)
+            stopped_here : end ≡ None → (stage ≡ Settled → ⊥) → Knows meaning decls known_now (at new.past.state stage)
+            stopped_here none unsettled =
+                let stops : outcome ≡ appended.Stopped = ⊎_elim
+                (λ done. absurd (unfinished meaning decls.text stage (journal_view old.journal es) (journal_view j (known_by stage outcome es intent t)) intent t outcome unsettled so done))
+                (λ stops. stops) (goes_behind outcome (subst (EndsBehind outcome) none comes.ends)) in
+                let has = comes.stopped_state unsettled stops none in
+                knows_stopped new.past.state unsettled stops (record { state = has.state; complete = has.complete; bases = has.bases })
 
-            pending_unsettled : (s : Stage) → (s ≡ Settled → ⊥) → pending_then s call ≡ call ∷ []
-            pending_unsettled Intent other = refl
-            pending_unsettled Decide other = refl
-            pending_unsettled Settled other = absurd (other refl)
-
-            counted : (r : Result CallOutcome Memory) → new.known ≡ old.known → IfOk r (λ served. served ≡ said_of stage outcome new.known) → IfOk r (λ served. served ≡ said_of stage outcome old.known)
-            counted (Ok served) same h = h ∙ ap (said_of stage outcome) same
-            counted (Err memory) same h = tt
-
-            sound_by : (r : Result CallOutcome Memory) → IfOk r (λ served. served ≡ said_of stage outcome old.known)
-                → (outcome ≡ appended.Stopped → IsBehind decls new.past (take old.known past.history) → Knows meaning decls known_now (record { journal = j; up = up_behind outcome old.up; past = record past { state = new.past.state }; known = old.known }))
-                → (outcome ≡ appended.Stopped → IfOk r (λ served. IsBehind decls new.past (take old.known past.history)))
-                → IfOk r (λ served. goes_on served ≡ true → Knows meaning decls known_now (record { journal = j; up = up_behind outcome old.up; past = record past { state = new.past.state }; known = old.known }))
-            sound_by (Err memory) said sound state_of_new = tt
-            sound_by (Ok served) said sound state_of_new = λ on.
-                on_going (Knows meaning decls known_now (record { journal = j; up = up_behind outcome old.up; past = record past { state = new.past.state }; known = old.known }))
-                outcome (answer_by stage outcome old.known) (sym (ap goes_on said) ∙ on) (λ done. absurd (unfinished meaning decls.text stage (journal_view old.journal es) (journal_view j (known_by stage outcome es intent t)) intent t outcome unsettled so done)) (λ stopped. sound stopped (state_of_new stopped))
+            on : (s : Stage) → stage ≡ s → end ≡ None → Knows meaning decls known_now (at new.past.state stage)
+            on Intent e none = stopped_here none (λ h. let z : Intent ≡ Settled = sym e ∙ h in absurd cc)
+            on Decide e none = stopped_here none (λ h. let z : Decide ≡ Settled = sym e ∙ h in absurd cc)
+            on Settled e none = knows_settled new.past.state e (goes_on outcome (sym none ∙ comes.settled_ends e)) (comes.settled_state e)

@@ -18,7 +18,7 @@ use Rattle.orc_path.specs.declared.item.Item.{Item}
 use Rattle.orc_path.specs.declared.item.Item.TheVariants.{Entry, Leaf}
 use Rattle.orc_path.specs.declared.limits.TheConstants.{PATH_STEPS, PATH_LEN}
 use Rattle.orc_path.proofs.Characters.{IsUtf8-path_text}
-use Rattle.orc_path.proofs.Plain.{plain_parts}
+use Rattle.orc_text.proofs.Plain.{plain_parts}
 use Rattle.orc_call.specs.Fields.{IsText, IsItem, IsPathAfter, AreLawful}
 use Rattle.orc_call.specs.Encoding.{device_put_fields, action_fields, IsCall}
 use Rattle.orc_call.specs.declared.call.Call.{Call}

@@ -64,9 +64,13 @@ module _ {D : Type 0} where
     pending = inr (call, pending, take so.added calls call so.are);
   }
 
+  adds_none : (first w new : View D) (calls : List Call) (call : Call) → Adds first w calls → new.known ≡ w.known → new.pending ≡ [] → Adds first new (calls ++ call ∷ [])
+  adds_none first w new calls call so known pending =
+      record { added = so.added; known = known ∙ so.known; are = skip so.added calls call so.are; pending = inl pending }
+
   adds_come : (first w new : View D) (calls : List Call) (call : Call) (stage : Stage) → Adds first w calls → new.known ≡ known_then stage w.known call → new.pending ≡ pending_then stage call
       → Adds first new (calls ++ call ∷ [])
-  adds_come first w new calls call Intent so known pending = adds_open first w new calls call so known pending
+  adds_come first w new calls call Intent so known pending = adds_none first w new calls call so known pending
   adds_come first w new calls call Decide so known pending = adds_open first w new calls call so known pending
   adds_come first w new calls call Settled so known pending = adds_commit first w new calls call so known pending
 
@@ -116,7 +120,7 @@ module _ {D : Type 0} where
   adds_break meaning decls first w new calls s text end so (Breaks.recovering _ n stays) = adds_same first w n calls [] so stays.known stays.pending
   adds_break meaning decls first w new calls s text end so (Breaks.commits call stage outcome _ n up due commits ends) =
       adds_come first w n calls call stage so commits.known commits.pending
-  adds_break meaning decls first w new calls s text end so (Breaks.unprinted call stage outcome n up due commits) =
+  adds_break meaning decls first w new calls s text end so (Breaks.stopped call stage n up due unsettled commits) =
       adds_come first w n calls call stage so commits.known commits.pending
 
 -- ---- the calls that a run adds

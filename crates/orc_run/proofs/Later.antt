@@ -55,7 +55,7 @@ module _ {D : Type 0} (meaning : DiskMeaning D) (decls : Decls) where
   front_breaks old _ s _ _ (Breaks.wanting _) = front_same old.known old.known refl
   front_breaks old last _ _ end (Breaks.recovering _ _ stays) = front_same old.known last.known stays.known
   front_breaks old last _ _ end (Breaks.commits call stage outcome _ _ p due c ends) = front_then stage old.known last.known call c.known
-  front_breaks old last _ _ _ (Breaks.unprinted call stage outcome _ p due c) = front_then stage old.known last.known call c.known
+  front_breaks old last _ _ _ (Breaks.stopped call stage _ p due unsettled c) = front_then stage old.known last.known call c.known
 
   -- what is kept begins with what was known before
   kept_from : (view : View D) (front : List Call) (file : List ℕ) → IsPrefix front view.known → IsKept decls view file → HoldsFrom decls front file

@@ -16,7 +16,6 @@ mod Outcomes
 mod Servings
 mod Soundness
 mod Deciding
-mod Committing
 mod Answering
 mod Appending
 mod OneAnswer
@@ -26,3 +25,6 @@ mod OneTranscript
 mod Decided
 mod Later
 mod Acknowledged
+mod Behind
+mod Committing
+mod Shorts

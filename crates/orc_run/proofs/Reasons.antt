@@ -2,7 +2,6 @@
 use Rattle.std.specs.Prelude.{◌≡◌, ℕ, ◌≤◌, Bool, true, false, ◌||◌, List, IfSome}
 use Rattle.std.proofs.Common.{refl, sym, subst, ◌∙◌, arith, inl, ⊎_elim}
 use Rattle.std.proofs.lemmas.Option.{IfSome_then}
-use Rattle.orc_io.specs.Counts.{Rose}
 use Rattle.orc_disk.specs.Rows.{Course, joined, row}
 use Rattle.orc_disk.specs.Meanings.{DiskMeaning}
 use Rattle.orc_disk.specs.Course.{Counted}
@@ -42,7 +41,7 @@ module _ {D : Type 0} (disk : DiskMeaning D) where
         ⊎_elim (λ is. is) (λ stopped. absurd (omega (arith, (led.comes running stopped.0).0, none))) (led.cause refl)
 
     -- what was counted up to an operation that failed
-    failed_counts : (old : D) (new : Stopping D) → FailsBefore (inside disk) 3 (unstopped old) new → Counted true (disk.faults old) (disk.faults new.inner)
+    failed_counts : (old : D) (new : Stopping D) → FailsBefore (inside disk) 3 2 (unstopped old) new → Counted true (disk.faults old) (disk.faults new.inner)
     failed_counts old new fails =
         let ran = fails.ran.1 in
         let running : fails.last.stopped ≡ false = ran.runs refl refl in

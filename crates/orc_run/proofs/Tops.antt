@@ -1,8 +1,10 @@
 -- The run of a bundle: what its declarations and its script are, and how it ends.
-use Rattle.std.proofs.Common.{◌≡◌, ◌⊎◌, ℕ, ◌<◌, ◌≤◌, ◌^◌, Bool, true, false, List, [], ◌++◌, length, IsTrue, Some, Ok, Err, Option, Result, IfSome, IfErr, OnOk, OnErr, is_some, is_err, if◌then◌else◌, inl, inr, ⊎_elim, refl, sym, ap, subst, ◌∙◌, arith}
+use Rattle.std.proofs.Common.{◌≡◌, ◌⊎◌, ℕ, ◌+◌, ◌<◌, ◌≤◌, ◌^◌, Bool, true, false, List, [], ◌++◌, length, IsTrue, Some, Ok, Err, Option, Result, IfSome, IfErr, OnOk, OnErr, is_some, is_err, if◌then◌else◌, inl, inr, ⊎_elim, refl, sym, ap, subst, ◌∙◌, arith}
 use Rattle.std.specs.List.{list_all}
 use Rattle.std.proofs.lemmas.List.{length-take-le}
 use Rattle.orc_io.specs.Counts.{Rose}
+use Rattle.orc_io.specs.Pieces.{GivesUpTo}
+use Rattle.orc_bundle.specs.declared.bundle.TheConstants.{LARGEST_BUNDLE}
 use Rattle.orc_disk.specs.Moments.{LeavesOnly}
 use Rattle.orc_bundle.specs.Bundles.{is_step, IsBundle}
 use Rattle.orc_print.specs.Printed.{recovered_line}
@@ -10,9 +12,11 @@ use Rattle.orc_run.specs.Views.{View, HasHistory}
 use Rattle.orc_run.specs.Steps.{EndsBecause}
 use Rattle.orc_run.specs.inside.Controllers.{known_of, pending_of, view_of, CanRun, IsSound, Opens}
 use Rattle.orc_run.specs.Opening.{IsRefused, MayBeOpening}
-use Rattle.orc_run.specs.inside.Inputs.{IsRunStop}
-use Rattle.orc_run.specs.Ends.{Outside, Starts, Wrote, BundleRun, IsUnopened, EndsOver, WholeRun, EndsBy}
-use Rattle.orc_run.specs.declared.words.Command.TheVariants.{Run}
+use Rattle.orc_run.specs.inside.Inputs.{IsInputStop, IsRunStop}
+use Rattle.orc_run.specs.Ends.{Outside, GivesFault, Starts, Wrote, BundleRun, IsUnopened, EndsOver, WholeCheck, WholeRun, EndsBy}
+use Rattle.orc_run.specs.declared.words.Command.{Command}
+use Rattle.orc_run.specs.declared.words.Command.TheVariants.{Check, Run}
+use Rattle.orc_state.specs.declared.rule.Rule.{Rule}
 use Rattle.orc_run.specs.inside.Halts.{greeting, Finishes, GreetsAndFinishes}
 use Rattle.orc_disk.specs.Meanings.{DiskMeaning}
 use Rattle.orc_bundle.specs.declared.bundle.Bundle.{Bundle}
@@ -199,6 +203,36 @@ module _ {D : Type 0} (meaning : DiskMeaning D) where
   by_run before after (Err (ending.Full len)) why ends = ends
   by_run before after (Err ending.NotJournal) why ends = ends
   by_run before after (Err (ending.Damaged at)) why ends = ends
+
+  -- where it was checked
+  pub by_check : (before after : Outside D) (status : Result Done Stop) → WholeCheck meaning before after status → EndsBy meaning (Some Check) before after status
+  by_check before after (Ok done) ends = ends
+  by_check before after (Err (ending.Bundle line rule)) ends = absurd ends.ends
+  by_check before after (Err ending.Usage) ends = absurd ends.ends
+  by_check before after (Err ending.ReadFault) ends = absurd ends.ends
+  by_check before after (Err ending.Memory) ends = inr ends
+  by_check before after (Err ending.WriteFault) ends = ends
+  by_check before after (Err ending.JournalFault) ends = ends
+  by_check before after (Err (ending.Foreign at)) ends = ends
+  by_check before after (Err (ending.Full len)) ends = ends
+  by_check before after (Err ending.NotJournal) ends = ends
+  by_check before after (Err (ending.Damaged at)) ends = ends
+
+  -- where no bundle was read
+  pub by_input : (command : Command) (before after : Outside D) (end : Stop) → IsInputStop end
+      → ((line : ℕ) (rule : Rule) → end ≡ ending.Bundle line rule → GivesFault before.left after.left line rule)
+      → GivesUpTo (LARGEST_BUNDLE + 1) before.left after.left → after.held ≡ before.held → after.disk ≡ before.disk
+      → EndsBy meaning (Some command) before after (Err end)
+  by_input command before after (ending.Bundle line rule) why fault took held disk = fault line rule refl
+  by_input command before after ending.Usage why fault took held disk = absurd why
+  by_input command before after ending.ReadFault why fault took held disk = took
+  by_input command before after ending.Memory why fault took held disk = inl (took, held, disk)
+  by_input command before after ending.WriteFault why fault took held disk = absurd why
+  by_input command before after ending.JournalFault why fault took held disk = absurd why
+  by_input command before after (ending.Foreign at) why fault took held disk = absurd why
+  by_input command before after (ending.Full len) why fault took held disk = absurd why
+  by_input command before after ending.NotJournal why fault took held disk = absurd why
+  by_input command before after (ending.Damaged at) why fault took held disk = absurd why
 
 -- ---- small facts
 

@@ -251,7 +251,7 @@ module _ {D E : Type 0} (one : DiskMeaning D) (other : DiskMeaning E) (decls : D
       → (end ≢ ending.JournalFault) → Breaks one decls old s text end last → Does other decls old' s text' new' → IsFrontOf text text'
   front_of_step known up old _ old' new' s _ text' _ is is' fault (Breaks.wanting _) does = (text', refl)
   front_of_step known up old last old' new' _ _ text' end is is' fault (Breaks.recovering _ _ stays) does = (text', refl)
-  front_of_step known up old last old' new' _ _ text' _ is is' fault (Breaks.unprinted call stage outcome _ p due c) does = (text', refl)
+  front_of_step known up old last old' new' _ _ text' _ is is' fault (Breaks.stopped call stage _ p due unsettled c) does = absurd (never_stopped one decls stage _ _ _ _ is.armed c.appends)
   front_of_step known up old last old' new' _ _ text' end is is' fault (Breaks.commits call stage outcome _ _ p due c ends) does = ⊎_elim
       (λ (none : commit_text decls.names call stage outcome (length last.known) ≡ []). (text', ap (λ (l : List ℕ). l ++ text') (sym none)))
       (λ (line : commit_text decls.names call stage outcome (length last.known) ≡ entry_line decls call (old.known ++ call ∷ [])).

@@ -78,14 +78,15 @@ abbrev pub intent_of : {D : Type 0} → Decls → View D → Call → ℕ → En
 intent_of decls view call t =
     entry.Intent t call (devices_of decls.names (state_of decls view.known) (action_of call))
 
--- what is known behind a commit that came to this stage, and what is pending
+-- What is known behind a commit that came to this stage, and what is pending: the journal may have a call as its next
+-- entry only from the append of its decision on.
 abbrev pub known_then : Stage → List Call → Call → List Call
 known_then Intent known call = known
 known_then Decide known call = known
 known_then Settled known call = known ++ call ∷ []
 
 abbrev pub pending_then : Stage → Call → List Call
-pending_then Intent call = call ∷ []
+pending_then Intent call = []
 pending_then Decide call = call ∷ []
 pending_then Settled call = []
 

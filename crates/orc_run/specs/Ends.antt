@@ -3,7 +3,7 @@ use Rattle.std.specs.Prelude.{◌≡◌, ◌⊎◌, ℕ, ◌+◌, ◌≤◌, tru
 use Rattle.std.specs.declared.option.Option.TheVariants.{None, Some}
 use Rattle.std.specs.declared.result.Result.TheVariants.{Ok, Err}
 use Rattle.std.specs.Io.KnownBytes.{Appends, Consumes, IsAtEnd}
-use Rattle.orc_io.specs.Pieces.{TakesFront}
+use Rattle.orc_io.specs.Pieces.{GivesUpTo, TakesFront}
 use Rattle.orc_disk.specs.Moments.{LeavesOnly}
 use Rattle.orc_call.specs.declared.call.Call.{Call}
 use Rattle.orc_bundle.specs.Bundles.{bundle_of}
@@ -220,12 +220,14 @@ module _ {D : Type 0} (meaning : DiskMeaning D) where
   EndsAs Run before after status = WholeRun before after status
 
   -- How the program ended, by the command and the status. It ends with Bundle exactly where the first bytes of the
-  -- source are none, whatever the command; where it ends with ReadFault or Memory these may not all have been read.
+  -- source are none, whatever the command; where it ends with ReadFault or Memory these may not all have been read, and
+  -- no others were.
   abbrev pub EndsBy : Option Command → Outside D → Outside D → Result Done Stop → Type 0
   EndsBy None before after status = status ≡ Err ending.Usage
   EndsBy (Some command) before after (Err ending.Usage) = ⊥
-  EndsBy (Some command) before after (Err ending.ReadFault) = Unit {0}
+  EndsBy (Some command) before after (Err ending.ReadFault) = GivesUpTo (LARGEST_BUNDLE + 1) before.left after.left
   EndsBy (Some command) before after (Err (ending.Bundle line rule)) = GivesFault before.left after.left line rule
   EndsBy (Some command) before after (Err ending.Memory) =
-      ((after.held ≡ before.held) × (after.disk ≡ before.disk)) ⊎ EndsAs command before after (Err ending.Memory)
+      (GivesUpTo (LARGEST_BUNDLE + 1) before.left after.left × (after.held ≡ before.held) × (after.disk ≡ before.disk))
+      ⊎ EndsAs command before after (Err ending.Memory)
   EndsBy (Some command) before after status = EndsAs command before after status

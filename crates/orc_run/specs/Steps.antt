@@ -1,6 +1,6 @@
 -- What a step of a script prints, and what a user can tell behind it.
 use Rattle.std.specs.declared.option.Option.TheVariants.{None, Some}
-use Rattle.std.specs.Prelude.{◌≡◌, ◌⊎◌, ℕ, true, false, List, [], ◌++◌, codes, length, IfSome, is_some, if◌then◌else◌}
+use Rattle.std.specs.Prelude.{◌≡◌, ◌≢◌, ◌⊎◌, ℕ, true, false, List, [], ◌++◌, codes, length, IfSome, is_some, if◌then◌else◌}
 use Rattle.orc_io.specs.Counts.{Rose}
 use Rattle.orc_call.specs.declared.call.Call.{Call}
 use Rattle.orc_call.specs.declared.answer.Answer.{Answer}
@@ -12,7 +12,9 @@ use Rattle.orc_disk.specs.Meanings.{DiskMeaning}
 use Rattle.orc_run.specs.Opening.{IsOpenedAs, IsRefused}
 use Rattle.orc_run.specs.Commits.{Commits, commit_text, commit_end}
 use Rattle.orc_run.specs.declared.commit.Stage.{Stage}
+use Rattle.orc_run.specs.declared.commit.Stage.TheVariants.{Settled}
 use Rattle.orc_append.specs.declared.outcome.Appended.{Appended}
+use Rattle.orc_append.specs.declared.outcome.Appended.TheVariants.{Stopped}
 use Rattle.orc_run.specs.Views.{View, HasHistory, IsUntold}
 use Rattle.orc_state.specs.declared.declarations.Decls.{Decls}
 use Rattle.orc_bundle.specs.declared.bundle.ScriptStep.{ScriptStep}
@@ -72,9 +74,10 @@ Does meaning decls old step.Recover text new = Recovers meaning decls old text n
 Does meaning decls old step.History text new =
     (text ≡ (if old.up then history_text old.known else codes "down\n")) × (new ≡ old)
 
--- A step that isn't done, at which the run ends. Memory was wanting before anything was done; or the journal was not
--- opened again; or a commit came to a fault, which is answered where the call is decided or the disk failed; or memory
--- was wanting for what a commit prints.
+-- A step that isn't done, at which the run ends. Memory was wanting before anything was done. Or the journal was not
+-- opened again. Or a commit came to a fault, a full journal or want of memory; its answer is printed, where the call
+-- is decided or the disk failed. Or an armed stop came before the call was decided, which is printed, and memory for
+-- the state behind what is known was wanting.
 pub data Breaks {D : Type 0} (meaning : DiskMeaning D) (decls : Decls) (old : View D) : ScriptStep → List ℕ → Stop
     → View D → Type 0 where
   wanting : (at : ScriptStep) → Breaks meaning decls old at [] ending.Memory old
@@ -83,9 +86,9 @@ pub data Breaks {D : Type 0} (meaning : DiskMeaning D) (decls : Decls) (old : Vi
       → IsDue decls old.known call → Commits meaning decls old call stage outcome new → commit_end outcome ≡ Some end
       → Breaks meaning decls old (step.Serve call)
       (commit_text decls.names call stage outcome (length new.known)) end new
-  unprinted : (call : Call) (stage : Stage) (outcome : Appended) (new : View D) → old.up ≡ true
-      → IsDue decls old.known call → Commits meaning decls old call stage outcome new
-      → Breaks meaning decls old (step.Serve call) [] ending.Memory new
+  stopped : (call : Call) (stage : Stage) (new : View D) → old.up ≡ true → IsDue decls old.known call
+      → stage ≢ Settled → Commits meaning decls old call stage Stopped new
+      → Breaks meaning decls old (step.Serve call) (codes "stopped\n") ending.Memory new
 
 module _ {D : Type 0} (meaning : DiskMeaning D) where
   -- Why a run ends at a step, from a view before it to one behind it. Want of memory is free. Of Full this says only

@@ -12,7 +12,7 @@ use orc_journal::Entry;
 use std::alloc::Global;
 
 /// The entry of a commit that was the last to be appended.
-#[derive(Clone, Copy, Debug, PartialEq, Eq)]
+#[derive(Clone, Copy)]
 pub enum Stage {
     Intent,
     Decide,
@@ -20,7 +20,7 @@ pub enum Stage {
 }
 
 /// How far a commit came: the last stage, and what came of its append.
-#[derive(Clone, Copy, Debug, PartialEq, Eq)]
+#[derive(Clone, Copy)]
 pub struct Reached {
     pub stage: Stage,
     pub outcome: Appended,

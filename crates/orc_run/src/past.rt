@@ -1,5 +1,5 @@
 //! What the entries of a journal say of the past: the history, and the state behind it.
-ghost use Rattle.std.specs.Prelude.{◌≡◌, ◌++◌, ◌∷◌, [], ◌≢◌, ℕ, true, false, Ok, None, IfOk, IfSome, IsErrOf, IsTrue, MatchOption};
+ghost use Rattle.std.specs.Prelude.{◌≡◌, ◌++◌, ◌∷◌, [], ◌≢◌, ℕ, true, false, Ok, None, take, IfOk, IfSome, IsErrOf, IsTrue, MatchOption};
 ghost use Rattle.orc_call.specs.declared.call.Call.{Call};
 ghost use Rattle.orc_state.specs.declared.declarations.Decls.{Decls};
 ghost use Rattle.orc_journal.specs.Committed.{history_of};
@@ -17,6 +17,7 @@ use orc_journal::{Entry, committed_by};
 use orc_state::{Decls, State, action_of, is_call};
 use orc_text::{Memory, Row};
 use std::alloc::Global;
+use std::mem;
 
 /// The numbers that transactions have, the calls that were committed, in order, and the state
 /// behind them.
@@ -28,7 +29,7 @@ pub struct Past {
 }
 
 /// Why entries have no past.
-#[derive(Clone, Copy, Debug, PartialEq, Eq)]
+#[derive(Clone, Copy)]
 pub enum PastFault {
     /// The Decide at this place makes the history illegal.
     Illegal { place: usize },
@@ -87,6 +88,15 @@ impl Past {
             Some(call) => self.commit(alloc, decls, call),
             None => Ok(true),
         }
+    }
+
+    /// The calls behind so many are none of the history.
+    pub(crate) fn forget(&mut self, alloc: Global, count: usize)
+        ensures { self.new ≡ record self.old { history = take count self.old.history } }
+    {
+        let mut history = mem::replace(&mut self.history, Row::new(alloc)).into_vec();
+        history.truncate(count);
+        self.history = Row::from_vec(history);
     }
 
     // Commits a call, and says whether the history is still legal; if not, it is as it was.

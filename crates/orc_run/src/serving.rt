@@ -1,23 +1,24 @@
 //! Serving a call: its answer at once, or its commit in the journal.
-ghost use Rattle.std.specs.Prelude.{◌≡◌, ◌≢◌, ◌≤◌, true, List, length, take, IfOk, IsTrue};
+ghost use Rattle.std.specs.Prelude.{◌≡◌, ◌≤◌, true, None, List, length, take, IfOk, IsTrue};
 ghost use Rattle.orc_append.specs.declared.outcome.Appended.{Appended};
 ghost use Rattle.orc_journal.specs.Entries.{AreDevices};
 ghost use Rattle.orc_state.specs.States.{action_of};
 ghost use Rattle.orc_state.specs.Calls.{is_call};
 ghost use Rattle.orc_state.specs.Legal.{IsLegal, state_of};
 ghost use Rattle.orc_state.specs.Declarations.{AreDecls};
+ghost use Rattle.orc_run.specs.Commits.{commit_end};
 ghost use Rattle.orc_run.specs.Touched.{devices_of};
 ghost use Rattle.orc_run.specs.inside.Pasts.{IsBehind};
-ghost use Rattle.orc_run.specs.inside.Serving.{said_of, up_behind};
+ghost use Rattle.orc_run.specs.inside.Serving.{up_behind, ComesBehind, EndsBehind};
 ghost use Rattle.orc_run.specs.inside.Controllers.{known_of, view_of, IsCommitting, IsSound, LeadsTo};
 ghost use Rattle.orc_journal.specs.declared.entry.Entry.{Entry};
-ghost use Rattle.orc_run.specs.declared.commit.Stage.{Stage};
 
 use crate::Stop;
-use crate::commit::{Stage, append_commit};
+use crate::commit::{Reached, Stage, append_commit};
 use crate::controller::Controller;
 use crate::decision::{begin, state_behind};
 use crate::devices::devices_of;
+use crate::printing::{CommitLines, answered};
 use orc_append::Appended;
 use orc_call::{Answer, Call};
 use orc_disk::Disk;
@@ -25,15 +26,11 @@ use orc_state::{Decls, action_of};
 use orc_text::{Memory, Row};
 use std::alloc::Global;
 
-/// What came of a call.
+/// What came of a call: what is printed of it, and why the run ends behind it, if it does.
 #[derive(Drop)]
-pub enum CallOutcome {
-    /// It has this answer.
-    Answered(Answer),
-    /// The armed stop came, behind the answer where there is one.
-    Stopped(Option<Answer>),
-    /// The run ends, with the answer where there is one.
-    Broken(Option<Answer>, Stop),
+pub struct Served {
+    pub text: Row<u8>,
+    pub end: Option<Stop>,
 }
 
 impl<D: Disk> Controller<D> {
@@ -43,7 +40,7 @@ impl<D: Disk> Controller<D> {
         alloc: Global,
         decls: &Decls,
         call: &Call,
-    ) -> Result<CallOutcome, Memory>
+    ) -> Result<Served, Memory>
         requires decls { AreDecls decls.now }
         requires sound { IsSound D.disk decls.now self.old }
         requires call { IsTrue (is_call decls.now.names call.now) }
@@ -51,7 +48,7 @@ impl<D: Disk> Controller<D> {
             → LeadsTo D.disk decls.now (view_of self.old sound.0) call.now result self.new }
     {
         if !self.up {
-            return Ok(CallOutcome::Answered(Answer::Down));
+            return answered(alloc, decls.names.as_slice(), call, &Answer::Down);
         }
         // What a deletion touches is told by the state before it.
         let devices = devices_of(
@@ -61,20 +58,20 @@ impl<D: Disk> Controller<D> {
             action_of(call),
         )?;
         match self.past.answer_or_apply(alloc, decls, call)? {
-            Some(answer) => Ok(CallOutcome::Answered(answer)),
+            Some(answer) => answered(alloc, decls.names.as_slice(), call, &answer),
             None => self.commit(alloc, decls, call, devices),
         }
     }
 
     // Commits a call whose action the state has done: it appends the intent, with the devices that
-    // the call changes, the decision, and that it is settled.
+    // the call changes, the decision, and that it is settled. Memory is wanted before that.
     fn commit(
         &mut self,
         alloc: Global,
         decls: &Decls,
         call: &Call,
         devices: Row<u32>,
-    ) -> Result<CallOutcome, Memory>
+    ) -> Result<Served, Memory>
         requires decls { AreDecls decls.now }
         requires committing { (entries : List Entry) × IsCommitting D.disk decls.now call.now entries self.old }
         requires call { IsTrue (is_call decls.now.names call.now) }
@@ -84,70 +81,89 @@ impl<D: Disk> Controller<D> {
         ensures { (entries : List Entry) → IsCommitting D.disk decls.now call.now entries self.old
             → LeadsTo D.disk decls.now (view_of self.old entries) call.now result self.new }
     {
+        let known = self.past.history.len();
+        let lines = CommitLines::new(alloc, decls.names.as_slice(), call, known)?;
         let (t, intent) = begin(alloc, &mut self.past, call, devices)?;
         let reached = append_commit(alloc, &mut self.journal, &intent, t);
+        let end = self.come(alloc, decls, reached);
+        Ok(Served {
+            text: lines.line(alloc, reached),
+            end,
+        })
+    }
+
+    // The controller behind a commit, by how far that came, and why the run ends there, if it does.
+    // It knows a decided call, and forgets one whose intent was not appended.
+    fn come(&mut self, alloc: Global, decls: &Decls, reached: Reached) -> Option<Stop>
+        requires decls { AreDecls decls.now }
+        requires running { self.old.up ≡ true }
+        requires within { self.old.known ≤ length self.old.past.history }
+        requires legal { IsLegal decls.now (take self.old.known self.old.past.history) }
+        ensures { ComesBehind decls.now reached.stage reached.outcome self.old result self.new }
+    {
         match reached.stage {
-            Stage::Settled => Ok(self.settle(reached.outcome)),
-            stage => self.fail(alloc, decls, stage, reached.outcome),
+            Stage::Settled => self.settle(reached.outcome),
+            Stage::Decide => self.fall_back(alloc, decls, reached.outcome),
+            Stage::Intent => {
+                self.past.forget(alloc, self.known);
+                self.fall_back(alloc, decls, reached.outcome)
+            }
         }
     }
 
-    // Knows the decided call, and says what came of it, by how its end was appended. The controller
-    // is down where the disk is stopped.
-    fn settle(&mut self, outcome: Appended) -> CallOutcome
-        ensures said { result ≡ said_of Stage.Settled outcome self.new.known }
+    // The decided call is known.
+    fn settle(&mut self, outcome: Appended) -> Option<Stop>
+        ensures end { result ≡ commit_end outcome }
         ensures state { self.new
             ≡ record self.old { up = up_behind outcome self.old.up; known = length self.old.past.history } }
     {
         self.known = self.past.history.len();
-        let answer = Answer::Committed(self.known as u64);
-        match outcome {
-            Appended::Done => CallOutcome::Answered(answer),
-            Appended::Stopped => {
-                self.up = false;
-                CallOutcome::Stopped(Some(answer))
-            }
-            Appended::Failed => CallOutcome::Broken(Some(answer), Stop::JournalFault),
-            Appended::Full { len } => CallOutcome::Broken(Some(answer), Stop::Full { len }),
-            Appended::Memory => CallOutcome::Broken(Some(answer), Stop::Memory),
-        }
+        self.go_on(outcome)
     }
 
-    // Says what came of a call that was not decided. Where the disk is stopped the controller is
-    // down, with the state behind what it knows.
-    fn fail(
-        &mut self,
-        alloc: Global,
-        decls: &Decls,
-        stage: Stage,
-        outcome: Appended,
-    ) -> Result<CallOutcome, Memory>
+    // The call is not decided. Where the disk is stopped the controller has the state behind what it
+    // knows.
+    fn fall_back(&mut self, alloc: Global, decls: &Decls, outcome: Appended) -> Option<Stop>
         requires decls { AreDecls decls.now }
+        requires running { self.old.up ≡ true }
         requires within { self.old.known ≤ length self.old.past.history }
         requires legal { IsLegal decls.now (take self.old.known self.old.past.history) }
-        requires stage { stage ≢ Stage.Settled }
-        requires outcome { outcome ≢ Appended.Done }
-        ensures said { IfOk result (λ served. served ≡ said_of stage outcome self.new.known) }
-        ensures behind { outcome ≡ Appended.Stopped → IfOk result (λ _. IsBehind decls.now self.new.past
-            (take self.old.known self.old.past.history)) }
+        ensures end { EndsBehind outcome result }
         ensures rest { self.new ≡ record self.old {
           up = up_behind outcome self.old.up;
           past = record self.old.past { state = self.new.past.state };
         } }
+        ensures behind { outcome ≡ Appended.Stopped → result ≡ None → IsBehind decls.now self.new.past
+            (take self.old.known self.old.past.history) }
+    {
+        let end = self.go_on(outcome);
+        if self.up {
+            return end;
+        }
+        match state_behind(alloc, decls, &self.past.history.as_slice()[..self.known]) {
+            Ok(state) => {
+                self.past.state = state;
+                end
+            }
+            Err(Memory) => Some(Stop::Memory),
+        }
+    }
+
+    // The controller is down where the disk is stopped, and the run ends where an entry was not
+    // appended otherwise.
+    fn go_on(&mut self, outcome: Appended) -> Option<Stop>
+        ensures end { result ≡ commit_end outcome }
+        ensures state { self.new ≡ record self.old { up = up_behind outcome self.old.up } }
     {
         match outcome {
-            Appended::Done | Appended::Memory => Err(Memory),
-            Appended::Full { len } => Ok(CallOutcome::Broken(None, Stop::Full { len })),
-            Appended::Failed => Ok(CallOutcome::Broken(
-                Some(Answer::JournalFault),
-                Stop::JournalFault,
-            )),
+            Appended::Done => None,
             Appended::Stopped => {
                 self.up = false;
-                let known = &self.past.history.as_slice()[..self.known];
-                self.past.state = state_behind(alloc, decls, known)?;
-                Ok(CallOutcome::Stopped(None))
+                None
             }
+            Appended::Failed => Some(Stop::JournalFault),
+            Appended::Full { len } => Some(Stop::Full { len }),
+            Appended::Memory => Some(Stop::Memory),
         }
     }
 }

@@ -1,25 +1,24 @@
 //! The steps of a script, as the controller does them.
-ghost use Rattle.std.specs.Prelude.{[], Ok, ◌≡◌, ◌⊎◌, ◌<◌, ◌^◌, length, codes, IfOk, IsTrue, MatchResult, if◌then◌else◌};
+ghost use Rattle.std.specs.Prelude.{[], Ok, ◌≡◌, ◌<◌, ◌^◌, length, codes, IfOk, IsTrue, MatchResult, if◌then◌else◌};
 ghost use Rattle.orc_state.specs.States.{tree_due, name_of};
 ghost use Rattle.orc_state.specs.Calls.{is_call};
 ghost use Rattle.orc_bundle.specs.Bundles.{is_step};
 ghost use Rattle.orc_state.specs.Legal.{state_of};
 ghost use Rattle.orc_state.specs.Declarations.{AreDecls};
 ghost use Rattle.orc_print.specs.Printed.{history_text, tree_text};
-ghost use Rattle.orc_run.specs.inside.Serving.{answer_in, IsAnswerAmong, served_text};
 ghost use Rattle.orc_run.specs.inside.Controllers.{known_of, view_of, CanDo, GoesOn, IsSound, StepsTo, Wants};
 ghost use Rattle.orc_bundle.specs.declared.bundle.ScriptStep.{ScriptStep};
 
 use crate::Stop;
 use crate::controller::{Controller, LastStep};
-use crate::printing::{recovered_text, served_text};
-use crate::serving::CallOutcome;
+use crate::printing::recovered_text;
+use crate::serving::Served;
 use orc_bundle::ScriptStep;
 use orc_call::Call;
 use orc_disk::Disk;
 use orc_print::{down, history, show, stopped};
 use orc_state::{Decls, device_name};
-use orc_text::{Memory, Row, Text};
+use orc_text::{Memory, Row};
 use std::alloc::Global;
 
 impl<D: Disk> Controller<D> {
@@ -172,40 +171,19 @@ impl<D: Disk> Controller<D> {
             → StepsTo D.disk decls.now (view_of self sound.0) (ScriptStep.Serve call.now) result }
     {
         match self.serve(alloc, decls, call) {
-            Ok(outcome) => self.answered(alloc, decls.names.as_slice(), call, outcome),
-            Err(Memory) => Err(self.wanting(alloc)),
-        }
-    }
-
-    // Prints what came of a call.
-    fn answered(
-        self,
-        alloc: Global,
-        names: &[Text],
-        call: &Call,
-        outcome: CallOutcome,
-    ) -> Result<(Controller<D>, Row<u8>), LastStep<D>>
-        requires { IsAnswerAmong (length names.now) (answer_in outcome) }
-        ensures { GoesOn outcome self (served_text names.now call.now outcome) result ⊎ Wants self result }
-    {
-        match served_text(alloc, names, call, &outcome) {
-            Ok(text) => self.went(outcome, text),
+            Ok(served) => self.went(served),
             Err(Memory) => Err(self.wanting(alloc)),
         }
     }
 
     // The run goes on behind a call, or ends.
-    fn went(
-        self,
-        outcome: CallOutcome,
-        text: Row<u8>,
-    ) -> Result<(Controller<D>, Row<u8>), LastStep<D>>
-        ensures { GoesOn outcome self text result }
+    fn went(self, served: Served) -> Result<(Controller<D>, Row<u8>), LastStep<D>>
+        ensures { GoesOn served.end served.text self result }
     {
-        match outcome {
-            CallOutcome::Answered(_) => Ok((self, text)),
-            CallOutcome::Stopped(_) => Ok((self, text)),
-            CallOutcome::Broken(_, stop) => Err(LastStep {
+        let Served { text, end } = served;
+        match end {
+            None => Ok((self, text)),
+            Some(stop) => Err(LastStep {
                 disk: self.into_disk(),
                 text,
                 stop,

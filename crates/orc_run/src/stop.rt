@@ -7,7 +7,7 @@ use orc_state::Rule;
 use thiserror::Error;
 
 /// The command did all that it is to do.
-#[derive(Clone, Copy, Debug, PartialEq, Eq)]
+#[derive(Clone, Copy)]
 pub struct Done;
 
 /// The end of a run: the disk that was handed in, and the status.
@@ -30,7 +30,7 @@ impl<D: Disk> Ended<D> {
 }
 
 /// Why a run ended before it was done.
-#[derive(Debug, PartialEq, Eq, Drop, Error)]
+#[derive(Debug, Drop, Error)]
 pub enum Stop {
     /// The bytes read are no bundle: its first line at fault, and the first rule that the line
     /// breaks.

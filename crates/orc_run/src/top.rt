@@ -1,8 +1,10 @@
 //! The top call.
-ghost use Rattle.std.specs.Prelude.{List, Option, ◌≡◌, ◌<◌, ◌^◌, ◌∷◌, [], ℕ, map, length, IfOk, IfErr, OnOk, IsErrOf, IsTrue, All, Some};
+ghost use Rattle.std.specs.Prelude.{List, Option, ◌≡◌, ◌<◌, ◌+◌, ◌^◌, ◌∷◌, [], ℕ, map, length, IfOk, IfErr, OnErr, IsErrOf, IsTrue, All, Some};
 ghost use Rattle.std.specs.List.{list_all};
 ghost use Rattle.std.specs.String.{string_bytes};
 ghost use Rattle.orc_io.specs.Counts.{Rose};
+ghost use Rattle.orc_io.specs.Pieces.{GivesUpTo};
+ghost use Rattle.orc_bundle.specs.declared.bundle.TheConstants.{LARGEST_BUNDLE};
 ghost use Rattle.orc_bundle.specs.Bundles.{is_step, IsBundle};
 ghost use Rattle.orc_state.specs.Declarations.{AreDecls};
 ghost use Rattle.orc_run.specs.Words.{command_of};
@@ -53,32 +55,10 @@ pub fn orchestrate<S: Source, K: Sink, D: Disk>(
     ensures write { IsErrOf result.status Stop.WriteFault → Rose (K.sink.faults sink.old) (K.sink.faults sink.new) }
     ensures journal { IsErrOf result.status Stop.JournalFault → Rose (D.disk.faults disk) (D.disk.faults result.disk) }
 {
-    match command_of(words) {
-        Some(command) => do_command(alloc, command, source, sink, disk),
-        None => Ended::at(disk, Stop::Usage),
-    }
-}
-
-// Reads the bundle, and checks it or runs it.
-fn do_command<S: Source, K: Sink, D: Disk>(
-    alloc: Global,
-    command: Command,
-    source: &mut S,
-    sink: &mut K,
-    disk: D,
-) -> Ended<D>
-    ensures ends { EndsBy D.disk (Some command)
-        (record { left = S.source.left source.old; held = K.sink.held sink.old; disk = disk })
-        (record { left = S.source.left source.new; held = K.sink.held sink.new; disk = result.disk })
-        result.status }
-    ensures bundle_keeps { (line : ℕ) (rule : Rule) → IsErrOf result.status (Stop.Bundle line rule)
-        → (sink.new ≡ sink.old) × (result.disk ≡ disk) }
-    ensures read { IsErrOf result.status Stop.ReadFault
-        → Rose (S.source.faults source.old) (S.source.faults source.new) }
-    ensures read_keeps { IsErrOf result.status Stop.ReadFault → (sink.new ≡ sink.old) × (result.disk ≡ disk) }
-    ensures write { IsErrOf result.status Stop.WriteFault → Rose (K.sink.faults sink.old) (K.sink.faults sink.new) }
-    ensures journal { IsErrOf result.status Stop.JournalFault → Rose (D.disk.faults disk) (D.disk.faults result.disk) }
-{
+    let command = match command_of(words) {
+        Some(command) => command,
+        None => return Ended::at(disk, Stop::Usage),
+    };
     let bundle = match read_input(alloc, source) {
         Ok(bundle) => bundle,
         Err(stop) => return Ended::at(disk, stop),
@@ -99,6 +79,8 @@ fn read_input<S: Source>(alloc: Global, source: &mut S) -> Result<Bundle, Stop>
     ensures short { IfOk result (λ bundle. length bundle.decls.text < 2 ^ 32) }
     ensures fault { (line : ℕ) (rule : Rule) → IsErrOf result (Stop.Bundle line rule)
         → GivesFault (S.source.left source.old) (S.source.left source.new) line rule }
+    ensures begun { OnErr result
+        (GivesUpTo (LARGEST_BUNDLE + 1) (S.source.left source.old) (S.source.left source.new)) }
     ensures read { IsErrOf result Stop.ReadFault → Rose (S.source.faults source.old) (S.source.faults source.new) }
     ensures causes { IfErr result IsInputStop }
 {

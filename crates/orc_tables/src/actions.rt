@@ -1,41 +1,53 @@
 //! The actions that the lines of a table make.
 use crate::undone::Undone;
-use crate::words::{body_of, device_put_of, first_word, put_of, writes_of};
+use crate::words::{body_of, device_put_of, first_word, named, put_of, writes_of};
 use orc_call::Action;
 use orc_path::Path;
 use orc_text::Text;
 use std::alloc::Global;
 
-/// The action of a word and what stands behind it, or none where the word is another one.
-pub(crate) fn action_of(alloc: Global, word: &str, rest: &str) -> Result<Option<Action>, Undone> {
+/// The action of a word and what stands behind it.
+pub(crate) fn action_of(alloc: Global, word: &str, rest: &str) -> Result<Action, Undone> {
     match word {
-        "create" => {
-            let (service, body) = body_of(alloc, rest)?;
-            Ok(Some(Action::Create(service, body)))
-        }
-        "modify" => {
-            let (service, body) = body_of(alloc, rest)?;
-            Ok(Some(Action::Modify(service, body)))
-        }
-        "redeploy" => Ok(Some(Action::Redeploy(Text::from_str(alloc, rest)?))),
-        "delete" => Ok(Some(Action::Delete(Text::from_str(alloc, rest)?))),
-        "literal" => {
-            let (name, writes) = writes_of(alloc, rest)?;
-            Ok(Some(Action::Literal(name, writes)))
-        }
+        "create" => create(alloc, rest),
+        "modify" => modify(alloc, rest),
+        "redeploy" => Ok(Action::Redeploy(Text::from_str(alloc, rest)?)),
+        "delete" => Ok(Action::Delete(Text::from_str(alloc, rest)?)),
+        "literal" => literal(alloc, rest),
         _ => item_action_of(alloc, word, rest),
     }
 }
 
 // The same where it is one with a single item or path.
-fn item_action_of(alloc: Global, word: &str, rest: &str) -> Result<Option<Action>, Undone> {
+fn item_action_of(alloc: Global, word: &str, rest: &str) -> Result<Action, Undone> {
     match word {
-        "set" => Ok(Some(Action::Set(put_of(alloc, rest)?))),
-        "unset" => Ok(Some(Action::Unset(Path::parse(alloc, rest)?))),
-        "base" => Ok(Some(Action::BasePut(device_put_of(alloc, rest)?))),
-        "unbase" => Ok(Some(base_remove(alloc, rest)?)),
-        _ => Ok(None),
+        "set" => Ok(Action::Set(put_of(alloc, rest)?)),
+        "unset" => Ok(Action::Unset(Path::parse(alloc, rest)?)),
+        "base" => Ok(Action::BasePut(device_put_of(alloc, rest)?)),
+        "unbase" => base_remove(alloc, rest),
+        _ => Err(Undone),
     }
+}
+
+// Creating a service, as `SERVICE | ITEM | ITEM`.
+fn create(alloc: Global, rest: &str) -> Result<Action, Undone> {
+    let (service, items) = named(rest);
+    let service = Text::from_str(alloc, service)?;
+    Ok(Action::Create(service, body_of(alloc, items)?))
+}
+
+// Modifying a service, likewise.
+fn modify(alloc: Global, rest: &str) -> Result<Action, Undone> {
+    let (service, items) = named(rest);
+    let service = Text::from_str(alloc, service)?;
+    Ok(Action::Modify(service, body_of(alloc, items)?))
+}
+
+// A literal service, as `NAME | DEVICE ITEM`.
+fn literal(alloc: Global, rest: &str) -> Result<Action, Undone> {
+    let (name, items) = named(rest);
+    let name = Text::from_str(alloc, name)?;
+    Ok(Action::Literal(name, writes_of(alloc, items)?))
 }
 
 // Removing a path of a device's base, as `DEVICE PATH`.

@@ -11,9 +11,10 @@
 //! - `again`: the call is encoded, counted, copied, and read back, whatever follows
 //! - `none`: the call has no encoding
 use crate::actions::action_of;
+use crate::table::Table;
 use crate::undone::Undone;
 use crate::words::{first_word, hex_of};
-use orc_call::{Action, Call, CodecFault, decode, encode, encoded_len, is_encodable};
+use orc_call::{Call, CodecFault, decode, encode, encoded_len, is_encodable};
 use orc_text::{Row, Text};
 use std::alloc::Global;
 
@@ -23,6 +24,21 @@ pub(crate) struct Calls {
     alloc: Global,
     call: Call,
     fields: Vec<u8>,
+}
+
+impl Table for Calls {
+    fn take(&mut self, line: &str) -> Result<bool, Undone> {
+        let (word, rest) = first_word(line);
+        match word {
+            "call" => self.begin(rest),
+            "deletes" => self.delete_many(rest),
+            "field" => self.spell(rest),
+            "spelled" => self.is_spelled(rest),
+            "again" => self.is_read_again(),
+            "none" => Ok(!is_encodable(&self.call)),
+            _ => self.act(word, rest),
+        }
+    }
 }
 
 impl Calls {
@@ -35,22 +51,11 @@ impl Calls {
         }
     }
 
-    /// Does a line, and says whether it holds.
-    pub(crate) fn take(&mut self, line: &str) -> Result<bool, Undone> {
-        let (word, rest) = first_word(line);
-        if let Some(action) = action_of(self.alloc, word, rest)? {
-            self.call.actions.push(action)?;
-            return Ok(true);
-        }
-        match word {
-            "call" => self.begin(rest),
-            "deletes" => self.delete_many(rest),
-            "field" => self.spell(rest),
-            "spelled" => self.is_spelled(rest),
-            "again" => self.is_read_again(),
-            "none" => Ok(!is_encodable(&self.call)),
-            _ => Err(Undone),
-        }
+    // Adds an action.
+    fn act(&mut self, word: &str, rest: &str) -> Result<bool, Undone> {
+        let action = action_of(self.alloc, word, rest)?;
+        self.call.actions.push(action)?;
+        Ok(true)
     }
 
     // Begins a call, as `CALLER NUMBER`.
@@ -69,26 +74,28 @@ impl Calls {
     fn delete_many(&mut self, count: &str) -> Result<bool, Undone> {
         let count: u64 = count.parse()?;
         for _ in 0..count {
-            let action = Action::Delete(Text::from_str(self.alloc, "a")?);
-            self.call.actions.push(action)?;
+            self.act("delete", "a")?;
         }
         Ok(true)
     }
 
     // Spells the next field, and says whether what is unlawful in its place is refused there.
     fn spell(&mut self, rest: &str) -> Result<bool, Undone> {
-        let mut parts = rest.split(" | ");
-        let field = hex_of(self.alloc, parts.next().unwrap_or(""))?;
-        for part in parts {
-            let unlawful = hex_of(self.alloc, part)?;
-            if !self.is_refused_with(unlawful.as_slice())? {
+        let (field, unlawful) = rest.split_once(" | ").unwrap_or((rest, ""));
+        let field = hex_of(self.alloc, field)?;
+        let refused = self.are_refused(unlawful)? && self.is_refused_cut(field.as_slice())?;
+        self.fields.extend_from_slice(field.as_slice())?;
+        Ok(refused)
+    }
+
+    // Whether each of these bytes is refused behind the fields.
+    fn are_refused(&self, unlawful: &str) -> Result<bool, Undone> {
+        for bytes in unlawful.split(" | ") {
+            let bytes = hex_of(self.alloc, bytes)?;
+            if !self.is_refused_with(bytes.as_slice())? {
                 return Ok(false);
             }
         }
-        if !self.is_refused_cut(field.as_slice())? {
-            return Ok(false);
-        }
-        self.fields.extend_from_slice(field.as_slice())?;
         Ok(true)
     }
 
@@ -114,11 +121,9 @@ impl Calls {
 
     // Whether the fields are the encoding of the call, of so many bytes.
     fn is_spelled(&self, len: &str) -> Result<bool, Undone> {
-        if !is_encodable(&self.call) {
-            return Ok(false);
-        }
-        let encoded = encode(self.alloc, &self.call)?;
-        if encoded.as_slice() != self.fields.as_slice() || encoded.len() != len.parse()? {
+        let len: usize = len.parse()?;
+        let encoded = encoded(self.alloc, &self.call)?;
+        if encoded.as_slice() != self.fields.as_slice() || encoded.len() != len {
             return Ok(false);
         }
         self.is_read_again()
@@ -126,24 +131,30 @@ impl Calls {
 
     // Whether the encoding of the call is as long as counted, and is read back as a copy of it.
     fn is_read_again(&self) -> Result<bool, Undone> {
-        if !is_encodable(&self.call) {
-            return Ok(false);
-        }
-        let mut bytes = encode(self.alloc, &self.call)?;
+        let mut bytes = encoded(self.alloc, &self.call)?;
         let len = bytes.len();
         bytes.push(0xff)?;
         let copy = self.call.copy(self.alloc)?;
-        match decode(self.alloc, bytes.as_slice()) {
-            Ok((call, read)) => {
-                Ok(
-                    call == copy
-                        && copy == self.call
-                        && read == len
-                        && encoded_len(&copy) == len as u64,
-                )
-            }
-            Err(_) => Ok(false),
+        if copy != self.call || encoded_len(&copy) != len as u64 {
+            return Ok(false);
         }
+        Ok(is_read(self.alloc, bytes.as_slice(), &copy, len))
+    }
+}
+
+// The encoding of a call that has one.
+fn encoded(alloc: Global, call: &Call) -> Result<Vec<u8>, Undone> {
+    if !is_encodable(call) {
+        return Err(Undone);
+    }
+    Ok(encode(alloc, call)?)
+}
+
+// Whether a call is read of bytes, and so many of them.
+fn is_read(alloc: Global, bytes: &[u8], call: &Call, len: usize) -> bool {
+    match decode(alloc, bytes) {
+        Ok((read, front)) => read == *call && front == len,
+        Err(_) => false,
     }
 }
 

@@ -3,6 +3,7 @@
 //! - `holds TEXT`: a disk that holds this, all of it on the disk
 //! - `write AT TEXT`, `sync`: this is written at this offset, or what was written is synced
 //! - `image CHOICE TEXT`: a crash leaves this by this choice
+use crate::table::Table;
 use crate::undone::Undone;
 use crate::words::first_word;
 use orc_disk::{Disk, MemDisk};
@@ -18,19 +19,11 @@ pub(crate) struct Disks {
     disk: Option<MemDisk>,
 }
 
-impl Disks {
-    /// No disk so far.
-    pub(crate) fn new(alloc: Global) -> Disks {
-        Disks { alloc, disk: None }
-    }
-
-    /// Does a line, and says whether it holds.
-    pub(crate) fn take(&mut self, line: &str) -> Result<bool, Undone> {
+impl Table for Disks {
+    fn take(&mut self, line: &str) -> Result<bool, Undone> {
         let (word, rest) = first_word(line);
         if word == "holds" {
-            let bytes = Vec::from_slice(self.alloc, rest.as_bytes())?;
-            let disk = MemDisk::new(self.alloc, bytes, ROOM, Vec::new(self.alloc))?;
-            self.disk = Some(disk);
+            self.disk = Some(disk_of(self.alloc, rest)?);
             return Ok(true);
         }
         let disk = self.disk.as_mut().ok_or(Undone)?;
@@ -43,15 +36,27 @@ impl Disks {
     }
 }
 
+impl Disks {
+    /// No disk so far.
+    pub(crate) fn new(alloc: Global) -> Disks {
+        Disks { alloc, disk: None }
+    }
+}
+
+// A disk that holds this.
+fn disk_of(alloc: Global, text: &str) -> Result<MemDisk, Undone> {
+    let bytes = Vec::from_slice(alloc, text.as_bytes())?;
+    Ok(MemDisk::new(alloc, bytes, ROOM, Vec::new(alloc))?)
+}
+
 // Writes, as `AT TEXT`, and says whether that was done.
 fn is_written(disk: &mut MemDisk, rest: &str) -> Result<bool, Undone> {
     let (at, text) = first_word(rest);
     let at: u64 = at.parse()?;
-    let len = disk.len().map_err(|_| Undone)?;
-    if at > len {
-        return Ok(false);
+    match disk.len() {
+        Ok(len) if at <= len => Ok(disk.write_at(at, text.as_bytes()).is_ok()),
+        _ => Ok(false),
     }
-    Ok(disk.write_at(at, text.as_bytes()).is_ok())
 }
 
 // Whether a crash leaves this, as `CHOICE TEXT`.

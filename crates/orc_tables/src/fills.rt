@@ -1,5 +1,6 @@
 //! Many leaves in an order: the leaf of the number 7 is `/if:m007`.
 use crate::undone::Undone;
+use crate::words::first_word;
 use orc_path::Path;
 use std::alloc::Global;
 
@@ -18,14 +19,21 @@ pub(crate) enum Order {
 }
 
 impl Order {
-    /// The order that is called `up`, `down` or `mixed`.
-    pub(crate) fn named(name: &str) -> Result<Order, Undone> {
+    // The order that is called `up`, `down` or `mixed`.
+    fn named(name: &str) -> Result<Order, Undone> {
         match name {
             "up" => Ok(Order::Up),
             "down" => Ok(Order::Down),
             "mixed" => Ok(Order::Mixed),
             _ => Err(Undone),
         }
+    }
+
+    /// The count and the order of `COUNT ORDER`.
+    pub(crate) fn of_line(text: &str) -> Result<(usize, Order), Undone> {
+        let (count, order) = first_word(text);
+        let order = Order::named(order)?;
+        Ok((count.parse()?, order))
     }
 
     /// The number at a place of the order.

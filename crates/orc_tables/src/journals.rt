@@ -20,6 +20,7 @@ ghost use Rattle.orc_journal.specs.Journals.{gated};
 ghost use Rattle.orc_journal.specs.Opened.{IsReady};
 
 use crate::line::bytes_of;
+use crate::table::Table;
 use crate::undone::Undone;
 use crate::words::{first_word, hex_of};
 use orc_disk::{Disk, MemDisk, StopDisk};
@@ -44,18 +45,8 @@ pub(crate) struct Journals {
     bytes: Vec<u8>,
 }
 
-impl Journals {
-    /// A file without a byte.
-    pub(crate) fn new(alloc: Global) -> Journals {
-        Journals {
-            alloc,
-            decls: Vec::new(alloc),
-            bytes: Vec::new(alloc),
-        }
-    }
-
-    /// Does a line, and says whether it holds.
-    pub(crate) fn take(&mut self, line: &str) -> Result<bool, Undone> {
+impl Table for Journals {
+    fn take(&mut self, line: &str) -> Result<bool, Undone> {
         let (word, rest) = first_word(line);
         match word {
             "decls" => self.begin(rest),
@@ -65,6 +56,17 @@ impl Journals {
             "again" => self.is_written(rest),
             "stop" => self.is_stopped(rest),
             _ => Err(Undone),
+        }
+    }
+}
+
+impl Journals {
+    /// A file without a byte.
+    pub(crate) fn new(alloc: Global) -> Journals {
+        Journals {
+            alloc,
+            decls: Vec::new(alloc),
+            bytes: Vec::new(alloc),
         }
     }
 
@@ -88,14 +90,19 @@ impl Journals {
         let (to, answer) = first_word(rest);
         let (from, to): (usize, usize) = (from.parse()?, to.parse()?);
         for n in from..=to {
-            let front = self.bytes.get(..n).ok_or(Undone)?;
-            let given = given(self.alloc, front, self.decls.as_slice())?;
-            let wanted = wanted(self.alloc, answer, n.saturating_sub(from))?;
-            if given.as_str() != wanted.as_str() {
+            if !self.front_gives(n, n.saturating_sub(from), answer)? {
                 return Ok(false);
             }
         }
         Ok(true)
+    }
+
+    // Whether so many bytes give this answer, which are so many more than the first front's.
+    fn front_gives(&self, count: usize, more: usize, answer: &str) -> Result<bool, Undone> {
+        let front = self.bytes.get(..count).ok_or(Undone)?;
+        let given = given(self.alloc, front, self.decls.as_slice())?;
+        let wanted = wanted(self.alloc, answer, more)?;
+        Ok(given.as_str() == wanted.as_str())
     }
 
     // Whether this is one of the entries, as `INDEX ENTRY`.
@@ -103,55 +110,62 @@ impl Journals {
         let (index, wanted) = first_word(rest);
         let index: usize = index.parse()?;
         let (journal, entries) = self.opened(self.bytes.as_slice(), LIMIT)?;
-        if index >= entries.len() {
+        if index >= entries.len() || journal.fresh() {
             return Ok(false);
         }
         let place = journal.offset(&entries, index);
-        let kind = kind_of(&entries[index]);
-        let number = entries[index].number();
-        let commits = match committed_by(&entries[..index], &entries[index]) {
-            Some(_) => " commits",
-            None => "",
-        };
-        let shown = format!(in self.alloc; "{kind} {number} {place}{commits}")?;
-        Ok(shown.as_str() == wanted && !journal.fresh())
+        let shown = shown_entry(self.alloc, &entries[..index], &entries[index], place)?;
+        Ok(shown.as_str() == wanted)
     }
 
     // Whether the entries are spelled so on an empty disk with this limit, which is then full.
     fn is_written(&self, limit: &str) -> Result<bool, Undone> {
-        let limit: u32 = limit.parse()?;
         let (_, entries) = self.opened(self.bytes.as_slice(), LIMIT)?;
-        let (mut journal, none) = self.opened(b"", limit)?;
+        let (mut journal, none) = self.opened(b"", limit.parse()?)?;
         if !none.is_empty() || !journal.fresh() {
             return Ok(false);
         }
         append_all(self.alloc, &mut journal, &entries)?;
-        let full = journal.append(self.alloc, &Entry::Decide { t: 1 });
-        let len = self.bytes.len() as u64;
-        let was_full = full == Err(AppendFault::Full { len });
-        let was_fresh = journal.fresh();
-        let image = journal.into_disk().into_inner().image(self.alloc, SYNCED)?;
-        Ok(was_full && !was_fresh && image.as_slice() == self.bytes.as_slice())
+        let was_full = is_full(self.alloc, &mut journal, self.bytes.len() as u64);
+        Ok(was_full && self.is_left(journal)?)
+    }
+
+    // Whether a crash leaves these bytes of a journal.
+    fn is_left(&self, journal: Journal<TableDisk>) -> Result<bool, Undone> {
+        let disk = journal.into_disk().into_inner();
+        let image = disk.image(self.alloc, SYNCED)?;
+        Ok(image.as_slice() == self.bytes.as_slice())
     }
 
     // Whether a stop comes to this, as `OPERATION BYTES -> OUTCOME READ LEFT`.
     fn is_stopped(&self, rest: &str) -> Result<bool, Undone> {
         let (stop, wanted) = rest.split_once(" -> ").ok_or(Undone)?;
         let (operation, bytes) = first_word(stop);
-        let (mut journal, _) = self.opened(self.bytes.as_slice(), LIMIT)?;
-        journal.arm(operation.parse()?, bytes.parse()?);
-        let outcome = match journal.append(self.alloc, &Entry::Decide { t: 1 }) {
-            Ok(()) => "done",
-            Err(AppendFault::DiskFault) if journal.stopped() => "stopped",
-            Err(_) => "failed",
-        };
-        let disk = journal.into_disk().into_inner();
-        let read = disk.image(self.alloc, CONTENT)?;
-        let (_, read) = self.opened(read.as_slice(), LIMIT)?;
-        let left = disk.image(self.alloc, SYNCED)?;
-        let (_, left) = self.opened(left.as_slice(), LIMIT)?;
-        let shown = format!(in self.alloc; "{outcome} {} {}", read.len(), left.len())?;
+        let shown = self.stopped_at(operation.parse()?, bytes.parse()?)?;
         Ok(shown.as_str() == wanted)
+    }
+
+    // What a stop at this operation comes to.
+    fn stopped_at(&self, operation: u64, bytes: u64) -> Result<String, Undone> {
+        let (mut journal, _) = self.opened(self.bytes.as_slice(), LIMIT)?;
+        journal.arm(operation, bytes);
+        let outcome = outcome_of(self.alloc, &mut journal);
+        let disk = journal.into_disk().into_inner();
+        self.shown_stop(outcome, &disk)
+    }
+
+    // An outcome, and how many entries are read and left behind it.
+    fn shown_stop(&self, outcome: &str, disk: &MemDisk) -> Result<String, Undone> {
+        let read = self.count_in(disk, CONTENT)?;
+        let left = self.count_in(disk, SYNCED)?;
+        Ok(format!(in self.alloc; "{outcome} {read} {left}")?)
+    }
+
+    // How many entries the image of a disk by this choice has.
+    fn count_in(&self, disk: &MemDisk, choice: u64) -> Result<usize, Undone> {
+        let image = disk.image(self.alloc, choice)?;
+        let (_, entries) = self.opened(image.as_slice(), LIMIT)?;
+        Ok(entries.len())
     }
 
     // The journal that these bytes are, and its entries.
@@ -210,6 +224,43 @@ fn append_all<D: Disk>(
         journal.append(alloc, entry)?;
     }
     Ok(())
+}
+
+// What appending a Decide comes to.
+fn outcome_of(alloc: Global, journal: &mut Journal<TableDisk>) -> &'static str
+    requires ready { IsReady (inside memory_disk) journal.old }
+{
+    match journal.append(alloc, &Entry::Decide { t: 1 }) {
+        Ok(()) => "done",
+        Err(AppendFault::DiskFault) if journal.stopped() => "stopped",
+        Err(_) => "failed",
+    }
+}
+
+// Whether a journal that isn't fresh, of this length, has no room for a Decide.
+fn is_full(alloc: Global, journal: &mut Journal<TableDisk>, len: u64) -> bool
+    requires ready { IsReady (inside memory_disk) journal.old }
+{
+    match journal.append(alloc, &Entry::Decide { t: 1 }) {
+        Err(AppendFault::Full { len: full }) => full == len && !journal.fresh(),
+        _ => false,
+    }
+}
+
+// An entry behind others, as `KIND NUMBER PLACE`, and `commits` behind it.
+fn shown_entry(
+    alloc: Global,
+    before: &[Entry],
+    entry: &Entry,
+    place: u64,
+) -> Result<String, Undone> {
+    let kind = kind_of(entry);
+    let number = entry.number();
+    let commits = match committed_by(before, entry) {
+        Some(_) => " commits",
+        None => "",
+    };
+    Ok(format!(in alloc; "{kind} {number} {place}{commits}")?)
 }
 
 // What bytes are as a journal of these declarations.

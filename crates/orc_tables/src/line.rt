@@ -1,26 +1,35 @@
 //! A line of a table: a call, what it is given, and what must come, with `|` between them.
 use crate::restrictions::{is_default, is_typed};
 use crate::statements::is_parsed;
+use crate::table::Table;
+use crate::undone::Undone;
 use crate::values::{is_canon, is_read, is_written};
 use orc_text::{Memory, Text};
 use std::alloc::Global;
 
-// Whether the call of a line answers what stands behind it.
-pub(crate) fn holds(alloc: Global, line: &str) -> bool {
-    let Some((call, rest)) = line.split_once('|') else {
-        return false;
-    };
-    let Some((given, expected)) = rest.rsplit_once('|') else {
-        return false;
-    };
-    match answers(alloc, call, given, expected) {
-        Ok(holds) => holds,
-        Err(Memory) => false,
+/// Lines that stand alone.
+#[derive(Drop)]
+pub(crate) struct Answers {
+    alloc: Global,
+}
+
+impl Answers {
+    /// No line was taken.
+    pub(crate) fn new(alloc: Global) -> Answers {
+        Answers { alloc }
+    }
+}
+
+impl Table for Answers {
+    fn take(&mut self, line: &str) -> Result<bool, Undone> {
+        let (call, rest) = line.split_once('|').ok_or(Undone)?;
+        let (given, expected) = rest.rsplit_once('|').ok_or(Undone)?;
+        Ok(does_answer(self.alloc, call, given, expected)?)
     }
 }
 
 // Whether a call answers so.
-fn answers(alloc: Global, call: &str, given: &str, expected: &str) -> Result<bool, Memory> {
+fn does_answer(alloc: Global, call: &str, given: &str, expected: &str) -> Result<bool, Memory> {
     match call {
         "parse" => is_parsed(alloc, given, expected),
         "type" => is_typed(alloc, given, expected),

@@ -1,7 +1,7 @@
 //! Runs the tables that the words name: how many lines of each hold, and which don't.
 //!
 //! A word `NAME.yang` names a module, which is compared with the listing `NAME.statements`, and a word
-//! `NAME.file` a file that is made, used as a disk and removed. A table whose name ends in `trees`,
+//! `NAME.file` a file that is made, used as a disk and removed. A table whose file is called `trees`,
 //! `calls`, `disks`, `journals` or `paths` is done from top to bottom. Lines that are empty or begin with `#`
 //! say nothing.
 #![tactic(auto)]
@@ -18,14 +18,19 @@ mod restrictions;
 mod statements;
 mod table;
 mod trees;
-mod types;
 mod undone;
 mod values;
 mod words;
 
+use crate::calls::Calls;
+use crate::disks::Disks;
 use crate::files::keeps_bytes;
+use crate::journals::Journals;
+use crate::line::Answers;
+use crate::paths::Paths;
 use crate::statements::is_listed;
 use crate::table::Table;
+use crate::trees::Trees;
 use std::process::ExitCode;
 use std::rt::{Env, Files};
 use std::{env, fs, io};
@@ -58,17 +63,44 @@ fn run_all<R: Files<File = fs::File> + Env + Print + AllocGlobal>(rt: &R) -> io:
     Ok(good)
 }
 
-// Prints how many lines of a table hold, and the others, and says whether there are none of these.
+// Runs a table.
 fn run<R: Files + Print + AllocGlobal>(rt: &R, name: &str) -> io::Result<bool> {
     let text = fs::read_to_string(rt, name)?;
-    let mut table = Table::named(rt.alloc(), name);
+    let (_, kind) = name.rsplit_once('/').unwrap_or(("", name));
+    run_kind(rt, name, kind, text.as_str())
+}
+
+// Runs a table of this kind.
+fn run_kind<R: Print + AllocGlobal>(
+    rt: &R,
+    name: &str,
+    kind: &str,
+    text: &str,
+) -> io::Result<bool> {
+    match kind {
+        "trees" => run_lines(rt, name, text, Trees::new(rt.alloc())),
+        "calls" => run_lines(rt, name, text, Calls::new(rt.alloc())),
+        "disks" => run_lines(rt, name, text, Disks::new(rt.alloc())),
+        "journals" => run_lines(rt, name, text, Journals::new(rt.alloc())),
+        "paths" => run_lines(rt, name, text, Paths::new(rt.alloc())),
+        _ => run_lines(rt, name, text, Answers::new(rt.alloc())),
+    }
+}
+
+// Prints how many lines of a table hold, and the others, and says whether there are none of these.
+fn run_lines<R: Print, T: Table + Drop>(
+    rt: &R,
+    name: &str,
+    text: &str,
+    mut table: T,
+) -> io::Result<bool> {
     let mut count: u64 = 0;
     let mut good = true;
-    for line in text.as_str().lines() {
+    for line in text.lines() {
         if line.is_empty() || line.starts_with('#') {
             continue;
         }
-        if table.take(line) {
+        if table.take(line).unwrap_or(false) {
             count = count.saturating_add(1);
         } else {
             println!(rt; "{name}: {line} DIFFERS")?;

@@ -13,6 +13,7 @@
 //! - `copies N`: so many copies of its items are made, each anew
 //! - `equal`, `unequal`: it has the items of the other, or not
 use crate::fills::{Order, leaf_path};
+use crate::table::Table;
 use crate::undone::Undone;
 use crate::words::{first_word, put_of};
 use orc_call::Put;
@@ -30,6 +31,19 @@ pub(crate) struct Trees {
     other: Tree,
 }
 
+impl Table for Trees {
+    fn take(&mut self, line: &str) -> Result<bool, Undone> {
+        let (word, rest) = first_word(line);
+        match word {
+            "set" => self.set_line(rest),
+            "remove" => self.remove(rest),
+            "fill" => self.fill(rest),
+            "drain" => self.drain(rest),
+            _ => self.change(word, rest),
+        }
+    }
+}
+
 impl Trees {
     /// Two trees without items.
     pub(crate) fn new(alloc: Global) -> Trees {
@@ -40,21 +54,22 @@ impl Trees {
         }
     }
 
-    /// Does a line, and says whether it holds.
-    pub(crate) fn take(&mut self, line: &str) -> Result<bool, Undone> {
-        let (word, rest) = first_word(line);
+    // Does a line on both trees, or else looks at what one says.
+    fn change(&mut self, word: &str, rest: &str) -> Result<bool, Undone> {
         match word {
             "new" => self.tree = Tree::new(self.alloc),
-            "set" => return self.set(put_of(self.alloc, rest)?),
-            "remove" => self.tree.remove(&Path::parse(self.alloc, rest)?)?,
-            "fill" => return self.fill(rest),
-            "drain" => return self.drain(rest),
             "copy" => self.other = shared_copy(self.alloc, &self.tree)?,
             "swap" => swap(&mut self.tree, &mut self.other),
             "overlay" => self.tree.overlay_with(&self.other)?,
             _ => return self.says(word, rest),
         }
         Ok(true)
+    }
+
+    // Sets the item of a line, and says whether it fits its path.
+    fn set_line(&mut self, rest: &str) -> Result<bool, Undone> {
+        let put = put_of(self.alloc, rest)?;
+        self.set(put)
     }
 
     // Sets an item, and says whether it fits its path.
@@ -67,50 +82,74 @@ impl Trees {
         Ok(true)
     }
 
+    // Removes a path.
+    fn remove(&mut self, rest: &str) -> Result<bool, Undone> {
+        let path = Path::parse(self.alloc, rest)?;
+        self.tree.remove(&path)?;
+        Ok(true)
+    }
+
     // Sets so many leaves, and says whether all fit.
     fn fill(&mut self, rest: &str) -> Result<bool, Undone> {
-        let (count, order) = first_word(rest);
-        let (count, order) = (count.parse()?, Order::named(order)?);
+        let (count, order) = Order::of_line(rest)?;
         for place in 0..count {
-            let item = Item::Leaf(Text::from_str(self.alloc, "x")?);
-            let path = leaf_path(self.alloc, order.at(place, count))?;
-            if !self.set(Put { path, item })? {
+            if !self.fill_one(order.at(place, count))? {
                 return Ok(false);
             }
         }
         Ok(true)
     }
 
+    // Sets the leaf with a number.
+    fn fill_one(&mut self, number: usize) -> Result<bool, Undone> {
+        let path = leaf_path(self.alloc, number)?;
+        let item = Item::Leaf(Text::from_str(self.alloc, "x")?);
+        self.set(Put { path, item })
+    }
+
     // Removes so many leaves.
     fn drain(&mut self, rest: &str) -> Result<bool, Undone> {
-        let (count, order) = first_word(rest);
-        let (count, order) = (count.parse()?, Order::named(order)?);
+        let (count, order) = Order::of_line(rest)?;
         for place in 0..count {
-            let path = leaf_path(self.alloc, order.at(place, count))?;
-            self.tree.remove(&path)?;
+            self.drain_one(order.at(place, count))?;
         }
         Ok(true)
     }
 
-    // Whether it is so, as a line says.
+    // Removes the leaf with a number.
+    fn drain_one(&mut self, number: usize) -> Result<(), Undone> {
+        let path = leaf_path(self.alloc, number)?;
+        self.tree.remove(&path)?;
+        Ok(())
+    }
+
+    // Whether it is so, as a line says of items.
     fn says(&self, word: &str, rest: &str) -> Result<bool, Undone> {
         match word {
-            "get" => self.has(put_of(self.alloc, rest)?),
-            "none" => self.has_none(&Path::parse(self.alloc, rest)?),
+            "get" => self.has(rest),
+            "none" => self.has_none(rest),
             "keys" => self.has_keys(rest),
-            "rows" => Ok(self.shown()?.as_str() == rest && self.tree.is_empty() == rest.is_empty()),
-            "walk" => Ok(self.walked()?.as_str() == rest),
-            "len" => Ok(self.tree.len() == rest.parse()?),
-            "pages" => Ok(self.tree.pages().len() == rest.parse()?),
-            "copies" => Ok(self.tree.walk(self.alloc)?.len() == rest.parse()?),
+            "rows" => self.has_rows(rest),
+            "walk" => self.is_walked(rest),
             "equal" => Ok(self.tree.equals(&self.other)),
             "unequal" => Ok(!self.tree.equals(&self.other)),
+            _ => self.counts(word, rest.parse()?),
+        }
+    }
+
+    // Whether there are so many, as a line says.
+    fn counts(&self, word: &str, count: u64) -> Result<bool, Undone> {
+        match word {
+            "len" => Ok(self.tree.len() == count),
+            "pages" => Ok(self.tree.pages().len() as u64 == count),
+            "copies" => Ok(self.tree.walk(self.alloc)?.len() as u64 == count),
             _ => Err(Undone),
         }
     }
 
     // Whether this item stands at its path.
-    fn has(&self, put: Put) -> Result<bool, Undone> {
+    fn has(&self, rest: &str) -> Result<bool, Undone> {
+        let put = put_of(self.alloc, rest)?;
         match self.tree.get(&put.path) {
             Some(item) => Ok(*item == put.item),
             None => Ok(false),
@@ -118,37 +157,43 @@ impl Trees {
     }
 
     // Whether nothing stands at the path.
-    fn has_none(&self, path: &Path) -> Result<bool, Undone> {
-        Ok(self.tree.get(path).is_none())
+    fn has_none(&self, rest: &str) -> Result<bool, Undone> {
+        let path = Path::parse(self.alloc, rest)?;
+        Ok(self.tree.get(&path).is_none())
     }
 
     // Whether a list has these entries.
     fn has_keys(&self, rest: &str) -> Result<bool, Undone> {
         let (list, paths) = rest.split_once(" -> ").unwrap_or((rest, ""));
         let list = Path::parse(self.alloc, list)?;
-        let mut shown = String::new(self.alloc);
-        for path in &self.tree.keys_under(self.alloc, &list)? {
-            add(&mut shown, self.alloc, path, &Item::Entry)?;
-        }
-        Ok(shown.as_str() == paths)
+        Ok(self.keys(&list)?.as_str() == paths)
     }
 
-    // The items that are lent, in path order.
-    fn shown(&self) -> Result<String, Undone> {
+    // The entries of a list.
+    fn keys(&self, list: &Path) -> Result<String, Undone> {
+        let mut shown = String::new(self.alloc);
+        for path in &self.tree.keys_under(self.alloc, list)? {
+            add(&mut shown, self.alloc, path, &Item::Entry)?;
+        }
+        Ok(shown)
+    }
+
+    // Whether these are all items, lent in path order.
+    fn has_rows(&self, rest: &str) -> Result<bool, Undone> {
         let mut shown = String::new(self.alloc);
         for row in self.tree.rows() {
             add(&mut shown, self.alloc, &row.0, &row.1)?;
         }
-        Ok(shown)
+        Ok(shown.as_str() == rest && self.tree.is_empty() == rest.is_empty())
     }
 
-    // The items that are copied, in path order.
-    fn walked(&self) -> Result<String, Undone> {
+    // Whether these are all items, copied in path order.
+    fn is_walked(&self, rest: &str) -> Result<bool, Undone> {
         let mut shown = String::new(self.alloc);
         for row in &self.tree.walk(self.alloc)? {
             add(&mut shown, self.alloc, &row.0, &row.1)?;
         }
-        Ok(shown)
+        Ok(shown.as_str() == rest)
     }
 }
 

@@ -46,26 +46,33 @@ pub(crate) fn device_put_of(alloc: Global, text: &str) -> Result<DevicePut, Undo
     })
 }
 
-/// The text in front of the first bar, and the items between the bars.
-pub(crate) fn body_of(alloc: Global, text: &str) -> Result<(Text, Row<Put>), Undone> {
-    let mut parts = text.split(" | ");
-    let name = Text::from_str(alloc, parts.next().unwrap_or(""))?;
+/// The name in front of the first bar, and the items behind it.
+pub(crate) fn named(text: &str) -> (&str, &str) {
+    text.split_once(" | ").unwrap_or((text, ""))
+}
+
+/// The items between the bars.
+pub(crate) fn body_of(alloc: Global, items: &str) -> Result<Row<Put>, Undone> {
     let mut body = Row::new(alloc);
-    for part in parts {
-        body.push(put_of(alloc, part)?)?;
+    if items.is_empty() {
+        return Ok(body);
     }
-    Ok((name, body))
+    for item in items.split(" | ") {
+        body.push(put_of(alloc, item)?)?;
+    }
+    Ok(body)
 }
 
 /// The same with items of devices.
-pub(crate) fn writes_of(alloc: Global, text: &str) -> Result<(Text, Row<DevicePut>), Undone> {
-    let mut parts = text.split(" | ");
-    let name = Text::from_str(alloc, parts.next().unwrap_or(""))?;
+pub(crate) fn writes_of(alloc: Global, items: &str) -> Result<Row<DevicePut>, Undone> {
     let mut writes = Row::new(alloc);
-    for part in parts {
-        writes.push(device_put_of(alloc, part)?)?;
+    if items.is_empty() {
+        return Ok(writes);
     }
-    Ok((name, writes))
+    for item in items.split(" | ") {
+        writes.push(device_put_of(alloc, item)?)?;
+    }
+    Ok(writes)
 }
 
 /// The bytes that are spelled in hexadecimal, two digits each, with spaces between.

@@ -10,11 +10,9 @@ mod copied;
 mod counted;
 mod memory;
 mod row;
-#[cfg(test)]
-mod tests;
 mod text;
 
-pub use character::is_noncharacter;
+pub use character::{is_noncharacter, is_plain_character, is_plain_text};
 pub use copied::Copied;
 pub use counted::{Counted, total_count};
 pub use memory::Memory;

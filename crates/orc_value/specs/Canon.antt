@@ -10,7 +10,7 @@ use Rattle.orc_value.specs.declared.kind.Kind.TheVariants.{Int, Decimal, Str, Bo
 use Rattle.orc_value.specs.declared.fault.ValueFault.{ValueFault}
 use Rattle.orc_value.specs.declared.fault.ValueFault.TheVariants.{BadValue, Memory as NoMemory}
 use Rattle.orc_value.specs.declared.fault.TheConstants.{LEXICAL, LENGTH, ENUM}
-use Rattle.orc_value.specs.Characters.{is_value_text}
+use Rattle.orc_text.specs.Characters.{is_plain_text}
 use Rattle.orc_value.specs.Numerals.{admitted, number_text}
 use Rattle.orc_value.specs.Integers.{int_value, has_integer, int_text}
 use Rattle.orc_value.specs.Decimals.{decimal_value, is_decimal_value, decimal_text}
@@ -25,7 +25,7 @@ in_lengths lengths n = list_any (λ r. nat_le r.0 n && nat_le n r.1) lengths
 
 -- the rule that a text breaks, for the types whose values are their own canonical texts
 abbrev pub string_rule : List (ℕ × ℕ) → List ℕ → Option ℕ
-string_rule lengths text = if is_value_text text
+string_rule lengths text = if is_plain_text text
     then (if in_lengths lengths (length (chars text)) then None else Some LENGTH)
     else Some LEXICAL
 
@@ -33,7 +33,7 @@ abbrev pub bool_rule : List ℕ → Option ℕ
 bool_rule text = if same_text text true_text || same_text text false_text then None else Some LEXICAL
 
 abbrev pub enum_rule : List (List ℕ) → List ℕ → Option ℕ
-enum_rule names text = if is_value_text text
+enum_rule names text = if is_plain_text text
     then (if list_any (same_text text) names then None else Some ENUM)
     else Some LEXICAL
 

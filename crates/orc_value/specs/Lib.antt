@@ -1,4 +1,3 @@
-pub mod Characters
 pub mod Numerals
 pub mod Integers
 pub mod Decimals

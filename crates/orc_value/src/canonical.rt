@@ -3,12 +3,12 @@ ghost use Rattle.std.specs.Prelude.{◌≡◌, ◌↔◌, IsTrue, IfOk, Ok, List
 ghost use Rattle.std.specs.List.{list_any};
 ghost use Rattle.orc_value.specs.Canon.{canon_of, is_canonical, same_text, in_lengths, string_rule, bool_rule, enum_rule, empty_rule, kept, Answers, SameValue};
 
-use crate::characters::{character_count, is_value_text};
+use crate::characters::character_count;
 use crate::decimals::{decimal, is_decimal_text, written_decimal};
 use crate::fault::{ENUM, LENGTH, LEXICAL};
 use crate::integers::{integer, is_integer_text, written_integer};
 use crate::{IntKind, Kind, ValueFault};
-use orc_text::{Row, Text};
+use orc_text::{Row, Text, is_plain_text};
 use std::alloc::Global;
 
 /// The canonical text of the value that a text denotes: RFC 7950 section 9.
@@ -99,7 +99,7 @@ fn in_lengths(lengths: &[(u64, u64)], count: u64) -> bool
 fn string_rule(lengths: &Row<(u64, u64)>, text: &str) -> Option<u8>
     ensures { result ≡ string_rule lengths.now text.now }
 {
-    if !is_value_text(text) {
+    if !is_plain_text(text) {
         Some(LEXICAL)
     } else if in_lengths(lengths.as_slice(), character_count(text) as u64) {
         None
@@ -130,7 +130,7 @@ fn is_among(text: &str, names: &[Text]) -> bool
 fn enum_rule(names: &Row<Text>, text: &str) -> Option<u8>
     ensures { result ≡ enum_rule names.now text.now }
 {
-    if !is_value_text(text) {
+    if !is_plain_text(text) {
         Some(LEXICAL)
     } else if is_among(text, names.as_slice()) {
         None

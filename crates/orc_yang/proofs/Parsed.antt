@@ -1,14 +1,14 @@
 -- What bytes are parsed as, as one function.
-use Rattle.std.proofs.Common.{◌≡◌, ◌≢◌, ◌↔◌, ℕ, zero, suc, ◌+◌, ◌<◌, ◌≤◌, Bool, true, false, cond, List, [], ◌++◌, Result, Ok, Err, MatchResult, length, take, refl, sym, ap, ◌∙◌, subst, arith}
-use Rattle.std.specs.Str.{chars, IsUtf8, is_utf8, IsValidUpTo, encode_utf8_all, all_scalars}
+use Rattle.std.proofs.Common.{◌≡◌, ◌≢◌, ℕ, zero, suc, ◌<◌, ◌≤◌, Bool, true, false, cond, List, [], ◌++◌, Result, Ok, Err, MatchResult, length, take, refl, sym, ap, ◌∙◌, subst, arith}
+use Rattle.std.specs.Str.{chars, IsUtf8, is_utf8, IsValidUpTo}
 use Rattle.std.specs.Str.Lossy.{utf8_valid_len, valid_len_up_to}
-use Rattle.std.proofs.lemmas.Str.{IsUtf8-from_is_utf8, is_utf8-from_IsUtf8, utf8_valid_len_le, chars-encodes}
+use Rattle.std.proofs.lemmas.Str.{IsUtf8-from_is_utf8, is_utf8-from_IsUtf8, chars-encodes}
 use Rattle.std.proofs.lemmas.List.{take_all}
 use Rattle.orc_yang.specs.declared.fault.YangFault.{YangFault}
 use Rattle.orc_yang.specs.declared.fault.YangFault.TheVariants.{NotUtf8, BadToken, BadEscape, OpenString, OpenBlock, Depth, Memory}
 use Rattle.orc_yang.specs.declared.statement.Stmt.{Stmt}
 use Rattle.orc_yang.specs.Text.{placed, IsTextOf}
-use Rattle.orc_yang.specs.Faults.{IsFault, IsUnclosed, byte_count}
+use Rattle.orc_yang.specs.Faults.{IsFault, byte_count}
 use Rattle.orc_yang.specs.Laws.{GoesFirst, FollowsGrammar}
 use Rattle.orc_yang.specs.Parsing.{statements_of, FailsWith}
 use Rattle.orc_yang.specs.Machine.{run, start}

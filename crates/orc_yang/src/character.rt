@@ -6,7 +6,7 @@ use orc_text::is_noncharacter;
 
 /// A character as it stands in a text: the places of its first and last byte, and its column, counted
 /// from 1.
-#[derive(Clone, Copy, Debug)]
+#[derive(Clone, Copy)]
 pub struct Character {
     pub code: char,
     pub at: u64,
@@ -15,7 +15,7 @@ pub struct Character {
 }
 
 /// What a character can be to the grammar.
-#[derive(Clone, Copy, Debug, PartialEq, Eq)]
+#[derive(Clone, Copy)]
 pub enum Sort {
     LineFeed,
     /// A space, a tab or a carriage return.

@@ -12,7 +12,7 @@ use std::alloc::Global;
 use std::mem;
 
 // Between which parts of a statement white space and comments stand.
-#[derive(Clone, Copy, Debug)]
+#[derive(Clone, Copy)]
 pub(crate) enum Spot {
     // Between two statements.
     Between,
@@ -27,7 +27,7 @@ pub(crate) enum Spot {
 }
 
 // What the next character goes on with.
-#[derive(Clone, Copy, Debug)]
+#[derive(Clone, Copy)]
 pub(crate) enum Mode {
     // White space or what comes next.
     Gap,
@@ -62,7 +62,7 @@ pub(crate) enum Mode {
 }
 
 // A statement whose block is open, and the statements that stand before it in its own block.
-#[derive(Debug, Drop)]
+#[derive(Drop)]
 pub(crate) struct Frame {
     pub keyword: Text,
     pub argument: Option<Text>,
@@ -71,7 +71,7 @@ pub(crate) struct Frame {
 }
 
 // The reader between two characters.
-#[derive(Debug, Drop)]
+#[derive(Drop)]
 pub(crate) struct Parser {
     pub mode: Mode,
     pub spot: Spot,

@@ -8,7 +8,7 @@ use orc_text::{Memory, Text};
 use std::alloc::Global;
 
 // A value as far as it is made.
-#[derive(Debug, Drop)]
+#[derive(Drop)]
 pub(crate) struct Value {
     pub text: Text,
     // How many columns of indentation are left to drop.

@@ -1,5 +1,6 @@
 -- What was read so far is lawful.
-use Rattle.std.specs.Prelude.{◌≡◌, ◌≤◌, ◌+◌, ◌^◌, ℕ, Bool, true, ◌&&◌, nat_lt, List, length, IsTrue}
+use Rattle.std.specs.Prelude.{◌≡◌, ◌≤◌, ◌+◌, ◌^◌, ℕ, Bool, true, ◌&&◌, nat_lt, List, length, IsTrue, Result}
+use Rattle.std.specs.declared.result.Result.TheVariants.{Ok, Err}
 use Rattle.std.specs.List.{list_all}
 use Rattle.orc_state.specs.States.{names_of}
 use Rattle.orc_state.specs.Calls.{is_device, is_lawful_name, is_write}
@@ -34,6 +35,11 @@ pub record AreSteps (names : List (List ℕ)) (most : ℕ) (s : Script) : Type 0
   pub steps : IsTrue (list_all (is_step names) s.steps)
   pub call : IsTrue (is_open names s s.part)
   pub few : length s.writes ≤ most
+
+-- the bytes behind the declarations; none where they are at fault
+abbrev pub left_of : {E : Type 0} → Result Behind E → ℕ
+left_of (Ok behind) = length behind.later.now
+left_of (Err fault) = 0
 
 -- the parts of the bytes where the declarations end
 pub record IsWithin (bytes : List ℕ) (behind : Behind) : Type 0 where

@@ -15,10 +15,10 @@ use Rattle.orc_bundle.specs.declared.declarations.Declared.{Declared}
 use Rattle.orc_bundle.specs.declared.read.Behind.{Behind}
 
 -- what a reader that changes what was read so far answers; want of memory is free
-abbrev pub Steps : {X T : Type 0} → Result X Rule → X → Result T LineFault → Type 0
-Steps answer new (Ok _) = answer ≡ Ok new
-Steps answer new (Err (Breaks rule)) = answer ≡ Err rule
-Steps answer new (Err Memory) = Unit {0}
+abbrev pub Takes : {X T : Type 0} → Result X Rule → X → Result T LineFault → Type 0
+Takes answer new (Ok _) = answer ≡ Ok new
+Takes answer new (Err (Breaks rule)) = answer ≡ Err rule
+Takes answer new (Err Memory) = Unit {0}
 
 -- the same of a reader of a value
 abbrev pub Reads : {X : Type 0} → Result X Rule → Result X LineFault → Type 0

@@ -22,11 +22,12 @@ module _ {D : Type 0} (disk : DiskMeaning D) where
   -- no write or sync came before a fault: one of the disk is that of a read
   pub record EndsReading (old new : D) (fault : OpenFault) : Type 0 where
     pub other : (fault ≡ DiskFault → ⊥) → LedBy disk 0 old new
-    pub failed : fault ≡ DiskFault → FailsBefore disk 1 old new
+    pub failed : fault ≡ DiskFault → FailsBefore disk 1 1 old new
 
-  -- where it is one of the disk, an operation failed before so many writes and syncs were done
-  abbrev pub FailsAfter : ℕ → D → D → OpenFault → Type 0
-  FailsAfter most old new fault = fault ≡ DiskFault → FailsBefore disk most old new
+  -- where it is one of the disk, an operation failed before so many writes and syncs were done, and a read behind fewer
+  -- than `reads`
+  abbrev pub FailsAfter : ℕ → ℕ → D → D → OpenFault → Type 0
+  FailsAfter most reads old new fault = fault ≡ DiskFault → FailsBefore disk most reads old new
 
   -- a fault that is none of the disk came before any operation
   abbrev pub IsUntouched : D → D → OpenFault → Type 0
@@ -37,6 +38,7 @@ module _ {D : Type 0} (disk : DiskMeaning D) where
     pub piece : List ℕ
     pub grows : after ≡ before ++ piece
     pub course : disk.leads (reading ((length before, piece) ∷ [])) old new
+    pub some : more ≡ true → 1 ≤ length piece
     pub last : more ≡ false → piece ≡ []
 
   -- reads gave these bytes so far

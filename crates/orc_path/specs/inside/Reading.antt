@@ -3,7 +3,8 @@ use Rattle.std.specs.Prelude.{◌≡◌, ℕ, Bool, true, false, ◌==◌, ◌&&
 use Rattle.std.specs.declared.option.Option.TheVariants.{None, Some}
 use Rattle.std.specs.Option.{option_map, option_map_or, option_and_then}
 use Rattle.std.specs.List.{list_all}
-use Rattle.orc_path.specs.Alphabet.{is_name_start, is_name_byte, is_identifier, is_qualified, is_key, is_plain_character}
+use Rattle.orc_text.specs.Characters.{is_plain_character}
+use Rattle.orc_path.specs.Alphabet.{is_name_start, is_name_byte, is_identifier, is_qualified, is_key}
 use Rattle.orc_path.specs.Steps.{PathStep, is_path, is_name_behind}
 use Rattle.orc_path.specs.declared.mode.Mode.{Mode}
 use Rattle.orc_path.specs.declared.mode.Mode.TheVariants.{Start, Slash, Module, Colon, Inside, Next, Key, Escape, Closed}
@@ -107,6 +108,47 @@ feed_all r (b ∷ bs) = option_and_then (λ next. feed_all next bs) (feed r b)
 -- the reader behind a character, where it is plain and its bytes may stand
 abbrev pub feed_character : Reader → ℕ → Option Reader
 feed_character r c = if is_plain_character c then feed_all r (encode_utf8 c) else None
+
+-- the mode behind a byte that is none of a name
+abbrev pub end_mode : ℕ → Option Mode
+end_mode b = if b == 91 then Some Key else if b == 47 then Some Next else None
+
+abbrev pub key_mode : ℕ → Option Mode
+key_mode b =
+    if b == 93 then Some Closed else
+    if b == 92 then Some Escape else
+    if is_raw b then Some Key else None
+
+abbrev pub mark_mode : Mode → ℕ → Option Mode
+mark_mode Start b = if b == 47 then Some Slash else None
+mark_mode Inside b = end_mode b
+mark_mode Closed b = end_mode b
+mark_mode Key b = key_mode b
+mark_mode Escape b = option_map (λ _. Key) (unescape b)
+mark_mode Slash b = None
+mark_mode Module b = None
+mark_mode Colon b = None
+mark_mode Next b = None
+
+-- the mode behind a byte, where one may stand
+abbrev pub next_mode : Mode → ℕ → Option Mode
+next_mode mode b = option_map_or (λ next. Some next) (name_mode mode b) (mark_mode mode b)
+
+-- a reader at this mode goes on with a character to this one, or refuses it, whatever it read
+abbrev pub Moves : Mode → ℕ → Option Mode → Type 0
+Moves mode c next = (r : Reader) → r.mode ≡ mode → option_map (λ s. s.mode) (feed_character r c) ≡ next
+
+-- a path may end here
+abbrev pub is_path_end : Mode → Bool
+is_path_end Slash = true
+is_path_end Inside = true
+is_path_end Closed = true
+is_path_end Start = false
+is_path_end Module = false
+is_path_end Colon = false
+is_path_end Next = false
+is_path_end Key = false
+is_path_end Escape = false
 
 -- how many bytes of a character that is refused begin some path here: a key may hold another one that begins like it
 abbrev pub begun_in : Mode → ℕ → ℕ

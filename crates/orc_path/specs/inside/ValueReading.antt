@@ -1,5 +1,5 @@
 -- Reading a value character by character.
-use Rattle.std.specs.Prelude.{◌≡◌, ℕ, Bool, ◌==◌, ◌||◌, List, [], ◌∷◌, ◌++◌, encode_utf8, Option, Result, IfOk, MatchBool, if◌then◌else◌}
+use Rattle.std.specs.Prelude.{◌≡◌, ℕ, Bool, false, ◌==◌, ◌||◌, List, [], ◌∷◌, ◌++◌, encode_utf8, Option, is_some, Result, IfOk, MatchBool, if◌then◌else◌}
 use Rattle.std.specs.declared.option.Option.TheVariants.{None, Some}
 use Rattle.std.specs.Option.{option_map, option_map_or}
 use Rattle.orc_path.specs.declared.value.ValueReader.{ValueReader}
@@ -36,9 +36,19 @@ unescaped (byte ∷ next ∷ rest) =
 abbrev pub led : List ℕ → Option (List ℕ) → Option (List ℕ)
 led bytes rest = option_map (λ more. bytes ++ more) rest
 
+-- what is left means, where a backslash stands in front of it or not
+abbrev pub behind : Bool → List ℕ → Option (List ℕ)
+behind is_escaped rest = unescaped (if is_escaped then 92 ∷ rest else rest)
+
 -- what the whole is, where this is left
 abbrev pub ahead : ValueReader → List ℕ → Option (List ℕ)
-ahead r rest = led r.value (unescaped (if r.is_escaped then 92 ∷ rest else rest))
+ahead r rest = led r.value (behind r.is_escaped rest)
+
+-- a character may come next exactly where there is an answer, which says whether a backslash stands behind it
+abbrev pub MayCome : Bool → ℕ → Option Bool → Type 0
+MayCome is_escaped c next = (rest : List ℕ)
+    → is_some (behind is_escaped (encode_utf8 c ++ rest))
+    ≡ option_map_or (λ escaped. is_some (behind escaped rest)) next false
 
 -- a character was taken, and the whole is what it was; or none can go on with it
 abbrev pub Took : {E : Type 0} → ValueReader → ℕ → ValueReader → Result Bool E → Type 0

@@ -1,13 +1,12 @@
 -- The controller, and what its calls keep.
 use Rattle.orc_disk.specs.Stops.{inside}
 use Rattle.orc_run.specs.declared.opening.TheConstants.{LARGEST_JOURNAL}
-use Rattle.std.specs.Prelude.{◌≡◌, ℕ, ◌<◌, ◌≤◌, ◌^◌, true, false, List, [], length, take, drop, ◌∷◌, ◌++◌, All, IsTrue, IfOk, OnErr, Option, Result, Ok, Err}
+use Rattle.std.specs.Prelude.{◌≡◌, ℕ, ◌<◌, ◌≤◌, ◌^◌, true, false, List, [], length, take, drop, ◌∷◌, ◌++◌, All, IsTrue, IfOk, OnErr, Option, None, Some, Result, Ok, Err}
 use Rattle.orc_call.specs.declared.call.Call.{Call}
-use Rattle.orc_call.specs.declared.answer.Answer.{Answer}
 use Rattle.orc_text.specs.declared.memory.Memory.{Memory}
 use Rattle.orc_append.specs.Views.{unstopped}
 use Rattle.orc_journal.specs.Opening.{HasOpened}
-use Rattle.orc_run.specs.inside.Serving.{ComesShort, ServesTo, goes_on}
+use Rattle.orc_run.specs.inside.Serving.{ServesTo}
 use Rattle.orc_journal.specs.Entries.{number_of}
 use Rattle.orc_journal.specs.Orders.{is_ordered}
 use Rattle.orc_journal.specs.Committed.{history_of}
@@ -21,9 +20,8 @@ use Rattle.orc_run.specs.Steps.{Does, Breaks, EndsBecause, FailsToRecover}
 use Rattle.orc_disk.specs.Meanings.{DiskMeaning}
 use Rattle.orc_state.specs.declared.declarations.Decls.{Decls}
 use Rattle.orc_bundle.specs.declared.bundle.ScriptStep.{ScriptStep}
-use Rattle.orc_bundle.specs.declared.bundle.ScriptStep.TheVariants.{Recover, Serve}
-use Rattle.orc_run.specs.declared.serving.CallOutcome.{CallOutcome}
-use Rattle.orc_run.specs.declared.serving.CallOutcome.TheVariants.{Answered, Stopped, Broken}
+use Rattle.orc_bundle.specs.declared.bundle.ScriptStep.TheVariants.{Recover}
+use Rattle.orc_run.specs.declared.serving.Served.{Served}
 use Rattle.orc_run.specs.declared.stop.Stop.{Stop}
 use Rattle.orc_run.specs.declared.stop.Stop.TheVariants as ending
 use Rattle.orc_run.specs.declared.controller.Controller.{Controller}
@@ -60,10 +58,9 @@ abbrev pub ends_run : {D : Type 0} → D → List ℕ → Stop → StepResult D
 ends_run disk text end = Err (record { disk = disk; text = text; stop = end })
 
 -- a call was served: the controller goes on with this text, or the run ends
-abbrev pub GoesOn : {D : Type 0} → CallOutcome → Controller D → List ℕ → StepResult D → Type 0
-GoesOn (Answered given) c text result = result ≡ Ok (c, text)
-GoesOn (Stopped given) c text result = result ≡ Ok (c, text)
-GoesOn (Broken given end) c text result = result ≡ ends_run c.journal.disk.inner text end
+abbrev pub GoesOn : {D : Type 0} → Option Stop → List ℕ → Controller D → StepResult D → Type 0
+GoesOn None text c result = result ≡ Ok (c, text)
+GoesOn (Some end) text c result = result ≡ ends_run c.journal.disk.inner text end
 
 -- the run ends for want of memory
 abbrev pub Wants : {D : Type 0} → Controller D → StepResult D → Type 0
@@ -127,15 +124,13 @@ module _ {D : Type 0} (meaning : DiskMeaning D) where
       × Outlives meaning decls old last × Rests meaning decls last
       × (step ≡ Recover → FailsToRecover meaning decls old end.stop last)
 
-  -- where serving a call led
-  pub record LeadsTo (decls : Decls) (old : View D) (call : Call) (result : Result CallOutcome Memory)
-      (c : Controller D) : Type 0 where
+  -- where serving a call led; where memory was wanting for it a user can tell no difference
+  pub record LeadsTo (decls : Decls) (old : View D) (call : Call) (result : Result Served Memory) (c : Controller D)
+      : Type 0 where
     pub entries : List Entry
-    pub serves : IfOk result (λ served. ServesTo meaning decls old call served (view_of c entries))
-    pub sound : IfOk result (λ served. goes_on served ≡ true → Knows decls entries c)
-    pub broken : (given : Option Answer) (end : Stop) → result ≡ Ok (Broken given end)
-        → EndsBecause meaning decls old (Serve call) end (view_of c entries)
-    pub memory : OnErr result (ComesShort meaning decls old call (view_of c entries))
+    pub serves : IfOk result (λ served. ServesTo meaning decls old call served.text served.end (view_of c entries))
+    pub sound : IfOk result (λ served. served.end ≡ None → Knows decls entries c)
+    pub same : OnErr result (view_of c entries ≡ old)
     pub rests : Rests meaning decls (view_of c entries)
     pub outlives : Outlives meaning decls old (view_of c entries)
 

@@ -1,20 +1,23 @@
 -- How the controller serves a call.
-use Rattle.std.specs.Prelude.{◌≡◌, ◌⊎◌, ℕ, Bool, true, false, List, ◌++◌, codes, length, IsTrue, Option}
+use Rattle.std.specs.Prelude.{◌≡◌, ◌⊎◌, ℕ, Bool, false, List, ◌++◌, take, codes, length, Option}
 use Rattle.std.specs.declared.option.Option.TheVariants.{None, Some}
 use Rattle.orc_append.specs.declared.outcome.Appended.{Appended}
 use Rattle.orc_append.specs.declared.outcome.Appended.TheVariants as appended
 use Rattle.orc_call.specs.declared.call.Call.{Call}
-use Rattle.orc_call.specs.declared.answer.Answer.{Answer}
-use Rattle.orc_call.specs.declared.answer.Answer.TheVariants as answer
-use Rattle.orc_state.specs.Legal.{AnswersAtOnce, IsDue}
-use Rattle.orc_print.specs.Printed.{answer_line, is_answer_among}
+use Rattle.orc_call.specs.declared.answer.Answer.TheVariants.{Committed, JournalFault}
 use Rattle.orc_run.specs.Views.{View}
-use Rattle.orc_run.specs.Commits.{Commits, answer_by, line_of}
+use Rattle.orc_run.specs.Commits.{commit_end}
+use Rattle.orc_print.specs.Printed.{answer_line}
+use Rattle.orc_run.specs.Steps.{Serves, Breaks, EndsBecause}
+use Rattle.orc_run.specs.inside.Pasts.{IsBehind}
 use Rattle.orc_disk.specs.Meanings.{DiskMeaning}
 use Rattle.orc_state.specs.declared.declarations.Decls.{Decls}
+use Rattle.orc_bundle.specs.declared.bundle.ScriptStep.TheVariants as step
 use Rattle.orc_run.specs.declared.commit.Stage.{Stage}
-use Rattle.orc_run.specs.declared.serving.CallOutcome.{CallOutcome}
-use Rattle.orc_run.specs.declared.serving.CallOutcome.TheVariants.{Answered, Stopped, Broken}
+use Rattle.orc_run.specs.declared.commit.Stage.TheVariants.{Intent, Decide, Settled}
+use Rattle.orc_run.specs.declared.controller.Controller.{Controller}
+use Rattle.orc_run.specs.declared.printing.CommitLines.{CommitLines}
+use Rattle.orc_run.specs.declared.stop.Stop.{Stop}
 use Rattle.orc_run.specs.declared.stop.Stop.TheVariants as ending
 
 -- the controller is down where the disk is stopped
@@ -22,61 +25,53 @@ abbrev pub up_behind : Appended → Bool → Bool
 up_behind appended.Stopped up = false
 up_behind outcome up = up
 
--- the answer, where there is one, and whether the run goes on, by what came of the last append
-abbrev pub said_with : Appended → Option Answer → CallOutcome
-said_with appended.Done (Some given) = Answered given
-said_with appended.Done None = Broken None ending.Memory
-said_with appended.Stopped given = Stopped given
-said_with appended.Failed given = Broken given ending.JournalFault
-said_with (appended.Full len) given = Broken given (ending.Full len)
-said_with appended.Memory given = Broken given ending.Memory
+-- the calls that it keeps: one whose intent was not appended is forgotten
+abbrev pub kept_then : Stage → ℕ → List Call → List Call
+kept_then Intent known calls = take known calls
+kept_then Decide known calls = calls
+kept_then Settled known calls = calls
 
--- what is said of a call, by how its commit came to its end, where so many calls are known
-abbrev pub said_of : Stage → Appended → ℕ → CallOutcome
-said_of stage outcome count = said_with outcome (answer_by stage outcome count)
+-- how many of them it knows
+abbrev pub count_then : Stage → ℕ → ℕ → ℕ
+count_then Intent known count = known
+count_then Decide known count = known
+count_then Settled known count = count
+
+-- why the run ends behind an append: by its outcome, or for want of memory for the state where the disk is stopped
+abbrev pub EndsBehind : Appended → Option Stop → Type 0
+EndsBehind outcome end = (end ≡ commit_end outcome) ⊎ ((outcome ≡ appended.Stopped) × (end ≡ Some ending.Memory))
+
+-- The controller behind a commit that came to this stage, whose append came to this outcome, and why the run ends, if
+-- it does.
+pub record ComesBehind {D : Type 0} (decls : Decls) (stage : Stage) (outcome : Appended) (old : Controller D)
+    (end : Option Stop) (new : Controller D) : Type 0 where
+  pub ends : EndsBehind outcome end
+  pub settled_ends : stage ≡ Settled → end ≡ commit_end outcome
+  pub is : new ≡ record {
+    journal = old.journal;
+    up = up_behind outcome old.up;
+    past = record {
+      numbers = old.past.numbers;
+      history = kept_then stage old.known old.past.history;
+      state = new.past.state;
+    };
+    known = count_then stage old.known (length old.past.history);
+  }
+  pub settled_state : stage ≡ Settled → new.past.state ≡ old.past.state
+  pub stopped_state : (stage ≡ Settled → ⊥) → outcome ≡ appended.Stopped → end ≡ None
+      → IsBehind decls new.past (take old.known old.past.history)
+
+-- these are the lines that the commit of a call may print which is to become the entry of this number
+pub record AreLinesOf (names : List (List ℕ)) (call : Call) (entry : ℕ) (lines : CommitLines) : Type 0 where
+  pub settled : lines.settled ≡ answer_line names call.caller call.number (Committed entry)
+  pub settled_stopped : lines.settled_stopped
+      ≡ answer_line names call.caller call.number (Committed entry) ++ codes "stopped\n"
+  pub failed : lines.failed ≡ answer_line names call.caller call.number JournalFault
+  pub stopped : lines.stopped ≡ codes "stopped\n"
 
 module _ {D : Type 0} (meaning : DiskMeaning D) (decls : Decls) (w : View D) (call : Call) where
-  -- the commit of a call came to some end
-  pub record HasCome (new : View D) : Type 0 where
-    pub stage : Stage
-    pub outcome : Appended
-    pub running : w.up ≡ true
-    pub due : IsDue decls w.known call
-    pub commits : Commits meaning decls w call stage outcome new
-
-  -- what came of a call that was to be committed
-  pub record ComesTo (served : CallOutcome) (new : View D) : Type 0 where
-    pub come : HasCome new
-    pub said : served ≡ said_of come.stage come.outcome (length new.known)
-
-  -- how far a call came for which memory was wanting
-  abbrev pub ComesShort : View D → Type 0
-  ComesShort new = (new ≡ w) ⊎ HasCome new
-
-  -- what came of a call
-  pub data ServesTo : CallOutcome → View D → Type 0 where
-    down : w.up ≡ false → ServesTo (Answered answer.Down) w
-    at_once : (given : Answer) → w.up ≡ true → AnswersAtOnce decls w.known call given → ServesTo (Answered given) w
-    came : (served : CallOutcome) (new : View D) → ComesTo served new → ServesTo served new
-
--- the run goes on
-abbrev pub goes_on : CallOutcome → Bool
-goes_on (Answered given) = true
-goes_on (Stopped given) = true
-goes_on (Broken given end) = false
-
--- what a call prints
-abbrev pub served_text : List (List ℕ) → Call → CallOutcome → List ℕ
-served_text names call (Answered given) = answer_line names call.caller call.number given
-served_text names call (Stopped given) = line_of names call given ++ codes "stopped\n"
-served_text names call (Broken given end) = line_of names call given
-
--- the answer, where there is one, can be printed under declarations of so many devices
-abbrev pub IsAnswerAmong : ℕ → Option Answer → Type 0
-IsAnswerAmong devices None = Unit {0}
-IsAnswerAmong devices (Some given) = IsTrue (is_answer_among devices given)
-
-abbrev pub answer_in : CallOutcome → Option Answer
-answer_in (Answered given) = Some given
-answer_in (Stopped given) = given
-answer_in (Broken given end) = given
+  -- What came of a call, by what is printed of it and why the run ends behind it, if it does.
+  abbrev pub ServesTo : List ℕ → Option Stop → View D → Type 0
+  ServesTo text None new = Serves meaning decls w call text new
+  ServesTo text (Some end) new = Breaks meaning decls w (step.Serve call) text end new
+      × EndsBecause meaning decls w (step.Serve call) end new

@@ -1,12 +1,15 @@
-use Rattle.std.proofs.Common.{◌≡◌, ◌++◌, List, ℕ}
+use Rattle.std.proofs.Common.{◌≡◌, ◌≤◌, ◌+◌, ◌++◌, List, ℕ}
 use Rattle.std.specs.Option.{option_map}
 use Rattle.orc_bundle.specs.Lines.{lines_of, block_of}
+use Rattle.orc_bundle.specs.inside.Costs.{bytes_of_first}
 use Rattle.orc_bundle.proofs.lines.block_of.Given as goal
 
 abbrev pub invariant-lines : goal.invariant-lines
-invariant-lines l =
-    block_of l.count (lines_of l.bytes)
-    ≡ option_map (λ (block : List ℕ). l.text.items ++ block) (block_of l.left (lines_of l.rest))
+invariant-lines g l =
+    (block_of l.count (lines_of l.bytes)
+    ≡ option_map (λ (block : List ℕ). l.text.items ++ block) (block_of l.left (lines_of l.rest)))
+    × (l.steps + bytes_of_first l.left (lines_of l.rest) ≤ l.initial.steps + bytes_of_first l.count (lines_of l.bytes))
+    × (l.initial.steps ≤ l.steps)
 
 abbrev pub decreases-lines : goal.decreases-lines
-decreases-lines l = l.left
+decreases-lines g l = l.left

@@ -1,18 +1,23 @@
-use Rattle.std.proofs.Common.{◌≡◌, ◌+◌, ◌≤◌, length}
+use Rattle.std.proofs.Common.{◌≡◌, ◌+◌, ◌*◌, ◌≤◌, false, length}
 use Rattle.orc_bundle.specs.Lines.{lines_of}
-use Rattle.orc_bundle.specs.Bundles.{declarations_of}
+use Rattle.orc_bundle.specs.Bundles.{declarations_of, is_script}
+use Rattle.orc_bundle.specs.inside.Costs.{ahead_declared, bytes_to, is_kept}
 use Rattle.orc_bundle.specs.inside.Lawful.{AreDeclared}
 use Rattle.orc_bundle.specs.declared.bundle.TheConstants.{LARGEST_BUNDLE}
 use Rattle.orc_bundle.proofs.read.read_declarations.Given as goal
 
 -- the lines behind decide
 abbrev pub invariant-lines : goal.invariant-lines
-invariant-lines l =
+invariant-lines g l =
     (declarations_of l.initial.declared 0 0 (lines_of l.bytes) ≡ declarations_of l.declared l.at l.number (lines_of l.rest))
     × (l.at + length l.rest ≡ length l.bytes)
     × (l.number ≤ l.at)
     × (l.at ≤ LARGEST_BUNDLE)
     × AreDeclared l.declared
+    × (is_script l.declared.section ≡ false)
+    × (l.steps + bytes_to is_kept (lines_of l.bytes) + 2 * length l.rest
+    ≤ l.initial.steps + 2 * length l.bytes + ahead_declared l.declared (lines_of l.rest))
+    × (l.initial.steps + length l.bytes ≤ l.steps + length l.rest)
 
 abbrev pub decreases-lines : goal.decreases-lines
-decreases-lines l = length l.rest
+decreases-lines g l = length l.rest

@@ -1,7 +1,8 @@
 -- The look and the sync went well before the disk was read.
-use Rattle.std.specs.Prelude.{◌≡◌, [], ◌∷◌, List, ℕ, take, IfSome}
+use Rattle.std.specs.Prelude.{◌≡◌, [], ◌∷◌, List, ℕ, IfSome}
 use Rattle.std.proofs.Common.{sym, subst, rules, arith}
 use Rattle.std.proofs.lemmas.Result.{err_from_is_err_and}
+use Rattle.orc_disk.specs.Rows.{read_piece}
 use Rattle.orc_journal.specs.Operations.{LedBy}
 use Rattle.orc_journal.specs.inside.Steps.{EndsReading, FailsAfter, HeardAll, HasLoaded, HasGivenUp}
 use Rattle.orc_journal.specs.declared.fault.OpenFault.TheVariants.{Memory}
@@ -27,9 +28,9 @@ returns-in_err-sync-clause-failed g c =
     let disk = g.D.Disk.disk in
     let mid = c.read_at.new.self in
     let p = err_from_is_err_and c.from_residual-in_err-sync.result c.from_residual-in_err-sync.ensures.1 in
-    let look : LedBy disk 0 c.args.disk.now mid = ((0, take c.in_ok-read_at.field-0 c.read_at.new.buf) ∷ [], c.in_ok-read_at.ensures.performed.course) in
-    rw (p.1, p.2) (λ is. fails_weaker disk 1 2 c.args.disk.now c.sync.new.self (omega arith)
-    (fails_later disk g.met.D.Disk.goes_on 0 1 c.args.disk.now mid c.sync.new.self look
+    let look : LedBy disk 0 c.args.disk.now mid = (read_piece 0 c.read_at.new.buf c.in_ok-read_at.field-0, c.in_ok-read_at.ensures.performed.course) in
+    rw (p.1, p.2) (λ is. fails_weaker disk 1 2 1 2 c.args.disk.now c.sync.new.self (omega arith) (omega arith)
+    (fails_later disk g.met.D.Disk.goes_on 0 1 1 c.args.disk.now mid c.sync.new.self look
     (fails_now disk 1 mid c.sync.new.self (omega arith) (g.met.D.Disk.stays mid) c.in_err-sync.ensures.performed.course)))
 
 pub returns-clause-failed : goal.returns-clause-failed
@@ -39,10 +40,10 @@ returns-clause-failed g c =
     let mid = c.read_at.new.self in
     let synced = c.sync.new.self in
     let new = c.read_all.new.disk in
-    let look : LedBy disk 0 old mid = ((0, take c.in_ok-read_at.field-0 c.read_at.new.buf) ∷ [], c.in_ok-read_at.ensures.performed.course) in
+    let look : LedBy disk 0 old mid = (read_piece 0 c.read_at.new.buf c.in_ok-read_at.field-0, c.in_ok-read_at.ensures.performed.course) in
     let first = does_more disk g.met.D.Disk.goes_on 0 1 old mid synced look ([], c.in_ok-sync.ensures.performed.course) in
-    if_err_given c.read_all.result (EndsReading disk synced new) (FailsAfter disk 2 old new)
-    (λ fault ends is. fails_later disk g.met.D.Disk.goes_on 1 1 old synced new first (ends.failed is))
+    if_err_given c.read_all.result (EndsReading disk synced new) (FailsAfter disk 2 2 old new)
+    (λ fault ends is. fails_later disk g.met.D.Disk.goes_on 1 1 1 old synced new first (ends.failed is))
     c.read_all.ensures.ends
 
 pub returns-then-branch-eq0-clause-loaded : goal.returns-then-branch-eq0-clause-loaded

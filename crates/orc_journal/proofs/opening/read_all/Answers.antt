@@ -28,7 +28,7 @@ pieces-preserved g c =
       front = search rules;
       reads = Unchanged-trans disk g.met.D.Disk.counts_now c.args.disk.now c.pieces.disk c.read_piece.new.disk c.pieces.invariant.reads c.in_ok-read_piece.ensures.unchanged;
       heard = heard_more disk g.met.D.Disk.goes_on c.args.disk.now c.pieces.disk c.read_piece.new.disk c.pieces.bytes.items c.read_piece.new.bytes.items
-          c.pieces.invariant.heard _ c.in_ok-read_piece.ensures.heard;
+          c.pieces.invariant.heard _ c.if-branch.true c.in_ok-read_piece.ensures.heard;
     }
 
 pub returns-clause-heard : goal.returns-clause-heard

@@ -1,12 +1,19 @@
 use Rattle.std.proofs.Common.{◌∙◌, false, sym, ap}
 use Rattle.orc_path.specs.inside.ValueReading.{ahead}
 use Rattle.orc_path.proofs.Bools.{if_so, if_not}
-use Rattle.orc_path.proofs.Values.{value_of-plain, value_of-not_plain}
+use Rattle.orc_path.proofs.Values.{value_of-plain, value_of-not_plain, value_of-escaped, value_of-unescaped}
 use Rattle.orc_path.proofs.ValueReads.{ahead_first, ahead_end, ahead_end_escaped}
 use Rattle.orc_path.proofs.value.read_value.Goals as goal
 
-pub returns-then-not-is_plain_text : goal.returns-then-not-is_plain_text
-returns-then-not-is_plain_text c = sym (value_of-not_plain c.args.text.now (sym c.if-not-is_plain_text.ensures))
+pub returns-then-not-is_plain_text-clause-value : goal.returns-then-not-is_plain_text-clause-value
+returns-then-not-is_plain_text-clause-value c = sym (value_of-not_plain c.args.text.now (sym c.if-not-is_plain_text.ensures))
+
+pub returns-then-not-is_escaped_text-clause-value : goal.returns-then-not-is_escaped_text-clause-value
+returns-then-not-is_escaped_text-clause-value c =
+    sym (value_of-unescaped c.args.text.now (sym c.if-not-is_plain_text.ensures) (sym c.if-not-is_escaped_text.ensures))
+
+pub returns-in_err-take-clause-memory : goal.returns-in_err-take-clause-memory
+returns-in_err-take-clause-memory c = λ _. value_of-escaped c.args.text.now (sym c.if-not-is_plain_text.ensures) (sym c.if-not-is_escaped_text.ensures)
 
 pub loop-character-init : goal.loop-character-init
 loop-character-init c =
@@ -14,8 +21,8 @@ loop-character-init c =
     ∙ ap (ahead (record { value = c.new.result; is_escaped = false })) c.chars-character-items.ensures.rest
     ∙ ahead_first c.new.result c.args.text.now c.new.ensures
 
-pub returns-then-not-branch : goal.returns-then-not-branch
-returns-then-not-branch c =
+pub returns-then-not-branch-clause-value : goal.returns-then-not-branch-clause-value
+returns-then-not-branch-clause-value c =
     let whole = c.loop-character.invariant ∙ sym (value_of-plain c.args.text.now (sym c.if-not-is_plain_text.ensures)) in
     sym (sym whole ∙ ap (ahead c.loop-character.reader) c.in-Some.ensures.steps.0 ∙ if_not c.in_ok-take.field-0 _ _ c.in_ok-take.ensures c.if-not-branch.true c.next.new.self.rest.now)
 
@@ -24,12 +31,12 @@ loop-character-preserved c =
     sym (if_so c.in_ok-take.field-0 _ _ c.in_ok-take.ensures c.if-not-branch.false c.next.new.self.rest.now)
     ∙ ap (ahead c.loop-character.reader) (sym c.in-Some.ensures.steps.0) ∙ c.loop-character.invariant
 
-pub returns-then-reader : goal.returns-then-reader
-returns-then-reader c =
+pub returns-then-reader-clause-value : goal.returns-then-reader-clause-value
+returns-then-reader-clause-value c =
     let whole = c.loop-character.invariant ∙ sym (value_of-plain c.args.text.now (sym c.if-not-is_plain_text.ensures)) in
     sym (sym whole ∙ ahead_end_escaped c.loop-character.reader c.loop-character.character-iterator.rest.now c.in-None.ensures.steps.0.0 c.if-reader.true)
 
-pub returns : goal.returns
-returns c =
+pub returns-clause-value : goal.returns-clause-value
+returns-clause-value c =
     let whole = c.loop-character.invariant ∙ sym (value_of-plain c.args.text.now (sym c.if-not-is_plain_text.ensures)) in
     sym (sym whole ∙ ahead_end c.loop-character.reader c.loop-character.character-iterator.rest.now c.in-None.ensures.steps.0.0 c.if-reader.false)

@@ -1,7 +1,10 @@
 -- The call is decided, or its commit ended before that.
+use Rattle.std.proofs.Common.{ℕ, ◌+◌, List, refl, subst, ap, ◌∙◌}
 use Rattle.std.proofs.lemmas.Result.{err_from_is_err_and}
+use Rattle.orc_run.specs.Commits.{commit_text}
+use Rattle.orc_run.specs.inside.Serving.{AreLinesOf}
 use Rattle.orc_append.specs.Views.{IsOpen}
-use Rattle.orc_run.proofs.Committing.{not_begun, settled, undecided}
+use Rattle.orc_run.proofs.Committing.{came, not_begun}
 use Rattle.orc_run.proofs.Encodable.{encodable}
 use Rattle.orc_run.proofs.controller.Controller.commit.Goals as goal
 
@@ -10,30 +13,28 @@ begin-requires-clause-encodable g c = encodable c.args.decls.now c.args.call.now
 
 pub returns-in_err-t : goal.returns-in_err-t
 returns-in_err-t g c es is =
+    let wants = err_from_is_err_and c.from_residual-in_err-t.result c.from_residual-in_err-t.ensures.1 in
+    not_begun g.D.Disk.disk g.met.D.Disk.only_now c.args.decls.now c.args.call.now es c.args.self.now is c.requires.call
+    c.from_residual-in_err-t.result wants.0 wants.1 c.begin.new.past c.in_err-t.ensures.history
+
+pub returns-in_err-lines : goal.returns-in_err-lines
+returns-in_err-lines g c es is =
     let wants = err_from_is_err_and c.from_residual.result c.from_residual.ensures.1 in
     not_begun g.D.Disk.disk g.met.D.Disk.only_now c.args.decls.now c.args.call.now es c.args.self.now is c.requires.call
-    c.from_residual.result wants.0 wants.1 c.begin.new.past c.in_err-t.ensures.history
-
-pub returns-in-Settled : goal.returns-in-Settled
-returns-in-Settled g c es is =
-    let begun = c.in_ok-t.ensures in
-    let reached = c.append_commit-reached.result in
-    let held : IsOpen g.D.Disk.disk c.args.self.now.journal c.args.decls.now.text es = record { holds = is.up.holds; running = is.up.running } in
-    settled g.D.Disk.disk g.met.D.Disk.only_now c.args.decls.now c.args.call.now es c.args.self.now is c.requires.call
-    c.in_ok-t.t c.args.devices c.in_ok-t.intent begun.intent begun.new c.requires.touched begun.positive begun.least
-    reached.stage reached.outcome c.append_commit-reached.new.journal (c.append_commit-reached.ensures.appends c.args.decls.now.text es held)
-    c.begin.new.past begun.taken begun.others begun.only begun.filled begun.pending begun.state
-    (λ unstopped unfailed. c.append_commit-reached.ensures.open unstopped unfailed c.args.decls.now.text es held)
-    c.in-Settled.is c.settle.result c.settle.new.self c.settle.ensures.said c.settle.ensures.state
+    c.from_residual.result wants.0 wants.1 c.args.self.now.past refl
 
 pub returns : goal.returns
 returns g c es is =
     let begun = c.in_ok-t.ensures in
     let reached = c.append_commit-reached.result in
     let held : IsOpen g.D.Disk.disk c.args.self.now.journal c.args.decls.now.text es = record { holds = is.up.holds; running = is.up.running } in
-    undecided g.D.Disk.disk g.met.D.Disk.only_now c.args.decls.now c.args.call.now es c.args.self.now is c.requires.call
+    came g.D.Disk.disk g.met.D.Disk.only_now c.args.decls.now c.args.call.now es c.args.self.now is c.requires.call
     c.in_ok-t.t c.args.devices c.in_ok-t.intent begun.intent begun.new c.requires.touched begun.positive begun.least
     reached.stage reached.outcome c.append_commit-reached.new.journal (c.append_commit-reached.ensures.appends c.args.decls.now.text es held)
     c.begin.new.past begun.taken begun.others begun.only begun.filled begun.pending begun.state
     (λ unstopped unfailed. c.append_commit-reached.ensures.open unstopped unfailed c.args.decls.now.text es held)
-    c.in_default.not-Settled c.fail.result c.fail.new.self c.fail.ensures.said c.fail.ensures.behind c.fail.ensures.rest
+    c.line.result c.come-end.result c.come-end.new.self
+    (c.line.ensures c.args.decls.now.names c.args.call.now (c.len-known.result + 1)
+    (subst (λ (names : List (List ℕ)). AreLinesOf names c.args.call.now (c.len-known.result + 1) c.in_ok-lines.lines) c.as_slice.ensures c.in_ok-lines.ensures)
+    ∙ ap (λ (n : ℕ). commit_text c.args.decls.now.names c.args.call.now reached.stage reached.outcome (n + 1)) c.len-known.ensures)
+    c.come-end.ensures

@@ -1,20 +1,21 @@
 -- The call is answered without a change, or it is due and committed.
-use Rattle.std.proofs.Common.{ℕ, List, Ok, IfSome, refl, sym, ap, subst, ◌∙◌}
+use Rattle.std.proofs.Common.{ℕ, List, length, Ok, IsTrue, IfSome, refl, sym, ap, subst, ◌∙◌}
 use Rattle.std.specs.declared.option.Option.{Option}
 use Rattle.std.proofs.lemmas.Result.{err_from_is_err_and}
 use Rattle.orc_call.specs.declared.call.Action.{Action}
 use Rattle.orc_call.specs.declared.answer.Answer.{Answer}
 use Rattle.orc_call.specs.declared.answer.Answer.TheVariants.{Down}
+use Rattle.orc_print.specs.Printed.{is_answer_among}
 use Rattle.orc_state.specs.States.{action_of}
 use Rattle.orc_run.specs.Touched.{devices_of}
+use Rattle.orc_run.specs.Steps.{Serves}
 use Rattle.orc_run.specs.Views.{View}
-use Rattle.orc_run.specs.inside.Serving.{ServesTo}
 use Rattle.orc_run.specs.inside.Controllers.{LeadsTo}
-use Rattle.orc_run.specs.declared.serving.CallOutcome.TheVariants.{Answered}
 use Rattle.orc_state.specs.Legal.{AnswersAtOnce, state_of}
 use Rattle.orc_state.specs.declared.state.State.{State}
-use Rattle.orc_run.proofs.Answering.{at_once, same_view, is_committing, unchanged, wanting}
+use Rattle.orc_run.proofs.Answering.{at_once, is_committing, same_view, says, wanting}
 use Rattle.orc_run.proofs.Outcomes.{AreLaws}
+use Rattle.orc_run.proofs.Servings.{at_once_among}
 use Rattle.orc_run.proofs.controller.Controller.serve.Goals as goal
 
 pub returns-then-not-self : goal.returns-then-not-self
@@ -22,8 +23,8 @@ returns-then-not-self g c sound =
     let d = g.D.Disk.disk in
     let laws : AreLaws d =
     record { reads = g.met.D.Disk.reads_as_image; counts = g.met.D.Disk.counts_now; only_now = g.met.D.Disk.only_now; untold = g.met.D.Disk.untold_has_no_image } in
-    unchanged d laws c.args.decls.now sound.0 c.args.self.now sound.1 c.args.call.now (Ok (Answered Down)) c.args.self.now.past refl
-    (ServesTo.down c.if-not-self.true) (λ given end is. absurd cc)
+    says d laws c.args.decls.now sound.0 c.args.self.now sound.1 c.args.call.now Down c.args.self.now.past refl c.as_slice.result.now c.as_slice.ensures
+    (Serves.down c.if-not-self.true) c.answered.result c.answered.ensures
 
 pub commit-requires-clause-committing : goal.commit-requires-clause-committing
 commit-requires-clause-committing g c =
@@ -52,7 +53,15 @@ returns-in-Some g c sound =
     record { reads = g.met.D.Disk.reads_as_image; counts = g.met.D.Disk.counts_now; only_now = g.met.D.Disk.only_now; untold = g.met.D.Disk.untold_has_no_image } in
     at_once d c.args.decls.now sound.0 c.args.self.now sound.1 c.if-not-self.false laws
     c.args.call.now c.in-Some.answer c.answer_or_apply.new.self (c.in_ok-answer.ensures.kept (λ e. let h = c.in-Some.is in absurd cc))
+    c.as_slice-in-Some.result.now c.as_slice-in-Some.ensures
     (subst (λ (o : Option Answer). IfSome o (AnswersAtOnce c.args.decls.now c.args.self.now.past.history c.args.call.now)) c.in-Some.is c.in_ok-answer.ensures.answer)
+    c.answered-in-Some.result c.answered-in-Some.ensures
+
+pub answered-requires-in-Some : goal.answered-requires-in-Some
+answered-requires-in-Some g c =
+    subst (λ (names : List (List ℕ)). IsTrue (is_answer_among (length names) c.in-Some.answer)) (sym c.as_slice-in-Some.ensures)
+    (at_once_among c.args.decls.now c.args.self.now.past.history c.args.call.now c.in-Some.answer
+    (subst (λ (o : Option Answer). IfSome o (AnswersAtOnce c.args.decls.now c.args.self.now.past.history c.args.call.now)) c.in-Some.is c.in_ok-answer.ensures.answer))
 
 pub commit-requires-clause-touched : goal.commit-requires-clause-touched
 commit-requires-clause-touched g c =
@@ -64,7 +73,7 @@ commit-requires-clause-touched g c =
     let same = same_view disk decls sound.0 old sound.1 c.if-not-self.false call c.answer_or_apply.new.self c.answer_or_apply.ensures.rest
     (c.in_ok-answer.ensures.due (ap (λ (o : Option Answer). Ok o) c.in-None.is)) in
     c.in_ok-devices.ensures.devices
-    ∙ ap (λ (l : List (List ℕ)). devices_of l old.past.state c.action_of.result.now) c.as_slice.ensures
+    ∙ ap (λ (l : List (List ℕ)). devices_of l old.past.state c.action_of.result.now) c.as_slice-2.ensures
     ∙ ap (λ (a : Action). devices_of decls.names old.past.state a) c.action_of.ensures
     ∙ ap (λ (s : State). devices_of decls.names s (action_of call)) sound.1.behind.state
     ∙ ap (λ (w : View g.row.D.Denot). devices_of decls.names (state_of decls w.known) (action_of call)) (sym same)

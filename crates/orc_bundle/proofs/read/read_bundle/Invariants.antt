@@ -1,0 +1,4 @@
+use Rattle.orc_bundle.proofs.read.read_bundle.Given as goal
+
+abbrev pub ghosts-read_uncounted : goal.ghosts-read_uncounted
+ghosts-read_uncounted a = record { name = a.blank.name; parts = a.blank.parts }

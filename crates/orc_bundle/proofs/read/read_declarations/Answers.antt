@@ -1,0 +1,100 @@
+use Rattle.std.proofs.Common.{◌≡◌, ◌+◌, ℕ, Bool, true, false, cond, List, length, length-append, refl, ap, sym, ◌∙◌, arith, eqb-true, Result, Ok, if◌then◌else◌}
+use Rattle.std.proofs.lemmas.Bool.{false≢true}
+use denote.Enum.Bare.{sameb}
+use Rattle.orc_state.specs.declared.rule.Rule.{Rule}
+use Rattle.orc_bundle.specs.Bundles.{declarations_of, is_script, on_line}
+use Rattle.orc_bundle.specs.Lines.{lines_of}
+use Rattle.orc_bundle.specs.contracts.declarations.Section.{the_type}
+use Rattle.orc_bundle.specs.declared.declarations.Declared.{Declared}
+use Rattle.orc_bundle.specs.declared.declarations.Section.{Section}
+use Rattle.orc_bundle.specs.declared.declarations.Section.TheVariants as section
+use Rattle.orc_bundle.specs.inside.Costs.{ahead_declared, ahead_in}
+use Rattle.orc_bundle.proofs.Costs.{ahead_declared_within, declared_pays, declared_within}
+use Rattle.orc_bundle.proofs.read.read_declarations.Goals as goal
+
+not_script : (s : Section) → sameb the_type s section.Script ≡ false → is_script s ≡ false
+not_script section.Header h = refl
+not_script section.Declarations h = refl
+not_script section.Script h = absurd (false≢true (sym h))
+
+pub lines-preserved : goal.lines-preserved
+lines-preserved g c =
+    let line = c.first_line.result.0.now in
+    let later = c.first_line.result.1.now in
+    let inv = c.lines.invariant in
+    let new = c.take.new.self in
+    let bytes : length c.lines.rest.now ≡ length line + length later =
+    ap (λ (x : List ℕ). length x) c.first_line.ensures.parts ∙ length-append line later in
+    let some = c.first_line.ensures.some in
+    let rest = inv.1 in
+    let count = inv.2 in
+    let goes : is_script new.section ≡ false = not_script new.section (sym c.eq.ensures ∙ c.if-eq.false) in
+    let pays = declared_pays c.lines.declared new c.lines.at line (lines_of later) inv.5 c.in_default.ensures.takes in
+    let is = ap (ahead_declared c.lines.declared) c.first_line.ensures.lines in
+    let line_steps = c.first_line.ensures.cost in
+    let looked = c.take.ensures.cost in
+    let so_far = inv.6 in (
+      inv.0
+          ∙ ap (declarations_of c.lines.declared c.lines.at c.lines.number) c.first_line.ensures.lines
+          ∙ ap (λ (r : Result Declared Rule). on_line (c.lines.number + 1) r (λ e.
+          if is_script e.section
+          then Ok (record { declared = e; size = c.lines.at; at = c.lines.at + length line; number = c.lines.number + 1; later = lines_of later })
+          else declarations_of e (c.lines.at + length line) (c.lines.number + 1) (lines_of later))) c.in_default.ensures.takes
+          ∙ ap (λ (b : Bool). cond b (Ok (record { declared = new; size = c.lines.at; at = c.lines.at + length line; number = c.lines.number + 1; later = lines_of later }))
+          (declarations_of new (c.lines.at + length line) (c.lines.number + 1) (lines_of later))) goes,
+      omega arith,
+      omega arith,
+      c.in_default.ensures.small,
+      c.in_default.ensures.lawful inv.4,
+      goes,
+      omega arith,
+      (let least = inv.7 in let more = c.take.ensures.counts in omega arith),
+    )
+
+pub returns-in-Err-clause-cost : goal.returns-in-Err-clause-cost
+returns-in-Err-clause-cost g c =
+    let line = c.first_line.result.0.now in
+    let later = c.first_line.result.1.now in
+    let bytes : length c.lines.rest.now ≡ length line + length later =
+    ap (λ (x : List ℕ). length x) c.first_line.ensures.parts ∙ length-append line later in
+    let line_steps = c.first_line.ensures.cost in
+    let looked = c.take.ensures.cost in
+    let looks = declared_within c.lines.declared line later in
+    let ahead = ahead_declared_within c.lines.declared c.lines.rest.now in
+    let so_far = c.lines.invariant.6 in omega arith
+
+-- the lines that are left are none, or those of the script
+script_ahead : (s : Section) (k : ℕ) (lines : List (List ℕ)) → sameb the_type s section.Script ≡ true → ahead_in s k lines ≡ 0
+script_ahead section.Header k lines h = absurd (false≢true h)
+script_ahead section.Declarations k lines h = absurd (false≢true h)
+script_ahead section.Script k lines h = refl
+
+pub returns-then-eq-clause-cost : goal.returns-then-eq-clause-cost
+returns-then-eq-clause-cost g c =
+    let line = c.first_line.result.0.now in
+    let later = c.first_line.result.1.now in
+    let new = c.take.new.self in
+    let bytes : length c.lines.rest.now ≡ length line + length later =
+    ap (λ (x : List ℕ). length x) c.first_line.ensures.parts ∙ length-append line later in
+    let pays = declared_pays c.lines.declared new c.lines.at line (lines_of later) c.lines.invariant.5 c.in_default.ensures.takes in
+    let none : ahead_declared new (lines_of later) ≡ 0 = script_ahead new.section new.skip (lines_of later) (sym c.eq.ensures ∙ c.if-eq.true) in
+    let is = ap (ahead_declared c.lines.declared) c.first_line.ensures.lines in
+    let line_steps = c.first_line.ensures.cost in
+    let looked = c.take.ensures.cost in
+    let so_far = c.lines.invariant.6 in omega arith
+
+pub returns-clause-cost : goal.returns-clause-cost
+returns-clause-cost g c =
+    let none : length c.lines.rest.now ≡ 0 = eqb-true (length c.lines.rest.now) 0 (sym c.is_empty.ensures ∙ c.lines-test.false) in
+    let ahead = ahead_declared_within c.lines.declared c.lines.rest.now in
+    let so_far = c.lines.invariant.6 in omega arith
+
+pub returns-then-eq-clause-counts : goal.returns-then-eq-clause-counts
+returns-then-eq-clause-counts g c =
+    let line = c.first_line.result.0.now in
+    let later = c.first_line.result.1.now in
+    let bytes : length c.lines.rest.now ≡ length line + length later =
+    ap (λ (x : List ℕ). length x) c.first_line.ensures.parts ∙ length-append line later in
+    let line_steps = c.first_line.ensures.cost in
+    let more = c.take.ensures.counts in
+    let least = c.lines.invariant.7 in omega arith

@@ -1,0 +1,45 @@
+use Rattle.std.proofs.Common.{◌≡◌, ◌≤◌, ℕ, List, length, true, arith, ap, sym, subst, ◌∙◌}
+use Rattle.std.specs.List.{IsDistinct, list_all}
+use Rattle.orc_state.specs.States.{is_same_text, names_of}
+use Rattle.orc_state.specs.declared.declarations.TheConstants.{MOST_DEVICES}
+use Rattle.orc_bundle.specs.Bundles.{is_step}
+use Rattle.orc_bundle.specs.Lines.{lines_of}
+use Rattle.orc_bundle.specs.inside.Costs.{is_kept}
+use Rattle.orc_bundle.proofs.Costs.{to_bytes}
+use Rattle.orc_bundle.proofs.Grown.{settled_script}
+use Rattle.orc_bundle.proofs.WrittenDevices.{names_size}
+use Rattle.orc_bundle.proofs.read.read_seen.Goals as goal
+
+pub returns-then-lacks_header-clause-cost : goal.returns-then-lacks_header-clause-cost
+returns-then-lacks_header-clause-cost g c =
+    let one = c.lacks_header.ensures.cost in
+    let two = c.header_rule.ensures.cost in
+    let within = to_bytes is_kept c.args.bytes.now in omega arith
+
+pub returns-clause-lawful : goal.returns-clause-lawful
+returns-clause-lawful g c =
+    let behind = c.in_ok-behind.behind in
+    let script = settled_script c.read_declarations.new.declared.names behind.at behind.number (lines_of behind.later.now) c.in_ok-script.script c.in_ok-script.ensures.answer in
+    let known = c.in_ok-behind.ensures.lawful in
+    let same = sym c.in_ok-names.ensures.row in
+    record {
+      decls = record {
+        named = c.in_ok-names.ensures.row ∙ known.named;
+        distinct = subst (λ (names : List (List ℕ)). IsDistinct is_same_text names) same c.in_ok-names.ensures.distinct;
+        devices = known.devices;
+        few = few_of known.named known.few;
+      };
+      steps = subst (λ (names : List (List ℕ)). list_all (is_step names) c.in_ok-script.script ≡ true) same c.in_ok-script.ensures.lawful;
+      settled = script.0;
+      few = script.1;
+      callers = script.2;
+    } where
+      few_of : c.read_declarations.new.declared.names ≡ names_of c.read_declarations.new.declared.devices → length c.read_declarations.new.declared.names ≤ MOST_DEVICES
+          → length c.read_declarations.new.declared.devices ≤ MOST_DEVICES
+      few_of named few = let one = ap length named in let two = names_size c.read_declarations.new.declared.devices in omega arith
+
+pub returns-clause-counts : goal.returns-clause-counts
+returns-clause-counts g c =
+    let one = c.lacks_header.ensures.cost in
+    let two = c.in_ok-behind.ensures.counts in
+    let three = c.in_ok-script.ensures.counts in omega arith

@@ -1,0 +1,7 @@
+pub mod Words
+pub mod Statements
+pub mod Scopes
+pub mod Bases
+pub mod Children
+pub mod Stack
+pub mod inside

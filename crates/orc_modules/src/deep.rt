@@ -1,0 +1,76 @@
+//! How deep nodes and groupings stand in one another.
+ghost use Rattle.std.specs.Prelude.{◌≡◌, List, IfOk};
+ghost use Rattle.orc_modules.specs.Children.{is_deeper, leads_past};
+ghost use Rattle.orc_modules.specs.Stack.{stack};
+
+use crate::parts::{Part, block_part, grouping};
+use crate::place::Modules;
+use crate::scope::{Above, Site};
+use crate::visits::{MAX_VISITS, visit};
+use orc_text::Memory;
+use orc_yang::Stmt;
+
+// Whether nodes and groupings below a statement stand in one another more than `depth` deep.
+pub(crate) fn is_deeper<'a>(
+    depth: usize,
+    modules: &Modules<'a>,
+    at: &Site<'a>,
+    stmt: &'a Stmt,
+    left: &mut u64,
+) -> Result<bool, Memory>
+    ensures { IfOk result (λ deep. deep ≡ is_deeper depth modules.now.all.now (stack at.now.above.now) stmt.now) }
+{
+    if depth == 0 {
+        return Ok(true);
+    }
+    for sub in stmt.subs.as_slice() {
+        match block_part(sub) {
+            Part::Node => {
+                visit(left)?;
+                let inside = Site {
+                    above: &Above::Under(sub, at.above),
+                };
+                match is_deeper(depth - 1, &*modules, &inside, sub, left)? {
+                    true => return Ok(true),
+                    false => {},
+                }
+            },
+            Part::Uses => {
+                visit(left)?;
+                if let Some(found) = grouping(&*modules, at.above, sub) {
+                    let inside = Site {
+                        above: &Above::Under(found.here, &found.above),
+                    };
+                    match is_deeper(depth - 1, &*modules, &inside, found.here, left)? {
+                        true => return Ok(true),
+                        false => {},
+                    }
+                }
+            },
+            Part::Nothing => {},
+        }
+    }
+    Ok(false)
+}
+
+/// Whether a `uses` leads to itself: what it brings stands in one another more than `most` deep.
+/// It wants memory where more than 1,000,000 statements would be looked at.
+pub fn leads_past<'a>(
+    modules: &Modules<'a>,
+    above: &'a Above<'a>,
+    stmt: &Stmt,
+) -> Result<bool, Memory>
+    ensures { IfOk result (λ past.
+        past ≡ leads_past modules.now.most modules.now.all.now (stack above.now) stmt.now) }
+{
+    match grouping(&*modules, above, stmt) {
+        None => Ok(false),
+        Some(found) => {
+            let mut left = MAX_VISITS;
+            let inside = Site {
+                above: &Above::Under(found.here, &found.above),
+            };
+            is_deeper(modules.most, &*modules, &inside, found.here, &mut left)
+        },
+    }
+}

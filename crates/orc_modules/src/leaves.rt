@@ -1,0 +1,146 @@
+//! The leaves of a block, those of its groupings among them.
+ghost use Rattle.std.specs.Prelude.{◌≡◌, List, IfOk, option_map};
+ghost use Rattle.orc_modules.specs.Bases.{type_found};
+ghost use Rattle.orc_modules.specs.Children.{leaf_named};
+ghost use Rattle.orc_modules.specs.Stack.{stack, found, modules_of};
+ghost use Rattle.orc_modules.specs.inside.Leaves.{leaf_brought, leaf_of_grouping, leaf_in_block};
+
+use crate::base::typed_in;
+use crate::deep::is_deeper;
+use crate::meant::Typed;
+use crate::parts::{Part, block_part, grouping};
+use crate::place::Modules;
+use crate::scope::{Above, Found, Site};
+use crate::statements::defines;
+use crate::visits::{MAX_VISITS, visit};
+use orc_text::Memory;
+use orc_yang::Stmt;
+use std::alloc::Global;
+
+// The type of the leaf of this name that a block has, through groupings fewer than `depth` deep.
+fn leaf_brought<'a>(
+    alloc: Global,
+    depth: usize,
+    modules: &Modules<'a>,
+    at: &Site<'a>,
+    name: &str,
+    block: &'a [Stmt],
+    left: &mut u64,
+) -> Result<Option<Option<Typed>>, Memory>
+    ensures { IfOk result (λ typed.
+        typed ≡ leaf_brought depth (modules_of modules.now) (stack at.now.above.now) name.now block.now) }
+{
+    if depth == 0 {
+        return Ok(None);
+    }
+    for stmt in block {
+        match block_part(stmt) {
+            Part::Node => {
+                visit(left)?;
+                if defines("leaf", name, stmt) {
+                    return Ok(Some(typed_in(alloc, &*modules, &*at, stmt)?));
+                }
+            },
+            Part::Uses => {
+                visit(left)?;
+                if let Some(found) = grouping(&*modules, at.above, stmt) {
+                    let here = found.here;
+                    let inside = Site {
+                        above: &Above::Under(here, &found.above),
+                    };
+                    match leaf_brought(
+                        alloc,
+                        depth - 1,
+                        &*modules,
+                        &inside,
+                        name,
+                        here.subs.as_slice(),
+                        left,
+                    )? {
+                        Some(typed) => return Ok(Some(typed)),
+                        None => {},
+                    }
+                }
+            },
+            Part::Nothing => {},
+        }
+    }
+    Ok(None)
+}
+
+// The type of the leaf of this name that a grouping brings, none where it leads to itself.
+fn leaf_of_grouping<'a>(
+    alloc: Global,
+    modules: &Modules<'a>,
+    name: &str,
+    bringer: &'a Found<'a>,
+    left: &mut u64,
+) -> Result<Option<Option<Typed>>, Memory>
+    ensures { IfOk result (λ typed.
+        typed ≡ leaf_of_grouping (modules_of modules.now) name.now (found bringer.now)) }
+{
+    let here = bringer.here;
+    let inside = Site {
+        above: &Above::Under(here, &bringer.above),
+    };
+    if is_deeper(modules.most, &*modules, &inside, here, left)? {
+        return Ok(None);
+    }
+    leaf_brought(
+        alloc,
+        modules.most,
+        &*modules,
+        &inside,
+        name,
+        here.subs.as_slice(),
+        left,
+    )
+}
+
+// The type of the leaf of this name that a block has.
+fn leaf_in_block<'a>(
+    alloc: Global,
+    modules: &Modules<'a>,
+    at: &Site<'a>,
+    name: &str,
+    block: &'a [Stmt],
+) -> Result<Option<Option<Typed>>, Memory>
+    ensures { IfOk result (λ typed.
+        typed ≡ leaf_in_block (modules_of modules.now) (stack at.now.above.now) name.now block.now) }
+{
+    let mut left = MAX_VISITS;
+    for stmt in block {
+        match block_part(stmt) {
+            Part::Node => {
+                if defines("leaf", name, stmt) {
+                    return Ok(Some(typed_in(alloc, &*modules, &*at, stmt)?));
+                }
+            },
+            Part::Uses => {
+                if let Some(found) = grouping(&*modules, at.above, stmt) {
+                    match leaf_of_grouping(alloc, &*modules, name, &found, &mut left)? {
+                        Some(typed) => return Ok(Some(typed)),
+                        None => {},
+                    }
+                }
+            },
+            Part::Nothing => {},
+        }
+    }
+    Ok(None)
+}
+
+/// The type of the leaf of this name that a block has, where it has one. It wants memory where more
+/// than 1,000,000 statements would be looked at.
+pub fn leaf_type<'a>(
+    alloc: Global,
+    modules: &Modules<'a>,
+    above: &'a Above<'a>,
+    block: &'a [Stmt],
+    name: &str,
+) -> Result<Option<Option<Typed>>, Memory>
+    ensures { IfOk result (λ typed. typed ≡ option_map (type_found (modules_of modules.now))
+        (leaf_named modules.now.most modules.now.all.now (stack above.now) block.now name.now)) }
+{
+    leaf_in_block(alloc, &*modules, &Site { above }, name, block)
+}

@@ -1,0 +1,117 @@
+//! The names of the data nodes of a block.
+ghost use Rattle.std.specs.Prelude.{◌≡◌, List, ◌++◌, IfOk, OnOk};
+ghost use Rattle.orc_modules.specs.Children.{brought, brought_by, children, child_names};
+ghost use Rattle.orc_modules.specs.Stack.{stack, found};
+
+use crate::deep::is_deeper;
+use crate::parts::{Part, block_part, grouping};
+use crate::place::Modules;
+use crate::scope::{Above, Found, Site};
+use crate::visits::{MAX_VISITS, visit};
+use orc_text::{Memory, Row, Text};
+use orc_types::argument;
+use orc_yang::Stmt;
+use std::alloc::Global;
+
+// Adds the names of the nodes of a block, through groupings fewer than `depth` deep.
+fn push_brought<'a>(
+    alloc: Global,
+    depth: usize,
+    modules: &Modules<'a>,
+    at: &Site<'a>,
+    block: &'a [Stmt],
+    left: &mut u64,
+    out: &mut Row<Text>,
+) -> Result<(), Memory>
+    ensures { OnOk result (out.new
+        ≡ out.old ++ child_names (brought depth modules.now.all.now (stack at.now.above.now) block.now)) }
+{
+    if depth == 0 {
+        return Ok(());
+    }
+    for stmt in block {
+        match block_part(stmt) {
+            Part::Node => {
+                visit(left)?;
+                out.push(Text::from_str(alloc, argument(stmt))?)?;
+            },
+            Part::Uses => {
+                visit(left)?;
+                if let Some(found) = grouping(&*modules, at.above, stmt) {
+                    let here = found.here;
+                    let inside = Site {
+                        above: &Above::Under(here, &found.above),
+                    };
+                    push_brought(
+                        alloc,
+                        depth - 1,
+                        &*modules,
+                        &inside,
+                        here.subs.as_slice(),
+                        left,
+                        out,
+                    )?;
+                }
+            },
+            Part::Nothing => {},
+        }
+    }
+    Ok(())
+}
+
+// Adds the names that a grouping brings, none where it leads to itself.
+fn push_grouping<'a>(
+    alloc: Global,
+    modules: &Modules<'a>,
+    bringer: &'a Found<'a>,
+    left: &mut u64,
+    out: &mut Row<Text>,
+) -> Result<(), Memory>
+    ensures { OnOk result (out.new
+        ≡ out.old ++ child_names (brought_by modules.now.most modules.now.all.now (found bringer.now))) }
+{
+    let here = bringer.here;
+    let inside = Site {
+        above: &Above::Under(here, &bringer.above),
+    };
+    if is_deeper(modules.most, &*modules, &inside, here, left)? {
+        return Ok(());
+    }
+    push_brought(
+        alloc,
+        modules.most,
+        &*modules,
+        &inside,
+        here.subs.as_slice(),
+        left,
+        out,
+    )
+}
+
+/// The names of the data nodes of a block, in the order of the text, through its `uses`; one that
+/// leads to itself brings none. It wants memory where more than 1,000,000 statements would be looked
+/// at.
+pub fn child_names<'a>(
+    alloc: Global,
+    modules: &Modules<'a>,
+    above: &'a Above<'a>,
+    block: &'a [Stmt],
+) -> Result<Row<Text>, Memory>
+    ensures { IfOk result (λ names. names
+        ≡ child_names (children modules.now.most modules.now.all.now (stack above.now) block.now)) }
+{
+    let mut out = Row::new(alloc);
+    let mut left = MAX_VISITS;
+    for stmt in block {
+        match block_part(stmt) {
+            Part::Node => out.push(Text::from_str(alloc, argument(stmt))?)?,
+            Part::Uses => {
+                if let Some(found) = grouping(&*modules, above, stmt) {
+                    push_grouping(alloc, &*modules, &found, &mut left, &mut out)?;
+                }
+            },
+            Part::Nothing => {},
+        }
+    }
+    Ok(out)
+}

@@ -1,0 +1,39 @@
+//! A statement where it stands, and the modules around it all.
+ghost use Rattle.std.specs.Prelude.{◌≡◌};
+ghost use Rattle.orc_modules.specs.Scopes.{the_modules};
+ghost use Rattle.orc_modules.specs.Stack.{modules_of};
+
+use crate::scope::Above;
+use orc_yang::Stmt;
+
+/// How many typedefs, or nodes and groupings, stand in one another at most: more lead back to
+/// themselves.
+pub const MAX_CHAIN: usize = 1_000;
+
+/// The modules, and how many typedefs, or nodes and groupings, stand in one another at most.
+#[derive(Clone, Copy)]
+pub struct Modules<'a> {
+    pub all: &'a [Stmt],
+    pub most: usize,
+}
+
+impl<'a> Modules<'a> {
+    /// Modules, of which more than 1,000 typedefs, or nodes and groupings, in one another lead back
+    /// to themselves.
+    pub fn of(all: &'a [Stmt]) -> Modules<'a>
+        ensures { modules_of result ≡ the_modules all.now }
+    {
+        Modules {
+            all,
+            most: MAX_CHAIN,
+        }
+    }
+}
+
+/// A statement where it stands: the statements around it, and those before it in the same block.
+#[derive(Clone, Copy)]
+pub struct Place<'a> {
+    pub above: &'a Above<'a>,
+    pub before: &'a [Stmt],
+    pub here: &'a Stmt,
+}

@@ -1,0 +1,220 @@
+//! What a name means where it stands.
+ghost use Rattle.std.specs.Prelude.{◌≡◌, List, [], IfSome, option_map, is_some};
+ghost use Rattle.std.specs.List.{find, position, before_first, after_first};
+ghost use Rattle.orc_types.specs.Paths.{is_colon};
+ghost use Rattle.orc_types.specs.Statements.{subs};
+ghost use Rattle.orc_modules.specs.Scopes.{in_block_of, in_scope, outermost, module_around, is_own, imports_as, module_called, imported, owner_of, behind_prefix, meaning, prefix_of, plain_name};
+ghost use Rattle.orc_modules.specs.Stack.{stack, found};
+ghost use Rattle.orc_modules.specs.Statements.{defines};
+
+use crate::statements::{defines, sub_text};
+use orc_types::{argument, is_a};
+use orc_yang::Stmt;
+
+/// The statements around a place, the innermost first.
+#[derive(Clone, Copy)]
+pub enum Above<'a> {
+    /// None: the place is that of a module.
+    Top,
+    /// A module alone.
+    Module(&'a Stmt),
+    /// A statement, and those around it.
+    Under(&'a Stmt, &'a Above<'a>),
+}
+
+/// A definition, with the statements around it.
+#[derive(Clone, Copy)]
+pub struct Found<'a> {
+    pub above: Above<'a>,
+    pub here: &'a Stmt,
+}
+
+// Where the statements of a block stand. (An `Above` that is lent on lives as long as what it stands in; within this it
+// may be lent again.)
+#[derive(Clone, Copy)]
+pub(crate) struct Site<'a> {
+    pub(crate) above: &'a Above<'a>,
+}
+
+// The texts before the first colon and behind it.
+fn split_name(text: &str) -> Option<(&str, &str)>
+    ensures some { is_some result ≡ is_some (position is_colon text.now) }
+    ensures first { IfSome result (λ parts. (parts.0.now ≡ before_first is_colon text.now)
+        × (parts.1.now ≡ after_first is_colon text.now)) }
+{
+    text.split_once(':')
+}
+
+/// The prefix of a name, where it has one.
+pub fn prefix_of(text: &str) -> Option<&str>
+    ensures { option_map (λ prefix. prefix.now) result ≡ prefix_of text.now }
+{
+    match split_name(text) {
+        Some((prefix, _)) => Some(prefix),
+        None => None,
+    }
+}
+
+/// The name behind its prefix.
+pub fn plain_name(text: &str) -> &str
+    ensures { result.now ≡ plain_name text.now }
+{
+    match split_name(text) {
+        Some((_, name)) => name,
+        None => text,
+    }
+}
+
+// The first statement of a block with this keyword and this argument.
+fn definition<'a>(keyword: &str, name: &str, block: &'a [Stmt]) -> Option<&'a Stmt>
+    ensures { option_map (λ s. s.now) result ≡ find (defines keyword.now name.now) block.now }
+{
+    block.iter().find(|stmt| defines(keyword, name, *stmt))
+}
+
+/// The module of this name.
+pub fn module_called<'a>(modules: &'a [Stmt], name: &str) -> Option<&'a Stmt>
+    ensures { option_map (λ s. s.now) result ≡ module_called modules.now name.now }
+{
+    definition("module", name, modules)
+}
+
+/// Whether a prefix is the module's own.
+pub fn is_own(prefix: &str, around: &Stmt) -> bool
+    ensures { result ≡ is_own prefix.now around.now }
+{
+    sub_text("prefix", around) == prefix
+}
+
+/// Whether a statement imports a module under this prefix.
+pub fn imports_as(prefix: &str, stmt: &Stmt) -> bool
+    ensures { result ≡ imports_as prefix.now stmt.now }
+{
+    is_a("import", stmt) && sub_text("prefix", stmt) == prefix
+}
+
+// The import of a module under this prefix.
+fn import<'a>(prefix: &str, around: &'a Stmt) -> Option<&'a Stmt>
+    ensures { option_map (λ s. s.now) result ≡ find (imports_as prefix.now) (subs around.now) }
+{
+    around
+        .subs
+        .as_slice()
+        .iter()
+        .find(|sub| imports_as(prefix, *sub))
+}
+
+// The module that an import brings under this prefix.
+fn imported<'a>(modules: &'a [Stmt], prefix: &str, around: &Stmt) -> Option<&'a Stmt>
+    ensures { option_map (λ s. s.now) result ≡ imported modules.now prefix.now around.now }
+{
+    match import(prefix, around) {
+        Some(stmt) => module_called(modules, argument(stmt)),
+        None => None,
+    }
+}
+
+/// The name of the module that a prefix stands for in a module.
+pub fn owner_of<'a>(modules: &'a [Stmt], prefix: &str, around: &'a Stmt) -> Option<&'a str>
+    ensures { option_map (λ name. name.now) result ≡ owner_of modules.now prefix.now around.now }
+{
+    if is_own(prefix, around) {
+        return Some(argument(around));
+    }
+    match imported(modules, prefix, around) {
+        Some(other) => Some(argument(other)),
+        None => None,
+    }
+}
+
+// The outermost statement around.
+fn outermost<'a>(above: &'a Above<'a>, stmt: &'a Stmt) -> &'a Stmt
+    ensures { result.now ≡ outermost stmt.now (stack above.now) }
+{
+    match above {
+        Above::Top => stmt,
+        Above::Module(next) => *next,
+        Above::Under(next, outer) => outermost(*outer, *next),
+    }
+}
+
+/// The module around.
+pub fn module_around<'a>(above: &'a Above<'a>) -> Option<&'a Stmt>
+    ensures { option_map (λ s. s.now) result ≡ module_around (stack above.now) }
+{
+    match above {
+        Above::Top => None,
+        Above::Module(stmt) => Some(*stmt),
+        Above::Under(stmt, outer) => Some(outermost(*outer, *stmt)),
+    }
+}
+
+// A module's own definition of a name.
+fn in_module<'a>(keyword: &str, name: &str, stmt: &'a Stmt) -> Option<Found<'a>>
+    ensures { option_map found result ≡ in_block_of keyword.now name.now stmt.now [] }
+{
+    match definition(keyword, name, stmt.subs.as_slice()) {
+        Some(here) => Some(Found {
+            above: Above::Module(stmt),
+            here,
+        }),
+        None => None,
+    }
+}
+
+/// The nearest definition of a name without a prefix.
+pub fn in_scope<'a>(keyword: &str, name: &str, above: &'a Above<'a>) -> Option<Found<'a>>
+    ensures { option_map found result ≡ in_scope keyword.now name.now (stack above.now) }
+{
+    match above {
+        Above::Top => None,
+        Above::Module(stmt) => in_module(keyword, name, *stmt),
+        Above::Under(stmt, outer) => match definition(keyword, name, stmt.subs.as_slice()) {
+            Some(here) => Some(Found {
+                above: *above,
+                here,
+            }),
+            None => in_scope(keyword, name, *outer),
+        },
+    }
+}
+
+// The definition of a name in the module of a prefix.
+fn behind_prefix<'a>(
+    modules: &'a [Stmt],
+    keyword: &str,
+    prefix: &str,
+    name: &str,
+    above: &'a Above<'a>,
+    around: &'a Stmt,
+) -> Option<Found<'a>>
+    ensures { option_map found result
+        ≡ behind_prefix modules.now keyword.now prefix.now name.now (stack above.now) around.now }
+{
+    if is_own(prefix, around) {
+        return in_scope(keyword, name, above);
+    }
+    match imported(modules, prefix, around) {
+        Some(other) => in_module(keyword, name, other),
+        None => None,
+    }
+}
+
+/// What a name means: without a prefix, or with the module's own, it is looked for scope by scope
+/// outwards, else in the module of its prefix.
+pub fn meaning<'a>(
+    modules: &'a [Stmt],
+    keyword: &str,
+    text: &str,
+    above: &'a Above<'a>,
+) -> Option<Found<'a>>
+    ensures { option_map found result ≡ meaning modules.now keyword.now text.now (stack above.now) }
+{
+    match split_name(text) {
+        Some((prefix, name)) => match module_around(above) {
+            Some(around) => behind_prefix(modules, keyword, prefix, name, above, around),
+            None => None,
+        },
+        None => in_scope(keyword, text, above),
+    }
+}
