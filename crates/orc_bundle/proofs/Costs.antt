@@ -1,5 +1,5 @@
 -- How many bytes are looked at.
-use Rattle.std.proofs.Common.{◌≡◌, ℕ, zero, suc, ◌<◌, ◌≤◌, ◌+◌, ◌*◌, ◌-◌, Bool, true, false, not, ◌==◌, cond, List, [], ◌∷◌, ◌++◌, codes, length, nat_lt, Result, Ok, Err, Option, Some, None, refl, ap, sym, ◌∙◌, subst, arith, ltb-true, ltb-false}
+use Rattle.std.proofs.Common.{◌≡◌, ℕ, zero, suc, ◌<◌, ◌≤◌, ◌+◌, ◌-◌, Bool, true, false, not, ◌==◌, cond, List, [], ◌∷◌, length, nat_lt, Ok, refl, ap, sym, ◌∙◌, subst, arith, ltb-true, ltb-false}
 use Rattle.std.proofs.lemmas.Bool.{false≢true}
 use Rattle.orc_bundle.specs.Bundles.{is_script}
 use Rattle.orc_bundle.specs.Declarations.{declared_at, lines_taken}
@@ -19,7 +19,7 @@ use Rattle.orc_bundle.specs.inside.Costs.{ahead_declared, ahead_in, ahead_script
 use Rattle.orc_bundle.proofs.Keywords.{skipped_no_end, skipped_word}
 use Rattle.orc_bundle.proofs.DeclaredLines.{Declares, declared, declares, headed, in_a_block, scripted}
 use Rattle.orc_bundle.proofs.DeclaredLines as declared_lines
-use Rattle.orc_bundle.proofs.ScriptLines.{Called, Ended, MakesOf, Stays, Stepped, called, ended, is_resting, makes, over, stays, stepped}
+use Rattle.orc_bundle.proofs.ScriptLines.{MakesOf, called, ended, is_resting, makes, over, stays, stepped}
 
 -- bytes of lines
 
@@ -141,9 +141,9 @@ line_pays s line later t (ended m) =
     let looks : scripted_looks_at line later ≡ bytes_to is_kept later = looks_by line later keyword.End m.looked in
     let after : ahead_scripted t.part later ≡ bytes_to is_kept later = ap (λ (p : Part). ahead_scripted p later) m.resting in omega arith
 
-pub scripted_pays : (names : List (List ℕ)) (s : Script) (at : ℕ) (line : List ℕ) (later : List (List ℕ)) (t : Script)
-    → scripted_at names s at line later ≡ Ok t → ahead_scripted s.part (line ∷ later) + scripted_looks_at line later ≤ length line + ahead_scripted t.part later
-scripted_pays names s at line later t h = line_pays s line later t (makes names s at line later t h)
+pub scripted_pays : (d : Declared) (s : Script) (at : ℕ) (line : List ℕ) (later : List (List ℕ)) (t : Script)
+    → scripted_at d s at line later ≡ Ok t → ahead_scripted s.part (line ∷ later) + scripted_looks_at line later ≤ length line + ahead_scripted t.part later
+scripted_pays d s at line later t h = line_pays s line later t (makes d s at line later t h)
 
 -- lines of declarations
 

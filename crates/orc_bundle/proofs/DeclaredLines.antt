@@ -1,20 +1,21 @@
 -- What a line of declarations makes of what was declared so far.
-use Rattle.std.proofs.Common.{◌≡◌, ℕ, zero, suc, ◌<◌, ◌-◌, Bool, true, false, not, ◌&&◌, ◌||◌, nat_le, nat_lt, cond, List, [], ◌∷◌, ◌++◌, codes, length, Result, Ok, Err, Option, Some, None, refl, ap, sym, ◌∙◌, subst, arith, lt-ltb, eqb-true}
+use Rattle.std.proofs.Common.{◌≡◌, ℕ, ◌<◌, ◌-◌, Bool, true, false, not, ◌&&◌, ◌||◌, nat_le, nat_lt, cond, List, [], ◌∷◌, codes, length, Result, Ok, Err, Option, Some, None, refl, ap, sym, ◌∙◌, subst, lt-ltb, eqb-true}
 use Rattle.std.specs.Str.{is_utf8}
 use Rattle.std.proofs.lemmas.Bool.{false≢true}
 use Rattle.orc_path.specs.Alphabet.{is_identifier}
 use Rattle.orc_path.specs.Limits.{is_long_name}
+use Rattle.orc_state.specs.Calls.{schema_named}
 use Rattle.orc_state.specs.declared.declarations.TheConstants.{MOST_DEVICES}
 use Rattle.orc_state.specs.declared.rule.Rule.{Rule}
 use Rattle.orc_state.specs.declared.rule.Rule.TheVariants as rule
 use Rattle.orc_bundle.specs.Bundles.{is_script}
-use Rattle.orc_bundle.specs.Declarations.{after_base, after_device, after_header, after_script, after_text, after_yang, bare_declaration, base_words, block_size, declaration, declaration_words, declared_at, device_words, is_header, is_taken, lines_taken, taken_by, with_base, with_device, words_take}
+use Rattle.orc_bundle.specs.Declarations.{after_base, after_datamodel, after_device, after_devicetype, after_header, after_script, after_text, after_yang, bare_declaration, base_words, block_size, declaration, declaration_words, declared_at, device_words, is_header, is_taken, lines_taken, schema_place, schema_words, taken_by, type_words, with_base, with_device, with_module, with_type, words_take}
 use Rattle.orc_bundle.specs.Items.{put_of}
 use Rattle.orc_bundle.specs.Keywords.{keyword_of}
 use Rattle.orc_bundle.specs.Lines.{block_of, is_large, is_skipped, text_of}
 use Rattle.orc_bundle.specs.Modules.{module_of}
-use Rattle.orc_bundle.specs.Names.{is_among, place_of}
-use Rattle.orc_bundle.specs.Words.{cut_at, is_text, number_in, word_before}
+use Rattle.orc_bundle.specs.Names.{is_among, place_of, with_name}
+use Rattle.orc_bundle.specs.Words.{cut_at, is_text, number_in, word_before, words_of}
 use Rattle.orc_bundle.specs.declared.declarations.Declared.{Declared}
 use Rattle.orc_bundle.specs.declared.declarations.Section.{Section}
 use Rattle.orc_bundle.specs.declared.declarations.Section.TheVariants as section
@@ -55,18 +56,33 @@ module _ (d e : Declared) (text : List ℕ) (later : List (List ℕ)) (none : d.
     unfolding taken_by
     of_device is None h = absurd (no_ok rule.Line e h)
     of_device is (Some names) h =
-        let one = passed (not (is_identifier names.0) || not (is_text names.1 (codes "plain"))) rule.Line _ e h in
-        let two = passed (is_long_name names.0) rule.Size _ e one.1 in
+        let one = passed (not (is_identifier names.0) || not (is_identifier names.1)) rule.Line _ e h in
+        let two = passed (is_long_name names.0 || is_long_name names.1) rule.Size _ e one.1 in
         let three = passed (not (is_among d.names names.0) && nat_le MOST_DEVICES (length d.names)) rule.Size _ e two.1 in
-        let four = passed (is_among d.names names.0) rule.Duplicate (Ok (with_device d names.0)) e three.1 in
-        keeps keyword.Device is refl (with_device d names.0) refl refl four.1
+        let four = or_rule_ok (schema_place d names.1) rule.Unknown _ e three.1 in
+        let five = passed (is_among d.names names.0) rule.Duplicate (Ok (with_device d names.0 four.0)) e four.1.1 in
+        keeps keyword.Device is refl (with_device d names.0 four.0) refl refl five.1
+
+    of_datamodel : keyword_of words.0 ≡ keyword.Datamodel → after_datamodel d words.1 ≡ Ok e → Declares d text e
+    unfolding after_datamodel taken_by
+    of_datamodel is h =
+        let one = on_ok_ok (schema_words d (words_of words.1) (with_name (words_of words.1) (codes "orc")) d.has_data) _ e h in
+        keeps keyword.Datamodel is refl (record d { has_data = true }) refl refl one.1.1
+
+    of_type : keyword_of words.0 ≡ keyword.Devicetype → (names : List (List ℕ)) → type_words d names ≡ Ok e → Declares d text e
+    unfolding taken_by
+    of_type is [] h = absurd (no_ok rule.Line e h)
+    of_type is (name ∷ []) h = absurd (no_ok rule.Line e h)
+    of_type is (name ∷ first ∷ later) h =
+        let one = on_ok_ok (schema_words d (name ∷ first ∷ later) (first ∷ later) (is_among d.types name)) _ e h in
+        keeps keyword.Devicetype is refl (with_type d name one.0) refl refl one.1.1
 
     of_base : keyword_of words.0 ≡ keyword.Base → (o : Option (List ℕ × List ℕ)) → base_words d o ≡ Ok e → Declares d text e
     unfolding taken_by
     of_base is None h = absurd (no_ok rule.Line e h)
     of_base is (Some names) h =
         let one = passed (not (is_identifier names.0)) rule.Line _ e h in
-        let two = on_ok_ok (put_of (is_long_name names.0) names.1) _ e one.1 in
+        let two = on_ok_ok (put_of (schema_named d.schemas d.devices names.0) (is_long_name names.0) names.1) _ e one.1 in
         let three = or_rule_ok (place_of d.names names.0) rule.Unknown (λ n. Ok (record d { devices = with_base n two.0 d.devices })) e two.1.1 in
         keeps keyword.Base is refl (record d { devices = with_base three.0 two.0 d.devices }) refl refl three.1.1
 
@@ -76,15 +92,17 @@ module _ (d e : Declared) (text : List ℕ) (later : List (List ℕ)) (none : d.
         let one = or_rule_ok (number_in words.1) rule.Line _ e h in
         let two = or_rule_ok (block_of one.0 later) rule.Line _ e one.1.1 in
         let three = on_ok_ok (module_of two.0) _ e two.1.1 in
-        let after : Declared = record d { modules = d.modules ++ three.0 ∷ []; skip = one.0 } in
-        let four = passed (is_taken d three.0) rule.Duplicate (Ok after) e three.1.1 in
+        let after : Declared = with_module d one.0 three.0 in
+        let four = passed (is_taken d three.0.name) rule.Duplicate (Ok after) e three.1.1 in
         let same = same_ok after e four.1 in
         declared here (sym (ap (λ (x : Declared). x.section) same) ∙ here)
         (sym (ap (λ (x : Declared). x.skip) same) ∙ sym (takes keyword.Yang is ∙ ap block_size one.1.0)) no_script
 
     of_words : (k : Keyword) → keyword_of words.0 ≡ k → declaration k d words.1 later ≡ Ok e → Declares d text e
-    unfolding declaration after_device after_base
+    unfolding declaration after_device after_devicetype after_base
     of_words keyword.Device is h = of_device is (cut_at 32 words.1) h
+    of_words keyword.Datamodel is h = of_datamodel is h
+    of_words keyword.Devicetype is h = of_type is (words_of words.1) h
     of_words keyword.Base is h = of_base is (cut_at 32 words.1) h
     of_words keyword.Yang is h = of_yang is h
     of_words _ is h = absurd (no_ok rule.Line e h)

@@ -1,9 +1,9 @@
 -- What a script is, where no line of it is at fault.
-use Rattle.std.proofs.Common.{◌≡◌, ℕ, ◌≤◌, ◌<◌, ◌+◌, Bool, true, false, not, ◌&&◌, ◌||◌, cond, nat_le, List, [], ◌∷◌, ◌++◌, codes, length, length-append, Result, Ok, Err, Option, Some, None, refl, ap, sym, ◌∙◌, subst, arith, append_assoc, append-nil}
+use Rattle.std.proofs.Common.{◌≡◌, ℕ, ◌≤◌, ◌<◌, ◌+◌, Bool, true, false, not, ◌&&◌, cond, nat_le, List, [], ◌∷◌, ◌++◌, codes, length, length-append, Ok, refl, ap, sym, ◌∙◌, subst, arith, append_assoc, append-nil}
 use Rattle.std.specs.List.{list_any}
 use Rattle.std.proofs.lemmas.Bool.{false≢true, and_from, leb-false}
 use Rattle.orc_call.specs.declared.call.Call.{Call}
-use Rattle.orc_state.specs.declared.rule.Rule.{Rule}
+use Rattle.orc_bundle.specs.declared.declarations.Declared.{Declared}
 use Rattle.orc_bundle.specs.Bundles.{are_settled, begins_settled, callers_behind, script_steps}
 use Rattle.orc_bundle.specs.Lines.{is_end, is_settled, is_skipped, text_of}
 use Rattle.orc_bundle.specs.Names.{is_among, with_name}
@@ -90,14 +90,14 @@ settled_here line later h = rw h refl
 end_behind : (line : List ℕ) (later : List (List ℕ)) → is_text (text_of line) (codes "end") ≡ false → list_any is_end (line ∷ later) ≡ list_any is_end later
 end_behind line later h = rw h refl
 
-module _ (names : List (List ℕ)) where
+module _ (d : Declared) where
   abbrev pub Grown : List (List ℕ) → Type 0
-  Grown lines = (s : Script) (at n : ℕ) (steps : List ScriptStep) → script_steps names s at n lines ≡ Ok steps → IsKept s → Grows s lines steps
+  Grown lines = (s : Script) (at n : ℕ) (steps : List ScriptStep) → script_steps d s at n lines ≡ Ok steps → IsKept s → Grows s lines steps
 
-  module _ (line : List ℕ) (later : List (List ℕ)) (grown : Grown later) (s : Script) (at n : ℕ) (steps : List ScriptStep) (t : Script) (reads : script_steps names t at n later ≡ Ok steps) (kept : IsKept s) where
+  module _ (line : List ℕ) (later : List (List ℕ)) (grown : Grown later) (s : Script) (at n : ℕ) (steps : List ScriptStep) (t : Script) (reads : script_steps d t at n later ≡ Ok steps) (kept : IsKept s) where
     of_skipped : is_skipped (text_of line) ≡ true → s ≡ t → Grows s (line ∷ later) steps
     of_skipped skip same =
-        let all = grown s at n steps (subst (λ (x : Script). script_steps names x at n later ≡ Ok steps) (sym same) reads) kept in
+        let all = grown s at n steps (subst (λ (x : Script). script_steps d x at n later ≡ Ok steps) (sym same) reads) kept in
         record {
           rests = λ here. (let r = all.rests here in record {
             more = r.more;
@@ -225,15 +225,15 @@ module _ (names : List (List ℕ)) where
         serves = λ here none. absurd (false≢true none);
       }
   grown (line ∷ later) s at n steps h kept =
-      let found = on_line_ok (n + 1) (scripted_at names s at line later) (λ t. script_steps names t (at + length line) (n + 1) later) steps h in
-      of_any line later (grown later) s (at + length line) (n + 1) steps found.0 found.1.1 kept (makes names s at line later found.0 found.1.0)
+      let found = on_line_ok (n + 1) (scripted_at d s at line later) (λ t. script_steps d t (at + length line) (n + 1) later) steps h in
+      of_any line later (grown later) s (at + length line) (n + 1) steps found.0 found.1.1 kept (makes d s at line later found.0 found.1.0)
 
 -- a whole script
-pub settled_script : (names : List (List ℕ)) (at n : ℕ) (lines : List (List ℕ)) (steps : List ScriptStep) → script_steps names no_steps at n lines ≡ Ok steps
+pub settled_script : (d : Declared) (at n : ℕ) (lines : List (List ℕ)) (steps : List ScriptStep) → script_steps d no_steps at n lines ≡ Ok steps
     → (are_settled steps ≡ true) × (length steps ≤ MOST_STEPS) × (length (callers_behind [] steps) ≤ MOST_CALLERS)
-settled_script names at n lines steps h =
+settled_script d at n lines steps h =
     let first : IsKept no_steps = record { few = omega arith; room = λ none. absurd (false≢true (sym none)); callers = omega arith } in
-    let r = (grown names lines no_steps at n steps h first).rests refl in
+    let r = (grown d lines no_steps at n steps h first).rests refl in
     let same : steps ≡ r.more = r.is in (
       subst (λ (x : List ScriptStep). are_settled x ≡ true) (sym same) r.settled,
       r.few,

@@ -1,5 +1,5 @@
 -- First words of lines.
-use Rattle.std.proofs.Common.{◌≡◌, ℕ, Bool, true, false, cond, ◌==◌, List, [], ◌∷◌, codes, Option, Some, None, refl, ap, sym, ◌∙◌, subst, eqb-true}
+use Rattle.std.proofs.Common.{◌≡◌, ℕ, Bool, true, false, cond, List, [], ◌∷◌, codes, Option, Some, None, refl, ap, sym, ◌∙◌, subst, eqb-true}
 use Rattle.std.specs.Cmp.Lexicographic.{bytes_decides}
 use Rattle.std.specs.Option.{option_map}
 use Rattle.std.proofs.lemmas.Bool.{false≢true}
@@ -47,10 +47,13 @@ end_known word h = on (is_text word (codes "end")) refl where
     other : is_end_word (keyword_of word) ≡ false
     other =
         other_word (is_text word (codes "device")) _ _ refl (
+        other_word (is_text word (codes "datamodel")) _ _ refl (
+        other_word (is_text word (codes "devicetype")) _ _ refl (
         other_word (is_text word (codes "base")) _ _ refl (
         other_word (is_text word (codes "yang")) _ _ refl (
         other_word (is_text word (codes "script")) _ _ refl (
         other_word (is_text word (codes "show")) _ _ refl (
+        other_word (is_text word (codes "json")) _ _ refl (
         other_word (is_text word (codes "call")) _ _ refl (
         other_word (is_text word (codes "literal")) _ _ refl (
         other_word (is_text word (codes "write")) _ _ refl (
@@ -59,7 +62,7 @@ end_known word h = on (is_text word (codes "end")) refl where
         other_word (is_text word (codes "settle")) _ _ refl (
         other_word (is_text word (codes "stop")) _ _ refl (
         other_word (is_text word (codes "recover")) _ _ refl (
-        other_word (is_text word (codes "history")) _ _ refl refl)))))))))))))
+        other_word (is_text word (codes "history")) _ _ refl refl))))))))))))))))
 
 -- a text that is skipped has none of them
 pub skipped_word : (text : List ℕ) → is_skipped text ≡ true → keyword_of (first_word text) ≡ keyword.Other

@@ -1,5 +1,5 @@
 -- What is known where no rule is broken.
-use Rattle.std.proofs.Common.{◌≡◌, ℕ, Bool, true, false, not, cond, List, Result, Ok, Err, Option, Some, None, refl, sym}
+use Rattle.std.proofs.Common.{◌≡◌, ℕ, Bool, true, false, not, cond, Result, Ok, Err, Option, Some, None, refl, sym}
 use Rattle.orc_state.specs.declared.rule.Rule.{Rule}
 use Rattle.orc_bundle.specs.Rules.{or_rule, on_ok}
 use Rattle.orc_bundle.specs.Bundles.{on_line}

@@ -1,5 +1,5 @@
 -- What a line of a script makes of the steps so far.
-use Rattle.std.proofs.Common.{◌≡◌, ℕ, Bool, true, false, not, ◌&&◌, ◌||◌, nat_le, cond, List, [], ◌∷◌, ◌++◌, codes, length, Result, Ok, Err, Option, Some, None, refl, ap, sym, ◌∙◌, subst}
+use Rattle.std.proofs.Common.{◌≡◌, ℕ, Bool, true, false, not, ◌||◌, cond, List, [], ◌∷◌, ◌++◌, codes, Ok, Err, Option, Some, None, refl, ap, sym, ◌∙◌, subst}
 use Rattle.std.specs.List.{list_any}
 use Rattle.std.specs.Str.{is_utf8}
 use Rattle.std.proofs.lemmas.Bool.{false≢true, or_parts}
@@ -8,15 +8,16 @@ use Rattle.orc_path.specs.Limits.{is_long_name}
 use Rattle.orc_call.specs.declared.call.Action.{Action}
 use Rattle.orc_call.specs.declared.call.Action.TheVariants as action
 use Rattle.orc_call.specs.declared.call.Call.{Call}
-use Rattle.orc_call.specs.declared.call.Put.{Put}
+use Rattle.orc_state.specs.Calls.{schema_named}
 use Rattle.orc_state.specs.declared.rule.Rule.{Rule}
 use Rattle.orc_state.specs.declared.rule.Rule.TheVariants as rule
+use Rattle.orc_bundle.specs.declared.declarations.Declared.{Declared}
 use Rattle.orc_bundle.specs.Items.{put_of}
 use Rattle.orc_bundle.specs.Keywords.{keyword_of}
 use Rattle.orc_bundle.specs.Lines.{is_end, is_large, is_settled, is_skipped, text_of}
 use Rattle.orc_bundle.specs.Names.{is_among, place_of, with_name}
-use Rattle.orc_bundle.specs.Rules.{checked, or_rule, on_ok}
-use Rattle.orc_bundle.specs.Scripts.{a_step, a_write, after_bare, after_call, after_end, after_show, after_step, after_stop, after_write, an_action, bare_step, begun, behind_action, call_words, is_caller_more, is_followed, is_full, scripted_at, step_words, stop_words, with_call, with_step, word_at, words_at, write_words}
+use Rattle.orc_bundle.specs.Rules.{or_rule}
+use Rattle.orc_bundle.specs.Scripts.{a_step, a_write, after_bare, after_call, after_end, after_json, after_show, after_step, after_stop, after_write, an_action, bare_step, begun, behind_action, call_words, is_caller_more, is_followed, is_full, scripted_at, step_words, stop_words, with_call, with_step, word_at, words_at, write_words}
 use Rattle.orc_bundle.specs.Words.{cut_at, first_word, is_text, number_in, word_before}
 use Rattle.orc_bundle.specs.declared.bundle.ScriptStep.{ScriptStep}
 use Rattle.orc_bundle.specs.declared.bundle.ScriptStep.TheVariants.{Show, Serve, Settle, Stop, StopAt, Recover, History}
@@ -99,7 +100,7 @@ not_so false h = refl
 not_so true h = absurd (h refl)
 
 -- a line that is not skipped, with its first word
-module _ (names : List (List ℕ)) (s : Script) (text : List ℕ) (later : List (List ℕ)) (t : Script) (kept : is_skipped text ≡ false) where
+module _ (d : Declared) (s : Script) (text : List ℕ) (later : List (List ℕ)) (t : Script) (kept : is_skipped text ≡ false) where
   abbrev word : Keyword
   word = keyword_of (first_word text)
 
@@ -138,12 +139,12 @@ module _ (names : List (List ℕ)) (s : Script) (text : List ℕ) (later : List 
     one_word keyword.History is h = a_bare History refl (λ e. absurd (no_settle keyword.History is refl e)) (unlooked_at keyword.History is refl) h
     one_word _ is h = absurd (no_ok rule.Line t h)
 
-    shown : (rest : List ℕ) → word ≡ keyword.Show → after_show names s rest ≡ Ok t → MakesOf s text later t
+    shown : (rest : List ℕ) → word ≡ keyword.Show → after_show d s rest ≡ Ok t → MakesOf s text later t
     unfolding after_show step_looks_at
     shown rest is h =
         let one = passed (not (is_identifier rest)) rule.Line _ t h in
         let two = passed (is_long_name rest || is_full s) rule.Size _ t one.1 in
-        let found = or_rule_ok (place_of names rest) rule.Unknown (λ n. Ok (with_step s (Show n))) t two.1 in
+        let found = or_rule_ok (place_of d.names rest) rule.Unknown (λ n. Ok (with_step s (Show n))) t two.1 in
         let step = Show found.0 in
         stepped (record {
           step = step;
@@ -155,6 +156,14 @@ module _ (names : List (List ℕ)) (s : Script) (text : List ℕ) (later : List 
           settles = λ e. absurd (no_settle keyword.Show is refl e);
           unlooked = unlooked_at keyword.Show is refl;
         })
+
+    untyped : (rest : List ℕ) → after_json d s rest ≡ Ok t → ⊥
+    unfolding after_json
+    untyped rest h =
+        let one = passed (not (is_identifier rest)) rule.Line _ t h in
+        let two = passed (is_long_name rest || is_full s) rule.Size _ t one.1 in
+        let three = passed (schema_named d.schemas d.devices rest).plain rule.Unknown (Err rule.Line) t two.1 in
+        no_ok rule.Line t three.1
 
     stops : (o : Option (List ℕ × List ℕ)) → word ≡ keyword.Stop → stop_words s o ≡ Ok t → MakesOf s text later t
     unfolding step_looks_at
@@ -191,9 +200,10 @@ module _ (names : List (List ℕ)) (s : Script) (text : List ℕ) (later : List 
           looked = is;
         })
 
-    more_words : (k : Keyword) (rest : List ℕ) (followed : Bool) → word ≡ k → is_followed word later ≡ followed → a_step k names s rest followed ≡ Ok t → MakesOf s text later t
+    more_words : (k : Keyword) (rest : List ℕ) (followed : Bool) → word ≡ k → is_followed word later ≡ followed → a_step k d s rest followed ≡ Ok t → MakesOf s text later t
     unfolding a_step after_stop after_call
     more_words keyword.Show rest followed is follows h = shown rest is h
+    more_words keyword.Json rest followed is follows h = absurd (untyped rest h)
     more_words keyword.Stop rest followed is follows h = stops (cut_at 32 rest) is h
     more_words keyword.Call rest followed is follows h = calls (cut_at 32 rest) followed is follows h
     more_words _ rest followed is follows h = absurd (no_ok rule.Line t h)
@@ -228,18 +238,18 @@ module _ (names : List (List ℕ)) (s : Script) (text : List ℕ) (later : List 
     acts keyword.Delete rest is h = begins keyword.Delete is refl refl part.Delete refl rest h
     acts _ rest is h = absurd (no_ok rule.Line t h)
 
-    writes : (o : Option (List ℕ × List ℕ)) → word ≡ keyword.Write → write_words names s o ≡ Ok t → MakesOf s text later t
+    writes : (o : Option (List ℕ × List ℕ)) → word ≡ keyword.Write → write_words d s o ≡ Ok t → MakesOf s text later t
     unfolding step_looks_at
     writes None is h = absurd (no_ok rule.Line t h)
     writes (Some words) is h =
         let one = passed (not (is_identifier words.0)) rule.Line _ t h in
-        let found = on_ok_ok (put_of (is_long_name words.0) words.1) _ t one.1 in
+        let found = on_ok_ok (put_of (schema_named d.schemas d.devices words.0) (is_long_name words.0) words.1) _ t one.1 in
         let put = found.0 in
         let after : Script = record s { writes = s.writes ++ (record { device = words.0; path = put.path; item = put.item }) ∷ [] } in
-        let two = passed (not (is_among names words.0)) rule.Unknown (Ok after) t found.1.1 in
+        let two = passed (not (is_among d.names words.0)) rule.Unknown (Ok after) t found.1.1 in
         goes_on keyword.Write is refl refl after two.1 was_open refl refl refl
 
-    a_line : (k : Keyword) (rest : List ℕ) → word ≡ k → a_write k names s rest ≡ Ok t → MakesOf s text later t
+    a_line : (k : Keyword) (rest : List ℕ) → word ≡ k → a_write k d s rest ≡ Ok t → MakesOf s text later t
     unfolding a_write after_write
     a_line keyword.Write rest is h = writes (cut_at 32 rest) is h
     a_line _ rest is h = absurd (no_ok rule.Line t h)
@@ -265,7 +275,7 @@ module _ (names : List (List ℕ)) (s : Script) (text : List ℕ) (later : List 
     ends _ a followed alone is follows h = absurd (no_ok rule.Line t h)
 
   -- by what is open
-  of_words : (p : Part) → s.part ≡ p → (rest : List ℕ) (followed : Bool) → is_followed word later ≡ followed → words_at p word names s rest followed ≡ Ok t → MakesOf s text later t
+  of_words : (p : Part) → s.part ≡ p → (rest : List ℕ) (followed : Bool) → is_followed word later ≡ followed → words_at p word d s rest followed ≡ Ok t → MakesOf s text later t
   unfolding words_at
   of_words part.Steps here rest followed follows h = more_words here word rest followed refl follows h
   of_words part.Call here rest followed follows h = acts (ap is_resting here) word rest refl h
@@ -279,22 +289,22 @@ module _ (names : List (List ℕ)) (s : Script) (text : List ℕ) (later : List 
   of_word part.Literal here followed alone follows h = ends (ap is_resting here) word (action.Literal s.name s.writes) followed alone refl follows h
   of_word part.Delete here followed alone follows h = ends (ap is_resting here) word (action.Delete s.name) followed alone refl follows h
 
-  of_cut : (o : Option (List ℕ × List ℕ)) → cut_at 32 text ≡ o → (followed : Bool) → is_followed word later ≡ followed → step_words names s word followed o ≡ Ok t → MakesOf s text later t
+  of_cut : (o : Option (List ℕ × List ℕ)) → cut_at 32 text ≡ o → (followed : Bool) → is_followed word later ≡ followed → step_words d s word followed o ≡ Ok t → MakesOf s text later t
   of_cut None is followed follows h = of_word s.part refl followed is follows h
   of_cut (Some words) is followed follows h = of_words s.part refl words.1 followed follows h
 
-  of_step : after_step names s text later ≡ Ok t → MakesOf s text later t
+  of_step : after_step d s text later ≡ Ok t → MakesOf s text later t
   unfolding after_step
   of_step h = of_cut (cut_at 32 text) refl (is_followed word later) refl h
 
-pub makes : (names : List (List ℕ)) (s : Script) (at : ℕ) (line : List ℕ) (later : List (List ℕ)) (t : Script)
-    → scripted_at names s at line later ≡ Ok t → MakesOf s (text_of line) later t
+pub makes : (d : Declared) (s : Script) (at : ℕ) (line : List ℕ) (later : List (List ℕ)) (t : Script)
+    → scripted_at d s at line later ≡ Ok t → MakesOf s (text_of line) later t
 unfolding scripted_at
-makes names s at line later t h =
+makes d s at line later t h =
     let text = text_of line in
     let one = passed (is_large at line) rule.Size _ t h in
     let two = passed (not (is_utf8 text)) rule.Utf8 _ t one.1 in
     on (is_skipped text) refl two.1 where
-      on : (b : Bool) → is_skipped (text_of line) ≡ b → cond b (Ok s) (after_step names s (text_of line) later) ≡ Ok t → MakesOf s (text_of line) later t
+      on : (b : Bool) → is_skipped (text_of line) ≡ b → cond b (Ok s) (after_step d s (text_of line) later) ≡ Ok t → MakesOf s (text_of line) later t
       on true is h = over is (same_ok s t h)
-      on false is h = of_step names s (text_of line) later t is h
+      on false is h = of_step d s (text_of line) later t is h

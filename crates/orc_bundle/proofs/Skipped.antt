@@ -18,7 +18,7 @@ pub declarations : (at : ℕ) (line : List ℕ) (later : List (List ℕ)) (d : D
 unfolding declared_at
 declarations at line later d is skip = rw is.small (rw skip (rw is.utf8 (rw is.skipped refl)))
 
-pub script : (at : ℕ) (line : List ℕ) (later : List (List ℕ)) (names : List (List ℕ)) (s : Script)
-    → IsPassed at line → scripted_at names s at line later ≡ Ok s
+pub script : (at : ℕ) (line : List ℕ) (later : List (List ℕ)) (d : Declared) (s : Script)
+    → IsPassed at line → scripted_at d s at line later ≡ Ok s
 unfolding scripted_at
-script at line later names s is = rw is.small (rw is.utf8 (rw is.skipped refl))
+script at line later d s is = rw is.small (rw is.utf8 (rw is.skipped refl))

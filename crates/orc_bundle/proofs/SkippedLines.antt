@@ -1,20 +1,19 @@
 -- A skipped line put into a bundle only moves the lines behind it.
-use Rattle.std.proofs.Common.{◌≡◌, ℕ, zero, suc, ◌<◌, ◌≤◌, ◌+◌, ◌-◌, Bool, true, false, not, ◌||◌, cond, nat_le, nat_lt, List, [], ◌∷◌, ◌++◌, codes, length, length-append, Result, Ok, Err, Option, Some, None, refl, ap, sym, ◌∙◌, subst, arith, lt-ltb, ltb-true, ltb-false}
+use Rattle.std.proofs.Common.{◌≡◌, ℕ, zero, suc, ◌<◌, ◌≤◌, ◌+◌, ◌-◌, Bool, true, false, not, ◌||◌, cond, nat_lt, List, [], ◌∷◌, ◌++◌, codes, length, Result, Ok, Err, Option, Some, None, refl, ap, sym, ◌∙◌, arith, ltb-false}
 use Rattle.std.specs.List.{list_any}
 use Rattle.std.specs.Option.{is_none, option_map, option_map_or}
 use Rattle.std.specs.Str.{is_utf8}
 use Rattle.std.proofs.lemmas.Bool.{false≢true, le-leb, lt-leb, le-ltb, or_from}
 use Rattle.std.proofs.lemmas.List.{take_all}
-use Rattle.orc_call.specs.declared.call.Action.{Action}
-use Rattle.orc_call.specs.declared.call.Action.TheVariants as action
+use Rattle.orc_schema.specs.Schemas.{SchemaTable}
 use Rattle.orc_state.specs.declared.declarations.Device.{Device}
 use Rattle.orc_state.specs.declared.rule.Rule.{Rule}
 use Rattle.orc_state.specs.declared.rule.Rule.TheVariants as rule
 use Rattle.orc_bundle.specs.Bundles.{Front, bundle_in, bundle_of, declarations_of, decls_of, header_rule, is_script, lacks_header, on_line, script_of, script_steps}
-use Rattle.orc_bundle.specs.Declarations.{after_header, after_text, after_yang, declaration, declaration_words, declared_at, in_block, is_header, is_taken, lines_taken, nothing_declared, taken_by, words_take}
+use Rattle.orc_bundle.specs.Declarations.{after_header, after_text, after_yang, declaration, declaration_words, declared_at, is_header, is_taken, lines_taken, nothing_declared, taken_by, words_take, with_module}
 use Rattle.orc_bundle.specs.Keywords.{keyword_of}
 use Rattle.orc_bundle.specs.Laws.{IsSkipped, SkippedLinesChangeNothing, left_of_block, meaning_of, moved_behind}
-use Rattle.orc_bundle.specs.Lines.{as_line, block_of, first_kept, is_end, is_large, is_settled, is_skipped, lines_of, seen, text_of}
+use Rattle.orc_bundle.specs.Lines.{as_line, block_of, first_kept, is_end, is_large, is_skipped, lines_of, text_of}
 use Rattle.orc_bundle.specs.Modules.{module_of}
 use Rattle.orc_bundle.specs.Rules.{checked, on_ok, or_rule}
 use Rattle.orc_bundle.specs.Scripts.{after_step, is_followed, no_steps, scripted_at, step_words}
@@ -24,8 +23,6 @@ use Rattle.orc_bundle.specs.declared.bundle.ScriptStep.{ScriptStep}
 use Rattle.orc_bundle.specs.declared.bundle.TheConstants.{LARGEST_BUNDLE}
 use Rattle.orc_bundle.specs.declared.lines.TheConstants.{LONGEST_LINE}
 use Rattle.orc_bundle.specs.declared.declarations.Declared.{Declared}
-use Rattle.orc_bundle.specs.declared.declarations.Section.{Section}
-use Rattle.orc_bundle.specs.declared.declarations.Section.TheVariants as section
 use Rattle.orc_bundle.specs.declared.keyword.Keyword.{Keyword}
 use Rattle.orc_bundle.specs.declared.keyword.Keyword.TheVariants as keyword
 use Rattle.orc_bundle.specs.declared.script.Script.{Script}
@@ -77,15 +74,15 @@ block_same (suc n) (l ∷ ls) a b h = ap (option_map (λ (block : List ℕ). as_
 
 -- a line of the script
 
-step_same : (names : List (List ℕ)) (s : Script) (at to : ℕ) (l : List ℕ) (a b : List (List ℕ))
+step_same : (d : Declared) (s : Script) (at to : ℕ) (l : List ℕ) (a b : List (List ℕ))
     → at + length l ≤ LARGEST_BUNDLE → to + length l ≤ LARGEST_BUNDLE → ((k : Keyword) → is_followed k a ≡ is_followed k b)
-    → scripted_at names s at l a ≡ scripted_at names s to l b
+    → scripted_at d s at l a ≡ scripted_at d s to l b
 unfolding scripted_at after_step
-step_same names s at to l a b here there same =
+step_same d s at to l a b here there same =
     let text = text_of l in
     let word = keyword_of (first_word text) in
     let rest : Bool → Bool → Result Script Rule = λ large followed.
-    cond large (Err rule.Size) (cond (not (is_utf8 text)) (Err rule.Utf8) (cond (is_skipped text) (Ok s) (step_words names s word followed (cut_at 32 text)))) in
+    cond large (Err rule.Size) (cond (not (is_utf8 text)) (Err rule.Utf8) (cond (is_skipped text) (Ok s) (step_words d s word followed (cut_at 32 text)))) in
     ap (λ (large : Bool). rest large (is_followed word a)) (large_anywhere at to l here there) ∙ ap (rest (is_large to l)) (same word)
 
 -- a line of declarations
@@ -94,14 +91,16 @@ yang_same : (d : Declared) (rest : List ℕ) (a b : List (List ℕ)) → block_o
 unfolding after_yang taken_by
 yang_same d rest a b same = on (number_in rest) same where
   on : (o : Option ℕ) → block_of (option_map_or (λ n. n) o 0) a ≡ block_of (option_map_or (λ n. n) o 0) b
-      → or_rule o rule.Line (λ n. or_rule (block_of n a) rule.Line (λ text. on_ok (module_of text) (λ name. checked ((is_taken d name, rule.Duplicate) ∷ []) (Ok (record d { modules = d.modules ++ name ∷ []; skip = n })))))
-      ≡ or_rule o rule.Line (λ n. or_rule (block_of n b) rule.Line (λ text. on_ok (module_of text) (λ name. checked ((is_taken d name, rule.Duplicate) ∷ []) (Ok (record d { modules = d.modules ++ name ∷ []; skip = n })))))
+      → or_rule o rule.Line (λ n. or_rule (block_of n a) rule.Line (λ text. on_ok (module_of text) (λ m. checked ((is_taken d m.name, rule.Duplicate) ∷ []) (Ok (with_module d n m)))))
+      ≡ or_rule o rule.Line (λ n. or_rule (block_of n b) rule.Line (λ text. on_ok (module_of text) (λ m. checked ((is_taken d m.name, rule.Duplicate) ∷ []) (Ok (with_module d n m)))))
   on None same = refl
-  on (Some n) same = ap (λ (o : Option (List ℕ)). or_rule o rule.Line (λ text. on_ok (module_of text) (λ name. checked ((is_taken d name, rule.Duplicate) ∷ []) (Ok (record d { modules = d.modules ++ name ∷ []; skip = n }))))) same
+  on (Some n) same = ap (λ (o : Option (List ℕ)). or_rule o rule.Line (λ text. on_ok (module_of text) (λ m. checked ((is_taken d m.name, rule.Duplicate) ∷ []) (Ok (with_module d n m))))) same
 
 form_same : (k : Keyword) (d : Declared) (rest : List ℕ) (a b : List (List ℕ)) → block_of (taken_by k rest) a ≡ block_of (taken_by k rest) b → declaration k d rest a ≡ declaration k d rest b
 unfolding declaration
 form_same keyword.Device d rest a b same = refl
+form_same keyword.Datamodel d rest a b same = refl
+form_same keyword.Devicetype d rest a b same = refl
 form_same keyword.Base d rest a b same = refl
 form_same keyword.Yang d rest a b same = yang_same d rest a b same
 form_same _ d rest a b same = refl
@@ -141,45 +140,45 @@ moves : {X : Type 0} (k n : ℕ) (r : Rule) → k ≤ n → err X (ℕ × Rule) 
 moves k n r h = ap (λ (b : Bool). Err (cond b (n + 1) (n + 1 + 1), r)) (sym (lt-leb (n + 1) k (omega arith)))
 
 abbrev Meant : Type 0
-Meant = Result (List (List ℕ) × List Device × List ScriptStep) (ℕ × Rule)
+Meant = Result (List (List ℕ) × List SchemaTable × List Device × List ScriptStep) (ℕ × Rule)
 
 -- a script
 
-abbrev on_step : List (List ℕ) → ℕ → ℕ → List (List ℕ) → Result Script Rule → Result (List ScriptStep) (ℕ × Rule)
-on_step names at n later r = on_line n r (λ t. script_steps names t at n later)
+abbrev on_step : Declared → ℕ → ℕ → List (List ℕ) → Result Script Rule → Result (List ScriptStep) (ℕ × Rule)
+on_step d at n later r = on_line n r (λ t. script_steps d t at n later)
 
 -- one line further down
-shift_script : (names : List (List ℕ)) (k : ℕ) (lines : List (List ℕ)) (s : Script) (at to n : ℕ) → k ≤ n
+shift_script : (d : Declared) (k : ℕ) (lines : List (List ℕ)) (s : Script) (at to n : ℕ) → k ≤ n
     → at + bytes_in lines ≤ LARGEST_BUNDLE → to + bytes_in lines ≤ LARGEST_BUNDLE
-    → script_steps names s to (n + 1) lines ≡ moved_behind k (script_steps names s at n lines)
-shift_script names k [] s at to n h here there = refl
-shift_script names k (l ∷ ls) s at to n h here there =
-    ap (on_step names (to + length l) (n + 1 + 1) ls) (step_same names s to at l ls ls (omega arith) (omega arith) (λ w. refl))
-    ∙ on (scripted_at names s at l ls) (λ t. shift_script names k ls t (at + length l) (to + length l) (n + 1) (omega arith) (omega arith) (omega arith)) where
-      on : (r : Result Script Rule) → ((t : Script) → script_steps names t (to + length l) (n + 1 + 1) ls ≡ moved_behind k (script_steps names t (at + length l) (n + 1) ls))
-          → on_step names (to + length l) (n + 1 + 1) ls r ≡ moved_behind k (on_step names (at + length l) (n + 1) ls r)
+    → script_steps d s to (n + 1) lines ≡ moved_behind k (script_steps d s at n lines)
+shift_script d k [] s at to n h here there = refl
+shift_script d k (l ∷ ls) s at to n h here there =
+    ap (on_step d (to + length l) (n + 1 + 1) ls) (step_same d s to at l ls ls (omega arith) (omega arith) (λ w. refl))
+    ∙ on (scripted_at d s at l ls) (λ t. shift_script d k ls t (at + length l) (to + length l) (n + 1) (omega arith) (omega arith) (omega arith)) where
+      on : (r : Result Script Rule) → ((t : Script) → script_steps d t (to + length l) (n + 1 + 1) ls ≡ moved_behind k (script_steps d t (at + length l) (n + 1) ls))
+          → on_step d (to + length l) (n + 1 + 1) ls r ≡ moved_behind k (on_step d (at + length l) (n + 1) ls r)
       on (Err rule) more = moves k n rule h
       on (Ok t) more = more t
 
-insert_script : (names : List (List ℕ)) (k : ℕ) (line : List ℕ) (before after : List (List ℕ)) (s : Script) (at n : ℕ) → IsSkipped line → k ≡ n + length before
+insert_script : (d : Declared) (k : ℕ) (line : List ℕ) (before after : List (List ℕ)) (s : Script) (at n : ℕ) → IsSkipped line → k ≡ n + length before
     → at + bytes_in (before ++ line ∷ after) ≤ LARGEST_BUNDLE
-    → script_steps names s at n (before ++ line ∷ after) ≡ moved_behind k (script_steps names s at n (before ++ after))
-insert_script names k line [] after s at n is place within =
-    ap (on_step names (at + length line) (n + 1) after) (script at line after names s (passes at line is (omega arith)))
-    ∙ shift_script names k after s at (at + length line) n (omega arith) (omega arith) (omega arith)
-insert_script names k line (l ∷ ls) after s at n is place within =
+    → script_steps d s at n (before ++ line ∷ after) ≡ moved_behind k (script_steps d s at n (before ++ after))
+insert_script d k line [] after s at n is place within =
+    ap (on_step d (at + length line) (n + 1) after) (script at line after d s (passes at line is (omega arith)))
+    ∙ shift_script d k after s at (at + length line) n (omega arith) (omega arith) (omega arith)
+insert_script d k line (l ∷ ls) after s at n is place within =
     let sum = bytes_joined ls (line ∷ after) in
-    ap (on_step names (at + length l) (n + 1) (ls ++ line ∷ after)) (step_same names s at at l (ls ++ line ∷ after) (ls ++ after) (omega arith) (omega arith) (λ w. followed_same w ls after line is))
-    ∙ on (scripted_at names s at l (ls ++ after)) (λ t. insert_script names k line ls after t (at + length l) (n + 1) is (omega arith) (omega arith)) (omega arith) where
-      on : (r : Result Script Rule) → ((t : Script) → script_steps names t (at + length l) (n + 1) (ls ++ line ∷ after) ≡ moved_behind k (script_steps names t (at + length l) (n + 1) (ls ++ after)))
-          → n < k → on_step names (at + length l) (n + 1) (ls ++ line ∷ after) r ≡ moved_behind k (on_step names (at + length l) (n + 1) (ls ++ after) r)
+    ap (on_step d (at + length l) (n + 1) (ls ++ line ∷ after)) (step_same d s at at l (ls ++ line ∷ after) (ls ++ after) (omega arith) (omega arith) (λ w. followed_same w ls after line is))
+    ∙ on (scripted_at d s at l (ls ++ after)) (λ t. insert_script d k line ls after t (at + length l) (n + 1) is (omega arith) (omega arith)) (omega arith) where
+      on : (r : Result Script Rule) → ((t : Script) → script_steps d t (at + length l) (n + 1) (ls ++ line ∷ after) ≡ moved_behind k (script_steps d t (at + length l) (n + 1) (ls ++ after)))
+          → n < k → on_step d (at + length l) (n + 1) (ls ++ line ∷ after) r ≡ moved_behind k (on_step d (at + length l) (n + 1) (ls ++ after) r)
       on (Err rule) more front = stays k n rule front
       on (Ok t) more front = more t
 
 -- declarations and a script
 
 abbrev with_script : Declared → Result (List ScriptStep) (ℕ × Rule) → Meant
-with_script d r = on_ok r (λ steps. Ok (d.names, d.devices, steps))
+with_script d r = on_ok r (λ steps. Ok (d.names, d.schemas, d.devices, steps))
 
 moved_script : (d : Declared) (k : ℕ) (r : Result (List ScriptStep) (ℕ × Rule)) → with_script d (moved_behind k r) ≡ moved_behind k (with_script d r)
 moved_script d k (Ok steps) = refl
@@ -192,7 +191,7 @@ abbrev go : Declared → ℕ → ℕ → List (List ℕ) → Meant
 go d at n lines = on_ok (declarations_of d at n lines) of_front
 
 abbrev goes : ℕ → ℕ → List (List ℕ) → Declared → Meant
-goes at n later e = cond (is_script e.section) (with_script e (script_steps e.names no_steps at n later)) (go e at n later)
+goes at n later e = cond (is_script e.section) (with_script e (script_steps e no_steps at n later)) (go e at n later)
 
 abbrev behind : ℕ → ℕ → List (List ℕ) → Result Declared Rule → Meant
 behind at n later r = on_line n r (goes at n later)
@@ -203,7 +202,7 @@ front_at at n l later e = record { declared = e; size = at; at = at + length l; 
 go_line : (d : Declared) (at n : ℕ) (l : List ℕ) (later : List (List ℕ)) → go d at n (l ∷ later) ≡ behind (at + length l) (n + 1) later (declared_at d at l later)
 go_line d at n l later = on (declared_at d at l later) where
   pick : (e : Declared) (b : Bool) → on_ok (cond b (Ok (front_at at n l later e)) (declarations_of e (at + length l) (n + 1) later)) of_front
-      ≡ cond b (with_script e (script_steps e.names no_steps (at + length l) (n + 1) later)) (go e (at + length l) (n + 1) later)
+      ≡ cond b (with_script e (script_steps e no_steps (at + length l) (n + 1) later)) (go e (at + length l) (n + 1) later)
   pick e true = refl
   pick e false = refl
 
@@ -219,17 +218,17 @@ shift_go k (l ∷ ls) d at to n h here there =
     go_line d to (n + 1) l ls
     ∙ ap (behind (to + length l) (n + 1 + 1) ls) (declared_same d to at l ls ls (omega arith) (omega arith) (λ none. refl))
     ∙ on (declared_at d at l ls) (λ e. shift_go k ls e (at + length l) (to + length l) (n + 1) (omega arith) (omega arith) (omega arith))
-    (λ e. shift_script e.names k ls no_steps (at + length l) (to + length l) (n + 1) (omega arith) (omega arith) (omega arith))
+    (λ e. shift_script e k ls no_steps (at + length l) (to + length l) (n + 1) (omega arith) (omega arith) (omega arith))
     ∙ ap (moved_behind k) (sym (go_line d at n l ls)) where
       pick : (e : Declared) (b : Bool) → go e (to + length l) (n + 1 + 1) ls ≡ moved_behind k (go e (at + length l) (n + 1) ls)
-          → script_steps e.names no_steps (to + length l) (n + 1 + 1) ls ≡ moved_behind k (script_steps e.names no_steps (at + length l) (n + 1) ls)
-          → cond b (with_script e (script_steps e.names no_steps (to + length l) (n + 1 + 1) ls)) (go e (to + length l) (n + 1 + 1) ls)
-          ≡ moved_behind k (cond b (with_script e (script_steps e.names no_steps (at + length l) (n + 1) ls)) (go e (at + length l) (n + 1) ls))
-      pick e true more steps = ap (with_script e) steps ∙ moved_script e k (script_steps e.names no_steps (at + length l) (n + 1) ls)
+          → script_steps e no_steps (to + length l) (n + 1 + 1) ls ≡ moved_behind k (script_steps e no_steps (at + length l) (n + 1) ls)
+          → cond b (with_script e (script_steps e no_steps (to + length l) (n + 1 + 1) ls)) (go e (to + length l) (n + 1 + 1) ls)
+          ≡ moved_behind k (cond b (with_script e (script_steps e no_steps (at + length l) (n + 1) ls)) (go e (at + length l) (n + 1) ls))
+      pick e true more steps = ap (with_script e) steps ∙ moved_script e k (script_steps e no_steps (at + length l) (n + 1) ls)
       pick e false more steps = more
 
       on : (r : Result Declared Rule) → ((e : Declared) → go e (to + length l) (n + 1 + 1) ls ≡ moved_behind k (go e (at + length l) (n + 1) ls))
-          → ((e : Declared) → script_steps e.names no_steps (to + length l) (n + 1 + 1) ls ≡ moved_behind k (script_steps e.names no_steps (at + length l) (n + 1) ls))
+          → ((e : Declared) → script_steps e no_steps (to + length l) (n + 1 + 1) ls ≡ moved_behind k (script_steps e no_steps (at + length l) (n + 1) ls))
           → behind (to + length l) (n + 1 + 1) ls r ≡ moved_behind k (behind (at + length l) (n + 1) ls r)
       on (Err rule) more steps = moves k n rule h
       on (Ok e) more steps = pick e (is_script e.section) (more e) (steps e)
@@ -277,7 +276,7 @@ abbrev Goes : ℕ → ℕ → ℕ → List (List ℕ) → List (List ℕ) → De
 Goes k at n longer lines e = go e at n longer ≡ moved_behind k (go e at n lines)
 
 abbrev Scripts : ℕ → ℕ → ℕ → List (List ℕ) → List (List ℕ) → Declared → Type 0
-Scripts k at n longer lines e = script_steps e.names no_steps at n longer ≡ moved_behind k (script_steps e.names no_steps at n lines)
+Scripts k at n longer lines e = script_steps e no_steps at n longer ≡ moved_behind k (script_steps e no_steps at n lines)
 
 insert_go : (k : ℕ) (line : List ℕ) (before after : List (List ℕ)) (d : Declared) (at n : ℕ) → IsSkipped line → is_script d.section ≡ false → left_of_block d.skip before ≡ 0
     → k ≡ n + length before → at + bytes_in (before ++ line ∷ after) ≤ LARGEST_BUNDLE
@@ -285,7 +284,7 @@ insert_go : (k : ℕ) (line : List ℕ) (before after : List (List ℕ)) (d : De
 insert_go k line [] after d at n is open_yet left place within =
     go_line d at n line after
     ∙ ap (behind (at + length line) (n + 1) after) (declarations at line after d (passes at line is (omega arith)) (sym (left_none d.skip) ∙ left))
-    ∙ ap (λ (b : Bool). cond b (with_script d (script_steps d.names no_steps (at + length line) (n + 1) after)) (go d (at + length line) (n + 1) after)) open_yet
+    ∙ ap (λ (b : Bool). cond b (with_script d (script_steps d no_steps (at + length line) (n + 1) after)) (go d (at + length line) (n + 1) after)) open_yet
     ∙ shift_go k after d at (at + length line) n (omega arith) (omega arith) (omega arith)
 insert_go k line (l ∷ ls) after d at n is open_yet left place within =
     let sum = bytes_joined ls (line ∷ after) in
@@ -295,12 +294,12 @@ insert_go k line (l ∷ ls) after d at n is open_yet left place within =
     (λ none. block_here l line ls after (ap (λ (m : ℕ). left_of_block m (l ∷ ls)) (sym none) ∙ left)))
     ∙ on (declared_at d at l (ls ++ after)) refl
     (λ e open_now e_left. insert_go k line ls after e (at + length l) (n + 1) is open_now e_left (omega arith) (omega arith))
-    (λ e. insert_script e.names k line ls after no_steps (at + length l) (n + 1) is (omega arith) (omega arith)) (omega arith)
+    (λ e. insert_script e k line ls after no_steps (at + length l) (n + 1) is (omega arith) (omega arith)) (omega arith)
     ∙ ap (moved_behind k) (sym (go_line d at n l (ls ++ after))) where
       pick : (e : Declared) (b : Bool) → is_script e.section ≡ b → (is_script e.section ≡ false → Goes k (at + length l) (n + 1) (ls ++ line ∷ after) (ls ++ after) e) → Scripts k (at + length l) (n + 1) (ls ++ line ∷ after) (ls ++ after) e
-          → cond b (with_script e (script_steps e.names no_steps (at + length l) (n + 1) (ls ++ line ∷ after))) (go e (at + length l) (n + 1) (ls ++ line ∷ after))
-          ≡ moved_behind k (cond b (with_script e (script_steps e.names no_steps (at + length l) (n + 1) (ls ++ after))) (go e (at + length l) (n + 1) (ls ++ after)))
-      pick e true now more steps = ap (with_script e) steps ∙ moved_script e k (script_steps e.names no_steps (at + length l) (n + 1) (ls ++ after))
+          → cond b (with_script e (script_steps e no_steps (at + length l) (n + 1) (ls ++ line ∷ after))) (go e (at + length l) (n + 1) (ls ++ line ∷ after))
+          ≡ moved_behind k (cond b (with_script e (script_steps e no_steps (at + length l) (n + 1) (ls ++ after))) (go e (at + length l) (n + 1) (ls ++ after)))
+      pick e true now more steps = ap (with_script e) steps ∙ moved_script e k (script_steps e no_steps (at + length l) (n + 1) (ls ++ after))
       pick e false now more steps = more now
 
       on : (r : Result Declared Rule) → declared_at d at l (ls ++ after) ≡ r → ((e : Declared) → is_script e.section ≡ false → left_of_block e.skip ls ≡ 0 → Goes k (at + length l) (n + 1) (ls ++ line ∷ after) (ls ++ after) e)

@@ -19,7 +19,9 @@ use Rattle.orc_path.specs.declared.item.Item.{Item}
 use Rattle.orc_path.specs.declared.item.Item.TheVariants.{Entry, Leaf}
 use Rattle.orc_path.proofs.Characters.{IsUtf8-path_text, is_plain_text-value_text}
 use Rattle.orc_text.proofs.Plain.{plain_parts}
-use Rattle.orc_state.specs.Calls.{is_item_at, is_lawful_item, is_lawful_name}
+use Rattle.orc_schema.specs.Schemas.{SchemaTable}
+use Rattle.orc_typed.specs.Typed.{is_typed}
+use Rattle.orc_state.specs.Calls.{is_item_at, is_item_under, is_lawful_item, is_lawful_name}
 use Rattle.orc_bundle.proofs.Numbers.{own}
 
 -- no line feed and no carriage return
@@ -229,6 +231,9 @@ lawful_at p item h =
     let two = and_parts (is_path p && not (is_long_path p)) (is_lawful_item item) three.0 in
     let one = and_parts (is_path p) (not (is_long_path p)) two.0 in
     record { path = one.0; short = untrue (is_long_path p) one.1; lawful = two.1; fit = three.1 }
+
+pub lawful_under : (schema : SchemaTable) (p : List PathStep) (item : Item) → is_item_under schema p item ≡ true → IsLawfulAt p item
+lawful_under schema p item h = lawful_at p item (and_parts (is_item_at p item) (is_typed schema p item) h).0
 
 path_short : (p : List PathStep) → is_long_path p ≡ false → length (path_text p) ≤ PATH_LEN
 path_short p h =

@@ -1,18 +1,19 @@
 -- The spellings of a bundle are read as that bundle.
-use Rattle.std.proofs.Common.{◌≡◌, ℕ, ◌≤◌, ◌+◌, Bool, true, false, cond, List, [], ◌∷◌, ◌++◌, codes, length, length-append, map, take, refl, ap, ap₂, sym, ◌∙◌, subst, arith, append_assoc, append-nil, Result, Ok, Err, Some}
+use Rattle.std.proofs.Common.{◌≡◌, ℕ, ◌≤◌, ◌+◌, Bool, true, false, cond, List, [], ◌∷◌, ◌++◌, codes, length, length-append, map, take, refl, ap, ap₂, sym, ◌∙◌, subst, arith, append_assoc, append-nil, Result, Ok, Err}
 use Rattle.std.specs.List.{IsDistinct, concat, flat_map, list_all}
 use Rattle.std.specs.Option.{is_none}
 use Rattle.std.proofs.lemmas.Bool.{and_parts, and_from}
 use Rattle.std.proofs.lemmas.List.{take_all}
 use Rattle.std.proofs.Math.Seq.{take-append_seam}
 use Rattle.orc_state.specs.States.{is_same_text, names_of}
-use Rattle.orc_state.specs.Calls.{is_device, is_lawful_name, is_put}
+use Rattle.orc_schema.specs.Schemas.{SchemaTable}
+use Rattle.orc_state.specs.Calls.{is_device, is_lawful_name}
 use Rattle.orc_state.specs.declared.declarations.Device.{Device}
 use Rattle.orc_state.specs.declared.declarations.TheConstants.{MOST_DEVICES}
 use Rattle.orc_state.specs.declared.rule.Rule.{Rule}
-use Rattle.orc_bundle.specs.Bundles.{Front, IsBundle, bundle_in, bundle_of, declarations_of, decls_of, header_rule, lacks_header, script_of, script_steps}
+use Rattle.orc_bundle.specs.Bundles.{Front, IsBundle, bundle_in, bundle_of, declarations_of, decls_of, decls_with, header_rule, is_step, lacks_header, script_of, script_steps}
 use Rattle.orc_bundle.specs.Declarations.{nothing_declared}
-use Rattle.orc_bundle.specs.Laws.{SpelledIsRead, WrittenIsRead}
+use Rattle.orc_bundle.specs.Laws.{ArePlain, SpelledIsRead, WrittenIsRead}
 use Rattle.orc_bundle.specs.Lines.{as_line, lines_of, seen}
 use Rattle.orc_bundle.specs.Rules.{on_ok}
 use Rattle.orc_bundle.specs.Scripts.{no_steps}
@@ -23,7 +24,8 @@ use Rattle.orc_bundle.specs.declared.bundle.TheConstants.{LARGEST_BUNDLE}
 use Rattle.orc_bundle.specs.declared.declarations.Declared.{Declared}
 use Rattle.orc_bundle.specs.declared.declarations.Section.TheVariants as section
 use Rattle.orc_bundle.proofs.Texts.{part_known}
-use Rattle.orc_bundle.proofs.WrittenBases.{devices_read}
+use Rattle.orc_bundle.proofs.WrittenBases.{devices_read, plain_device, plain_only}
+use Rattle.orc_bundle.proofs.WrittenCalls.{IsPlainly}
 use Rattle.orc_bundle.proofs.WrittenDeclarations.{Fronts, bytes_of, one_declaration, script_line}
 use Rattle.orc_bundle.proofs.WrittenDevices.{at_devices, header_read}
 use Rattle.orc_bundle.proofs.WrittenLines.{IsText, kept_in_front, lines_of_joined, plain_line, plain_lines}
@@ -40,11 +42,11 @@ concat_joined : (a b : List (List ℕ)) → concat (a ++ b) ≡ concat a ++ conc
 concat_joined [] b = refl
 concat_joined (l ∷ ls) b = ap (λ (x : List ℕ). l ++ x) (concat_joined ls b) ∙ sym (append_assoc l (concat ls) (concat b))
 
-names_lawful : (ds : List Device) → list_all is_device ds ≡ true → list_all is_lawful_name (names_of ds) ≡ true
+names_lawful : (ds : List Device) → list_all (is_device plain_only) ds ≡ true → list_all is_lawful_name (names_of ds) ≡ true
 names_lawful [] h = refl
 names_lawful (d ∷ ds) h =
-    let both = and_parts (is_device d) (list_all is_device ds) h in
-    and_from _ _ (and_parts (is_lawful_name d.name) (list_all is_put d.base) both.0).0 (names_lawful ds both.1)
+    let both = and_parts (is_device plain_only d) (list_all (is_device plain_only) ds) h in
+    and_from _ _ (plain_device d both.0).name (names_lawful ds both.1)
 
 -- the declarations
 
@@ -55,7 +57,7 @@ abbrev in_script : List Device → Declared
 in_script devices = record (at_devices devices) { section = section.Script }
 
 declarations_read : (devices : List Device) (line : List ℕ) (later : List (List ℕ)) → IsLineOf (codes "script") line
-    → IsDistinct is_same_text (names_of devices) → length devices ≤ MOST_DEVICES → list_all is_device devices ≡ true
+    → IsDistinct is_same_text (names_of devices) → length devices ≤ MOST_DEVICES → list_all (is_device plain_only) devices ≡ true
     → Fronts nothing_declared (declared_lines devices) (in_script devices) line later
 declarations_read devices line later script distinct few lawful =
     let e = in_script devices in
@@ -73,15 +75,31 @@ with_front bytes r f steps is script =
     ap (λ (x : Result Front (ℕ × Rule)). on_ok x (λ front. on_ok (script_of front) (with_steps bytes front))) is
     ∙ ap (λ (x : Result (List ScriptStep) (ℕ × Rule)). on_ok x (with_steps bytes f)) script
 
-module _ (b : Bundle) (front : List (List ℕ)) (line : List ℕ) (later : List (List ℕ)) (is : IsBundle b) (w : IsSpelling b front line later) where
+-- what is known of a bundle without types
+module _ (b : Bundle) (is : IsBundle b) (plain : ArePlain b.decls) where
+  pub devices_good : list_all (is_device plain_only) b.decls.devices ≡ true
+  devices_good = subst (λ (ss : List SchemaTable). list_all (is_device ss) b.decls.devices ≡ true) plain is.decls.devices
+
+  -- what is declared in front of its script
+  abbrev pub front_declared : Declared
+  front_declared = record (in_script b.decls.devices) { names = b.decls.names }
+
+  pub plainly : IsPlainly front_declared
+  plainly = record {
+    lawful = subst (λ (ns : List (List ℕ)). list_all is_lawful_name ns ≡ true) (sym is.decls.named) (names_lawful b.decls.devices devices_good);
+    named = is.decls.named;
+    plain = refl;
+  }
+
+  pub steps_good : list_all (is_step (decls_with b.decls.text front_declared)) b.steps ≡ true
+  steps_good = subst (λ (ss : List SchemaTable). list_all (is_step (record b.decls { schemas = ss })) b.steps ≡ true) plain is.steps
+
+module _ (b : Bundle) (front : List (List ℕ)) (line : List ℕ) (later : List (List ℕ)) (is : IsBundle b) (plain : ArePlain b.decls) (w : IsSpelling b front line later) where
   abbrev bytes : List ℕ
   bytes = concat (front ++ line ∷ later)
 
   abbrev size : ℕ
   size = bytes_of front
-
-  names_good : list_all is_lawful_name b.decls.names ≡ true
-  names_good = subst (λ (ns : List (List ℕ)). list_all is_lawful_name ns ≡ true) (sym is.decls.named) (names_lawful b.decls.devices is.decls.devices)
 
   -- the line `script` and what stands behind it are lines too
   behind : AreLinesOf (codes "script" ∷ script_lines b.decls.names b.steps) (line ∷ later)
@@ -100,7 +118,7 @@ module _ (b : Bundle) (front : List (List ℕ)) (line : List ℕ) (later : List 
   found : (k : ℕ) × (declarations_of nothing_declared 0 0 (front ++ line ∷ later)
       ≡ Ok (record { declared = in_script b.decls.devices; size = 0 + size; at = 0 + size + length line; number = k; later = later }))
   found =
-      declarations_read b.decls.devices line later w.script (subst (λ (ns : List (List ℕ)). IsDistinct is_same_text ns) is.decls.named is.decls.distinct) is.decls.few is.decls.devices
+      declarations_read b.decls.devices line later w.script (subst (λ (ns : List (List ℕ)). IsDistinct is_same_text ns) is.decls.named is.decls.distinct) is.decls.few (devices_good b is plain)
       front w.declared 0 0 within
 
   abbrev parted : Front
@@ -114,8 +132,8 @@ module _ (b : Bundle) (front : List (List ℕ)) (line : List ℕ) (later : List 
       let one_size = bytes_joined front in
       let rest_size = bytes_joined (line ∷ later) in
       let sizes = ap (λ (x : List ℕ). length x) (concat_joined front (line ∷ later)) ∙ length-append (concat front) (concat (line ∷ later)) in
-      subst (λ (ns : List (List ℕ)). script_steps ns no_steps (0 + size + length line) found.0 later ≡ Ok b.steps) is.decls.named
-      (steps_read b.decls.names names_good is.decls.distinct [] [] b.steps 0 is.steps is.settled (omega arith) is.callers later w.steps (0 + size + length line) found.0 (omega arith))
+      subst (λ (ns : List (List ℕ)). script_steps (record (in_script b.decls.devices) { names = ns }) no_steps (0 + size + length line) found.0 later ≡ Ok b.steps) is.decls.named
+      (steps_read b.decls.text (front_declared b is plain) (plainly b is plain) is.decls.distinct [] [] b.steps 0 (steps_good b is plain) is.settled (omega arith) is.callers later w.steps (0 + size + length line) found.0 (omega arith))
 
   text_kept : take (0 + size) bytes ≡ b.decls.text
   text_kept =
@@ -135,10 +153,11 @@ module _ (b : Bundle) (front : List (List ℕ)) (line : List ℕ) (later : List 
       ap (λ (x : List ℕ). bundle_in x (lines_of x)) all_seen
       ∙ ap (λ (none : Bool). cond none (Err (1, header_rule (lines_of bytes))) (on_ok (declarations_of nothing_declared 0 0 (lines_of bytes)) (λ f. on_ok (script_of f) (with_steps bytes f)))) has_header
       ∙ with_front bytes (declarations_of nothing_declared 0 0 (lines_of bytes)) parted b.steps (ap (declarations_of nothing_declared 0 0) lines_are ∙ found.1) script_is
-      ∙ ap₂ (λ (text : List ℕ) (ns : List (List ℕ)). Ok (record { decls = record { text = text; names = ns; devices = b.decls.devices }; steps = b.steps })) text_kept (sym is.decls.named)
+      ∙ ap₂ (λ (text : List ℕ) (ns : List (List ℕ)). Ok (record { decls = record { text = text; names = ns; schemas = plain_only; devices = b.decls.devices }; steps = b.steps })) text_kept (sym is.decls.named)
+      ∙ ap (λ (ss : List SchemaTable). Ok (record b { decls = record b.decls { schemas = ss } })) (sym plain)
 
 pub spelled_is_read : SpelledIsRead
-spelled_is_read b front line later is w = again b front line later is w
+spelled_is_read b front line later is plain w = again b front line later is plain w
 
 -- the plainest spelling
 
@@ -147,19 +166,18 @@ joined_lines [] = refl
 joined_lines (t ∷ ts) = ap (λ (x : List ℕ). as_line t ++ x) (joined_lines ts)
 
 pub written_is_read : WrittenIsRead
-written_is_read b is text small =
+written_is_read b is plain text small =
     let names = b.decls.names in
     let front = map as_line (declared_lines b.decls.devices) in
     let later = map as_line (script_lines names b.steps) in
-    let good = subst (λ (ns : List (List ℕ)). list_all is_lawful_name ns ≡ true) (sym is.decls.named) (names_lawful b.decls.devices is.decls.devices) in
     let bytes : concat (front ++ as_line (codes "script") ∷ later) ≡ bundle_text b =
     concat_joined front (as_line (codes "script") ∷ later)
     ∙ ap₂ (λ (x y : List ℕ). x ++ y) (joined_lines (declared_lines b.decls.devices)) (joined_lines (codes "script" ∷ script_lines names b.steps)) in
     subst (λ (x : List ℕ). bundle_of x ≡ Ok b) bytes
-    (again b front (as_line (codes "script")) later is (record {
-      declared = plain_lines (declared_lines b.decls.devices) (devices_clean b.decls.devices is.decls.devices);
+    (again b front (as_line (codes "script")) later is plain (record {
+      declared = plain_lines (declared_lines b.decls.devices) (devices_clean b.decls.devices (devices_good b is plain));
       script = plain_line (codes "script") refl;
-      steps = plain_lines (script_lines names b.steps) (steps_clean names good b.steps is.steps);
+      steps = plain_lines (script_lines names b.steps) (steps_clean b.decls.text (front_declared b is plain) (plainly b is plain) b.steps (steps_good b is plain));
       text = text ∙ sym (joined_lines (declared_lines b.decls.devices));
       small = subst (λ (x : List ℕ). length x ≤ LARGEST_BUNDLE) (sym bytes) small;
     }))

@@ -4,7 +4,7 @@ use Rattle.std.specs.Str.{is_utf8}
 use Rattle.orc_state.specs.declared.rule.Rule.{Rule}
 use Rattle.orc_state.specs.declared.rule.Rule.TheVariants as rule
 use Rattle.orc_bundle.specs.Bundles.{Front, declarations_of, is_script, on_line}
-use Rattle.orc_bundle.specs.Declarations.{after_script, after_text, bare_declaration, declared_at, in_block}
+use Rattle.orc_bundle.specs.Declarations.{after_script, after_text, bare_declaration, declared_at, in_open_block}
 use Rattle.orc_bundle.specs.Keywords.{keyword_of}
 use Rattle.orc_bundle.specs.Lines.{is_skipped, text_of}
 use Rattle.orc_bundle.specs.declared.bundle.TheConstants.{LARGEST_BUNDLE}
@@ -13,7 +13,7 @@ use Rattle.orc_bundle.specs.declared.declarations.Section.TheVariants as section
 use Rattle.std.proofs.lemmas.Str.{is_utf8-from_IsUtf8}
 use Rattle.orc_bundle.specs.Written.{AreLinesOf, IsLineOf, none, one, skipped}
 use Rattle.orc_bundle.specs.declared.lines.TheConstants.{LONGEST_LINE}
-use Rattle.orc_bundle.proofs.Skipped.{IsPassed, declarations}
+use Rattle.orc_bundle.proofs.Skipped.{declarations}
 use Rattle.orc_bundle.proofs.Texts.{part_known}
 use Rattle.orc_bundle.proofs.WrittenLines.{IsText, not_large}
 
@@ -31,7 +31,7 @@ declared_by_text d at t line later is spells within skip =
     let says = spells.says in
     let looked : Result Declared Rule = cond (is_skipped (text_of line)) (Ok d) (after_text d (text_of line) later) in
     let inner : Result Declared Rule = cond (not (is_utf8 (text_of line))) (Err rule.Utf8) looked in
-    ap (λ (b : Bool). cond b (Err rule.Size) (in_block d inner)) (not_large t line at says is.short within)
+    ap (λ (b : Bool). cond b (Err rule.Size) (in_open_block d inner)) (not_large t line at says is.short within)
     ∙ ap (λ (k : ℕ). cond (nat_lt 0 k) (Ok (record d { skip = d.skip - 1 })) inner) skip
     ∙ ap (λ (b : Bool). cond (not b) (Err rule.Utf8) looked) (ap is_utf8 says ∙ is_utf8-from_IsUtf8 t is.part.utf8)
     ∙ ap (λ (b : Bool). cond b (Ok d) (after_text d (text_of line) later)) (ap is_skipped says ∙ is.kept)

@@ -1,12 +1,15 @@
 -- Devices with their bases that are written are read.
-use Rattle.std.proofs.Common.{◌≡◌, ℕ, suc, ◌<◌, ◌+◌, Bool, true, false, not, cond, List, [], ◌∷◌, ◌++◌, codes, length, length-append, refl, ap, ap₂, sym, ◌∙◌, arith, append_assoc, Ok, Some, None, nat_le, nat_lt}
+use Rattle.std.proofs.Common.{◌≡◌, ℕ, zero, suc, ◌<◌, ◌+◌, Bool, true, false, not, cond, List, [], ◌∷◌, ◌++◌, codes, length, length-append, refl, ap, ap₂, sym, ◌∙◌, arith, append_assoc, Ok, Option, Some, None, nat_le, nat_lt}
 use Rattle.std.specs.List.{position_or_len}
+use Rattle.std.specs.Option.{option_map_or}
 use Rattle.std.specs.Cmp.Lexicographic.{bytes_decides}
 use Rattle.std.proofs.lemmas.Bool.{or_parts, lt-leb, lt-ltb}
 use Rattle.std.proofs.lemmas.List.{map-append}
 use Rattle.orc_path.specs.Items.{item_text}
 use Rattle.orc_call.specs.declared.call.Put.{Put}
 use Rattle.orc_state.specs.States.{is_same_text, names_of}
+use Rattle.orc_schema.specs.Schemas.{plain_table}
+use Rattle.orc_state.specs.Calls.{device_named, schema_in, schema_named}
 use Rattle.orc_state.specs.declared.declarations.Device.{Device}
 use Rattle.orc_state.specs.declared.declarations.TheConstants.{MOST_DEVICES}
 use Rattle.orc_bundle.specs.Declarations.{after_base, after_device, after_header, after_text, base_words, declaration, device_words, nothing_declared, with_base}
@@ -20,12 +23,34 @@ use Rattle.orc_bundle.proofs.Texts.{IsLawfulAt, IsLawfulName, item_short, part_a
 use Rattle.orc_bundle.proofs.WrittenItems.{item_again}
 use Rattle.orc_bundle.proofs.WrittenLines.{IsText, cut_word}
 
--- these devices are declared
+-- these devices are declared, and no type
 abbrev pub at_devices : List Device → Declared
-at_devices devices = record { section = section.Declarations; skip = 0; modules = []; names = names_of devices; devices = devices }
+at_devices devices = record {
+  section = section.Declarations;
+  skip = 0;
+  modules = [];
+  statements = [];
+  has_data = false;
+  types = [];
+  schemas = plain_table ∷ [];
+  names = names_of devices;
+  devices = devices;
+}
 
 abbrev pub device : List ℕ → List Put → Device
-device name base = record { name = name; base = base }
+device name base = record { name = name; schema = 0; base = base }
+
+-- where no type is declared, each schema is the plain one
+
+plain_in : (n : ℕ) → schema_in (plain_table ∷ []) n ≡ plain_table
+plain_in zero = refl
+plain_in (suc n) = refl
+
+pub plain_named : (ds : List Device) (name : List ℕ) → schema_named (plain_table ∷ []) ds name ≡ plain_table
+plain_named ds name = on (device_named ds name) where
+  on : (o : Option Device) → option_map_or (λ d. schema_in (plain_table ∷ []) d.schema) o plain_table ≡ plain_table
+  on None = refl
+  on (Some d) = plain_in d.schema
 
 -- names
 
@@ -116,11 +141,12 @@ base_read done name base put rest l new at =
     let ident = l.identifier in
     let short = l.short in
     let reads = item_again put.path put.item at in
+    let plain = plain_named (done ++ device name base ∷ []) name in
     let place : place_of (names_of (done ++ device name base ∷ [])) name ≡ Some (length done) =
     ap (λ (ns : List (List ℕ)). place_of ns name) (names_behind done name base) ∙ place_of_last (names_of done) name new ∙ ap Some (names_size done) in
     let names : names_of (done ++ device name base ∷ []) ≡ names_of (done ++ device name (base ++ put ∷ []) ∷ []) =
     names_behind done name base ∙ sym (names_behind done name (base ++ put ∷ [])) in
     ap (λ (x : List ℕ). base_words d (cut_at 32 x)) (append_assoc name (codes " ") item)
     ∙ ap (base_words d) (cut_word name item l.word)
-    ∙ rw ident (rw short (rw reads (rw place refl)))
-    ∙ ap₂ (λ (ns : List (List ℕ)) (ds : List Device). Ok (record { section = section.Declarations; skip = 0; modules = []; names = ns; devices = ds })) names (with_base_last done name base put)
+    ∙ rw ident (rw short (rw plain (rw reads (rw place refl))))
+    ∙ ap₂ (λ (ns : List (List ℕ)) (ds : List Device). Ok (record (at_devices []) { names = ns; devices = ds })) names (with_base_last done name base put)

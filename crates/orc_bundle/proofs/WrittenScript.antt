@@ -1,5 +1,5 @@
 -- A script's lines that are written are read.
-use Rattle.std.proofs.Common.{◌≡◌, ℕ, ◌<◌, ◌≤◌, ◌+◌, ◌^◌, Bool, true, false, not, cond, List, [], ◌∷◌, ◌++◌, codes, length, length-append, refl, ap, ◌∙◌, arith, append_assoc, Result, Ok, Err, Some, None, decimal, nat_le, nat_lt}
+use Rattle.std.proofs.Common.{◌≡◌, ℕ, ◌<◌, ◌≤◌, ◌+◌, ◌^◌, Bool, true, false, not, cond, List, [], ◌∷◌, ◌++◌, codes, length, length-append, refl, ap, ◌∙◌, arith, append_assoc, Result, Ok, Err, Some, decimal, nat_le, nat_lt}
 use Rattle.std.specs.List.{list_all}
 use Rattle.std.specs.Str.{is_utf8}
 use Rattle.std.proofs.lemmas.Bool.{lt-leb}
@@ -11,6 +11,7 @@ use Rattle.orc_bundle.specs.Lines.{is_skipped, text_of}
 use Rattle.orc_bundle.specs.Names.{place_of}
 use Rattle.orc_bundle.specs.Scripts.{a_step, after_show, after_step, after_stop, bare_step, scripted_at, stop_words, word_at, words_at}
 use Rattle.orc_bundle.specs.Words.{cut_at}
+use Rattle.orc_bundle.specs.declared.declarations.Declared.{Declared}
 use Rattle.orc_bundle.specs.declared.bundle.ScriptStep.{ScriptStep}
 use Rattle.orc_bundle.specs.declared.bundle.ScriptStep.TheVariants.{Show, Settle, Stop, StopAt, Recover, History}
 use Rattle.orc_bundle.specs.declared.bundle.TheConstants.{LARGEST_BUNDLE}
@@ -20,55 +21,55 @@ use Rattle.orc_bundle.specs.declared.script.TheConstants.{MOST_STEPS}
 use Rattle.std.proofs.lemmas.Str.{is_utf8-from_IsUtf8}
 use Rattle.orc_bundle.specs.Written.{AreLinesOf, IsLineOf, none, one, skipped}
 use Rattle.orc_bundle.specs.declared.lines.TheConstants.{LONGEST_LINE}
-use Rattle.orc_bundle.proofs.Skipped.{IsPassed, script}
+use Rattle.orc_bundle.proofs.Skipped.{script}
 use Rattle.orc_bundle.proofs.Texts.{is_line_byte, IsLawfulName, number_short, part_append, part_known, part_of_word, word_of_number}
 use Rattle.orc_bundle.proofs.WrittenDeclarations.{bytes_of}
 use Rattle.orc_bundle.proofs.WrittenLines.{IsText, cut_word, not_large, number_again}
 
 -- a line is looked at by its text
-scripted_by_text : (names : List (List ℕ)) (s : Script) (at : ℕ) (t line : List ℕ) (later : List (List ℕ)) → IsText t → IsLineOf t line → at + length line ≤ LARGEST_BUNDLE
-    → scripted_at names s at line later ≡ after_step names s t later
+scripted_by_text : (d : Declared) (s : Script) (at : ℕ) (t line : List ℕ) (later : List (List ℕ)) → IsText t → IsLineOf t line → at + length line ≤ LARGEST_BUNDLE
+    → scripted_at d s at line later ≡ after_step d s t later
 unfolding scripted_at
-scripted_by_text names s at t line later is spells within =
+scripted_by_text d s at t line later is spells within =
     let says = spells.says in
     let text = text_of line in
-    let looked : Result Script Rule = cond (is_skipped text) (Ok s) (after_step names s text later) in
+    let looked : Result Script Rule = cond (is_skipped text) (Ok s) (after_step d s text later) in
     ap (λ (b : Bool). cond b (Err rule.Size) (cond (not (is_utf8 text)) (Err rule.Utf8) looked)) (not_large t line at says is.short within)
     ∙ ap (λ (b : Bool). cond (not b) (Err rule.Utf8) looked) (ap is_utf8 says ∙ is_utf8-from_IsUtf8 t is.part.utf8)
-    ∙ ap (λ (b : Bool). cond b (Ok s) (after_step names s text later)) (ap is_skipped says ∙ is.kept)
-    ∙ ap (λ (x : List ℕ). after_step names s x later) says
+    ∙ ap (λ (b : Bool). cond b (Ok s) (after_step d s text later)) (ap is_skipped says ∙ is.kept)
+    ∙ ap (λ (x : List ℕ). after_step d s x later) says
 
-passed_over : (names : List (List ℕ)) (s : Script) (at : ℕ) (t line : List ℕ) (later : List (List ℕ)) → IsLineOf t line → is_skipped t ≡ true → is_utf8 t ≡ true → length t ≤ LONGEST_LINE
-    → at + length line ≤ LARGEST_BUNDLE → scripted_at names s at line later ≡ Ok s
-passed_over names s at t line later spells skip utf8 short within =
-    script at line later names s
+passed_over : (d : Declared) (s : Script) (at : ℕ) (t line : List ℕ) (later : List (List ℕ)) → IsLineOf t line → is_skipped t ≡ true → is_utf8 t ≡ true → length t ≤ LONGEST_LINE
+    → at + length line ≤ LARGEST_BUNDLE → scripted_at d s at line later ≡ Ok s
+passed_over d s at t line later spells skip utf8 short within =
+    script at line later d s
     (record { small = not_large t line at spells.says short within; utf8 = ap is_utf8 spells.says ∙ utf8; skipped = ap is_skipped spells.says ∙ skip })
 
 -- wherever they begin, lines of these texts give this
-abbrev pub Ends : List (List ℕ) → Script → List (List ℕ) → Result (List ScriptStep) (ℕ × Rule) → Type 0
-Ends names s ts r = (ls : List (List ℕ)) → AreLinesOf ts ls → (at n : ℕ) → at + bytes_of ls ≤ LARGEST_BUNDLE → script_steps names s at n ls ≡ r
+abbrev pub Ends : Declared → Script → List (List ℕ) → Result (List ScriptStep) (ℕ × Rule) → Type 0
+Ends d s ts r = (ls : List (List ℕ)) → AreLinesOf ts ls → (at n : ℕ) → at + bytes_of ls ≤ LARGEST_BUNDLE → script_steps d s at n ls ≡ r
 
 -- no line is left
-pub no_line : (names : List (List ℕ)) (s : Script) → Ends names s [] (Ok s.steps)
-no_line names s ls none at n within = refl
-no_line names s ls (skipped text l texts more spells over utf8 short are) at n within =
-    ap (λ (x : Result Script Rule). on_line (n + 1) x (λ v. script_steps names v (at + length l) (n + 1) more))
-    (passed_over names s at text l more spells over utf8 short (omega arith))
-    ∙ no_line names s more are (at + length l) (n + 1) (omega arith)
+pub no_line : (d : Declared) (s : Script) → Ends d s [] (Ok s.steps)
+no_line d s ls none at n within = refl
+no_line d s ls (skipped text l texts more spells over utf8 short are) at n within =
+    ap (λ (x : Result Script Rule). on_line (n + 1) x (λ v. script_steps d v (at + length l) (n + 1) more))
+    (passed_over d s at text l more spells over utf8 short (omega arith))
+    ∙ no_line d s more are (at + length l) (n + 1) (omega arith)
 
 -- a text more in front
-pub one_line : (names : List (List ℕ)) (s u : Script) (t : List ℕ) (ts : List (List ℕ)) (r : Result (List ScriptStep) (ℕ × Rule))
-    → IsText t → ((later : List (List ℕ)) → AreLinesOf ts later → after_step names s t later ≡ Ok u)
-    → Ends names u ts r → Ends names s (t ∷ ts) r
-one_line names s u t ts r is reads behind = ends where
-  ends : Ends names s (t ∷ ts) r
+pub one_line : (d : Declared) (s u : Script) (t : List ℕ) (ts : List (List ℕ)) (r : Result (List ScriptStep) (ℕ × Rule))
+    → IsText t → ((later : List (List ℕ)) → AreLinesOf ts later → after_step d s t later ≡ Ok u)
+    → Ends d u ts r → Ends d s (t ∷ ts) r
+one_line d s u t ts r is reads behind = ends where
+  ends : Ends d s (t ∷ ts) r
   ends ls (one text l texts more spells are) at n within =
-      ap (λ (x : Result Script Rule). on_line (n + 1) x (λ v. script_steps names v (at + length l) (n + 1) more))
-      (scripted_by_text names s at t l more is spells (omega arith) ∙ reads more are)
+      ap (λ (x : Result Script Rule). on_line (n + 1) x (λ v. script_steps d v (at + length l) (n + 1) more))
+      (scripted_by_text d s at t l more is spells (omega arith) ∙ reads more are)
       ∙ behind more are (at + length l) (n + 1) (omega arith)
   ends ls (skipped text l texts more spells over utf8 short are) at n within =
-      ap (λ (x : Result Script Rule). on_line (n + 1) x (λ v. script_steps names v (at + length l) (n + 1) more))
-      (passed_over names s at text l more spells over utf8 short (omega arith))
+      ap (λ (x : Result Script Rule). on_line (n + 1) x (λ v. script_steps d v (at + length l) (n + 1) more))
+      (passed_over d s at text l more spells over utf8 short (omega arith))
       ∙ ends more are (at + length l) (n + 1) (omega arith)
 
 -- no call is open
@@ -106,45 +107,45 @@ stop_at_text count bytes c b =
       short = omega arith;
     }
 
-module _ (names callers : List (List ℕ)) (done : List ScriptStep) (number : ℕ) (rest : List (List ℕ)) (r : Result (List ScriptStep) (ℕ × Rule)) (few : length done < MOST_STEPS) where
+module _ (d : Declared) (callers : List (List ℕ)) (done : List ScriptStep) (number : ℕ) (rest : List (List ℕ)) (r : Result (List ScriptStep) (ℕ × Rule)) (few : length done < MOST_STEPS) where
   abbrev here : Script
   here = resting callers done number
 
   abbrev behind : ScriptStep → Script
   behind step = resting callers (done ++ step ∷ []) number
 
-  settle_reads : (later : List (List ℕ)) → after_step names here (codes "settle") later ≡ Ok (behind Settle)
+  settle_reads : (later : List (List ℕ)) → after_step d here (codes "settle") later ≡ Ok (behind Settle)
   unfolding after_step word_at bare_step keyword_of
   settle_reads later = let full = room done few in rw full refl
 
-  stop_reads : (later : List (List ℕ)) → after_step names here (codes "stop") later ≡ Ok (behind Stop)
+  stop_reads : (later : List (List ℕ)) → after_step d here (codes "stop") later ≡ Ok (behind Stop)
   unfolding after_step word_at bare_step keyword_of
   stop_reads later = let full = room done few in rw full refl
 
-  recover_reads : (later : List (List ℕ)) → after_step names here (codes "recover") later ≡ Ok (behind Recover)
+  recover_reads : (later : List (List ℕ)) → after_step d here (codes "recover") later ≡ Ok (behind Recover)
   unfolding after_step word_at bare_step keyword_of
   recover_reads later = let full = room done few in rw full refl
 
-  history_reads : (later : List (List ℕ)) → after_step names here (codes "history") later ≡ Ok (behind History)
+  history_reads : (later : List (List ℕ)) → after_step d here (codes "history") later ≡ Ok (behind History)
   unfolding after_step word_at bare_step keyword_of
   history_reads later = let full = room done few in rw full refl
 
-  pub settle_line : Ends names (behind Settle) rest r → Ends names here (codes "settle" ∷ rest) r
-  settle_line = one_line names here (behind Settle) (codes "settle") rest r (bare_text (codes "settle") refl refl refl (omega arith)) (λ later are. settle_reads later)
+  pub settle_line : Ends d (behind Settle) rest r → Ends d here (codes "settle" ∷ rest) r
+  settle_line = one_line d here (behind Settle) (codes "settle") rest r (bare_text (codes "settle") refl refl refl (omega arith)) (λ later are. settle_reads later)
 
-  pub stop_line : Ends names (behind Stop) rest r → Ends names here (codes "stop" ∷ rest) r
-  stop_line = one_line names here (behind Stop) (codes "stop") rest r (bare_text (codes "stop") refl refl refl (omega arith)) (λ later are. stop_reads later)
+  pub stop_line : Ends d (behind Stop) rest r → Ends d here (codes "stop" ∷ rest) r
+  stop_line = one_line d here (behind Stop) (codes "stop") rest r (bare_text (codes "stop") refl refl refl (omega arith)) (λ later are. stop_reads later)
 
-  pub recover_line : Ends names (behind Recover) rest r → Ends names here (codes "recover" ∷ rest) r
-  recover_line = one_line names here (behind Recover) (codes "recover") rest r (bare_text (codes "recover") refl refl refl (omega arith)) (λ later are. recover_reads later)
+  pub recover_line : Ends d (behind Recover) rest r → Ends d here (codes "recover" ∷ rest) r
+  recover_line = one_line d here (behind Recover) (codes "recover") rest r (bare_text (codes "recover") refl refl refl (omega arith)) (λ later are. recover_reads later)
 
-  pub history_line : Ends names (behind History) rest r → Ends names here (codes "history" ∷ rest) r
-  history_line = one_line names here (behind History) (codes "history") rest r (bare_text (codes "history") refl refl refl (omega arith)) (λ later are. history_reads later)
+  pub history_line : Ends d (behind History) rest r → Ends d here (codes "history" ∷ rest) r
+  history_line = one_line d here (behind History) (codes "history") rest r (bare_text (codes "history") refl refl refl (omega arith)) (λ later are. history_reads later)
 
   -- steps of more words
 
-  show_reads : (later : List (List ℕ)) (name : List ℕ) (device : ℕ) → IsLawfulName name → place_of names name ≡ Some device
-      → after_step names here (codes "show " ++ name) later ≡ Ok (behind (Show device))
+  show_reads : (later : List (List ℕ)) (name : List ℕ) (device : ℕ) → IsLawfulName name → place_of d.names name ≡ Some device
+      → after_step d here (codes "show " ++ name) later ≡ Ok (behind (Show device))
   unfolding after_step words_at a_step keyword_of after_show
   show_reads later name device l place =
       let full = room done few in
@@ -152,13 +153,13 @@ module _ (names callers : List (List ℕ)) (done : List ScriptStep) (number : �
       let short = l.short in
       rw ident (rw short (rw full (rw place refl)))
 
-  pub show_line : (name : List ℕ) (device : ℕ) → IsLawfulName name → place_of names name ≡ Some device
-      → Ends names (behind (Show device)) rest r → Ends names here ((codes "show " ++ name) ∷ rest) r
+  pub show_line : (name : List ℕ) (device : ℕ) → IsLawfulName name → place_of d.names name ≡ Some device
+      → Ends d (behind (Show device)) rest r → Ends d here ((codes "show " ++ name) ∷ rest) r
   show_line name device l place =
-      one_line names here (behind (Show device)) (codes "show " ++ name) rest r (show_text name l) (λ later are. show_reads later name device l place)
+      one_line d here (behind (Show device)) (codes "show " ++ name) rest r (show_text name l) (λ later are. show_reads later name device l place)
 
   stop_at_reads : (later : List (List ℕ)) (count bytes : ℕ) → count < 2 ^ 64 → bytes < 2 ^ 64
-      → after_step names here (codes "stop " ++ decimal count ++ codes " " ++ decimal bytes) later
+      → after_step d here (codes "stop " ++ decimal count ++ codes " " ++ decimal bytes) later
       ≡ Ok (behind (StopAt count bytes))
   unfolding after_step words_at a_step keyword_of after_stop
   stop_at_reads later count bytes c b =
@@ -170,7 +171,7 @@ module _ (names callers : List (List ℕ)) (done : List ScriptStep) (number : �
       ∙ rw one (rw two (rw full refl))
 
   pub stop_at_line : (count bytes : ℕ) → count < 2 ^ 64 → bytes < 2 ^ 64
-      → Ends names (behind (StopAt count bytes)) rest r → Ends names here ((codes "stop " ++ decimal count ++ codes " " ++ decimal bytes) ∷ rest) r
+      → Ends d (behind (StopAt count bytes)) rest r → Ends d here ((codes "stop " ++ decimal count ++ codes " " ++ decimal bytes) ∷ rest) r
   stop_at_line count bytes c b =
-      one_line names here (behind (StopAt count bytes)) (codes "stop " ++ decimal count ++ codes " " ++ decimal bytes) rest r
+      one_line d here (behind (StopAt count bytes)) (codes "stop " ++ decimal count ++ codes " " ++ decimal bytes) rest r
       (stop_at_text count bytes c b) (λ later are. stop_at_reads later count bytes c b)

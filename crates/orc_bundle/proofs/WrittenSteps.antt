@@ -7,8 +7,10 @@ use Rattle.orc_call.specs.declared.call.Action.{Action}
 use Rattle.orc_call.specs.declared.call.Call.{Call}
 use Rattle.orc_state.specs.States.{action_of, first_action, is_same_text, name_of}
 use Rattle.orc_state.specs.Calls.{is_action, is_call, is_lawful_name}
+use Rattle.orc_state.specs.declared.declarations.Decls.{Decls}
 use Rattle.orc_state.specs.declared.rule.Rule.{Rule}
-use Rattle.orc_bundle.specs.Bundles.{are_settled, begins_settled, callers_behind, is_step}
+use Rattle.orc_bundle.specs.Bundles.{are_settled, begins_settled, callers_behind, decls_with, is_step}
+use Rattle.orc_bundle.specs.declared.declarations.Declared.{Declared}
 use Rattle.orc_bundle.specs.Keywords.{keyword_of}
 use Rattle.orc_bundle.specs.Lines.{is_end, is_settled, text_of}
 use Rattle.orc_bundle.specs.Names.{is_among, place_of, with_name}
@@ -20,7 +22,7 @@ use Rattle.orc_bundle.specs.declared.bundle.ScriptStep.TheVariants.{Show, Serve,
 use Rattle.orc_bundle.specs.declared.script.Script.{Script}
 use Rattle.orc_bundle.specs.declared.script.TheConstants.{MOST_CALLERS, MOST_STEPS}
 use Rattle.orc_bundle.proofs.Texts.{IsLawfulName, lawful_name, number_short, part_append, part_known, part_of_word, word_of_number}
-use Rattle.orc_bundle.proofs.WrittenCalls.{action_read, opened}
+use Rattle.orc_bundle.proofs.WrittenCalls.{IsPlainly, action_read, opened}
 use Rattle.orc_bundle.proofs.WrittenDevices.{same_name}
 use Rattle.orc_bundle.proofs.WrittenLines.{IsText, among, contained_behind, cut_word, number_again, settled_first}
 use Rattle.orc_bundle.proofs.WrittenScript.{Ends, history_line, no_line, one_line, recover_line, resting, room, settle_line, show_line, stop_at_line, stop_line}
@@ -34,12 +36,12 @@ no_caller_more callers done number caller h = on (is_among callers caller) h whe
   on true few = refl
   on false few = let size = length-append callers (caller ∷ []) in lt-leb MOST_CALLERS (length callers) (omega arith)
 
-call_reads : (names callers : List (List ℕ)) (done : List ScriptStep) (before : ℕ) (caller : List ℕ) (number : ℕ) (later : List (List ℕ))
+call_reads : (d : Declared) (callers : List (List ℕ)) (done : List ScriptStep) (before : ℕ) (caller : List ℕ) (number : ℕ) (later : List (List ℕ))
     → length done < MOST_STEPS → IsLawfulName caller → number < 2 ^ 64 → length (with_name callers caller) ≤ MOST_CALLERS → list_any is_end later ≡ true
-    → after_step names (resting callers done before) (codes "call " ++ caller ++ codes " " ++ decimal number) later
+    → after_step d (resting callers done before) (codes "call " ++ caller ++ codes " " ++ decimal number) later
     ≡ Ok (opened (with_name callers caller) done caller number)
 unfolding after_step words_at a_step keyword_of after_call is_followed
-call_reads names callers done before caller number later few l fits known ends =
+call_reads d callers done before caller number later few l fits known ends =
     let s = resting callers done before in
     let full = room done few in
     let ident = l.identifier in
@@ -69,13 +71,13 @@ call_text caller number l fits =
 abbrev HasEnd : List (List ℕ) → Type 0
 HasEnd ts = (later : List (List ℕ)) → AreLinesOf ts later → list_any is_end later ≡ true
 
-call_line : (names callers : List (List ℕ)) (done : List ScriptStep) (before : ℕ) (caller : List ℕ) (number : ℕ) (rest : List (List ℕ)) (r : Result (List ScriptStep) (ℕ × Rule))
+call_line : (d : Declared) (callers : List (List ℕ)) (done : List ScriptStep) (before : ℕ) (caller : List ℕ) (number : ℕ) (rest : List (List ℕ)) (r : Result (List ScriptStep) (ℕ × Rule))
     → length done < MOST_STEPS → IsLawfulName caller → number < 2 ^ 64 → length (with_name callers caller) ≤ MOST_CALLERS → HasEnd rest
-    → Ends names (opened (with_name callers caller) done caller number) rest r
-    → Ends names (resting callers done before) ((codes "call " ++ caller ++ codes " " ++ decimal number) ∷ rest) r
-call_line names callers done before caller number rest r few l fits most ends =
-    one_line names (resting callers done before) (opened (with_name callers caller) done caller number) (codes "call " ++ caller ++ codes " " ++ decimal number) rest r
-    (call_text caller number l fits) (λ later are. call_reads names callers done before caller number later few l fits most (ends later are))
+    → Ends d (opened (with_name callers caller) done caller number) rest r
+    → Ends d (resting callers done before) ((codes "call " ++ caller ++ codes " " ++ decimal number) ∷ rest) r
+call_line d callers done before caller number rest r few l fits most ends =
+    one_line d (resting callers done before) (opened (with_name callers caller) done caller number) (codes "call " ++ caller ++ codes " " ++ decimal number) rest r
+    (call_text caller number l fits) (λ later are. call_reads d callers done before caller number later few l fits most (ends later are))
 
 -- a call
 
@@ -85,15 +87,15 @@ one_action (a ∷ []) h = refl
 one_action (a ∷ b ∷ more) h = absurd (let no_one : length (a ∷ b ∷ more) ≡ 1 = eqb-true (length (a ∷ b ∷ more)) 1 h in omega arith)
 
 -- what is known of a lawful call
-pub record IsKnown (names : List (List ℕ)) (call : Call) : Type 0 where
+pub record IsKnown (decls : Decls) (call : Call) : Type 0 where
   pub caller : IsLawfulName call.caller
   pub number : call.number < 2 ^ 64
   pub one : first_action call.actions ∷ [] ≡ call.actions
-  pub action : is_action names (action_of call) ≡ true
+  pub action : is_action decls (action_of call) ≡ true
 
-pub known : (names : List (List ℕ)) (call : Call) → is_call names call ≡ true → IsKnown names call
-known names call h =
-    let three = and_parts (is_lawful_name call.caller && nat_lt call.number (2 ^ 64) && (length call.actions == 1)) (is_action names (action_of call)) h in
+pub known : (decls : Decls) (call : Call) → is_call decls call ≡ true → IsKnown decls call
+known decls call h =
+    let three = and_parts (is_lawful_name call.caller && nat_lt call.number (2 ^ 64) && (length call.actions == 1)) (is_action decls (action_of call)) h in
     let two = and_parts (is_lawful_name call.caller && nat_lt call.number (2 ^ 64)) (length call.actions == 1) three.0 in
     let one = and_parts (is_lawful_name call.caller) (nat_lt call.number (2 ^ 64)) two.0 in
     record {
@@ -106,23 +108,23 @@ known names call h =
 is_the_end : (line : List ℕ) → text_of line ≡ codes "end" → is_end line ≡ true
 is_the_end line says = ap (λ (t : List ℕ). is_text t (codes "end")) says
 
-serve_lines : (names callers : List (List ℕ)) (done : List ScriptStep) (before : ℕ) (call : Call) (rest : List (List ℕ)) (r : Result (List ScriptStep) (ℕ × Rule))
-    → list_all is_lawful_name names ≡ true → length done < MOST_STEPS → is_call names call ≡ true → length (with_name callers call.caller) ≤ MOST_CALLERS
+serve_lines : (text : List ℕ) (d : Declared) (callers : List (List ℕ)) (done : List ScriptStep) (before : ℕ) (call : Call) (rest : List (List ℕ)) (r : Result (List ScriptStep) (ℕ × Rule))
+    → IsPlainly d → length done < MOST_STEPS → is_call (decls_with text d) call ≡ true → length (with_name callers call.caller) ≤ MOST_CALLERS
     → ((later : List (List ℕ)) → AreLinesOf rest later → is_settled later ≡ true)
-    → Ends names (resting (with_name callers call.caller) (done ++ Serve call ∷ []) call.number) rest r
-    → Ends names (resting callers done before) (step_lines names (Serve call) ++ rest) r
-serve_lines names callers done before call rest r lawful few is most settled behind =
-    let k = known names call is in
+    → Ends d (resting (with_name callers call.caller) (done ++ Serve call ∷ []) call.number) rest r
+    → Ends d (resting callers done before) (step_lines d.names (Serve call) ++ rest) r
+serve_lines text d callers done before call rest r plainly few is most settled behind =
+    let k = known (decls_with text d) call is in
     let a = action_of call in
     let more = lines_of_action a ++ codes "end" ∷ rest in
     let same : record { caller = call.caller; number = call.number; actions = a ∷ [] } ≡ call =
     ap (λ (actions : List Action). record call { actions = actions }) k.one in
-    let served = subst (λ (c : Call). Ends names (resting (with_name callers call.caller) (done ++ Serve c ∷ []) call.number) rest r) (sym same) behind in
+    let served = subst (λ (c : Call). Ends d (resting (with_name callers call.caller) (done ++ Serve c ∷ []) call.number) rest r) (sym same) behind in
     let line = codes "call " ++ call.caller ++ codes " " ++ decimal call.number in
-    subst (λ (ts : List (List ℕ)). Ends names (resting callers done before) (line ∷ ts) r) (sym (append_assoc (lines_of_action a) (codes "end" ∷ []) rest))
-    (call_line names callers done before call.caller call.number more r few k.caller k.number most
+    subst (λ (ts : List (List ℕ)). Ends d (resting callers done before) (line ∷ ts) r) (sym (append_assoc (lines_of_action a) (codes "end" ∷ []) rest))
+    (call_line d callers done before call.caller call.number more r few k.caller k.number most
     (λ later are. among more later (codes "end") is_end are is_the_end (contained_behind (lines_of_action a) (codes "end" ∷ rest) (codes "end") (inl refl)))
-    (action_read (with_name callers call.caller) done call.caller call.number names a rest r lawful k.action settled served))
+    (action_read (with_name callers call.caller) done call.caller call.number text d a rest r plainly k.action settled served))
 
 -- the devices' names
 
@@ -182,48 +184,54 @@ settled_lines names (Recover ∷ steps) h later are = absurd (false≢true h)
 settled_lines names (History ∷ steps) h later are = absurd (false≢true h)
 
 -- the rest of the steps
-module _ (names : List (List ℕ)) (lawful : list_all is_lawful_name names ≡ true) (distinct : IsDistinct is_same_text names) where
-  abbrev lines : List ScriptStep → List (List ℕ)
-  lines steps = flat_map (step_lines names) steps
+module _ (text : List ℕ) (d : Declared) (plainly : IsPlainly d) (distinct : IsDistinct is_same_text d.names) where
+  abbrev names : List (List ℕ)
+  names = d.names
 
-  moved : (s : Script) (done : List ScriptStep) (step : ScriptStep) (steps : List ScriptStep) → Ends names s (lines steps) (Ok ((done ++ step ∷ []) ++ steps)) → Ends names s (lines steps) (Ok (done ++ step ∷ steps))
-  moved s done step steps h = subst (λ (all : List ScriptStep). Ends names s (lines steps) (Ok all)) (append_assoc done (step ∷ []) steps) h
+  abbrev is_one : ScriptStep → Bool
+  is_one = is_step (decls_with text d)
+
+  abbrev lines : List ScriptStep → List (List ℕ)
+  lines steps = flat_map (step_lines d.names) steps
+
+  moved : (s : Script) (done : List ScriptStep) (step : ScriptStep) (steps : List ScriptStep) → Ends d s (lines steps) (Ok ((done ++ step ∷ []) ++ steps)) → Ends d s (lines steps) (Ok (done ++ step ∷ steps))
+  moved s done step steps h = subst (λ (all : List ScriptStep). Ends d s (lines steps) (Ok all)) (append_assoc done (step ∷ []) steps) h
 
   next : (done : List ScriptStep) (step : ScriptStep) (steps : List ScriptStep) → length done + length (step ∷ steps) ≤ MOST_STEPS → length (done ++ step ∷ []) + length steps ≤ MOST_STEPS
   next done step steps h = let size = length-append done (step ∷ []) in omega arith
 
   pub steps_read : (callers : List (List ℕ)) (done todo : List ScriptStep) (number : ℕ)
-      → list_all (is_step names) todo ≡ true → are_settled todo ≡ true → length done + length todo ≤ MOST_STEPS → length (callers_behind callers todo) ≤ MOST_CALLERS
-      → Ends names (resting callers done number) (lines todo) (Ok (done ++ todo))
+      → list_all is_one todo ≡ true → are_settled todo ≡ true → length done + length todo ≤ MOST_STEPS → length (callers_behind callers todo) ≤ MOST_CALLERS
+      → Ends d (resting callers done number) (lines todo) (Ok (done ++ todo))
   steps_read callers done [] number all settled few most =
-      subst (λ (steps : List ScriptStep). Ends names (resting callers done number) [] (Ok steps)) (sym (append-nil done)) (no_line names (resting callers done number))
+      subst (λ (steps : List ScriptStep). Ends d (resting callers done number) [] (Ok steps)) (sym (append-nil done)) (no_line d (resting callers done number))
   steps_read callers done (Show device ∷ steps) number all settled few most =
-      let parts = and_parts (is_step names (Show device)) (list_all (is_step names) steps) all in
+      let parts = and_parts (is_one (Show device)) (list_all is_one steps) all in
       let within = ltb-true device (length names) parts.0 in
-      show_line names callers done number (lines steps) (Ok (done ++ Show device ∷ steps)) (omega arith) (name_of names device) device
-      (lawful_name (name_of names device) (name_lawful names device lawful within)) (place_again names device distinct within)
+      show_line d callers done number (lines steps) (Ok (done ++ Show device ∷ steps)) (omega arith) (name_of names device) device
+      (lawful_name (name_of names device) (name_lawful names device plainly.lawful within)) (place_again names device distinct within)
       (moved _ done (Show device) steps (steps_read callers (done ++ Show device ∷ []) steps number parts.1 settled (next done (Show device) steps few) most))
   steps_read callers done (Serve call ∷ steps) number all settled few most =
-      let parts = and_parts (is_step names (Serve call)) (list_all (is_step names) steps) all in
+      let parts = and_parts (is_one (Serve call)) (list_all is_one steps) all in
       let two = and_parts (begins_settled steps) (are_settled steps) settled in
       let now = with_name callers call.caller in
       let grows = callers_more now steps in
-      serve_lines names callers done number call (lines steps) (Ok (done ++ Serve call ∷ steps)) lawful (omega arith) parts.0 (omega arith) (settled_lines names steps two.0)
+      serve_lines text d callers done number call (lines steps) (Ok (done ++ Serve call ∷ steps)) plainly (omega arith) parts.0 (omega arith) (settled_lines names steps two.0)
       (moved _ done (Serve call) steps (steps_read now (done ++ Serve call ∷ []) steps call.number parts.1 two.1 (next done (Serve call) steps few) most))
   steps_read callers done (Settle ∷ steps) number all settled few most =
-      settle_line names callers done number (lines steps) (Ok (done ++ Settle ∷ steps)) (omega arith)
+      settle_line d callers done number (lines steps) (Ok (done ++ Settle ∷ steps)) (omega arith)
       (moved _ done Settle steps (steps_read callers (done ++ Settle ∷ []) steps number all settled (next done Settle steps few) most))
   steps_read callers done (Stop ∷ steps) number all settled few most =
-      stop_line names callers done number (lines steps) (Ok (done ++ Stop ∷ steps)) (omega arith)
+      stop_line d callers done number (lines steps) (Ok (done ++ Stop ∷ steps)) (omega arith)
       (moved _ done Stop steps (steps_read callers (done ++ Stop ∷ []) steps number all settled (next done Stop steps few) most))
   steps_read callers done (StopAt count bytes ∷ steps) number all settled few most =
-      let parts = and_parts (is_step names (StopAt count bytes)) (list_all (is_step names) steps) all in
+      let parts = and_parts (is_one (StopAt count bytes)) (list_all is_one steps) all in
       let fit = and_parts (nat_lt count (2 ^ 64)) (nat_lt bytes (2 ^ 64)) parts.0 in
-      stop_at_line names callers done number (lines steps) (Ok (done ++ StopAt count bytes ∷ steps)) (omega arith) count bytes (ltb-true count (2 ^ 64) fit.0) (ltb-true bytes (2 ^ 64) fit.1)
+      stop_at_line d callers done number (lines steps) (Ok (done ++ StopAt count bytes ∷ steps)) (omega arith) count bytes (ltb-true count (2 ^ 64) fit.0) (ltb-true bytes (2 ^ 64) fit.1)
       (moved _ done (StopAt count bytes) steps (steps_read callers (done ++ StopAt count bytes ∷ []) steps number parts.1 settled (next done (StopAt count bytes) steps few) most))
   steps_read callers done (Recover ∷ steps) number all settled few most =
-      recover_line names callers done number (lines steps) (Ok (done ++ Recover ∷ steps)) (omega arith)
+      recover_line d callers done number (lines steps) (Ok (done ++ Recover ∷ steps)) (omega arith)
       (moved _ done Recover steps (steps_read callers (done ++ Recover ∷ []) steps number all settled (next done Recover steps few) most))
   steps_read callers done (History ∷ steps) number all settled few most =
-      history_line names callers done number (lines steps) (Ok (done ++ History ∷ steps)) (omega arith)
+      history_line d callers done number (lines steps) (Ok (done ++ History ∷ steps)) (omega arith)
       (moved _ done History steps (steps_read callers (done ++ History ∷ []) steps number all settled (next done History steps few) most))

@@ -53,19 +53,22 @@ declarations_of d at n (line ∷ later) =
     then Ok (record { declared = e; size = at; at = at + length line; number = n + 1; later = later })
     else declarations_of e (at + length line) (n + 1) later)
 
--- the steps in lines, where these devices are declared
-abbrev pub script_steps : List (List ℕ) → Script → ℕ → ℕ → List (List ℕ) → Result (List ScriptStep) (ℕ × Rule)
-script_steps names s at n [] = Ok s.steps
-script_steps names s at n (line ∷ later) =
-    on_line (n + 1) (scripted_at names s at line later) (λ t. script_steps names t (at + length line) (n + 1) later)
+-- the steps in lines, behind these declarations
+abbrev pub script_steps : Declared → Script → ℕ → ℕ → List (List ℕ) → Result (List ScriptStep) (ℕ × Rule)
+script_steps d s at n [] = Ok s.steps
+script_steps d s at n (line ∷ later) =
+    on_line (n + 1) (scripted_at d s at line later) (λ t. script_steps d t (at + length line) (n + 1) later)
+
+-- what was declared, with its text
+abbrev pub decls_with : List ℕ → Declared → Decls
+decls_with text d = record { text = text; names = d.names; schemas = d.schemas; devices = d.devices }
 
 -- the declarations, and their text as the journal stores it
 abbrev pub decls_of : List ℕ → Front → Decls
-decls_of bytes front =
-    record { text = take front.size bytes; names = front.declared.names; devices = front.declared.devices }
+decls_of bytes front = decls_with (take front.size bytes) front.declared
 
 abbrev pub script_of : Front → Result (List ScriptStep) (ℕ × Rule)
-script_of front = script_steps front.declared.names no_steps front.at front.number front.later
+script_of front = script_steps front.declared no_steps front.at front.number front.later
 
 -- no line is the header: each is empty or a comment, or there is none
 abbrev pub lacks_header : List (List ℕ) → Bool
@@ -91,15 +94,15 @@ bundle_of bytes = bundle_in (seen bytes) (lines_of (seen bytes))
 
 -- what a bundle has
 
--- a step of a script where these devices are declared
-abbrev pub is_step : List (List ℕ) → ScriptStep → Bool
-is_step names (Show device) = nat_lt device (length names)
-is_step names (Serve call) = is_call names call
-is_step names Settle = true
-is_step names Stop = true
-is_step names (StopAt count bytes) = nat_lt count (2 ^ 64) && nat_lt bytes (2 ^ 64)
-is_step names Recover = true
-is_step names History = true
+-- a step of a script behind these declarations
+abbrev pub is_step : Decls → ScriptStep → Bool
+is_step decls (Show device) = nat_lt device (length decls.names)
+is_step decls (Serve call) = is_call decls call
+is_step decls Settle = true
+is_step decls Stop = true
+is_step decls (StopAt count bytes) = nat_lt count (2 ^ 64) && nat_lt bytes (2 ^ 64)
+is_step decls Recover = true
+is_step decls History = true
 
 -- these steps begin with `settle`
 abbrev pub begins_settled : List ScriptStep → Bool
@@ -122,7 +125,7 @@ callers_behind callers (_ ∷ steps) = callers_behind callers steps
 -- are no more steps and callers than can be.
 pub record IsBundle (bundle : Bundle) : Type 0 where
   pub decls : AreDecls bundle.decls
-  pub steps : IsTrue (list_all (is_step bundle.decls.names) bundle.steps)
+  pub steps : IsTrue (list_all (is_step bundle.decls) bundle.steps)
   pub settled : IsTrue (are_settled bundle.steps)
   pub few : length bundle.steps ≤ MOST_STEPS
   pub callers : length (callers_behind [] bundle.steps) ≤ MOST_CALLERS

@@ -1,32 +1,48 @@
 -- What each form of a declaration makes of what was declared so far.
-use Rattle.std.specs.Prelude.{ℕ, zero, suc, Bool, true, false, not, ◌&&◌, ◌||◌, ◌-◌, nat_le, nat_lt, List, [], ◌∷◌, ◌++◌, codes, length, Option, Result, if◌then◌else◌}
+use Rattle.std.specs.Prelude.{ℕ, zero, suc, Bool, true, false, not, ◌&&◌, ◌||◌, ◌-◌, nat_le, nat_lt, List, [], ◌∷◌, ◌++◌, codes, length, slice_get, Option, Result, is_some, option_and_then, option_map, option_to_list, if◌then◌else◌}
 use Rattle.std.specs.declared.option.Option.TheVariants.{None, Some}
 use Rattle.std.specs.declared.result.Result.TheVariants.{Ok, Err}
+use Rattle.std.specs.List.{flat_map, list_all, list_any}
 use Rattle.std.specs.Option.{option_map_or}
 use Rattle.std.specs.Str.{is_utf8}
 use Rattle.orc_path.specs.Alphabet.{is_identifier}
 use Rattle.orc_path.specs.Limits.{is_long_name}
 use Rattle.orc_call.specs.declared.call.Put.{Put}
+use Rattle.orc_schema.specs.Schemas.{SchemaTable, plain_table}
+use Rattle.orc_state.specs.Calls.{schema_named}
 use Rattle.orc_state.specs.declared.declarations.Device.{Device}
 use Rattle.orc_state.specs.declared.declarations.TheConstants.{MOST_DEVICES}
 use Rattle.orc_state.specs.declared.rule.Rule.{Rule}
 use Rattle.orc_state.specs.declared.rule.Rule.TheVariants as rule
 use Rattle.orc_bundle.specs.Rules.{checked, or_rule, on_ok}
 use Rattle.orc_bundle.specs.Lines.{block_of, is_large, is_skipped, text_of}
-use Rattle.orc_bundle.specs.Words.{cut_at, is_text, number_in}
+use Rattle.orc_bundle.specs.Words.{cut_at, is_text, number_in, words_of}
 use Rattle.orc_bundle.specs.Keywords.{keyword_of}
-use Rattle.orc_bundle.specs.Names.{is_among, place_of}
+use Rattle.orc_bundle.specs.Names.{is_among, place_of, repeats, with_name}
 use Rattle.orc_bundle.specs.Items.{put_of}
-use Rattle.orc_bundle.specs.Modules.{module_of}
+use Rattle.orc_bundle.specs.Modules.{orc_module, module_of}
+use Rattle.orc_bundle.specs.Schemas.{schema_or_rule}
+use Rattle.orc_yang.specs.declared.statement.Stmt.{Stmt}
 use Rattle.orc_bundle.specs.declared.keyword.Keyword.{Keyword}
 use Rattle.orc_bundle.specs.declared.keyword.Keyword.TheVariants as keyword
 use Rattle.orc_bundle.specs.declared.declarations.Declared.{Declared}
+use Rattle.orc_bundle.specs.declared.module.Module.{Module}
 use Rattle.orc_bundle.specs.declared.declarations.Section.{Section}
 use Rattle.orc_bundle.specs.declared.declarations.Section.TheVariants as section
 
 -- nothing is declared, and the header is due
 abbrev pub nothing_declared : Declared
-nothing_declared = record { section = section.Header; skip = 0; modules = []; names = []; devices = [] }
+nothing_declared = record {
+  section = section.Header;
+  skip = 0;
+  modules = [];
+  statements = [];
+  has_data = false;
+  types = [];
+  schemas = plain_table ∷ [];
+  names = [];
+  devices = [];
+}
 
 -- the forms
 
@@ -35,24 +51,75 @@ unfoldable pub after_header : Declared → List ℕ → Result Declared Rule
 after_header d text =
     checked ((not (is_text text (codes "orc 1")), rule.Header) ∷ []) (Ok (record d { section = section.Declarations }))
 
+-- the statement of a module that is declared or built in
+abbrev pub module_named : Declared → List ℕ → Option Stmt
+module_named d name =
+    if is_text name (codes "orc")
+    then Some orc_module else option_and_then (slice_get d.statements) (place_of d.modules name)
+
+abbrev pub is_declared : Declared → List ℕ → Bool
+is_declared d name = is_some (module_named d name)
+
+-- the statements of the modules of these names
+abbrev pub modules_named : Declared → List (List ℕ) → List Stmt
+modules_named d names = flat_map (λ name. option_to_list (module_named d name)) names
+
+-- the schema of the modules of these names; all the words are names, and one of them may be taken
+abbrev pub schema_words : Declared → List (List ℕ) → List (List ℕ) → Bool → Result SchemaTable Rule
+schema_words d words names is_double =
+    checked (
+    (not (list_all is_identifier words), rule.Line)
+    ∷ (list_any is_long_name words, rule.Size)
+    ∷ (not (list_all (is_declared d) names), rule.Unknown)
+    ∷ (is_double, rule.Duplicate)
+    ∷ (repeats names, rule.Schema)
+    ∷ [])
+    (schema_or_rule (modules_named d names))
+
+-- `datamodel M M ..`; the built-in module is always one of them
+unfoldable pub after_datamodel : Declared → List ℕ → Result Declared Rule
+after_datamodel d rest =
+    on_ok (schema_words d (words_of rest) (with_name (words_of rest) (codes "orc")) d.has_data) (λ schema.
+    Ok (record d { has_data = true }))
+
+-- a type of devices, and its schema
+abbrev pub with_type : Declared → List ℕ → SchemaTable → Declared
+with_type d name schema = record d { types = d.types ++ name ∷ []; schemas = d.schemas ++ schema ∷ [] }
+
+-- `devicetype T M M ..`
+abbrev pub type_words : Declared → List (List ℕ) → Result Declared Rule
+type_words d [] = Err rule.Line
+type_words d (name ∷ []) = Err rule.Line
+type_words d (name ∷ first ∷ later) =
+    on_ok (schema_words d (name ∷ first ∷ later) (first ∷ later) (is_among d.types name)) (λ schema.
+    Ok (with_type d name schema))
+
+unfoldable pub after_devicetype : Declared → List ℕ → Result Declared Rule
+after_devicetype d rest = type_words d (words_of rest)
+
+-- the place of the schema of devices of a kind: the plain one stands in front, and behind it those of the types
+abbrev pub schema_place : Declared → List ℕ → Option ℕ
+schema_place d kind = if is_text kind (codes "plain") then Some 0 else option_map suc (place_of d.types kind)
+
 -- a device that has no item yet
-abbrev pub with_device : Declared → List ℕ → Declared
-with_device d name = record d {
+abbrev pub with_device : Declared → List ℕ → ℕ → Declared
+with_device d name place = record d {
   names = d.names ++ name ∷ [];
-  devices = d.devices ++ (record { name = name; base = [] }) ∷ [];
+  devices = d.devices ++ (record { name = name; schema = place; base = [] }) ∷ [];
 }
 
--- `device D plain`
+-- `device D plain` and `device D T`
 abbrev pub device_words : Declared → Option (List ℕ × List ℕ) → Result Declared Rule
 device_words d None = Err rule.Line
 device_words d (Some words) =
     checked (
-    (not (is_identifier words.0) || not (is_text words.1 (codes "plain")), rule.Line)
-    ∷ (is_long_name words.0, rule.Size)
+    (not (is_identifier words.0) || not (is_identifier words.1), rule.Line)
+    ∷ (is_long_name words.0 || is_long_name words.1, rule.Size)
     ∷ (not (is_among d.names words.0) && nat_le MOST_DEVICES (length d.names), rule.Size)
-    ∷ (is_among d.names words.0, rule.Duplicate)
     ∷ [])
-    (Ok (with_device d words.0))
+    (or_rule (schema_place d words.1) rule.Unknown (λ place.
+    checked ((is_among d.names words.0, rule.Duplicate) ∷ [])
+    (Ok (with_device d words.0 place))))
 
 unfoldable pub after_device : Declared → List ℕ → Result Declared Rule
 after_device d rest = device_words d (cut_at 32 rest)
@@ -68,7 +135,7 @@ abbrev pub base_words : Declared → Option (List ℕ × List ℕ) → Result De
 base_words d None = Err rule.Line
 base_words d (Some words) =
     checked ((not (is_identifier words.0), rule.Line) ∷ [])
-    (on_ok (put_of (is_long_name words.0) words.1) (λ put.
+    (on_ok (put_of (schema_named d.schemas d.devices words.0) (is_long_name words.0) words.1) (λ put.
     or_rule (place_of d.names words.0) rule.Unknown (λ n.
     Ok (record d { devices = with_base n put d.devices }))))
 
@@ -79,14 +146,22 @@ after_base d rest = base_words d (cut_at 32 rest)
 abbrev pub is_taken : Declared → List ℕ → Bool
 is_taken d name = is_text name (codes "orc") || is_among d.modules name
 
+-- a module, with so many lines
+abbrev pub with_module : Declared → ℕ → Module → Declared
+with_module d n m = record d {
+  modules = d.modules ++ m.name ∷ [];
+  statements = d.statements ++ m.statement ∷ [];
+  skip = n;
+}
+
 -- `yang N`, with the lines behind it
 unfoldable pub after_yang : Declared → List ℕ → List (List ℕ) → Result Declared Rule
 after_yang d rest later =
     or_rule (number_in rest) rule.Line (λ n.
     or_rule (block_of n later) rule.Line (λ text.
-    on_ok (module_of text) (λ name.
-    checked ((is_taken d name, rule.Duplicate) ∷ [])
-    (Ok (record d { modules = d.modules ++ name ∷ []; skip = n })))))
+    on_ok (module_of text) (λ m.
+    checked ((is_taken d m.name, rule.Duplicate) ∷ [])
+    (Ok (with_module d n m)))))
 
 -- how many lines a line takes for its block: `yang N` takes N, any other none
 abbrev pub block_size : Option ℕ → ℕ
@@ -112,6 +187,8 @@ after_script d = Ok (record d { section = section.Script })
 -- of more than one word
 unfoldable pub declaration : Keyword → Declared → List ℕ → List (List ℕ) → Result Declared Rule
 declaration keyword.Device d rest later = after_device d rest
+declaration keyword.Datamodel d rest later = after_datamodel d rest
+declaration keyword.Devicetype d rest later = after_devicetype d rest
 declaration keyword.Base d rest later = after_base d rest
 declaration keyword.Yang d rest later = after_yang d rest later
 declaration _ d rest later = Err rule.Line
@@ -135,13 +212,13 @@ after_text d text later =
     if is_header d.section then after_header d text else declaration_words d text later (cut_at 32 text)
 
 -- a line of a block is passed over
-abbrev pub in_block : Declared → Result Declared Rule → Result Declared Rule
-in_block d other = if nat_lt 0 d.skip then Ok (record d { skip = d.skip - 1 }) else other
+abbrev pub in_open_block : Declared → Result Declared Rule → Result Declared Rule
+in_open_block d other = if nat_lt 0 d.skip then Ok (record d { skip = d.skip - 1 }) else other
 
 -- a line with the lines behind it; so many bytes stand in front of it
 unfoldable pub declared_at : Declared → ℕ → List ℕ → List (List ℕ) → Result Declared Rule
 declared_at d at line later =
     checked ((is_large at line, rule.Size) ∷ [])
-    (in_block d (
+    (in_open_block d (
     checked ((not (is_utf8 (text_of line)), rule.Utf8) ∷ [])
     (if is_skipped (text_of line) then Ok d else after_text d (text_of line) later)))

@@ -1,6 +1,5 @@
 -- What is said of a bundle's fault, for the one who mends it.
-use Rattle.std.specs.Prelude.{ℕ, zero, suc, Bool, true, false, ◌&&◌, ◌||◌, nat_le, ◌-◌, List, [], ◌∷◌, ◌++◌, codes, take, drop, Option, if◌then◌else◌}
-use Rattle.std.specs.declared.option.Option.TheVariants.{None, Some}
+use Rattle.std.specs.Prelude.{ℕ, zero, suc, Bool, true, false, ◌&&◌, ◌||◌, nat_le, ◌-◌, List, [], ◌∷◌, ◌++◌, codes, take, drop, if◌then◌else◌}
 use Rattle.std.specs.List.{list_any}
 use Rattle.std.specs.Char.{encode_utf8}
 use Rattle.std.specs.Fmt.{digits}
@@ -17,7 +16,12 @@ use Rattle.orc_state.specs.declared.rule.Rule.TheVariants as rule
 
 -- how a line with this first word is written, and where it stands
 unfoldable pub form_words : Keyword → List ℕ
-form_words keyword.Device = codes "A device is declared as `device NAME plain`, before the line `script`."
+form_words keyword.Device =
+    codes "A device is declared as `device NAME plain` or `device NAME TYPE`, before the line `script`."
+form_words keyword.Datamodel =
+    codes "The schema of the data is declared as `datamodel MODULE ..`, once, before the line `script`."
+form_words keyword.Devicetype =
+    codes "A type of devices is declared as `devicetype NAME MODULE ..`, before the line `script`."
 form_words keyword.Base =
     codes "An item of a device's base is `base DEVICE PATH` for an entry or `base DEVICE PATH = VALUE` for a "
     ++ codes "leaf, before the line `script`."
@@ -27,6 +31,7 @@ form_words keyword.Script =
     codes "The line `script` ends the declarations, once, and has nothing behind that word."
 form_words keyword.Show =
     codes "The step `show DEVICE` stands below the line `script`, and not within a call."
+form_words keyword.Json = codes "The step `json DEVICE` is not built yet."
 form_words keyword.Call =
     codes "A call begins with `call CALLER NUMBER`, below the line `script` and not within another call."
 form_words keyword.Literal =
@@ -50,8 +55,9 @@ form_words keyword.History =
     codes "The step `history` has nothing behind that word, and stands below the line `script` and not within "
     ++ codes "a call."
 form_words keyword.Other =
-    codes "A line begins with `device`, `base`, `yang` or `script`; below `script` with `show`, `call`, "
-    ++ codes "`settle`, `stop`, `recover` or `history`; within a call with `literal`, `write`, `delete` or `end`."
+    codes "A line begins with `device`, `base`, `yang`, `datamodel`, `devicetype` or `script`; below `script` with "
+    ++ codes "`show`, `call`, `settle`, `stop`, `recover` or `history`; within a call with `literal`, `write`, "
+    ++ codes "`delete` or `end`."
 
 -- words, names and numbers
 abbrev pub word_words : List ℕ
@@ -74,37 +80,59 @@ abbrev pub line_words : Keyword → Bool → List ℕ
 line_words keyword.Call ends = call_explained ends
 line_words word _ = whole_form word
 
--- what a rule allows
-unfoldable pub rule_words : Rule → List ℕ
-rule_words rule.Size =
+-- what is not declared, in a line with this first word
+unfoldable pub unknown_words : Keyword → List ℕ
+unknown_words keyword.Device =
+    codes "No type of this name is declared above, by a line `devicetype NAME MODULE ..`."
+unknown_words keyword.Datamodel =
+    codes "A module of this line is not declared above, by a line `yang N` with the module below it."
+unknown_words keyword.Devicetype =
+    codes "A module of this line is not declared above, by a line `yang N` with the module below it."
+unknown_words keyword.Json =
+    codes "No device of this name with a type is declared above, by a line `device NAME TYPE`."
+unknown_words _ =
+    codes "No device of this name is declared above, by a line `device NAME plain` or `device NAME TYPE`."
+
+-- what is declared once
+unfoldable pub duplicate_words : Keyword → List ℕ
+duplicate_words keyword.Datamodel = codes "The schema of the data is declared once."
+duplicate_words _ = codes "A name is declared once, and the module `orc` is built in."
+
+-- what a rule allows in a line with this first word
+unfoldable pub rule_words : Rule → Keyword → List ℕ
+rule_words rule.Size word =
     codes "This passes a limit: 16777216 bytes of a bundle, 1048576 of a line, 64 of a name, 4096 of a path, a "
     ++ codes "key or a value; 32 steps of a path, 8 keys of a step; 256 devices, 256 callers, 100000 steps of the "
     ++ codes "script."
-rule_words rule.Utf8 = codes "A bundle is UTF-8 text; <U+FFFD> stands where this line is none."
-rule_words rule.Header = codes "The first line that is neither empty nor a comment is `orc 1`."
-rule_words rule.Path =
+rule_words rule.Utf8 word = codes "A bundle is UTF-8 text; <U+FFFD> stands where this line is none."
+rule_words rule.Header word = codes "The first line that is neither empty nor a comment is `orc 1`."
+rule_words rule.Path word =
     codes "A path is written as /if:port[ge-0/0/1]/mtu: in front of its first name stands the module's, and "
     ++ codes "keys stand in brackets; in a key a backslash is \\\\, a closing bracket \\], a space \\s, a tab "
     ++ codes "\\t, a line feed \\n, a carriage return \\r. A path that ends in keys is an entry and has no ` = "
-    ++ codes "VALUE`; any other is a leaf and has one."
-rule_words rule.Value =
+    ++ codes "VALUE`; any other is a leaf and has one. On a device with a type the names are those of its "
+    ++ codes "modules, an entry has each key of its list, or a leaf-list's value, and a key has no line of its own."
+rule_words rule.Value word =
     codes "In a value a backslash is \\\\, a tab \\t, a line feed \\n and a carriage return \\r. It has no "
-    ++ codes "other control character below U+0020, and no noncharacter."
-rule_words rule.Unknown = codes "No device of this name is declared above, by a line `device NAME plain`."
-rule_words rule.Duplicate = codes "A name is declared once, and the module `orc` is built in."
-rule_words rule.Yang =
+    ++ codes "other control character below U+0020, and no noncharacter. On a device with a type each key and "
+    ++ codes "value is one of its YANG type (RFC 7950 section 9)."
+rule_words rule.Unknown word = unknown_words word
+rule_words rule.Duplicate word = duplicate_words word
+rule_words rule.Yang word =
     codes "The N lines below `yang N` are the statements of one module (RFC 7950 section 6)."
-rule_words rule.Schema = codes "The modules that this line names are declared, and make one schema."
-rule_words rule.Template = codes "The N lines below `template T PATH N` are the JSON template of a list."
-rule_words rule.Json = codes "The JSON text is a body of the list that the path names."
-rule_words rule.Opening =
+rule_words rule.Schema word =
+    codes "The modules of this line make one schema: each stands once in it, keeps the rules of RFC 7950, and has "
+    ++ codes "no statement that this profile of YANG leaves out."
+rule_words rule.Template word = codes "The N lines below `template T PATH N` are the JSON template of a list."
+rule_words rule.Json word = codes "The JSON text is a body of the list that the path names."
+rule_words rule.Opening word =
     codes "The opening data are valid by their schema, and each device accepts its base."
-rule_words rule.Line = codes "A line has one of the forms that may stand there."
+rule_words rule.Line word = codes "A line has one of the forms that may stand there."
 
 -- what may stand in a line that breaks a rule
 abbrev pub allowed_words : Rule → Keyword → Bool → List ℕ
 allowed_words rule.Line word ends = line_words word ends
-allowed_words rule _ _ = rule_words rule
+allowed_words rule word _ = rule_words rule word
 
 -- printable ASCII, and blocks of which most characters are seen; no control character, no noncharacter
 abbrev pub is_visible : ℕ → Bool

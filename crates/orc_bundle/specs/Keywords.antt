@@ -7,10 +7,13 @@ use Rattle.orc_bundle.specs.declared.keyword.Keyword.TheVariants as keyword
 unfoldable pub keyword_of : List ℕ → Keyword
 keyword_of word =
     if is_text word (codes "device") then keyword.Device else
+    if is_text word (codes "datamodel") then keyword.Datamodel else
+    if is_text word (codes "devicetype") then keyword.Devicetype else
     if is_text word (codes "base") then keyword.Base else
     if is_text word (codes "yang") then keyword.Yang else
     if is_text word (codes "script") then keyword.Script else
     if is_text word (codes "show") then keyword.Show else
+    if is_text word (codes "json") then keyword.Json else
     if is_text word (codes "call") then keyword.Call else
     if is_text word (codes "literal") then keyword.Literal else
     if is_text word (codes "write") then keyword.Write else

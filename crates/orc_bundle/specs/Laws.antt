@@ -1,8 +1,10 @@
 -- What lines and bytes mean.
-use Rattle.std.specs.Prelude.{◌≡◌, ◌≤◌, ◌+◌, ℕ, zero, suc, Bool, true, false, nat_le, List, [], ◌∷◌, ◌++◌, codes, length, Result, if◌then◌else◌}
+use Rattle.std.specs.Prelude.{◌≡◌, ◌≤◌, ◌+◌, ℕ, zero, suc, true, false, nat_le, List, [], ◌∷◌, ◌++◌, codes, length, Result, if◌then◌else◌}
 use Rattle.std.specs.declared.result.Result.TheVariants.{Ok, Err}
 use Rattle.std.specs.List.{concat}
 use Rattle.std.specs.Str.{is_utf8}
+use Rattle.orc_schema.specs.Schemas.{SchemaTable, plain_table}
+use Rattle.orc_state.specs.declared.declarations.Decls.{Decls}
 use Rattle.orc_state.specs.declared.declarations.Device.{Device}
 use Rattle.orc_state.specs.declared.rule.Rule.{Rule}
 use Rattle.orc_bundle.specs.Bundles.{IsBundle, bundle_of, lacks_header}
@@ -30,8 +32,9 @@ left_of_block zero (line ∷ later) =
     if is_text (text_of line) (codes "script") then 0 else left_of_block (lines_taken (text_of line)) later
 
 -- what a bundle says, without the bytes that the journal stores; or its fault
-abbrev pub meaning_of : Result Bundle (ℕ × Rule) → Result (List (List ℕ) × List Device × List ScriptStep) (ℕ × Rule)
-meaning_of (Ok bundle) = Ok (bundle.decls.names, bundle.decls.devices, bundle.steps)
+abbrev pub meaning_of : Result Bundle (ℕ × Rule)
+    → Result (List (List ℕ) × List SchemaTable × List Device × List ScriptStep) (ℕ × Rule)
+meaning_of (Ok bundle) = Ok (bundle.decls.names, bundle.decls.schemas, bundle.decls.devices, bundle.steps)
 meaning_of (Err fault) = Err fault
 
 -- the same with the fault's line one further down, unless it is one of the first so many
@@ -50,17 +53,21 @@ SkippedLinesChangeNothing =
     → lacks_header (before ++ after) ≡ false → length longer ≤ LARGEST_BUNDLE
     → meaning_of (bundle_of longer) ≡ moved_behind (length before) (meaning_of (bundle_of bytes))
 
--- Each spelling of a bundle is read as that bundle: with comments and empty lines put in, and with carriage returns
--- before line feeds.
+-- no type is declared, so that each device is a plain one; the text of a type's modules is kept nowhere
+abbrev pub ArePlain : Decls → Type 0
+ArePlain decls = decls.schemas ≡ plain_table ∷ []
+
+-- Each spelling of a bundle of plain devices is read as that bundle: with comments and empty lines put in, and with
+-- carriage returns before line feeds.
 abbrev pub SpelledIsRead : Type 0
 SpelledIsRead =
     (bundle : Bundle) (front : List (List ℕ)) (line : List ℕ) (later : List (List ℕ))
-    → IsBundle bundle → IsSpelling bundle front line later
+    → IsBundle bundle → ArePlain bundle.decls → IsSpelling bundle front line later
     → bundle_of (concat (front ++ line ∷ later)) ≡ Ok bundle
 
 -- So is its text in the plainest spelling.
 abbrev pub WrittenIsRead : Type 0
 WrittenIsRead =
-    (bundle : Bundle) → IsBundle bundle
+    (bundle : Bundle) → IsBundle bundle → ArePlain bundle.decls
     → bundle.decls.text ≡ declared_text bundle → length (bundle_text bundle) ≤ LARGEST_BUNDLE
     → bundle_of (bundle_text bundle) ≡ Ok bundle

@@ -5,6 +5,7 @@ pub mod Keywords
 pub mod Names
 pub mod Items
 pub mod Modules
+pub mod Schemas
 pub mod Declarations
 pub mod Scripts
 pub mod Bundles

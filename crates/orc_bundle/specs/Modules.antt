@@ -1,5 +1,5 @@
 -- The YANG module of a block.
-use Rattle.std.specs.Prelude.{ℕ, Bool, false, ◌&&◌, ◌||◌, List, [], ◌∷◌, codes, Option, Result, if◌then◌else◌}
+use Rattle.std.specs.Prelude.{ℕ, Bool, false, ◌&&◌, ◌||◌, List, [], ◌∷◌, codes, Option, Result, option_map, if◌then◌else◌}
 use Rattle.std.specs.declared.option.Option.TheVariants.{None, Some}
 use Rattle.std.specs.declared.result.Result.TheVariants.{Ok, Err}
 use Rattle.std.specs.List.{list_any}
@@ -9,13 +9,15 @@ use Rattle.orc_path.specs.Limits.{is_long_name}
 use Rattle.orc_state.specs.declared.rule.Rule.{Rule}
 use Rattle.orc_state.specs.declared.rule.Rule.TheVariants as rule
 use Rattle.orc_yang.specs.Parsing.{statements_of}
+use Rattle.orc_yang.specs.Statement.{statement}
 use Rattle.orc_yang.specs.declared.fault.YangFault.{YangFault}
 use Rattle.orc_yang.specs.declared.statement.Stmt.{Stmt}
 use Rattle.orc_yang.specs.declared.statement.Stmt.TheOpen.{Stmt-F}
 use Rattle.orc_yang.specs.declared.statement.Stmt.TheViews.{out-Stmt}
 use Rattle.orc_yang.specs.declared.statement.Stmt.TheFolds.{fold-Stmt}
-use Rattle.orc_bundle.specs.Rules.{checked, or_rule}
+use Rattle.orc_bundle.specs.Rules.{checked, of_option}
 use Rattle.orc_bundle.specs.Words.{cut_at, is_text}
+use Rattle.orc_bundle.specs.declared.module.Module.{Module}
 
 -- identifiers past their limit
 
@@ -62,18 +64,44 @@ identifier_of (Some argument) = if is_identifier argument then Some argument els
 abbrev pub module_name : Stmt → Option (List ℕ)
 module_name s = if is_text (out-Stmt s).keyword (codes "module") then identifier_of (out-Stmt s).argument else None
 
--- of statements that are one such statement
-abbrev pub only_module : List Stmt → Option (List ℕ)
+abbrev pub module_of_statement : Stmt → Option Module
+module_of_statement s = option_map (λ name. record { name = name; statement = s }) (module_name s)
+
+-- statements that are one such statement
+abbrev pub only_module : List Stmt → Option Module
 only_module [] = None
-only_module (s ∷ []) = module_name s
+only_module (s ∷ []) = module_of_statement s
 only_module (s ∷ next ∷ rest) = None
 
-abbrev pub module_of_statements : Result (List Stmt) YangFault → Result (List ℕ) Rule
+abbrev pub module_of_statements : Result (List Stmt) YangFault → Result Module Rule
 module_of_statements (Err fault) = Err rule.Yang
 module_of_statements (Ok statements) =
     checked ((list_any has_long_name statements, rule.Size) ∷ [])
-    (or_rule (only_module statements) rule.Yang (λ name. Ok name))
+    (of_option (only_module statements) rule.Yang)
 
--- the name of the module that a block's text is
-unfoldable pub module_of : List ℕ → Result (List ℕ) Rule
+-- the module that a block's text is
+unfoldable pub module_of : List ℕ → Result Module Rule
 module_of text = module_of_statements (statements_of text)
+
+-- the built-in module
+
+-- a statement with an argument; the place where it stands tells nothing
+abbrev pub with_argument : List ℕ → List ℕ → List Stmt → Stmt
+with_argument keyword argument subs = statement keyword (Some argument) subs 0
+
+-- list device { key name; leaf name { type string; } }
+abbrev pub device_list : Stmt
+device_list =
+    with_argument (codes "list") (codes "device") (
+    with_argument (codes "key") (codes "name") []
+    ∷ with_argument (codes "leaf") (codes "name") (with_argument (codes "type") (codes "string") [] ∷ [])
+    ∷ [])
+
+-- module orc { namespace "urn:orc"; prefix orc; list device { key name; leaf name { type string; } } }
+unfoldable pub orc_module : Stmt
+orc_module =
+    with_argument (codes "module") (codes "orc") (
+    with_argument (codes "namespace") (codes "urn:orc") []
+    ∷ with_argument (codes "prefix") (codes "orc") []
+    ∷ device_list
+    ∷ [])

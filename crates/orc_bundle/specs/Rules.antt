@@ -14,6 +14,10 @@ abbrev pub or_rule : {X Y : Type 0} → Option X → Rule → (X → Result Y Ru
 or_rule None rule next = Err rule
 or_rule (Some x) rule next = next x
 
+-- a value, or else the rule is broken
+abbrev pub of_option : {X : Type 0} → Option X → Rule → Result X Rule
+of_option found rule = or_rule found rule (λ x. Ok x)
+
 -- what follows, where nothing is at fault so far
 abbrev pub on_ok : {X Y E : Type 0} → Result X E → (X → Result Y E) → Result Y E
 on_ok (Ok x) next = next x

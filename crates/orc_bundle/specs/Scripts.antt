@@ -1,4 +1,4 @@
--- What each form of a script's line makes of the steps so far.
+-- What each form of a script's line makes of the steps so far, behind declarations.
 use Rattle.std.specs.Prelude.{ℕ, Bool, true, not, ◌&&◌, ◌||◌, nat_le, List, [], ◌∷◌, ◌++◌, length, Option, Result, if◌then◌else◌}
 use Rattle.std.specs.declared.option.Option.TheVariants.{None, Some}
 use Rattle.std.specs.declared.result.Result.TheVariants.{Ok, Err}
@@ -8,6 +8,7 @@ use Rattle.orc_path.specs.Alphabet.{is_identifier}
 use Rattle.orc_path.specs.Limits.{is_long_name}
 use Rattle.orc_call.specs.declared.call.Action.{Action}
 use Rattle.orc_call.specs.declared.call.Action.TheVariants as action
+use Rattle.orc_state.specs.Calls.{schema_named}
 use Rattle.orc_state.specs.declared.rule.Rule.{Rule}
 use Rattle.orc_state.specs.declared.rule.Rule.TheVariants as rule
 use Rattle.orc_bundle.specs.Rules.{checked, or_rule, on_ok}
@@ -16,6 +17,7 @@ use Rattle.orc_bundle.specs.Words.{cut_at, first_word, number_in}
 use Rattle.orc_bundle.specs.Keywords.{keyword_of}
 use Rattle.orc_bundle.specs.Names.{is_among, place_of, with_name}
 use Rattle.orc_bundle.specs.Items.{put_of}
+use Rattle.orc_bundle.specs.declared.declarations.Declared.{Declared}
 use Rattle.orc_bundle.specs.declared.bundle.ScriptStep.{ScriptStep}
 use Rattle.orc_bundle.specs.declared.bundle.ScriptStep.TheVariants as step
 use Rattle.orc_bundle.specs.declared.keyword.Keyword.{Keyword}
@@ -42,11 +44,21 @@ with_step s step = record s { steps = s.steps ++ step ∷ [] }
 abbrev pub after_bare : Script → ScriptStep → Result Script Rule
 after_bare s step = checked ((is_full s, rule.Size) ∷ []) (Ok (with_step s step))
 
--- `show D`, where these devices are declared
-unfoldable pub after_show : List (List ℕ) → Script → List ℕ → Result Script Rule
-after_show names s rest =
+-- `show D`, behind these declarations
+unfoldable pub after_show : Declared → Script → List ℕ → Result Script Rule
+after_show d s rest =
     checked ((not (is_identifier rest), rule.Line) ∷ (is_long_name rest || is_full s, rule.Size) ∷ [])
-    (or_rule (place_of names rest) rule.Unknown (λ n. Ok (with_step s (step.Show n))))
+    (or_rule (place_of d.names rest) rule.Unknown (λ n. Ok (with_step s (step.Show n))))
+
+-- `json D`, of a device with a type; it is not built yet
+unfoldable pub after_json : Declared → Script → List ℕ → Result Script Rule
+after_json d s rest =
+    checked (
+    (not (is_identifier rest), rule.Line)
+    ∷ (is_long_name rest || is_full s, rule.Size)
+    ∷ ((schema_named d.schemas d.devices rest).plain, rule.Unknown)
+    ∷ [])
+    (Err rule.Line)
 
 -- `stop K B`
 abbrev pub stop_words : Script → Option (List ℕ × List ℕ) → Result Script Rule
@@ -99,18 +111,18 @@ begun s kind name =
     (Ok (record s { part = kind; name = name; writes = [] }))
 
 -- `write D ITEM`
-abbrev pub write_words : List (List ℕ) → Script → Option (List ℕ × List ℕ) → Result Script Rule
-write_words names s None = Err rule.Line
-write_words names s (Some words) =
+abbrev pub write_words : Declared → Script → Option (List ℕ × List ℕ) → Result Script Rule
+write_words d s None = Err rule.Line
+write_words d s (Some words) =
     checked ((not (is_identifier words.0), rule.Line) ∷ [])
-    (on_ok (put_of (is_long_name words.0) words.1) (λ put.
-    checked ((not (is_among names words.0), rule.Unknown) ∷ [])
+    (on_ok (put_of (schema_named d.schemas d.devices words.0) (is_long_name words.0) words.1) (λ put.
+    checked ((not (is_among d.names words.0), rule.Unknown) ∷ [])
     (Ok (record s {
       writes = s.writes ++ (record { device = words.0; path = put.path; item = put.item }) ∷ [];
     }))))
 
-unfoldable pub after_write : List (List ℕ) → Script → List ℕ → Result Script Rule
-after_write names s rest = write_words names s (cut_at 32 rest)
+unfoldable pub after_write : Declared → Script → List ℕ → Result Script Rule
+after_write d s rest = write_words d s (cut_at 32 rest)
 
 -- the call with its action is a step
 abbrev pub with_call : Script → Action → Script
@@ -129,11 +141,12 @@ after_end s action followed = checked ((not followed, rule.Line) ∷ []) (Ok (wi
 -- which forms stand where
 
 -- of more than one word, where no call is open
-unfoldable pub a_step : Keyword → List (List ℕ) → Script → List ℕ → Bool → Result Script Rule
-a_step keyword.Show names s rest followed = after_show names s rest
-a_step keyword.Stop names s rest followed = after_stop s rest
-a_step keyword.Call names s rest followed = after_call s rest followed
-a_step _ names s rest followed = Err rule.Line
+unfoldable pub a_step : Keyword → Declared → Script → List ℕ → Bool → Result Script Rule
+a_step keyword.Show d s rest followed = after_show d s rest
+a_step keyword.Json d s rest followed = after_json d s rest
+a_step keyword.Stop d s rest followed = after_stop s rest
+a_step keyword.Call d s rest followed = after_call s rest followed
+a_step _ d s rest followed = Err rule.Line
 
 -- of one word
 unfoldable pub bare_step : Keyword → Script → Result Script Rule
@@ -150,9 +163,9 @@ an_action keyword.Delete s rest = begun s part.Delete rest
 an_action _ s rest = Err rule.Line
 
 -- a line of a literal
-unfoldable pub a_write : Keyword → List (List ℕ) → Script → List ℕ → Result Script Rule
-a_write keyword.Write names s rest = after_write names s rest
-a_write _ names s rest = Err rule.Line
+unfoldable pub a_write : Keyword → Declared → Script → List ℕ → Result Script Rule
+a_write keyword.Write d s rest = after_write d s rest
+a_write _ d s rest = Err rule.Line
 
 -- the line behind an action
 unfoldable pub behind_action : Keyword → Script → Action → Bool → Result Script Rule
@@ -160,11 +173,11 @@ behind_action keyword.End s action followed = after_end s action followed
 behind_action _ s action followed = Err rule.Line
 
 -- a line of more than one word
-unfoldable pub words_at : Part → Keyword → List (List ℕ) → Script → List ℕ → Bool → Result Script Rule
-words_at part.Steps word names s rest followed = a_step word names s rest followed
-words_at part.Call word names s rest followed = an_action word s rest
-words_at part.Literal word names s rest followed = a_write word names s rest
-words_at part.Delete word names s rest followed = Err rule.Line
+unfoldable pub words_at : Part → Keyword → Declared → Script → List ℕ → Bool → Result Script Rule
+words_at part.Steps word d s rest followed = a_step word d s rest followed
+words_at part.Call word d s rest followed = an_action word s rest
+words_at part.Literal word d s rest followed = a_write word d s rest
+words_at part.Delete word d s rest followed = Err rule.Line
 
 -- a line of one word
 unfoldable pub word_at : Part → Keyword → Script → Bool → Result Script Rule
@@ -174,18 +187,18 @@ word_at part.Literal word s followed = behind_action word s (action.Literal s.na
 word_at part.Delete word s followed = behind_action word s (action.Delete s.name) followed
 
 -- a line with this first word
-abbrev pub step_words : List (List ℕ) → Script → Keyword → Bool → Option (List ℕ × List ℕ) → Result Script Rule
-step_words names s word followed None = word_at s.part word s followed
-step_words names s word followed (Some words) = words_at s.part word names s words.1 followed
+abbrev pub step_words : Declared → Script → Keyword → Bool → Option (List ℕ × List ℕ) → Result Script Rule
+step_words d s word followed None = word_at s.part word s followed
+step_words d s word followed (Some words) = words_at s.part word d s words.1 followed
 
 -- a line that is not skipped, with the lines behind it
-unfoldable pub after_step : List (List ℕ) → Script → List ℕ → List (List ℕ) → Result Script Rule
-after_step names s text later =
-    step_words names s (keyword_of (first_word text)) (is_followed (keyword_of (first_word text)) later)
+unfoldable pub after_step : Declared → Script → List ℕ → List (List ℕ) → Result Script Rule
+after_step d s text later =
+    step_words d s (keyword_of (first_word text)) (is_followed (keyword_of (first_word text)) later)
     (cut_at 32 text)
 
 -- a line with the lines behind it; so many bytes stand in front of it
-unfoldable pub scripted_at : List (List ℕ) → Script → ℕ → List ℕ → List (List ℕ) → Result Script Rule
-scripted_at names s at line later =
+unfoldable pub scripted_at : Declared → Script → ℕ → List ℕ → List (List ℕ) → Result Script Rule
+scripted_at d s at line later =
     checked ((is_large at line, rule.Size) ∷ (not (is_utf8 (text_of line)), rule.Utf8) ∷ [])
-    (if is_skipped (text_of line) then Ok s else after_step names s (text_of line) later)
+    (if is_skipped (text_of line) then Ok s else after_step d s (text_of line) later)

@@ -1,5 +1,6 @@
 -- The words of a line.
 use Rattle.std.specs.Prelude.{ℕ, Bool, false, not, ◌==◌, ◌&&◌, ◌||◌, ◌^◌, nat_eq, nat_lt, List, [], ◌∷◌, length, Option, if◌then◌else◌}
+use Rattle.std.specs.List.{slice_split}
 use Rattle.std.specs.Str.{all_ascii_digits}
 use Rattle.std.specs.Str.Parse.{digits_value}
 use Rattle.std.specs.declared.option.Option.TheVariants.{None, Some}
@@ -18,6 +19,10 @@ word_before text (Some words) = words.0
 
 abbrev pub first_word : List ℕ → List ℕ
 first_word text = word_before text (cut_at 32 text)
+
+-- the words of a text, one at least
+abbrev pub words_of : List ℕ → List (List ℕ)
+words_of text = slice_split (λ byte. byte == 32) text
 
 -- a text is this one
 abbrev pub is_text : List ℕ → List ℕ → Bool

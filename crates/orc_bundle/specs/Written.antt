@@ -1,5 +1,5 @@
 -- The lines that spell a bundle.
-use Rattle.std.specs.Prelude.{ℕ, ◌≤◌, ◌≡◌, Bool, true, false, not, ◌==◌, ◌&&◌, List, [], ◌∷◌, ◌++◌, codes, length, map, IsTrue}
+use Rattle.std.specs.Prelude.{ℕ, ◌≤◌, ◌≡◌, true, not, ◌==◌, List, [], ◌∷◌, ◌++◌, codes, length, map}
 use Rattle.std.specs.Fmt.{decimal}
 use Rattle.std.specs.List.{concat, flat_map, list_all}
 use Rattle.std.specs.Str.{is_utf8}
@@ -23,7 +23,7 @@ use Rattle.orc_bundle.specs.declared.lines.TheConstants.{LONGEST_LINE}
 abbrev pub base_line : List ℕ → Put → List ℕ
 base_line name put = codes "base " ++ name ++ codes " " ++ item_text put.path put.item
 
--- a device with its base
+-- a plain device with its base
 abbrev pub device_lines : Device → List (List ℕ)
 device_lines device = (codes "device " ++ device.name ++ codes " plain") ∷ map (base_line device.name) device.base
 

@@ -2,3 +2,5 @@ pub mod Blocks
 pub mod Costs
 pub mod Lawful
 pub mod Readers
+pub mod Singles
+pub mod Words

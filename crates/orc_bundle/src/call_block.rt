@@ -2,21 +2,23 @@
 ghost use Rattle.std.specs.Prelude.{◌≡◌, ◌≤◌, ◌+◌, ℕ, List, IsTrue, OnOk};
 ghost use Rattle.std.specs.List.{list_all};
 ghost use Rattle.orc_state.specs.Calls.{is_action};
+ghost use Rattle.orc_state.specs.declared.declarations.Decls.{Decls};
 ghost use Rattle.orc_state.specs.declared.lawful.TheConstants.{MOST_WRITES};
 ghost use Rattle.orc_bundle.specs.Bundles.{is_step};
 ghost use Rattle.orc_bundle.specs.Scripts.{a_write, after_end, after_write, an_action, begun, behind_action};
-ghost use Rattle.orc_bundle.specs.inside.Lawful.{AreSteps, has_caller};
+ghost use Rattle.orc_bundle.specs.inside.Lawful.{AreDeclared, AreSteps, decls_in, has_caller};
 ghost use Rattle.orc_bundle.specs.inside.Readers.{Takes};
 
 use crate::bundle::ScriptStep;
+use crate::declarations::Declared;
 use crate::fault::{LineFault, breaks};
 use crate::items::read_put;
 use crate::keyword::Keyword;
-use crate::names::Names;
 use crate::script::{Part, Script};
 use crate::words::cut;
 use orc_call::{Action, Call, DevicePut};
 use orc_path::{is_identifier, is_long_name};
+use orc_schema::Schema;
 use orc_state::Rule;
 use orc_text::{Row, Text};
 use std::alloc::Global;
@@ -26,8 +28,8 @@ impl Script {
     // An action of this kind on the service of this name.
     fn begin(&mut self, alloc: Global, part: Part, name: &str) -> Result<(), LineFault>
         ensures takes { Takes (begun self.old part name.now) self.new result }
-        ensures lawful { (names : List (List ℕ)) (most : ℕ) → AreSteps names most self.old
-            → self.old.part ≡ Part.Call → OnOk result (AreSteps names most self.new) }
+        ensures lawful { (decls : Decls) (most : ℕ) → AreSteps decls most self.old
+            → self.old.part ≡ Part.Call → OnOk result (AreSteps decls most self.new) }
     {
         if !is_identifier(name) {
             return breaks(Rule::Line);
@@ -43,10 +45,16 @@ impl Script {
 
     // `write D ITEM`.
     #[tactic(auto, unfolding(crate::specs::Scripts::after_write))]
-    fn take_write(&mut self, alloc: Global, names: &Names, rest: &str) -> Result<(), LineFault>
-        ensures takes { Takes (after_write names.now self.old rest.now) self.new result }
-        ensures lawful { (most : ℕ) → AreSteps names.now most self.old → self.old.part ≡ Part.Literal
-            → OnOk result (AreSteps names.now (most + 1) self.new) }
+    fn take_write(
+        &mut self,
+        alloc: Global,
+        declared: &Declared,
+        rest: &str,
+    ) -> Result<(), LineFault>
+        requires { AreDeclared declared.now }
+        ensures takes { Takes (after_write declared.now self.old rest.now) self.new result }
+        ensures lawful { (most : ℕ) → AreSteps (decls_in declared.now) most self.old → self.old.part ≡ Part.Literal
+            → OnOk result (AreSteps (decls_in declared.now) (most + 1) self.new) }
     {
         let Some((name, item)) = cut(rest) else {
             return breaks(Rule::Line);
@@ -54,9 +62,11 @@ impl Script {
         if !is_identifier(name) {
             return breaks(Rule::Line);
         }
-        let put = read_put(alloc, is_long_name(name), item)?;
         let device = Text::from_str(alloc, name)?;
-        if !names.has(&device) {
+        let plain = Schema::plain(alloc);
+        let schema = declared.schema_named(&device, &plain);
+        let put = read_put(alloc, schema, is_long_name(name), item)?;
+        if !declared.names.has(&device) {
             return breaks(Rule::Unknown);
         }
         self.writes.push(DevicePut {
@@ -71,9 +81,9 @@ impl Script {
     #[tactic(auto, unfolding(crate::specs::Scripts::after_end))]
     fn take_end(&mut self, alloc: Global, action: Action, followed: bool) -> Result<(), LineFault>
         ensures takes { Takes (after_end self.old action followed) self.new result }
-        ensures lawful { (names : List (List ℕ)) (most : ℕ) → IsTrue (list_all (is_step names) self.old.steps)
-            → IsTrue (has_caller self.old) → IsTrue (is_action names action)
-            → OnOk result (AreSteps names most self.new) }
+        ensures lawful { (decls : Decls) (most : ℕ) → IsTrue (list_all (is_step decls) self.old.steps)
+            → IsTrue (has_caller self.old) → IsTrue (is_action decls action)
+            → OnOk result (AreSteps decls most self.new) }
     {
         if !followed {
             return breaks(Rule::Line);
@@ -101,8 +111,8 @@ impl Script {
         rest: &str,
     ) -> Result<(), LineFault>
         ensures takes { Takes (an_action word self.old rest.now) self.new result }
-        ensures lawful { (names : List (List ℕ)) (most : ℕ) → AreSteps names most self.old
-            → self.old.part ≡ Part.Call → OnOk result (AreSteps names most self.new) }
+        ensures lawful { (decls : Decls) (most : ℕ) → AreSteps decls most self.old
+            → self.old.part ≡ Part.Call → OnOk result (AreSteps decls most self.new) }
     {
         match word {
             Keyword::Literal => self.begin(alloc, Part::Literal, rest),
@@ -116,16 +126,17 @@ impl Script {
     pub(crate) fn take_literal_words(
         &mut self,
         alloc: Global,
-        names: &Names,
+        declared: &Declared,
         word: Keyword,
         rest: &str,
     ) -> Result<(), LineFault>
-        ensures takes { Takes (a_write word names.now self.old rest.now) self.new result }
-        ensures lawful { (most : ℕ) → AreSteps names.now most self.old → self.old.part ≡ Part.Literal
-            → OnOk result (AreSteps names.now (most + 1) self.new) }
+        requires { AreDeclared declared.now }
+        ensures takes { Takes (a_write word declared.now self.old rest.now) self.new result }
+        ensures lawful { (most : ℕ) → AreSteps (decls_in declared.now) most self.old → self.old.part ≡ Part.Literal
+            → OnOk result (AreSteps (decls_in declared.now) (most + 1) self.new) }
     {
         match word {
-            Keyword::Write => self.take_write(alloc, names, rest),
+            Keyword::Write => self.take_write(alloc, declared, rest),
             _ => breaks(Rule::Line),
         }
     }
@@ -141,8 +152,8 @@ impl Script {
         ensures takes { Takes
             (behind_action word self.old (Action.Literal self.old.name self.old.writes) followed)
             self.new result }
-        ensures lawful { (names : List (List ℕ)) (most : ℕ) → AreSteps names most self.old
-            → self.old.part ≡ Part.Literal → most ≤ MOST_WRITES → OnOk result (AreSteps names most self.new) }
+        ensures lawful { (decls : Decls) (most : ℕ) → AreSteps decls most self.old
+            → self.old.part ≡ Part.Literal → most ≤ MOST_WRITES → OnOk result (AreSteps decls most self.new) }
     {
         match word {
             Keyword::End => {
@@ -163,8 +174,8 @@ impl Script {
         followed: bool,
     ) -> Result<(), LineFault>
         ensures takes { Takes (behind_action word self.old (Action.Delete self.old.name) followed) self.new result }
-        ensures lawful { (names : List (List ℕ)) (most : ℕ) → AreSteps names most self.old
-            → self.old.part ≡ Part.Delete → OnOk result (AreSteps names most self.new) }
+        ensures lawful { (decls : Decls) (most : ℕ) → AreSteps decls most self.old
+            → self.old.part ≡ Part.Delete → OnOk result (AreSteps decls most self.new) }
     {
         match word {
             Keyword::End => {

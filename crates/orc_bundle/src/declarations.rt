@@ -1,5 +1,6 @@
 //! What was declared so far, and what each form of a declaration makes of it.
-ghost use Rattle.std.specs.Prelude.{◌≡◌, ◌<◌, ◌≤◌, ◌+◌, ◌^◌, OnOk, length};
+ghost use Rattle.std.specs.Prelude.{◌≡◌, ◌<◌, ◌≤◌, ◌+◌, ◌^◌, IfOk, OnOk, length};
+ghost use Rattle.orc_state.specs.States.{names_of};
 ghost use Rattle.orc_bundle.specs.Lines.{lines_of};
 ghost use Rattle.orc_bundle.specs.Words.{number_in};
 ghost use Rattle.orc_bundle.specs.Declarations.{nothing_declared, with_base, after_header, after_device, after_base, after_yang, after_script, block_size, taken_by, lines_taken, declaration, bare_declaration, after_text, declared_at};
@@ -18,8 +19,10 @@ use crate::words::{cut, number_of, read_text};
 use orc_call::Put;
 use orc_io::Steps;
 use orc_path::{is_identifier, is_long_name};
+use orc_schema::Schema;
 use orc_state::{Device, MOST_DEVICES, Rule};
 use orc_text::{Memory, Row, Text};
+use orc_yang::Stmt;
 use std::alloc::Global;
 use std::mem::replace;
 use std::sync::ledger::Ledger;
@@ -41,8 +44,15 @@ pub struct Declared {
     pub section: Section,
     /// How many lines of a block are still to come.
     pub skip: u64,
-    /// The names of the modules.
+    /// The names of the modules, and their statements.
     pub modules: Names,
+    pub statements: Row<Stmt>,
+    /// The data schema is declared.
+    pub has_data: bool,
+    /// The types of devices.
+    pub types: Names,
+    /// The plain schema, and behind it that of each type.
+    pub schemas: Row<Schema>,
     /// The names of the devices.
     pub names: Names,
     /// The devices with their bases.
@@ -72,16 +82,22 @@ fn add_base(alloc: Global, devices: &mut Row<Device>, n: usize, put: Put) -> Res
 
 impl Declared {
     /// Nothing is declared, and the header is due.
-    pub(crate) fn new(alloc: Global) -> Declared
-        ensures { result ≡ nothing_declared }
+    pub(crate) fn new(alloc: Global) -> Result<Declared, Memory>
+        ensures { IfOk result (λ declared. declared ≡ nothing_declared) }
     {
-        Declared {
+        let mut schemas = Row::new(alloc);
+        schemas.push(Schema::plain(alloc))?;
+        Ok(Declared {
             section: Section::Header,
             skip: 0,
             modules: Names::new(alloc),
+            statements: Row::new(alloc),
+            has_data: false,
+            types: Names::new(alloc),
+            schemas,
             names: Names::new(alloc),
             devices: Row::new(alloc),
-        }
+        })
     }
 
     // `orc 1`.
@@ -97,7 +113,7 @@ impl Declared {
         Ok(())
     }
 
-    // `device D plain`.
+    // `device D plain` and `device D T`.
     #[tactic(auto, unfolding(crate::specs::Declarations::after_device))]
     fn take_device(&mut self, alloc: Global, rest: &str) -> Result<(), LineFault>
         ensures takes { Takes (after_device self.old rest.now) self.new result }
@@ -106,10 +122,10 @@ impl Declared {
         let Some((name, kind)) = cut(rest) else {
             return breaks(Rule::Line);
         };
-        if !is_identifier(name) || kind != "plain" {
+        if !is_identifier(name) || !is_identifier(kind) {
             return breaks(Rule::Line);
         }
-        if is_long_name(name) {
+        if is_long_name(name) || is_long_name(kind) {
             return breaks(Rule::Size);
         }
         let name = Text::from_str(alloc, name)?;
@@ -117,12 +133,16 @@ impl Declared {
         if !is_old && self.names.len() >= MOST_DEVICES {
             return breaks(Rule::Size);
         }
+        let Some(schema) = self.schema_place(alloc, kind)? else {
+            return breaks(Rule::Unknown);
+        };
         if is_old {
             return breaks(Rule::Duplicate);
         }
         self.names.add(name.copy(alloc)?)?;
         self.devices.push(Device {
             name,
+            schema,
             base: Row::new(alloc),
         })?;
         Ok(())
@@ -131,6 +151,7 @@ impl Declared {
     // `base D ITEM`.
     #[tactic(auto, unfolding(crate::specs::Declarations::after_base))]
     fn take_base(&mut self, alloc: Global, rest: &str) -> Result<(), LineFault>
+        requires { self.old.names ≡ names_of self.old.devices }
         ensures takes { Takes (after_base self.old rest.now) self.new result }
         ensures lawful { AreDeclared self.old → OnOk result (AreDeclared self.new) }
     {
@@ -140,8 +161,10 @@ impl Declared {
         if !is_identifier(name) {
             return breaks(Rule::Line);
         }
-        let put = read_put(alloc, is_long_name(name), item)?;
+        let is_long = is_long_name(name);
         let name = Text::from_str(alloc, name)?;
+        let plain = Schema::plain(alloc);
+        let put = read_put(alloc, self.schema_named(&name, &plain), is_long, item)?;
         let Some(n) = self.names.place(&name) else {
             return breaks(Rule::Unknown);
         };
@@ -169,11 +192,12 @@ impl Declared {
         let Some(text) = block_of(alloc, later, count, steps)? else {
             return breaks(Rule::Line);
         };
-        let name = module_of(alloc, text.as_slice())?;
-        if name.as_str() == "orc" || self.modules.has(&name) {
+        let module = module_of(alloc, text.as_slice())?;
+        if module.name.as_str() == "orc" || self.modules.has(&module.name) {
             return breaks(Rule::Duplicate);
         }
-        self.modules.add(name)?;
+        self.modules.add(module.name)?;
+        self.statements.push(module.statement)?;
         self.skip = count;
         Ok(())
     }
@@ -198,6 +222,7 @@ impl Declared {
         later: &[u8],
         steps: &mut Steps<L>,
     ) -> Result<(), LineFault>
+        requires { self.old.names ≡ names_of self.old.devices }
         ensures takes { Takes (declaration word self.old rest.now (lines_of later.now)) self.new result }
         ensures lawful { AreDeclared self.old → OnOk result (AreDeclared self.new) }
         ensures counts { steps.old ≤ steps.new }
@@ -205,6 +230,8 @@ impl Declared {
     {
         match word {
             Keyword::Device => self.take_device(alloc, rest),
+            Keyword::Datamodel => self.take_datamodel(alloc, rest),
+            Keyword::Devicetype => self.take_devicetype(alloc, rest),
             Keyword::Base => self.take_base(alloc, rest),
             Keyword::Yang => self.take_yang(alloc, rest, later, steps),
             _ => breaks(Rule::Line),
@@ -232,6 +259,7 @@ impl Declared {
         later: &[u8],
         steps: &mut Steps<L>,
     ) -> Result<(), LineFault>
+        requires { self.old.names ≡ names_of self.old.devices }
         ensures takes { Takes (after_text self.old text.now (lines_of later.now)) self.new result }
         ensures lawful { AreDeclared self.old → OnOk result (AreDeclared self.new) }
         ensures counts { steps.old ≤ steps.new }
@@ -256,7 +284,8 @@ impl Declared {
         later: &[u8],
         steps: &mut Steps<L>,
     ) -> Result<(), LineFault>
-        requires { at + length line.now < 2 ^ 63 }
+        requires room { at + length line.now < 2 ^ 63 }
+        requires named { self.old.names ≡ names_of self.old.devices }
         ensures takes { Takes (declared_at self.old at line.now (lines_of later.now)) self.new result }
         ensures lawful { AreDeclared self.old → OnOk result (AreDeclared self.new) }
         ensures small { OnOk result (at + length line.now ≤ LARGEST_BUNDLE) }

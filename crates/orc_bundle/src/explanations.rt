@@ -4,7 +4,7 @@ ghost use Rattle.std.specs.List.{list_any};
 ghost use Rattle.std.specs.String.{string_bytes};
 ghost use Rattle.orc_bundle.specs.Explanations.{explained, explanation_of, line_explained, looked_at};
 ghost use Rattle.orc_bundle.specs.Explanations.{is_visible, no_line_explained, quoted, shown_character};
-ghost use Rattle.orc_bundle.specs.Explanations.{allowed_words, call_explained, form_words, line_words, rule_words, whole_form};
+ghost use Rattle.orc_bundle.specs.Explanations.{allowed_words, call_explained, duplicate_words, form_words, line_words, rule_words, unknown_words, whole_form};
 ghost use Rattle.orc_bundle.specs.Lines.{is_end, lines_of};
 
 use crate::keyword::{Keyword, keyword_of};
@@ -160,7 +160,7 @@ fn push_allowed(out: &mut String, rule: Rule, word: Keyword, ends: bool) -> Resu
     match rule {
         Rule::Line => push_line_words(out, word, ends),
         _ => {
-            out.push_str(rule_words(rule))?;
+            out.push_str(rule_words(rule, word))?;
             Ok(())
         }
     }
@@ -196,10 +196,43 @@ fn push_whole_form(out: &mut String, word: Keyword) -> Result<(), Memory>
     Ok(())
 }
 
-// What a rule allows.
+// What is not declared, in a line with this first word.
+#[tactic(auto, unfolding(crate::specs::Explanations::unknown_words))]
+fn unknown_words(word: Keyword) -> &'static str
+    ensures { result.now ≡ unknown_words word }
+{
+    match word {
+        Keyword::Device => {
+            "No type of this name is declared above, by a line `devicetype NAME MODULE ..`."
+        }
+        Keyword::Datamodel | Keyword::Devicetype => {
+            "A module of this line is not declared above, by a line `yang N` with the module below it."
+        }
+        Keyword::Json => {
+            "No device of this name with a type is declared above, by a line `device NAME TYPE`."
+        }
+        _ => {
+            "No device of this name is declared above, by a line `device NAME plain` or `device NAME \
+             TYPE`."
+        }
+    }
+}
+
+// What is declared once.
+#[tactic(auto, unfolding(crate::specs::Explanations::duplicate_words))]
+fn duplicate_words(word: Keyword) -> &'static str
+    ensures { result.now ≡ duplicate_words word }
+{
+    match word {
+        Keyword::Datamodel => "The schema of the data is declared once.",
+        _ => "A name is declared once, and the module `orc` is built in.",
+    }
+}
+
+// What a rule allows in a line with this first word.
 #[tactic(auto, unfolding(crate::specs::Explanations::rule_words))]
-fn rule_words(rule: Rule) -> &'static str
-    ensures { result.now ≡ rule_words rule }
+fn rule_words(rule: Rule, word: Keyword) -> &'static str
+    ensures { result.now ≡ rule_words rule word }
 {
     match rule {
         Rule::Size => {
@@ -213,20 +246,24 @@ fn rule_words(rule: Rule) -> &'static str
             "A path is written as /if:port[ge-0/0/1]/mtu: in front of its first name stands the \
              module's, and keys stand in brackets; in a key a backslash is \\\\, a closing bracket \
              \\], a space \\s, a tab \\t, a line feed \\n, a carriage return \\r. A path that ends in \
-             keys is an entry and has no ` = VALUE`; any other is a leaf and has one."
+             keys is an entry and has no ` = VALUE`; any other is a leaf and has one. On a device with \
+             a type the names are those of its modules, an entry has each key of its list, or a \
+             leaf-list's value, and a key has no line of its own."
         }
         Rule::Value => {
             "In a value a backslash is \\\\, a tab \\t, a line feed \\n and a carriage return \\r. It \
-             has no other control character below U+0020, and no noncharacter."
+             has no other control character below U+0020, and no noncharacter. On a device with a type \
+             each key and value is one of its YANG type (RFC 7950 section 9)."
         }
-        Rule::Unknown => {
-            "No device of this name is declared above, by a line `device NAME plain`."
-        }
-        Rule::Duplicate => "A name is declared once, and the module `orc` is built in.",
+        Rule::Unknown => unknown_words(word),
+        Rule::Duplicate => duplicate_words(word),
         Rule::Yang => {
             "The N lines below `yang N` are the statements of one module (RFC 7950 section 6)."
         }
-        Rule::Schema => "The modules that this line names are declared, and make one schema.",
+        Rule::Schema => {
+            "The modules of this line make one schema: each stands once in it, keeps the rules of RFC \
+             7950, and has no statement that this profile of YANG leaves out."
+        }
         Rule::Template => "The N lines below `template T PATH N` are the JSON template of a list.",
         Rule::Json => "The JSON text is a body of the list that the path names.",
         Rule::Opening => {
@@ -242,7 +279,15 @@ fn form_words(word: Keyword) -> &'static str
     ensures { result.now ≡ form_words word }
 {
     match word {
-        Keyword::Device => "A device is declared as `device NAME plain`, before the line `script`.",
+        Keyword::Device => {
+            "A device is declared as `device NAME plain` or `device NAME TYPE`, before the line `script`."
+        }
+        Keyword::Datamodel => {
+            "The schema of the data is declared as `datamodel MODULE ..`, once, before the line `script`."
+        }
+        Keyword::Devicetype => {
+            "A type of devices is declared as `devicetype NAME MODULE ..`, before the line `script`."
+        }
         Keyword::Base => {
             "An item of a device's base is `base DEVICE PATH` for an entry or `base DEVICE PATH = \
              VALUE` for a leaf, before the line `script`."
@@ -256,6 +301,7 @@ fn form_words(word: Keyword) -> &'static str
         Keyword::Show => {
             "The step `show DEVICE` stands below the line `script`, and not within a call."
         }
+        Keyword::Json => "The step `json DEVICE` is not built yet.",
         Keyword::Call => {
             "A call begins with `call CALLER NUMBER`, below the line `script` and not within another \
              call."
@@ -292,9 +338,9 @@ fn form_words(word: Keyword) -> &'static str
              not within a call."
         }
         Keyword::Other => {
-            "A line begins with `device`, `base`, `yang` or `script`; below `script` with `show`, \
-             `call`, `settle`, `stop`, `recover` or `history`; within a call with `literal`, `write`, \
-             `delete` or `end`."
+            "A line begins with `device`, `base`, `yang`, `datamodel`, `devicetype` or `script`; below \
+             `script` with `show`, `call`, `settle`, `stop`, `recover` or `history`; within a call \
+             with `literal`, `write`, `delete` or `end`."
         }
     }
 }

@@ -6,10 +6,13 @@ ghost use Rattle.orc_bundle.specs.Keywords.{keyword_of};
 #[derive(Clone, Copy)]
 pub(crate) enum Keyword {
     Device,
+    Datamodel,
+    Devicetype,
     Base,
     Yang,
     Script,
     Show,
+    Json,
     Call,
     Literal,
     Write,
@@ -30,10 +33,13 @@ pub(crate) fn keyword_of(word: &str) -> Keyword
 {
     match word {
         "device" => Keyword::Device,
+        "datamodel" => Keyword::Datamodel,
+        "devicetype" => Keyword::Devicetype,
         "base" => Keyword::Base,
         "yang" => Keyword::Yang,
         "script" => Keyword::Script,
         "show" => Keyword::Show,
+        "json" => Keyword::Json,
         "call" => Keyword::Call,
         "literal" => Keyword::Literal,
         "write" => Keyword::Write,

@@ -15,7 +15,10 @@ mod lines;
 mod module;
 mod names;
 mod read;
+mod schemas;
 mod script;
+mod statements;
+mod types;
 mod words;
 
 pub use bundle::{Bundle, LARGEST_BUNDLE, ScriptStep};

@@ -2,7 +2,9 @@
 ghost use Rattle.std.specs.Prelude.{◌≡◌};
 ghost use Rattle.std.specs.List.{list_any};
 ghost use Rattle.std.specs.Option.{option_copied};
-ghost use Rattle.orc_bundle.specs.Modules.{is_long_identifier, is_long_word, takes_name, is_long_head, has_long_name, module_name, only_module, module_of};
+ghost use Rattle.orc_bundle.specs.Modules.{is_long_identifier, is_long_word, takes_name, is_long_head, has_long_name, module_name, module_of_statement, module_of};
+ghost use Rattle.orc_bundle.specs.Rules.{of_option};
+ghost use Rattle.orc_bundle.specs.inside.Singles.{single};
 ghost use Rattle.orc_bundle.specs.inside.Readers.{Reads, of_yang};
 
 use crate::fault::{LineFault, breaks};
@@ -12,6 +14,13 @@ use orc_state::Rule;
 use orc_text::Text;
 use orc_yang::{Stmt, YangFault, parse};
 use std::alloc::Global;
+
+/// A module: its name, and the statement that it is.
+#[derive(Drop)]
+pub struct Module {
+    pub name: Text,
+    pub statement: Stmt,
+}
 
 // An identifier past the limit.
 fn is_long_identifier(word: &str) -> bool
@@ -100,14 +109,26 @@ fn module_name(stmt: &Stmt) -> Option<&Text>
     }
 }
 
-// The name of the module that the statements are.
-fn only_module(statements: &[Stmt]) -> Option<&Text>
-    ensures { option_copied result ≡ only_module statements.now }
+// The module that a statement is.
+fn module_of_statement(alloc: Global, statement: Stmt) -> Result<Module, LineFault>
+    ensures { Reads (of_option (module_of_statement statement) Rule.Yang) result }
 {
-    match statements {
-        [stmt] => module_name(stmt),
-        _ => None,
+    let name = match module_name(&statement) {
+        Some(name) => name.copy(alloc)?,
+        None => return breaks(Rule::Yang),
+    };
+    Ok(Module { name, statement })
+}
+
+// The only one of statements.
+fn single(statements: Vec<Stmt>) -> Option<Stmt>
+    ensures { result ≡ single statements.items }
+{
+    if statements.len() > 1 {
+        return None;
     }
+    let mut statements = statements;
+    statements.pop()
 }
 
 // What a fault in the statements of a block is.
@@ -120,9 +141,9 @@ fn of_yang(fault: YangFault) -> LineFault
     }
 }
 
-/// The name of the module that the text is.
+/// The module that the text is.
 #[tactic(auto, unfolding(crate::specs::Modules::module_of))]
-pub(crate) fn module_of(alloc: Global, text: &[u8]) -> Result<Text, LineFault>
+pub(crate) fn module_of(alloc: Global, text: &[u8]) -> Result<Module, LineFault>
     ensures { Reads (module_of text.now) result }
 {
     let statements = match parse(alloc, text) {
@@ -132,8 +153,8 @@ pub(crate) fn module_of(alloc: Global, text: &[u8]) -> Result<Text, LineFault>
     if have_long_name(statements.as_slice()) {
         return breaks(Rule::Size);
     }
-    match only_module(statements.as_slice()) {
-        Some(name) => Ok(name.copy(alloc)?),
+    match single(statements) {
+        Some(statement) => module_of_statement(alloc, statement),
         None => breaks(Rule::Yang),
     }
 }

@@ -1,6 +1,6 @@
 //! Names in the order in which they came, each found by a look-up.
-ghost use Rattle.std.specs.Prelude.{◌≡◌, ◌++◌, ◌∷◌, [], false, length, IfSome, OnOk, ◌<◌};
-ghost use Rattle.orc_bundle.specs.Names.{is_among, place_of, with_name};
+ghost use Rattle.std.specs.Prelude.{◌≡◌, ◌++◌, ◌∷◌, [], false, length, IfOk, IfSome, OnOk, ◌<◌};
+ghost use Rattle.orc_bundle.specs.Names.{is_among, place_of, repeats, with_name};
 ghost use Rattle.std.specs.List.{IsDistinct};
 ghost use Rattle.orc_state.specs.States.{is_same_text};
 
@@ -70,4 +70,18 @@ impl Names {
         self.names.insert(name)?;
         Ok(())
     }
+}
+
+/// Whether one of the names stands twice.
+pub(crate) fn repeats(alloc: Global, names: &[Text]) -> Result<bool, Memory>
+    ensures { IfOk result (λ twice. twice ≡ repeats names.now) }
+{
+    let mut before = Names::new(alloc);
+    for name in names {
+        if before.has(name) {
+            return Ok(true);
+        }
+        before.add(name.copy(alloc)?)?;
+    }
+    Ok(false)
 }

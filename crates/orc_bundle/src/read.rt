@@ -2,14 +2,13 @@
 ghost use Rattle.std.specs.Prelude.{◌≡◌, ◌<◌, ◌≤◌, ◌+◌, ◌*◌, ◌^◌, IfOk, OnOk, IsTrue, length};
 ghost use Rattle.std.specs.List.{list_all, IsDistinct};
 ghost use Rattle.orc_state.specs.States.{is_same_text};
-ghost use Rattle.orc_state.specs.declared.declarations.TheConstants.{MOST_DEVICES};
 ghost use Rattle.orc_bundle.specs.Lines.{lines_of, seen};
 ghost use Rattle.orc_bundle.specs.Bundles.{IsBundle, bundle_in, bundle_of, declarations_of, header_rule, is_step, script_steps};
 ghost use Rattle.orc_bundle.specs.Answers.{Gives};
 ghost use Rattle.orc_bundle.specs.Declarations.{nothing_declared};
 ghost use Rattle.orc_bundle.specs.Scripts.{no_steps};
 ghost use Rattle.orc_bundle.specs.inside.Costs.{bytes_to, is_kept};
-ghost use Rattle.orc_bundle.specs.inside.Lawful.{AreDeclared, IsWithin, left_of};
+ghost use Rattle.orc_bundle.specs.inside.Lawful.{AreDeclared, IsWithin, decls_in, left_of};
 ghost use Rattle.orc_bundle.specs.inside.Readers.{Declares, in_line};
 ghost use Rattle.orc_bundle.specs.declared.bundle.TheConstants.{LARGEST_BUNDLE};
 
@@ -96,18 +95,18 @@ fn read_declarations<'a, L: Ledger>(
 // Reads the steps of the script, in front of which stand so many bytes and so many lines.
 fn read_steps<L: Ledger>(
     alloc: Global,
-    names: &Names,
+    declared: &Declared,
     at: u64,
     number: u64,
     bytes: &[u8],
     steps: &mut Steps<L>,
 ) -> Result<Row<ScriptStep>, BundleFault>
-    requires few { length names.now ≤ MOST_DEVICES }
+    requires declared { AreDeclared declared.now }
     requires small { at ≤ LARGEST_BUNDLE }
     requires lines { number ≤ at }
     requires room { at + length bytes.now < 2 ^ 63 }
-    ensures answer { Gives (script_steps names.now no_steps at number (lines_of bytes.now)) result }
-    ensures lawful { IfOk result (λ steps. IsTrue (list_all (is_step names.now) steps)) }
+    ensures answer { Gives (script_steps declared.now no_steps at number (lines_of bytes.now)) result }
+    ensures lawful { IfOk result (λ steps. IsTrue (list_all (is_step (decls_in declared.now)) steps)) }
     ensures small { OnOk result (at + length bytes.now ≤ LARGEST_BUNDLE) }
     ensures cost { steps.new ≤ steps.old + 2 * length bytes.now }
     ensures counts { OnOk result (steps.old + length bytes.now ≤ steps.new) }
@@ -119,7 +118,7 @@ fn read_steps<L: Ledger>(
     'lines: while !rest.is_empty() {
         let (line, later) = first_line(rest, steps);
         number += 1;
-        if let Err(fault) = script.take(alloc, names, at, line, later, steps) {
+        if let Err(fault) = script.take(alloc, declared, at, line, later, steps) {
             return Err(in_line(number, fault));
         }
         at += line.len() as u64;
@@ -184,13 +183,13 @@ fn read_seen<L: Ledger>(
             rule: header_rule(bytes, steps),
         });
     }
-    let mut declared = Declared::new(alloc);
+    let mut declared = Declared::new(alloc)?;
     let behind = read_declarations(alloc, bytes, &mut declared, steps)?;
     let text = text_of(alloc, &bytes[..behind.size])?;
     let names = row_of(alloc, &declared.names)?;
     let script = read_steps(
         alloc,
-        &declared.names,
+        &declared,
         behind.at,
         behind.number,
         behind.later,
@@ -200,6 +199,7 @@ fn read_seen<L: Ledger>(
         decls: Decls {
             text,
             names,
+            schemas: declared.schemas,
             devices: declared.devices,
         },
         steps: script,
@@ -238,7 +238,8 @@ pub fn read_bundle(alloc: Global, bytes: &[u8]) -> Result<Bundle, BundleFault>
 /// The same, with its steps counted. A step is a byte at which a loop over lines looks for a line
 /// feed. What else is done with a line looks at that line alone, or at the block behind it where it
 /// is `yang N`, and isn't counted; names are looked up by their hashes, and the declarations' bytes
-/// are copied once.
+/// are copied once. Nor is counted what the schema of modules costs, since groupings that use one
+/// another double its nodes with each statement, nor what a look-up in it costs.
 pub fn read_counted<L: Ledger>(
     alloc: Global,
     bytes: &[u8],

@@ -3,16 +3,17 @@ ghost use Rattle.std.specs.Prelude.{◌≡◌, ◌<◌, ◌≤◌, ◌+◌, ◌^
 ghost use Rattle.orc_bundle.specs.Keywords.{keyword_of};
 ghost use Rattle.orc_bundle.specs.Lines.{lines_of};
 ghost use Rattle.orc_bundle.specs.Words.{first_word};
-ghost use Rattle.orc_bundle.specs.Scripts.{no_steps, is_full, is_caller_more, after_bare, after_show, after_stop, after_call, after_step, a_step, bare_step, is_followed, words_at, word_at, scripted_at};
+ghost use Rattle.orc_bundle.specs.Scripts.{no_steps, is_full, is_caller_more, after_bare, after_show, after_json, after_stop, after_call, after_step, a_step, bare_step, is_followed, words_at, word_at, scripted_at};
 ghost use Rattle.orc_bundle.specs.inside.Readers.{Takes};
 ghost use Rattle.orc_bundle.specs.inside.Costs.{scripted_looks_at, step_looks_at};
-ghost use Rattle.orc_bundle.specs.inside.Lawful.{AreSteps};
+ghost use Rattle.orc_bundle.specs.inside.Lawful.{AreDeclared, AreSteps, decls_in};
+ghost use Rattle.orc_state.specs.declared.declarations.Decls.{Decls};
 ghost use Rattle.orc_bundle.specs.Bundles.{is_step};
-ghost use Rattle.orc_state.specs.declared.declarations.TheConstants.{MOST_DEVICES};
 ghost use Rattle.orc_state.specs.declared.lawful.TheConstants.{MOST_WRITES};
 ghost use Rattle.orc_bundle.specs.declared.bundle.TheConstants.{LARGEST_BUNDLE};
 
 use crate::bundle::ScriptStep;
+use crate::declarations::Declared;
 use crate::fault::{LineFault, breaks};
 use crate::keyword::{Keyword, keyword_of};
 use crate::lines::{ends_later, is_large, is_settled, is_skipped, line_text};
@@ -21,6 +22,7 @@ use crate::words::{cut, first_word, number_of, read_text};
 use orc_call::DevicePut;
 use orc_io::Steps;
 use orc_path::{is_identifier, is_long_name};
+use orc_schema::Schema;
 use orc_state::Rule;
 use orc_text::{Row, Text};
 use std::alloc::Global;
@@ -97,8 +99,8 @@ impl Script {
     // A step of one word.
     fn take_bare(&mut self, step: ScriptStep) -> Result<(), LineFault>
         ensures takes { Takes (after_bare self.old step) self.new result }
-        ensures lawful { (names : List (List ℕ)) (most : ℕ) → AreSteps names most self.old
-            → IsTrue (is_step names step) → OnOk result (AreSteps names most self.new) }
+        ensures lawful { (decls : Decls) (most : ℕ) → AreSteps decls most self.old
+            → IsTrue (is_step decls step) → OnOk result (AreSteps decls most self.new) }
     {
         if self.is_full() {
             return breaks(Rule::Size);
@@ -109,11 +111,11 @@ impl Script {
 
     // `show D`.
     #[tactic(auto, unfolding(crate::specs::Scripts::after_show))]
-    fn take_show(&mut self, alloc: Global, names: &Names, rest: &str) -> Result<(), LineFault>
-        requires { length names.now ≤ MOST_DEVICES }
-        ensures takes { Takes (after_show names.now self.old rest.now) self.new result }
-        ensures lawful { (most : ℕ) → AreSteps names.now most self.old
-            → OnOk result (AreSteps names.now most self.new) }
+    fn take_show(&mut self, alloc: Global, declared: &Declared, rest: &str) -> Result<(), LineFault>
+        requires { AreDeclared declared.now }
+        ensures takes { Takes (after_show declared.now self.old rest.now) self.new result }
+        ensures lawful { (most : ℕ) → AreSteps (decls_in declared.now) most self.old
+            → OnOk result (AreSteps (decls_in declared.now) most self.new) }
     {
         if !is_identifier(rest) {
             return breaks(Rule::Line);
@@ -122,19 +124,41 @@ impl Script {
             return breaks(Rule::Size);
         }
         let name = Text::from_str(alloc, rest)?;
-        let Some(n) = names.place(&name) else {
+        let Some(n) = declared.names.place(&name) else {
             return breaks(Rule::Unknown);
         };
         self.steps.push(ScriptStep::Show(n as u32))?;
         Ok(())
     }
 
+    // `json D`, which is not built yet.
+    #[tactic(auto, unfolding(crate::specs::Scripts::after_json))]
+    fn take_json(&mut self, alloc: Global, declared: &Declared, rest: &str) -> Result<(), LineFault>
+        requires { AreDeclared declared.now }
+        ensures takes { Takes (after_json declared.now self.old rest.now) self.new result }
+        ensures lawful { (most : ℕ) → AreSteps (decls_in declared.now) most self.old
+            → OnOk result (AreSteps (decls_in declared.now) most self.new) }
+    {
+        if !is_identifier(rest) {
+            return breaks(Rule::Line);
+        }
+        if is_long_name(rest) || self.is_full() {
+            return breaks(Rule::Size);
+        }
+        let name = Text::from_str(alloc, rest)?;
+        let plain = Schema::plain(alloc);
+        if declared.schema_named(&name, &plain).is_plain() {
+            return breaks(Rule::Unknown);
+        }
+        breaks(Rule::Line)
+    }
+
     // `stop K B`.
     #[tactic(auto, unfolding(crate::specs::Scripts::after_stop))]
     fn take_stop(&mut self, rest: &str) -> Result<(), LineFault>
         ensures takes { Takes (after_stop self.old rest.now) self.new result }
-        ensures lawful { (names : List (List ℕ)) (most : ℕ) → AreSteps names most self.old
-            → OnOk result (AreSteps names most self.new) }
+        ensures lawful { (decls : Decls) (most : ℕ) → AreSteps decls most self.old
+            → OnOk result (AreSteps decls most self.new) }
     {
         let Some((count, bytes)) = cut(rest) else {
             return breaks(Rule::Line);
@@ -159,8 +183,8 @@ impl Script {
     #[tactic(auto, unfolding(crate::specs::Scripts::after_call))]
     fn take_call(&mut self, alloc: Global, rest: &str, followed: bool) -> Result<(), LineFault>
         ensures takes { Takes (after_call self.old rest.now followed) self.new result }
-        ensures lawful { (names : List (List ℕ)) (most : ℕ) → AreSteps names most self.old
-            → OnOk result (AreSteps names most self.new) }
+        ensures lawful { (decls : Decls) (most : ℕ) → AreSteps decls most self.old
+            → OnOk result (AreSteps decls most self.new) }
     {
         let Some((caller, number)) = cut(rest) else {
             return breaks(Rule::Line);
@@ -190,18 +214,19 @@ impl Script {
     fn take_step(
         &mut self,
         alloc: Global,
-        names: &Names,
+        declared: &Declared,
         word: Keyword,
         rest: &str,
         followed: bool,
     ) -> Result<(), LineFault>
-        requires { length names.now ≤ MOST_DEVICES }
-        ensures takes { Takes (a_step word names.now self.old rest.now followed) self.new result }
-        ensures lawful { (most : ℕ) → AreSteps names.now most self.old
-            → OnOk result (AreSteps names.now most self.new) }
+        requires { AreDeclared declared.now }
+        ensures takes { Takes (a_step word declared.now self.old rest.now followed) self.new result }
+        ensures lawful { (most : ℕ) → AreSteps (decls_in declared.now) most self.old
+            → OnOk result (AreSteps (decls_in declared.now) most self.new) }
     {
         match word {
-            Keyword::Show => self.take_show(alloc, names, rest),
+            Keyword::Show => self.take_show(alloc, declared, rest),
+            Keyword::Json => self.take_json(alloc, declared, rest),
             Keyword::Stop => self.take_stop(rest),
             Keyword::Call => self.take_call(alloc, rest, followed),
             _ => breaks(Rule::Line),
@@ -212,8 +237,8 @@ impl Script {
     #[tactic(auto, unfolding(crate::specs::Scripts::bare_step))]
     fn take_bare_step(&mut self, word: Keyword) -> Result<(), LineFault>
         ensures takes { Takes (bare_step word self.old) self.new result }
-        ensures lawful { (names : List (List ℕ)) (most : ℕ) → AreSteps names most self.old
-            → OnOk result (AreSteps names most self.new) }
+        ensures lawful { (decls : Decls) (most : ℕ) → AreSteps decls most self.old
+            → OnOk result (AreSteps decls most self.new) }
     {
         match word {
             Keyword::Settle => self.take_bare(ScriptStep::Settle),
@@ -229,22 +254,22 @@ impl Script {
     fn take_words(
         &mut self,
         alloc: Global,
-        names: &Names,
+        declared: &Declared,
         word: Keyword,
         rest: &str,
         followed: bool,
     ) -> Result<(), LineFault>
-        requires { length names.now ≤ MOST_DEVICES }
+        requires { AreDeclared declared.now }
         ensures takes { Takes
-            (words_at self.old.part word names.now self.old rest.now followed)
+            (words_at self.old.part word declared.now self.old rest.now followed)
             self.new result }
-        ensures lawful { (most : ℕ) → AreSteps names.now most self.old
-            → OnOk result (AreSteps names.now (most + 1) self.new) }
+        ensures lawful { (most : ℕ) → AreSteps (decls_in declared.now) most self.old
+            → OnOk result (AreSteps (decls_in declared.now) (most + 1) self.new) }
     {
         match self.part {
-            Part::Steps => self.take_step(alloc, names, word, rest, followed),
+            Part::Steps => self.take_step(alloc, declared, word, rest, followed),
             Part::Call => self.take_action(alloc, word, rest),
-            Part::Literal => self.take_literal_words(alloc, names, word, rest),
+            Part::Literal => self.take_literal_words(alloc, declared, word, rest),
             Part::Delete => breaks(Rule::Line),
         }
     }
@@ -253,8 +278,8 @@ impl Script {
     #[tactic(auto, unfolding(crate::specs::Scripts::word_at))]
     fn take_word(&mut self, alloc: Global, word: Keyword, followed: bool) -> Result<(), LineFault>
         ensures takes { Takes (word_at self.old.part word self.old followed) self.new result }
-        ensures lawful { (names : List (List ℕ)) (most : ℕ) → AreSteps names most self.old → most ≤ MOST_WRITES
-            → OnOk result (AreSteps names most self.new) }
+        ensures lawful { (decls : Decls) (most : ℕ) → AreSteps decls most self.old → most ≤ MOST_WRITES
+            → OnOk result (AreSteps decls most self.new) }
     {
         match self.part {
             Part::Steps => self.take_bare_step(word),
@@ -269,21 +294,21 @@ impl Script {
     fn take_text<L: Ledger>(
         &mut self,
         alloc: Global,
-        names: &Names,
+        declared: &Declared,
         text: &str,
         later: &[u8],
         steps: &mut Steps<L>,
     ) -> Result<(), LineFault>
-        requires { length names.now ≤ MOST_DEVICES }
-        ensures takes { Takes (after_step names.now self.old text.now (lines_of later.now)) self.new result }
-        ensures lawful { (most : ℕ) → AreSteps names.now most self.old → most ≤ MOST_WRITES
-            → OnOk result (AreSteps names.now (most + 1) self.new) }
+        requires { AreDeclared declared.now }
+        ensures takes { Takes (after_step declared.now self.old text.now (lines_of later.now)) self.new result }
+        ensures lawful { (most : ℕ) → AreSteps (decls_in declared.now) most self.old → most ≤ MOST_WRITES
+            → OnOk result (AreSteps (decls_in declared.now) (most + 1) self.new) }
         ensures cost { steps.new ≡ steps.old + step_looks_at (keyword_of (first_word text.now)) (lines_of later.now) }
     {
         let word = keyword_of(first_word(text));
         let followed = is_followed(word, later, steps);
         match cut(text) {
-            Some((_, rest)) => self.take_words(alloc, names, word, rest, followed),
+            Some((_, rest)) => self.take_words(alloc, declared, word, rest, followed),
             None => self.take_word(alloc, word, followed),
         }
     }
@@ -293,17 +318,17 @@ impl Script {
     pub(crate) fn take<L: Ledger>(
         &mut self,
         alloc: Global,
-        names: &Names,
+        declared: &Declared,
         at: u64,
         line: &[u8],
         later: &[u8],
         steps: &mut Steps<L>,
     ) -> Result<(), LineFault>
         requires room { at + length line.now < 2 ^ 63 }
-        requires few { length names.now ≤ MOST_DEVICES }
-        ensures takes { Takes (scripted_at names.now self.old at line.now (lines_of later.now)) self.new result }
-        ensures lawful { (most : ℕ) → AreSteps names.now most self.old → most ≤ MOST_WRITES
-            → OnOk result (AreSteps names.now (most + 1) self.new) }
+        requires declared { AreDeclared declared.now }
+        ensures takes { Takes (scripted_at declared.now self.old at line.now (lines_of later.now)) self.new result }
+        ensures lawful { (most : ℕ) → AreSteps (decls_in declared.now) most self.old → most ≤ MOST_WRITES
+            → OnOk result (AreSteps (decls_in declared.now) (most + 1) self.new) }
         ensures small { OnOk result (at + length line.now ≤ LARGEST_BUNDLE) }
         ensures counts { steps.old ≤ steps.new }
         ensures cost { steps.new ≤ steps.old + scripted_looks_at line.now (lines_of later.now) }
@@ -317,6 +342,6 @@ impl Script {
         if is_skipped(text.as_bytes()) {
             return Ok(());
         }
-        self.take_text(alloc, names, text, later, steps)
+        self.take_text(alloc, declared, text, later, steps)
     }
 }

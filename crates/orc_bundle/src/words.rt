@@ -1,8 +1,11 @@
 //! The words of a line.
-ghost use Rattle.std.specs.Prelude.{◌≡◌, MatchOption, None, Some, true, false};
+ghost use Rattle.std.specs.Prelude.{◌≡◌, ◌∷◌, [], IfOk, MatchOption, None, Some, true, false};
 ghost use Rattle.std.specs.Str.{is_utf8};
-ghost use Rattle.orc_bundle.specs.Words.{cut_at, first_word, is_padded, number_in};
+ghost use Rattle.orc_bundle.specs.Words.{cut_at, first_word, is_padded, number_in, words_of};
+ghost use Rattle.orc_bundle.specs.inside.Words.{CutsWord};
 
+use orc_text::{Memory, Row, Text};
+use std::alloc::Global;
 use std::str;
 
 /// The text in front of the first space and the text behind it.
@@ -29,6 +32,28 @@ pub(crate) fn first_word(text: &str) -> &str
         Some((first, _)) => first,
         None => text,
     }
+}
+
+// The first word and the text behind it, where there are more.
+fn cut_word(text: &str) -> Option<(&str, &str)>
+    ensures { MatchOption result (words_of text.now ≡ text.now ∷ [])
+        (λ parts. CutsWord text.now parts.0.now parts.1.now) }
+{
+    text.split_once(' ')
+}
+
+/// The words of a text.
+pub(crate) fn words(alloc: Global, text: &str) -> Result<Row<Text>, Memory>
+    ensures { IfOk result (λ all. all ≡ words_of text.now) }
+{
+    let mut all = Row::new(alloc);
+    let mut rest = text;
+    while let Some((word, more)) = cut_word(rest) {
+        all.push(Text::from_str(alloc, word)?)?;
+        rest = more;
+    }
+    all.push(Text::from_str(alloc, rest)?)?;
+    Ok(all)
 }
 
 // Whether a sign or a needless zero stands in front.

@@ -1,6 +1,6 @@
 -- One typedef further, and one statement of a block further.
-use Rattle.std.proofs.Common.{◌≡◌, refl, sym, ◌∙◌, ap, ℕ, suc, ◌+◌, ◌<◌, length, get_or, Bool, true, false, List, [], ◌∷◌}
-use Rattle.std.specs.Prelude.{Option, Some, None, codes, drop, option_map, ◌||◌}
+use Rattle.std.proofs.Common.{◌≡◌, ◌∙◌, ap, ℕ, suc, ◌+◌, ◌<◌, length, get_or, Bool, false, List, ◌∷◌}
+use Rattle.std.specs.Prelude.{Some, None, codes, drop, ◌||◌}
 use Rattle.std.specs.List.{list_any}
 use Rattle.std.specs.Option.{option_map_or}
 use Rattle.std.proofs.lemmas.List.{drop_more}
@@ -8,7 +8,6 @@ use Rattle.orc_yang.specs.declared.statement.Stmt.{Stmt}
 use Rattle.orc_types.specs.BuiltIn.{built_in}
 use Rattle.orc_types.specs.Statements.{subs, argument, first_of}
 use Rattle.orc_types.specs.declared.types.Base.{Base}
-use Rattle.orc_modules.specs.declared.meant.Named.{Named}
 use Rattle.orc_modules.specs.declared.meant.Named.TheVariants.{Unclear}
 use Rattle.orc_modules.specs.declared.parts.Part.TheVariants.{Node as node, Uses as uses}
 use Rattle.orc_modules.specs.Bases.{base_of, built_in_named, typedef_named, named_typedef}

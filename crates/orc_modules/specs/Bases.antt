@@ -1,6 +1,6 @@
 -- What the name of a type stands for where it stands: RFC 7950 sections 4.2.4, 4.2.5, 7.3 and 7.4.
-use Rattle.std.specs.Prelude.{ℕ, zero, suc, List, [], ◌∷◌, Option, Some, None, Result, Ok, Err, codes, option_map, option_and_then, unwrap_or}
-use Rattle.std.specs.Option.{option_or, option_map_or}
+use Rattle.std.specs.Prelude.{ℕ, zero, suc, Bool, true, List, [], ◌∷◌, Option, Some, None, Result, Ok, Err, codes, is_some, option_map, option_and_then, unwrap_or, if◌then◌else◌}
+use Rattle.std.specs.Option.{option_map_or}
 use Rattle.orc_yang.specs.declared.statement.Stmt.{Stmt}
 use Rattle.orc_types.specs.Statements.{subs, argument, first_of}
 use Rattle.orc_types.specs.declared.types.LeafType.{LeafType}
@@ -8,7 +8,8 @@ use Rattle.orc_types.specs.declared.types.Base.{Base}
 use Rattle.orc_types.specs.declared.types.Base.TheVariants.{Known}
 use Rattle.orc_types.specs.declared.fault.TypeFault.{TypeFault}
 use Rattle.orc_types.specs.BuiltIn.{built_in}
-use Rattle.orc_types.specs.Types.{type_of}
+use Rattle.orc_types.specs.Types.{type_of, kind_of}
+use Rattle.orc_types.specs.Defaults.{default_of}
 use Rattle.orc_modules.specs.declared.meant.Meant.{Meant}
 use Rattle.orc_modules.specs.declared.meant.Typed.{Typed}
 use Rattle.orc_modules.specs.declared.meant.Named.{Named}
@@ -30,9 +31,18 @@ typed_by t (Means m) = made_by m (type_of m.base t)
 typed_by t Endless = None
 typed_by t Unclear = None
 
--- what the name of a typedef stands for: its `type`'s type, and its own default before that of its type
+-- the text is a default of the type; a leafref takes any, since its target tells
+abbrev pub takes_type : LeafType → List ℕ → Bool
+takes_type t text = option_map_or (λ kind. is_some (default_of kind text)) (kind_of t) true
+
+-- the default of a typedef: its own goes before that of its type, and is none where the typedef's type doesn't take it
+abbrev pub typedef_default : Option (List ℕ) → Typed → Option (List ℕ)
+typedef_default None t = t.default
+typedef_default (Some text) t = if takes_type t.of_type text then Some text else None
+
+-- what the name of a typedef stands for: its `type`'s type, and its default
 abbrev pub renamed : Option (List ℕ) → Typed → Named
-renamed default t = Means (record { base = Known t.of_type; default = option_or default t.default; home = t.home })
+renamed default t = Means (record { base = Known t.of_type; default = typedef_default default t; home = t.home })
 
 abbrev pub named_typedef : Option (List ℕ) → Stmt → Named → Named
 named_typedef default u Endless = Endless

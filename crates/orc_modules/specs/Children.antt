@@ -1,10 +1,9 @@
 -- Which data nodes a block has, where each `uses` stands for what its grouping has: RFC 7950 sections 7.12 and 7.13.
-use Rattle.std.specs.Prelude.{ℕ, zero, suc, Bool, true, false, ◌&&◌, List, [], ◌∷◌, ◌++◌, map, Option, codes, if◌then◌else◌}
+use Rattle.std.specs.Prelude.{ℕ, zero, suc, Bool, true, false, List, [], ◌∷◌, ◌++◌, map, Option, codes, if◌then◌else◌}
 use Rattle.std.specs.List.{list_any, find}
 use Rattle.std.specs.Option.{option_map_or}
-use Rattle.orc_value.specs.Canon.{same_text}
 use Rattle.orc_yang.specs.declared.statement.Stmt.{Stmt}
-use Rattle.orc_types.specs.Statements.{subs, argument, is_a}
+use Rattle.orc_types.specs.Statements.{subs, argument}
 use Rattle.orc_modules.specs.declared.word.Word.{Word}
 use Rattle.orc_modules.specs.declared.word.Word.TheVariants.{Container, List as ListOf, Leaf, LeafList, Uses}
 use Rattle.orc_modules.specs.declared.parts.Part.{Part}

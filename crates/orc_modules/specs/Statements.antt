@@ -1,5 +1,5 @@
 -- What a statement says, and which statements are read.
-use Rattle.std.specs.Prelude.{ℕ, Bool, true, false, ◌&&◌, not, List, [], ◌∷◌, ◌++◌, Option, map, is_some, codes, option_map, unwrap_or, if◌then◌else◌}
+use Rattle.std.specs.Prelude.{ℕ, Bool, true, false, ◌&&◌, not, List, [], ◌∷◌, ◌++◌, Option, is_some, codes, option_map, unwrap_or, if◌then◌else◌}
 use Rattle.std.specs.List.{list_any}
 use Rattle.orc_value.specs.Canon.{same_text}
 use Rattle.orc_yang.specs.declared.statement.Stmt.{Stmt}
@@ -69,13 +69,13 @@ read_at parent above before s below = if is_read parent s
     then record { above = above; before = before; here = s } ∷ below else []
 
 -- what is read in a block, in the order of the text, where each statement comes with what is read below it
-abbrev pub in_block : Word → List Stmt → List Stmt → List (Stmt × (List Stmt → List Place)) → List Place
-in_block parent above before [] = []
-in_block parent above before (s ∷ rest) = read_at parent above before s.0 (s.1 (s.0 ∷ above))
-    ++ in_block parent above (before ++ s.0 ∷ []) rest
+abbrev pub places_in : Word → List Stmt → List Stmt → List (Stmt × (List Stmt → List Place)) → List Place
+places_in parent above before [] = []
+places_in parent above before (s ∷ rest) = read_at parent above before s.0 (s.1 (s.0 ∷ above))
+    ++ places_in parent above (before ++ s.0 ∷ []) rest
 
 abbrev pub below_step : Stmt-F (Stmt × (List Stmt → List Place)) → List Stmt → List Place
-below_step s above = in_block (word_of s.keyword) above [] s.subs
+below_step s above = places_in (word_of s.keyword) above [] s.subs
 
 -- what is read below s, which stands first in its list
 abbrev pub places_below : Stmt → List Stmt → List Place

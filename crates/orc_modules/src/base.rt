@@ -1,8 +1,9 @@
 //! What the name of a type stands for where it stands.
-ghost use Rattle.std.specs.Prelude.{◌≡◌, List, IfOk, ◌∷◌, codes, option_map};
+ghost use Rattle.std.specs.Prelude.{◌≡◌, List, IfOk, ◌∷◌, Some, None, codes, is_some, option_map, if◌then◌else◌};
+ghost use Rattle.orc_types.specs.Defaults.{default_of};
 ghost use Rattle.orc_types.specs.Statements.{argument};
 ghost use Rattle.orc_types.specs.Types.{type_of};
-ghost use Rattle.orc_modules.specs.Bases.{home_of, made_by, typed_by, renamed, named_typedef, built_in_named, base_of, type_at, type_in};
+ghost use Rattle.orc_modules.specs.Bases.{home_of, made_by, typed_by, takes_type, renamed, named_typedef, built_in_named, base_of, type_at, type_in};
 ghost use Rattle.orc_modules.specs.Scopes.{meaning};
 ghost use Rattle.orc_modules.specs.Stack.{stack, found};
 ghost use Rattle.orc_modules.specs.Statements.{argument_below};
@@ -12,7 +13,8 @@ use crate::place::Modules;
 use crate::scope::{Above, Found, Site, meaning, module_around};
 use crate::statements::argument_below;
 use orc_text::{Memory, Text};
-use orc_types::{Base, TypeFault, argument, built_in, first_of, type_of};
+use orc_types::{Base, LeafType, TypeFault, argument, built_in, default_of, first_of, type_of};
+use orc_value::Kind;
 use orc_yang::Stmt;
 use std::alloc::Global;
 
@@ -67,6 +69,33 @@ fn typed_by(alloc: Global, named: Named, stmt: &Stmt) -> Result<Option<Typed>, M
     }
 }
 
+// Whether a text is a default of this kind.
+fn is_default(alloc: Global, kind: &Kind, text: &str) -> Result<bool, Memory>
+    ensures { IfOk result (λ fits. fits ≡ is_some (default_of kind.now text.now)) }
+{
+    Ok(default_of(alloc, kind, text)?.is_some())
+}
+
+/// Whether a text is a default of the type; a leafref takes any, since its target tells.
+pub fn takes_type(alloc: Global, of_type: &LeafType, text: &str) -> Result<bool, Memory>
+    ensures { IfOk result (λ takes. takes ≡ takes_type of_type.now text.now) }
+{
+    match of_type.kind(alloc)? {
+        Some(kind) => is_default(alloc, &kind, text),
+        None => Ok(true),
+    }
+}
+
+// The default of a typedef of this type with one of its own, where the type takes it.
+fn own_default(alloc: Global, of_type: &LeafType, text: &str) -> Result<Option<Text>, Memory>
+    ensures { IfOk result (λ own. own ≡ if takes_type of_type.now text.now then Some text.now else None) }
+{
+    match takes_type(alloc, of_type, text)? {
+        true => Ok(Some(Text::from_str(alloc, text)?)),
+        false => Ok(None),
+    }
+}
+
 // What the name of a typedef with this default stands for.
 fn renamed(alloc: Global, default: Option<&str>, typed: Typed) -> Result<Named, Memory>
     ensures { IfOk result (λ named. named ≡ renamed (option_map (λ text. text.now) default.entry) typed) }
@@ -77,7 +106,7 @@ fn renamed(alloc: Global, default: Option<&str>, typed: Typed) -> Result<Named, 
         home,
     } = typed;
     let default = match default {
-        Some(text) => Some(Text::from_str(alloc, text)?),
+        Some(text) => own_default(alloc, &of_type, text)?,
         None => earlier,
     };
     Ok(Named::Means(Meant {

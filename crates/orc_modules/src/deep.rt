@@ -74,3 +74,15 @@ pub fn leads_past<'a>(
         },
     }
 }
+
+/// Whether nodes and groupings below a statement stand in one another more than `most` deep.
+pub fn is_too_deep<'a>(
+    modules: &Modules<'a>,
+    above: &'a Above<'a>,
+    stmt: &'a Stmt,
+) -> Result<bool, Memory>
+    ensures { IfOk result (λ deep. deep ≡ is_deeper modules.now.most modules.now.all.now (stack above.now) stmt.now) }
+{
+    let mut left = MAX_VISITS;
+    is_deeper(modules.most, &*modules, &Site { above }, stmt, &mut left)
+}

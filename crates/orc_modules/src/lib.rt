@@ -15,8 +15,8 @@ mod statements;
 mod visits;
 mod word;
 
-pub use base::{base_of, type_at, type_in};
-pub use deep::leads_past;
+pub use base::{base_of, takes_type, type_at, type_in};
+pub use deep::{is_too_deep, leads_past};
 pub use leaves::leaf_type;
 pub use meant::{Meant, Named, Typed};
 pub use names::child_names;

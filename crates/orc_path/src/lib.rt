@@ -17,6 +17,7 @@ mod name;
 mod path;
 mod reader;
 mod reading;
+mod shape;
 mod text;
 mod value;
 
@@ -28,5 +29,6 @@ pub use limits::{
 };
 pub use name::Name;
 pub use path::{Path, PathFault, Step};
+pub use shape::Shape;
 pub use text::push_item;
 pub use value::{push_value, read_value};

@@ -188,7 +188,7 @@ text_of names call Settled outcome before = ap (commit_text names call Settled o
 
 module _ {D : Type 0} (meaning : DiskMeaning D) (only_now : (d : D) (c : List ℕ) → meaning.left_since d (meaning.moment d) c → meaning.may_leave d c)
     (decls : Decls) (call : Call) (es : List Entry) (old : Controller D)
-    (is : IsCommitting meaning decls call es old) (lawful : IsTrue (is_call decls.names call)) where
+    (is : IsCommitting meaning decls call es old) (lawful : IsTrue (is_call decls call)) where
   -- what it knows, and nothing is pending
   known_old : take old.known old.past.history ≡ old.past.history
   known_old = subst (λ (n : ℕ). take n old.past.history ≡ old.past.history) (sym is.up.all) (take-length old.past.history)

@@ -1,10 +1,10 @@
 -- A call that a call block gives has an encoding.
-use Rattle.std.proofs.Common.{◌≡◌, ℕ, ◌<◌, ◌≤◌, ◌^◌, Bool, true, false, ◌&&◌, ◌||◌, ◌==◌, not, nat_le, nat_lt, List, [], ◌∷◌, length, None, suc, refl, sym, subst, arith, tests, append-nil, ltb-true, ltb-false, eqb-true, ◌⊎◌, inl, inr}
+use Rattle.std.proofs.Common.{◌≡◌, ℕ, ◌<◌, ◌≤◌, ◌^◌, Bool, true, false, ◌&&◌, ◌||◌, ◌==◌, not, nat_le, nat_lt, List, [], ◌∷◌, length, None, is_some, suc, refl, sym, subst, ◌∙◌, arith, tests, append-nil, ltb-true, ltb-false, eqb-true, ◌⊎◌, inl, inr}
 use Rattle.std.specs.List.{list_all, list_any, flat_map}
 use Rattle.std.specs.Str.{IsUtf8}
 use Rattle.std.specs.Cmp.{first_so, second_so}
 use Rattle.std.specs.Cmp.Lexicographic.{bytes_decides}
-use Rattle.std.proofs.lemmas.Bool.{and_from, false≢true, leb-true, not-true, or_parts}
+use Rattle.std.proofs.lemmas.Bool.{false≢true, leb-true, not-true, or_parts}
 use Rattle.std.proofs.lemmas.List.Elements.{All-cons, All-weaker}
 use Rattle.std.proofs.lemmas.List.Sums.{AllPass-from_list_all}
 use Rattle.std.proofs.lemmas.Str.{IsUtf8-from_ascii, IsUtf8-nil}
@@ -26,11 +26,12 @@ use Rattle.orc_call.specs.declared.call.Action.{Action}
 use Rattle.orc_call.specs.declared.call.Action.TheVariants.{Literal, Delete}
 use Rattle.orc_call.specs.declared.call.DevicePut.{DevicePut}
 use Rattle.orc_state.specs.States.{action_of, first_action, is_same_text, names_of}
-use Rattle.orc_state.specs.Calls.{is_action, is_call, is_device, is_item_at, is_lawful_item, is_lawful_name, is_put, is_write}
+use Rattle.orc_state.specs.Calls.{device_named, is_action, is_call, is_item_under, is_lawful_item, is_lawful_name, is_write, schema_named}
 use Rattle.orc_state.specs.Declarations.{AreDecls}
 use Rattle.orc_state.specs.declared.declarations.Decls.{Decls}
-use Rattle.orc_state.specs.declared.declarations.Device.{Device}
 use Rattle.orc_state.specs.declared.lawful.TheConstants.{MOST_WRITES}
+use Rattle.orc_state.proofs.Declared.{declared-named, names-lawful}
+use Rattle.orc_state.proofs.Fits.{item-under, write-item}
 
 either : (a b : Bool) → (a || b) ≡ true → (a ≡ true) ⊎ (b ≡ true)
 either true b h = inl refl
@@ -85,10 +86,12 @@ known_name name (n ∷ ns) h any =
     on later (inl here) = subst (λ (t : List ℕ). is_lawful_name t ≡ true) (sym ((bytes_decides name n).0 here)) (first_so (is_lawful_name n) (list_all is_lawful_name ns) h)
     on later (inr there) = later there
 
-write_lawful : (names : List (List ℕ)) (w : DevicePut) → list_all is_lawful_name names ≡ true → is_write names w ≡ true → AreLawful (device_put_fields w)
-write_lawful names w h k =
-    let device = known_name w.device names h (first_so (list_any (is_same_text w.device) names) (is_item_at w.path w.item) k) in
-    let item = second_so (list_any (is_same_text w.device) names) (is_item_at w.path w.item) k in
+write_lawful : (decls : Decls) (w : DevicePut) → list_all is_lawful_name (names_of decls.devices) ≡ true → is_write decls w ≡ true → AreLawful (device_put_fields w)
+write_lawful decls w h k =
+    let schema = schema_named decls.schemas decls.devices w.device in
+    let declared = first_so (is_some (device_named decls.devices w.device)) (is_item_under schema w.path w.item) k in
+    let device = known_name w.device (names_of decls.devices) h (sym (declared-named decls.devices w.device) ∙ declared) in
+    let item = item-under schema w.path w.item (write-item decls w k) in
     let path = is_path w.path in
     let short = not (is_long_path w.path) in
     let lawful = is_lawful_item w.item in
@@ -101,53 +104,45 @@ write_lawful names w h k =
       ),
     )
 
-writes_lawful : (names : List (List ℕ)) (ws : List DevicePut) → list_all is_lawful_name names ≡ true → list_all (is_write names) ws ≡ true → AreLawful (flat_map device_put_fields ws)
-writes_lawful names [] h k = tt
-writes_lawful names (w ∷ ws) h k =
-    let here = write_lawful names w h (first_so (is_write names w) (list_all (is_write names) ws) k) in
-    (here.0, (here.1.0, (here.1.1.0, writes_lawful names ws h (second_so (is_write names w) (list_all (is_write names) ws) k))))
+writes_lawful : (decls : Decls) (ws : List DevicePut) → list_all is_lawful_name (names_of decls.devices) ≡ true → list_all (is_write decls) ws ≡ true → AreLawful (flat_map device_put_fields ws)
+writes_lawful decls [] h k = tt
+writes_lawful decls (w ∷ ws) h k =
+    let here = write_lawful decls w h (first_so (is_write decls w) (list_all (is_write decls) ws) k) in
+    (here.0, (here.1.0, (here.1.1.0, writes_lawful decls ws h (second_so (is_write decls w) (list_all (is_write decls) ws) k))))
 
 -- calls
 
-action_lawful : (names : List (List ℕ)) (a : Action) → list_all is_lawful_name names ≡ true → is_action names a ≡ true → AreLawful (action_fields a)
-action_lawful names (Literal id writes) h k =
+action_lawful : (decls : Decls) (a : Action) → list_all is_lawful_name (names_of decls.devices) ≡ true → is_action decls a ≡ true → AreLawful (action_fields a)
+action_lawful decls (Literal id writes) h k =
     let few = nat_le (length writes) MOST_WRITES in
-    let two = first_so (is_lawful_name id && few) (list_all (is_write names) writes) k in
+    let two = first_so (is_lawful_name id && few) (list_all (is_write decls) writes) k in
     let count = leb-true (length writes) MOST_WRITES (second_so (is_lawful_name id) few two) in (
       (omega arith, omega arith),
       (
         name_text id (first_so (is_lawful_name id) few two),
-        (omega (arith, count), writes_lawful names writes h (second_so (is_lawful_name id && few) (list_all (is_write names) writes) k)),
+        (omega (arith, count), writes_lawful decls writes h (second_so (is_lawful_name id && few) (list_all (is_write decls) writes) k)),
       ),
     )
-action_lawful names (Delete id) h k = ((omega arith, omega arith), (name_text id k, tt))
-action_lawful names other h k = absurd (false≢true k)
+action_lawful decls (Delete id) h k = ((omega arith, omega arith), (name_text id k, tt))
+action_lawful decls other h k = absurd (false≢true k)
 
 one_action : (actions : List Action) → (length actions == 1) ≡ true → first_action actions ∷ [] ≡ actions
 one_action [] e = absurd (false≢true e)
 one_action (a ∷ []) e = refl
 one_action (a ∷ b ∷ more) e = let one : suc (suc (length more)) ≡ 1 = eqb-true (suc (suc (length more))) 1 e in absurd (omega arith)
 
-names_lawful : (devices : List Device) → list_all is_device devices ≡ true → list_all is_lawful_name (names_of devices) ≡ true
-names_lawful [] h = refl
-names_lawful (d ∷ ds) h =
-    and_from (is_lawful_name d.name) (list_all is_lawful_name (names_of ds))
-    (first_so (is_lawful_name d.name) (list_all is_put d.base) (first_so (is_device d) (list_all is_device ds) h))
-    (names_lawful ds (second_so (is_device d) (list_all is_device ds) h))
-
-call_lawful : (names : List (List ℕ)) (call : Call) → list_all is_lawful_name names ≡ true → is_call names call ≡ true → IsCall call
-call_lawful names call h k =
+call_lawful : (decls : Decls) (call : Call) → list_all is_lawful_name (names_of decls.devices) ≡ true → is_call decls call ≡ true → IsCall call
+call_lawful decls call h k =
     let caller = is_lawful_name call.caller in
     let numbered = nat_lt call.number (2 ^ 64) in
     let single = length call.actions == 1 in
-    let three = first_so (caller && numbered && single) (is_action names (action_of call)) k in
+    let three = first_so (caller && numbered && single) (is_action decls (action_of call)) k in
     let two = first_so (caller && numbered) single three in
-    let fields = action_lawful names (action_of call) h (second_so (caller && numbered && single) (is_action names (action_of call)) k) in
+    let fields = action_lawful decls (action_of call) h (second_so (caller && numbered && single) (is_action decls (action_of call)) k) in
     subst (λ (actions : List Action). IsCall (record call { actions = actions })) (one_action call.actions (second_so (caller && numbered) single three)) (
       name_text call.caller (first_so caller numbered two),
       (ltb-true call.number (2 ^ 64) (second_so caller numbered two), ((omega arith, omega arith), subst AreLawful (sym (append-nil (action_fields (action_of call)))) fields)),
     )
 
-pub encodable : (decls : Decls) (call : Call) → AreDecls decls → is_call decls.names call ≡ true → IsCall call
-encodable decls call are k =
-    call_lawful decls.names call (subst (λ (names : List (List ℕ)). list_all is_lawful_name names ≡ true) (sym are.named) (names_lawful decls.devices are.devices)) k
+pub encodable : (decls : Decls) (call : Call) → AreDecls decls → is_call decls call ≡ true → IsCall call
+encodable decls call are k = call_lawful decls call (names-lawful decls.schemas decls.devices are.devices) k

@@ -88,7 +88,7 @@ past_same decls old numbers before entry past none taken others filled only =
 pub past_more : (decls : Decls) (old new : Past) (before : List Entry) (entry : Entry) (call : Call) → IsPast decls old before → commits before entry ≡ call ∷ []
     → is_taken new.numbers (number_of entry) ≡ true → ((u : ℕ) → is_taken old.numbers u ≡ true → is_taken new.numbers u ≡ true) → IsFilled new.numbers
     → ((u : ℕ) → is_taken new.numbers u ≡ true → (is_taken old.numbers u ≡ true) ⊎ (u ≡ number_of entry))
-    → IsTrue (is_call decls.names call) → IsDue decls old.history call → new.history ≡ old.history ++ call ∷ [] → IsBehind decls new new.history
+    → IsTrue (is_call decls call) → IsDue decls old.history call → new.history ≡ old.history ++ call ∷ [] → IsBehind decls new new.history
     → IsPast decls new (before ++ entry ∷ [])
 past_more decls old new before entry call past one taken others filled only lawful due more behind =
     let e : history_of before ++ call ∷ [] ≡ history_of (before ++ entry ∷ []) =
@@ -106,7 +106,7 @@ past_more decls old new before entry call past one taken others filled only lawf
 
 -- an entry that commits a call after which the history is not legal
 pub past_ends : (decls : Decls) (old : Past) (before : List Entry) (entry : Entry) (call : Call) → IsPast decls old before → commits before entry ≡ call ∷ []
-    → (IsTrue (is_call decls.names call) → IsDue decls old.history call → ⊥) → IsLegal decls (history_of (before ++ entry ∷ [])) → ⊥
+    → (IsTrue (is_call decls call) → IsDue decls old.history call → ⊥) → IsLegal decls (history_of (before ++ entry ∷ [])) → ⊥
 past_ends decls old before entry call past one never legal =
     let e : history_of (before ++ entry ∷ []) ≡ history_of before ++ call ∷ [] =
     history_of-append before entry ∙ ap (λ (l : List Call). history_of before ++ l) one in

@@ -134,7 +134,7 @@ module _ {D : Type 0} (meaning : DiskMeaning D) where
     declared = lawful.decls;
     short = short;
     sound = sound;
-    lawful = subst (λ (l : List ScriptStep). IsTrue (list_all (is_step b.decls.names) l)) (sym all) lawful.steps;
+    lawful = subst (λ (l : List ScriptStep). IsTrue (list_all (is_step b.decls) l)) (sym all) lawful.steps;
   }
 
   -- a run ends for these causes alone

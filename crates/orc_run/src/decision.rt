@@ -68,7 +68,7 @@ pub(crate) fn state_behind(alloc: Global, decls: &Decls, history: &[Call]) -> Re
 // The state does the action of a call, which is not refused.
 fn redo(alloc: Global, decls: &Decls, state: &mut State, call: &Call) -> Result<(), Memory>
     requires decls { AreDecls decls.now }
-    requires call { IsTrue (is_call decls.now.names call.now) }
+    requires call { IsTrue (is_call decls.now call.now) }
     requires unrefused { refusal decls.now.names state.old (action_of call.now) ≡ None }
     requires complete { IsComplete state.old }
     requires bases { length state.old.bases ≡ length decls.now.names }

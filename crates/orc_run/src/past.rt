@@ -103,15 +103,15 @@ impl Past {
     fn commit(&mut self, alloc: Global, decls: &Decls, call: &Call) -> Result<bool, Memory>
         requires decls { AreDecls decls.now }
         requires behind { IsBehind decls.now self.old self.old.history }
-        ensures legal { result ≡ Ok true → IsTrue (is_call decls.now.names call.now)
+        ensures legal { result ≡ Ok true → IsTrue (is_call decls.now call.now)
             × IsDue decls.now self.old.history call.now }
         ensures history { result ≡ Ok true → self.new.history ≡ self.old.history ++ call.now ∷ [] }
         ensures behind { result ≡ Ok true → IsBehind decls.now self.new self.new.history }
-        ensures illegal { result ≡ Ok false → IsTrue (is_call decls.now.names call.now)
+        ensures illegal { result ≡ Ok false → IsTrue (is_call decls.now call.now)
             → IsDue decls.now self.old.history call.now → ⊥ }
         ensures numbers { self.new.numbers ≡ self.old.numbers }
     {
-        if !is_call(decls.names.as_slice(), call) {
+        if !is_call(decls, call) {
             return Ok(false);
         }
         if self.answer_or_apply(alloc, decls, call)?.is_some() {
@@ -131,7 +131,7 @@ impl Past {
     ) -> Result<Option<Answer>, Memory>
         requires decls { AreDecls decls.now }
         requires behind { IsBehind decls.now self.old self.old.history }
-        requires call { IsTrue (is_call decls.now.names call.now) }
+        requires call { IsTrue (is_call decls.now call.now) }
         ensures answer { IfOk result (λ found. IfSome found (AnswersAtOnce decls.now self.old.history call.now)) }
         ensures due { result ≡ Ok None → IsDue decls.now self.old.history call.now }
         ensures done { result ≡ Ok None → IsBehind decls.now self.new (self.old.history ++ call.now ∷ []) }

@@ -43,7 +43,7 @@ impl<D: Disk> Controller<D> {
     ) -> Result<Served, Memory>
         requires decls { AreDecls decls.now }
         requires sound { IsSound D.disk decls.now self.old }
-        requires call { IsTrue (is_call decls.now.names call.now) }
+        requires call { IsTrue (is_call decls.now call.now) }
         ensures { (sound : IsSound D.disk decls.now self.old)
             → LeadsTo D.disk decls.now (view_of self.old sound.0) call.now result self.new }
     {
@@ -74,7 +74,7 @@ impl<D: Disk> Controller<D> {
     ) -> Result<Served, Memory>
         requires decls { AreDecls decls.now }
         requires committing { (entries : List Entry) × IsCommitting D.disk decls.now call.now entries self.old }
-        requires call { IsTrue (is_call decls.now.names call.now) }
+        requires call { IsTrue (is_call decls.now call.now) }
         requires devices { AreDevices devices }
         requires touched { devices ≡ devices_of decls.now.names
             (state_of decls.now (known_of self.old)) (action_of call.now) }

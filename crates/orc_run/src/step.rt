@@ -166,7 +166,7 @@ impl<D: Disk> Controller<D> {
     ) -> Result<(Controller<D>, Row<u8>), LastStep<D>>
         requires decls { AreDecls decls.now }
         requires sound { IsSound D.disk decls.now self }
-        requires call { IsTrue (is_call decls.now.names call.now) }
+        requires call { IsTrue (is_call decls.now call.now) }
         ensures { (sound : IsSound D.disk decls.now self)
             → StepsTo D.disk decls.now (view_of self sound.0) (ScriptStep.Serve call.now) result }
     {

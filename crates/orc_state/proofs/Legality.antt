@@ -48,19 +48,19 @@ distinct_last (first ∷ rest) call h =
     (distinct_last rest call h.1)
 
 pub legal_none : (decls : Decls) → IsLegal decls []
-legal_none decls = record { lawful = All-nil (λ call. IsTrue (is_call decls.names call)); unrefused = tt; distinct = tt }
+legal_none decls = record { lawful = All-nil (λ call. IsTrue (is_call decls call)); unrefused = tt; distinct = tt }
 
-pub legal_more : (decls : Decls) (history : List Call) (call : Call) → IsLegal decls history → IsTrue (is_call decls.names call) → IsDue decls history call
+pub legal_more : (decls : Decls) (history : List Call) (call : Call) → IsLegal decls history → IsTrue (is_call decls call) → IsDue decls history call
     → IsLegal decls (history ++ call ∷ [])
 legal_more decls history call legal lawful due = record {
-  lawful = All-append (λ c. IsTrue (is_call decls.names c)) history (call ∷ []) legal.lawful (All-cons (λ c. IsTrue (is_call decls.names c)) call [] lawful (All-nil (λ c. IsTrue (is_call decls.names c))));
+  lawful = All-append (λ c. IsTrue (is_call decls c)) history (call ∷ []) legal.lawful (All-cons (λ c. IsTrue (is_call decls c)) call [] lawful (All-nil (λ c. IsTrue (is_call decls c))));
   unrefused = unrefused_more decls.names (opening decls.devices) history call legal.unrefused due.unrefused;
   distinct = distinct_more history call legal.distinct due.new;
 }
 
-pub legal_last : (decls : Decls) (history : List Call) (call : Call) → IsLegal decls (history ++ call ∷ []) → IsTrue (is_call decls.names call) × IsDue decls history call
+pub legal_last : (decls : Decls) (history : List Call) (call : Call) → IsLegal decls (history ++ call ∷ []) → IsTrue (is_call decls call) × IsDue decls history call
 legal_last decls history call legal = (
-  All-contains (λ c. IsTrue (is_call decls.names c)) (history ++ call ∷ []) call legal.lawful (Contains-push history call),
+  All-contains (λ c. IsTrue (is_call decls c)) (history ++ call ∷ []) call legal.lawful (Contains-push history call),
   record {
     new = distinct_last history call legal.distinct;
     unrefused = unrefused_last decls.names (opening decls.devices) history call legal.unrefused;
@@ -82,7 +82,7 @@ distinct_front (call ∷ a) b h = (All-front (λ entry. IsSame entry call → �
 -- a front of a legal history is legal
 pub legal_front : (decls : Decls) (a b : List Call) → IsLegal decls (a ++ b) → IsLegal decls a
 legal_front decls a b legal = record {
-  lawful = All-front (λ call. IsTrue (is_call decls.names call)) a b legal.lawful;
+  lawful = All-front (λ call. IsTrue (is_call decls call)) a b legal.lawful;
   unrefused = unrefused_front decls.names (opening decls.devices) a b legal.unrefused;
   distinct = distinct_front a b legal.distinct;
 }

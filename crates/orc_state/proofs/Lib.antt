@@ -3,6 +3,7 @@ pub mod Traces
 pub mod Overlays
 pub mod Trees
 pub mod Fits
+pub mod Declared
 pub mod Services
 pub mod Legality
 pub mod Removals

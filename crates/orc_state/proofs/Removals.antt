@@ -186,7 +186,7 @@ legal_without decls before between later create delete id writes makes goes othe
     (unrefused_front names s (before ++ create ∷ [] ++ between ++ delete ∷ []) later legal.unrefused) in
     let absent = absent_before names s before between create id writes makes made in (
       record {
-        lawful = two_less (All (λ call. IsTrue (is_call names call))) (All-less (λ call. IsTrue (is_call names call)))
+        lawful = two_less (All (λ call. IsTrue (is_call decls call))) (All-less (λ call. IsTrue (is_call decls call)))
             before between later create delete legal.lawful;
         unrefused = unrefused_without names s before between later create delete id writes makes goes other legal.unrefused;
         distinct = two_less AreDistinct distinct_less before between later create delete legal.distinct;

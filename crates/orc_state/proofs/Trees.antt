@@ -10,9 +10,13 @@ use Rattle.orc_path.specs.Configurations.{Config, IsConfig, put_item}
 use Rattle.orc_path.proofs.ConfigurationLaws.{IsConfig-empty, IsConfig-put_item, IsConfig-overlay}
 use Rattle.orc_state.specs.States.{action_of, is_same_text, config_of, part, put_all, puts_on, expansion, opening, overlay_all, after}
 use Rattle.orc_state.specs.Histories.{fold_from}
-use Rattle.orc_state.specs.Calls.{is_put, is_item_at, is_write, is_device, is_action}
+use Rattle.orc_schema.specs.Schemas.{SchemaTable}
+use Rattle.orc_state.specs.Calls.{is_item_at, is_put, is_write, is_device, is_action, schema_in, schema_named}
+use Rattle.orc_state.specs.declared.declarations.Decls.{Decls}
+use Rattle.orc_state.specs.Legal.{state_of}
 use Rattle.orc_state.specs.Laws.{TreeIsConfiguration}
 use Rattle.orc_state.proofs.Services.{after-bases}
+use Rattle.orc_state.proofs.Fits.{base-items, item-under, list_all_weaker, write-item}
 use Rattle.orc_call.specs.declared.call.Put.{Put}
 use Rattle.orc_state.specs.declared.declarations.Device.{Device}
 use Rattle.orc_call.specs.declared.call.Call.{Call}
@@ -22,19 +26,25 @@ use Rattle.orc_call.specs.declared.call.DevicePut.{DevicePut}
 use Rattle.orc_state.specs.declared.state.Service.{Service}
 use Rattle.orc_state.specs.declared.state.State.{State}
 
-IsConfig-put_all : (puts : List Put) (m : Config) → list_all is_put puts ≡ true → IsConfig m → IsConfig (put_all puts m)
+-- an item that may stand somewhere, whatever the schema
+abbrev is_put_somewhere : Put → Bool
+is_put_somewhere put = is_item_at put.path put.item
+
+IsConfig-put_all : (puts : List Put) (m : Config) → list_all is_put_somewhere puts ≡ true → IsConfig m → IsConfig (put_all puts m)
 IsConfig-put_all [] m h c = c
 IsConfig-put_all (p ∷ ps) m h c =
     let item = first_so _ _ h in
     IsConfig-put_all ps (put_item m p.path p.item) (second_so _ _ h)
     (IsConfig-put_item m p.path p.item c (first_so _ _ (first_so _ _ (first_so _ _ item))) (second_so _ _ item))
 
-are_puts : (names : List (List ℕ)) (name : List ℕ) (writes : List DevicePut) → list_all (is_write names) writes ≡ true → list_all is_put (puts_on name writes) ≡ true
-are_puts names name [] h = refl
-are_puts names name (w ∷ ws) h = on (second_so _ _ (first_so _ _ h)) (are_puts names name ws (second_so _ _ h)) (is_same_text w.device name)
+are_puts : (decls : Decls) (name : List ℕ) (writes : List DevicePut) → list_all (is_write decls) writes ≡ true → list_all is_put_somewhere (puts_on name writes) ≡ true
+are_puts decls name [] h = refl
+are_puts decls name (w ∷ ws) h =
+    on (item-under (schema_named decls.schemas decls.devices w.device) w.path w.item (write-item decls w (first_so (is_write decls w) (list_all (is_write decls) ws) h)))
+    (are_puts decls name ws (second_so (is_write decls w) (list_all (is_write decls) ws) h)) (is_same_text w.device name)
   where
-    on : is_item_at w.path w.item ≡ true → list_all is_put (puts_on name ws) ≡ true → (t : Bool)
-        → list_all is_put (if t then record { path = w.path; item = w.item } ∷ puts_on name ws else puts_on name ws) ≡ true
+    on : is_item_at w.path w.item ≡ true → list_all is_put_somewhere (puts_on name ws) ≡ true → (t : Bool)
+        → list_all is_put_somewhere (if t then record { path = w.path; item = w.item } ∷ puts_on name ws else puts_on name ws) ≡ true
     on item rest true = and_from _ _ item rest
     on item rest false = rest
 
@@ -43,16 +53,21 @@ IsConfig-config_of [] d h = IsConfig-empty
 IsConfig-config_of (m ∷ ms) zero h = h 0 m (omega arith)
 IsConfig-config_of (m ∷ ms) (suc d) h = IsConfig-config_of ms d (All-tail IsConfig m ms h)
 
-expansion_configs : (all names : List (List ℕ)) (writes : List DevicePut) → list_all (is_write all) writes ≡ true → All IsConfig (expansion names writes)
-expansion_configs all [] writes h = All-nil IsConfig
-expansion_configs all (name ∷ names) writes h =
-    All-cons IsConfig _ _ (IsConfig-put_all (puts_on name writes) empty (are_puts all name writes h) IsConfig-empty) (expansion_configs all names writes h)
+expansion_configs : (decls : Decls) (names : List (List ℕ)) (writes : List DevicePut) → list_all (is_write decls) writes ≡ true → All IsConfig (expansion names writes)
+expansion_configs decls [] writes h = All-nil IsConfig
+expansion_configs decls (name ∷ names) writes h =
+    All-cons IsConfig _ _ (IsConfig-put_all (puts_on name writes) empty (are_puts decls name writes h) IsConfig-empty) (expansion_configs decls names writes h)
 
-opening_configs : (devices : List Device) → All (λ device. is_device device ≡ true) devices → All IsConfig (opening devices).bases
-opening_configs [] h = All-nil IsConfig
-opening_configs (device ∷ devices) h =
-    All-cons IsConfig _ _ (IsConfig-put_all device.base empty (second_so _ _ (h 0 device (omega arith))) IsConfig-empty)
-    (opening_configs devices (All-tail (λ device. is_device device ≡ true) device devices h))
+are_puts_of_base : (schemas : List SchemaTable) (device : Device) → is_device schemas device ≡ true → list_all is_put_somewhere device.base ≡ true
+are_puts_of_base schemas device h =
+    let schema = schema_in schemas device.schema in
+    list_all_weaker (is_put schema) is_put_somewhere (λ p q. item-under schema p.path p.item q) device.base (base-items schemas device h)
+
+opening_configs : (schemas : List SchemaTable) (devices : List Device) → All (λ device. is_device schemas device ≡ true) devices → All IsConfig (opening devices).bases
+opening_configs schemas [] h = All-nil IsConfig
+opening_configs schemas (device ∷ devices) h =
+    All-cons IsConfig _ _ (IsConfig-put_all device.base empty (are_puts_of_base schemas device (h 0 device (omega arith))) IsConfig-empty)
+    (opening_configs schemas devices (All-tail (λ device. is_device schemas device ≡ true) device devices h))
 
 -- a service writes a configuration on each device
 abbrev WritesConfigs : Service → Type 0
@@ -65,25 +80,26 @@ overlaid_config (a ∷ rest) d base h c =
     overlaid_config rest d _ (All-tail WritesConfigs a rest h)
     (IsConfig-overlay (part a d) base (IsConfig-config_of a.parts d (h 0 a (omega arith))) c)
 
-after_configs : (names : List (List ℕ)) (s : State) (action : Action) → is_action names action ≡ true → All WritesConfigs s.live → All WritesConfigs (after names s action).live
-after_configs names s (Literal id writes) h live =
-    let service : Service = record { id = id; parts = expansion names writes } in
+after_configs : (decls : Decls) (s : State) (action : Action) → is_action decls action ≡ true → All WritesConfigs s.live → All WritesConfigs (after decls.names s action).live
+after_configs decls s (Literal id writes) h live =
+    let service : Service = record { id = id; parts = expansion decls.names writes } in
     All-append WritesConfigs _ _ (All-filter (λ x. _) WritesConfigs s.live live)
-    (All-cons WritesConfigs service [] (expansion_configs names names writes (second_so _ _ h)) (All-nil WritesConfigs))
-after_configs names s (Delete id) h live = All-filter (λ x. _) WritesConfigs s.live live
-after_configs names s other h live = live
+    (All-cons WritesConfigs service [] (expansion_configs decls decls.names writes (second_so _ (list_all (is_write decls) writes) h)) (All-nil WritesConfigs))
+after_configs decls s (Delete id) h live = All-filter (λ x. _) WritesConfigs s.live live
+after_configs decls s other h live = live
 
-fold_configs : (names : List (List ℕ)) (s : State) (calls : List Call) → All (λ call. is_action names (action_of call) ≡ true) calls
+fold_configs : (decls : Decls) (s : State) (calls : List Call) → All (λ call. is_action decls (action_of call) ≡ true) calls
     → All WritesConfigs s.live → All IsConfig s.bases
-    → All WritesConfigs (fold_from names s calls).live × All IsConfig (fold_from names s calls).bases
-fold_configs names s [] h live bases = (live, bases)
-fold_configs names s (call ∷ calls) h live bases =
-    fold_configs names (after names s (action_of call)) calls (All-tail (λ (c : Call). is_action names (action_of c) ≡ true) call calls h)
-    (after_configs names s (action_of call) (h 0 call (omega arith)) live)
-    (subst (All IsConfig) (sym (after-bases names s (action_of call))) bases)
+    → All WritesConfigs (fold_from decls.names s calls).live × All IsConfig (fold_from decls.names s calls).bases
+fold_configs decls s [] h live bases = (live, bases)
+fold_configs decls s (call ∷ calls) h live bases =
+    fold_configs decls (after decls.names s (action_of call)) calls (All-tail (λ (c : Call). is_action decls (action_of c) ≡ true) call calls h)
+    (after_configs decls s (action_of call) (h 0 call (omega arith)) live)
+    (subst (All IsConfig) (sym (after-bases decls.names s (action_of call))) bases)
 
 pub trees_are_configs : TreeIsConfiguration
-trees_are_configs names devices history d devices_are calls_are =
-    let s = fold_from names (opening devices) history in
-    let both = fold_configs names (opening devices) history calls_are (All-nil WritesConfigs) (opening_configs devices devices_are) in
+trees_are_configs decls history d devices_are calls_are =
+    let s = state_of decls history in
+    let both =
+    fold_configs decls (opening decls.devices) history calls_are (All-nil WritesConfigs) (opening_configs decls.schemas decls.devices devices_are) in
     overlaid_config s.live d (config_of s.bases d) both.0 (IsConfig-config_of s.bases d both.1)

@@ -23,10 +23,10 @@ use Rattle.orc_state.specs.declared.state.State.{State}
 -- Where the calls of a history are ones that call blocks can give, the tree of each device is a configuration.
 abbrev pub TreeIsConfiguration : Type 0
 TreeIsConfiguration =
-    (names : List (List ℕ)) (devices : List Device) (history : List Call) (device : ℕ)
-    → All (λ declared. IsTrue (is_device declared)) devices
-    → All (λ call. IsTrue (is_action names (action_of call))) history
-    → IsConfig (tree_due (fold_from names (opening devices) history) device)
+    (decls : Decls) (history : List Call) (device : ℕ)
+    → All (λ declared. IsTrue (is_device decls.schemas declared)) decls.devices
+    → All (λ call. IsTrue (is_action decls (action_of call))) history
+    → IsConfig (tree_due (state_of decls history) device)
 
 -- two services write no unequal items at one path of a device
 abbrev pub Agree : Service → Service → Type 0

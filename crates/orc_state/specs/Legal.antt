@@ -26,7 +26,7 @@ AreDistinct (call ∷ calls) = IsNew calls call × AreDistinct calls
 -- A history is legal: each call is one that a call block can give, none is refused where it stands, and no caller and
 -- number stand twice.
 pub record IsLegal (decls : Decls) (history : List Call) : Type 0 where
-  pub lawful : All (λ call. IsTrue (is_call decls.names call)) history
+  pub lawful : All (λ call. IsTrue (is_call decls call)) history
   pub unrefused : IsUnrefused decls.names (opening decls.devices) history
   pub distinct : AreDistinct history
 

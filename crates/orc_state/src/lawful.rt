@@ -1,19 +1,23 @@
 //! Which calls a call block can give.
 ghost use Rattle.std.specs.Prelude.{◌≡◌};
-ghost use Rattle.std.specs.List.{list_all, list_any};
-ghost use Rattle.orc_state.specs.States.{is_same_text};
-ghost use Rattle.orc_state.specs.Calls.{is_action, is_call, is_item_at, is_lawful_item, is_lawful_name, is_write};
+ghost use Rattle.std.specs.Prelude.{option_map};
+ghost use Rattle.std.specs.List.{list_all};
+ghost use Rattle.orc_typed.specs.Typed.{is_typed};
+ghost use Rattle.orc_state.specs.Calls.{device_named, is_action, is_call, is_item_at, is_lawful_item, is_lawful_name, is_write, schema_in};
 
+use crate::{Decls, Device};
 use orc_call::{Action, Call, DevicePut};
 use orc_path::{Item, Path, is_identifier, is_long_name, is_long_value, is_value};
+use orc_schema::Schema;
 use orc_text::Text;
+use orc_typed::is_typed;
 
 /// The most writes of a literal service.
 pub const MOST_WRITES: usize = 16_777_216;
 
-/// Whether a call block under declarations of devices of these names can give the call.
-pub fn is_call(names: &[Text], call: &Call) -> bool
-    ensures { result ≡ is_call names.now call.now }
+/// Whether a call block under these declarations can give the call.
+pub fn is_call(decls: &Decls, call: &Call) -> bool
+    ensures { result ≡ is_call decls.now call.now }
 {
     // Read, so that its range is known to the proof.
     let _number = call.number;
@@ -21,20 +25,20 @@ pub fn is_call(names: &[Text], call: &Call) -> bool
         return false;
     }
     match call.actions.as_slice() {
-        [action] => is_action(names, action),
+        [action] => is_action(decls, action),
         _ => false,
     }
 }
 
 // Whether a call block can give the action.
-fn is_action(names: &[Text], action: &Action) -> bool
-    ensures { result ≡ is_action names.now action.now }
+fn is_action(decls: &Decls, action: &Action) -> bool
+    ensures { result ≡ is_action decls.now action.now }
 {
     match action {
         Action::Literal(id, writes) => {
             is_lawful_name(id.as_str())
                 && writes.len() <= MOST_WRITES
-                && are_writes(names, writes.as_slice())
+                && are_writes(decls, writes.as_slice())
         }
         Action::Delete(id) => is_lawful_name(id.as_str()),
         _ => false,
@@ -42,24 +46,40 @@ fn is_action(names: &[Text], action: &Action) -> bool
 }
 
 // Whether it can give the writes.
-fn are_writes(names: &[Text], writes: &[DevicePut]) -> bool
-    ensures { result ≡ list_all (is_write names.now) writes.now }
+fn are_writes(decls: &Decls, writes: &[DevicePut]) -> bool
+    ensures { result ≡ list_all (is_write decls.now) writes.now }
 {
-    writes.iter().all(|write| is_write(names, write))
+    writes.iter().all(|write| is_write(decls, write))
 }
 
-// Whether a write is on a declared device, and its item may stand there.
-fn is_write(names: &[Text], write: &DevicePut) -> bool
-    ensures { result ≡ is_write names.now write.now }
+// Whether a write is on a declared device, and its item may stand there under the device's schema.
+fn is_write(decls: &Decls, write: &DevicePut) -> bool
+    ensures { result ≡ is_write decls.now write.now }
 {
-    is_name(names, &write.device) && is_item_at(&write.path, &write.item)
+    match device_named(decls.devices.as_slice(), &write.device) {
+        Some(device) => {
+            is_item_at(&write.path, &write.item)
+                && is_typed_in(decls.schemas.as_slice(), device.schema, write)
+        }
+        None => false,
+    }
 }
 
-// Whether a device of this name is declared.
-fn is_name(names: &[Text], device: &Text) -> bool
-    ensures { result ≡ list_any (is_same_text device.now) names.now }
+// The first device of this name.
+fn device_named<'a>(devices: &'a [Device], name: &Text) -> Option<&'a Device>
+    ensures { option_map (λ device. device.now) result ≡ device_named devices.now name.now }
 {
-    names.iter().any(|name| *device == *name)
+    devices.iter().find(|device| *name == device.name)
+}
+
+// Whether the schema of a place has the item of a write, in its canonical form.
+fn is_typed_in(schemas: &[Schema], place: u32, write: &DevicePut) -> bool
+    ensures { result ≡ is_typed (schema_in schemas.now place) write.now.path write.now.item }
+{
+    match schemas.get(place as usize) {
+        Some(schema) => is_typed(schema, &write.path, &write.item),
+        None => true,
+    }
 }
 
 /// Whether an item may stand at a path of a bundle.

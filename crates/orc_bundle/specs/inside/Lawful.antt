@@ -1,11 +1,14 @@
 -- What was read so far is lawful.
-use Rattle.std.specs.Prelude.{◌≡◌, ◌≤◌, ◌+◌, ◌^◌, ℕ, Bool, true, ◌&&◌, nat_lt, List, length, IsTrue, Result}
+use Rattle.std.specs.Prelude.{◌≡◌, ◌≤◌, ◌+◌, ◌^◌, ℕ, suc, Bool, true, ◌&&◌, nat_lt, List, [], length, slice_get, IsTrue, Result}
 use Rattle.std.specs.declared.result.Result.TheVariants.{Ok, Err}
+use Rattle.std.specs.declared.option.Option.TheVariants.{Some}
 use Rattle.std.specs.List.{list_all}
+use Rattle.orc_schema.specs.Schemas.{plain_table}
 use Rattle.orc_state.specs.States.{names_of}
 use Rattle.orc_state.specs.Calls.{is_device, is_lawful_name, is_write}
+use Rattle.orc_state.specs.declared.declarations.Decls.{Decls}
 use Rattle.orc_state.specs.declared.declarations.TheConstants.{MOST_DEVICES}
-use Rattle.orc_bundle.specs.Bundles.{is_step}
+use Rattle.orc_bundle.specs.Bundles.{decls_with, is_step}
 use Rattle.orc_bundle.specs.declared.declarations.Declared.{Declared}
 use Rattle.orc_bundle.specs.declared.bundle.TheConstants.{LARGEST_BUNDLE}
 use Rattle.orc_bundle.specs.declared.read.Behind.{Behind}
@@ -16,24 +19,30 @@ use Rattle.orc_bundle.specs.declared.script.Part.TheVariants as part
 -- what was declared so far
 pub record AreDeclared (d : Declared) : Type 0 where
   pub named : d.names ≡ names_of d.devices
-  pub devices : IsTrue (list_all is_device d.devices)
+  pub plain : slice_get d.schemas 0 ≡ Some plain_table
+  pub typed : length d.schemas ≡ suc (length d.types)
+  pub devices : IsTrue (list_all (is_device d.schemas) d.devices)
   pub few : length d.names ≤ MOST_DEVICES
+
+-- the declarations, without their text
+abbrev pub decls_in : Declared → Decls
+decls_in d = decls_with [] d
 
 -- the open call has a lawful caller and number
 abbrev pub has_caller : Script → Bool
 has_caller s = is_lawful_name s.caller && nat_lt s.number (2 ^ 64)
 
 -- the open call, and its action
-abbrev pub is_open : List (List ℕ) → Script → Part → Bool
-is_open names s part.Steps = true
-is_open names s part.Call = has_caller s
-is_open names s part.Literal = has_caller s && is_lawful_name s.name && list_all (is_write names) s.writes
-is_open names s part.Delete = has_caller s && is_lawful_name s.name
+abbrev pub is_open : Decls → Script → Part → Bool
+is_open decls s part.Steps = true
+is_open decls s part.Call = has_caller s
+is_open decls s part.Literal = has_caller s && is_lawful_name s.name && list_all (is_write decls) s.writes
+is_open decls s part.Delete = has_caller s && is_lawful_name s.name
 
 -- the steps so far, and the open call; there are at most so many writes
-pub record AreSteps (names : List (List ℕ)) (most : ℕ) (s : Script) : Type 0 where
-  pub steps : IsTrue (list_all (is_step names) s.steps)
-  pub call : IsTrue (is_open names s s.part)
+pub record AreSteps (decls : Decls) (most : ℕ) (s : Script) : Type 0 where
+  pub steps : IsTrue (list_all (is_step decls) s.steps)
+  pub call : IsTrue (is_open decls s s.part)
   pub few : length s.writes ≤ most
 
 -- the bytes behind the declarations; none where they are at fault

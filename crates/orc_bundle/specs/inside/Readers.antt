@@ -7,6 +7,8 @@ use Rattle.orc_state.specs.declared.fault.BundleFault.{BundleFault}
 use Rattle.orc_state.specs.declared.fault.BundleFault.TheVariants as bundle
 use Rattle.orc_yang.specs.declared.fault.YangFault.{YangFault}
 use Rattle.orc_yang.specs.declared.fault.YangFault.TheVariants as yang
+use Rattle.orc_schema.specs.declared.fault.SchemaFault.{SchemaFault}
+use Rattle.orc_schema.specs.declared.fault.SchemaFault.TheVariants as schema
 use Rattle.orc_bundle.specs.declared.fault.LineFault.{LineFault}
 use Rattle.orc_bundle.specs.declared.fault.LineFault.TheVariants.{Breaks, Memory}
 use Rattle.orc_bundle.specs.Bundles.{Front}
@@ -51,6 +53,16 @@ of_yang (yang.BadEscape at) = Breaks rule.Yang
 of_yang (yang.OpenString at) = Breaks rule.Yang
 of_yang (yang.OpenBlock at) = Breaks rule.Yang
 of_yang (yang.Depth at) = Breaks rule.Yang
+
+-- what the reader of a line makes of a fault in the modules that it names
+abbrev pub of_schema : SchemaFault → LineFault
+of_schema schema.Memory = Memory
+of_schema (schema.Unsupported keyword) = Breaks rule.Schema
+of_schema (schema.Unknown name) = Breaks rule.Schema
+of_schema (schema.Duplicate name) = Breaks rule.Schema
+of_schema (schema.BadArgument keyword) = Breaks rule.Schema
+of_schema (schema.NoKey list) = Breaks rule.Schema
+of_schema (schema.Loop name) = Breaks rule.Schema
 
 -- what a fault of the line of this number is
 abbrev pub in_line : ℕ → LineFault → BundleFault

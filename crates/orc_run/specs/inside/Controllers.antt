@@ -104,14 +104,14 @@ module _ {D : Type 0} (meaning : DiskMeaning D) where
     pub declared : AreDecls decls
     pub short : length decls.text < 2 ^ 32
     pub sound : IsSound decls c
-    pub lawful : IsTrue (is_step decls.names step)
+    pub lawful : IsTrue (is_step decls step)
 
   -- the steps of a script under the declarations can be done
   pub record CanRun (decls : Decls) (c : Controller D) (steps : List ScriptStep) : Type 0 where
     pub declared : AreDecls decls
     pub short : length decls.text < 2 ^ 32
     pub sound : IsSound decls c
-    pub lawful : IsTrue (list_all (is_step decls.names) steps)
+    pub lawful : IsTrue (list_all (is_step decls) steps)
 
   -- where a step led
   abbrev pub StepsTo : Decls → View D → ScriptStep → StepResult D → Type 0

@@ -2,7 +2,7 @@ use Rattle.std.proofs.Common.{sym, ◌∙◌, ap, true, false, ℕ, List}
 use Rattle.std.specs.List.{list_any}
 use Rattle.orc_yang.specs.declared.statement.Stmt.TheViews.{out-Stmt}
 use Rattle.orc_bundle.specs.Modules.{has_long_name, is_long_head}
-use Rattle.orc_bundle.proofs.Statements.{long_below, found_at, found_none}
+use Rattle.orc_bundle.proofs.LongNames.{long_below, found_at, found_none}
 use Rattle.orc_bundle.proofs.module.+has_long_name.Goals as goal
 
 pub returns-then-has_long_name : goal.returns-then-has_long_name

@@ -1,12 +1,16 @@
-use Rattle.std.proofs.Common.{◌≡◌, ◌≤◌, ℕ, List, length, true, arith, ap, sym, subst, ◌∙◌}
+use Rattle.std.proofs.Common.{◌≡◌, ◌≤◌, ℕ, List, [], length, true, arith, ap, sym, subst, ◌∙◌}
 use Rattle.std.specs.List.{IsDistinct, list_all}
 use Rattle.orc_state.specs.States.{is_same_text, names_of}
 use Rattle.orc_state.specs.declared.declarations.TheConstants.{MOST_DEVICES}
-use Rattle.orc_bundle.specs.Bundles.{is_step}
+use Rattle.orc_bundle.specs.Bundles.{declarations_of, decls_with, is_step}
 use Rattle.orc_bundle.specs.Lines.{lines_of}
+use Rattle.orc_bundle.specs.declared.declarations.Declared.{Declared}
 use Rattle.orc_bundle.specs.inside.Costs.{is_kept}
+use Rattle.orc_bundle.specs.inside.Readers.{front_of}
 use Rattle.orc_bundle.proofs.Costs.{to_bytes}
 use Rattle.orc_bundle.proofs.Grown.{settled_script}
+use Rattle.orc_bundle.proofs.ScriptFaults.{script_fault}
+use Rattle.orc_bundle.proofs.StepsLawful.{steps_same}
 use Rattle.orc_bundle.proofs.WrittenDevices.{names_size}
 use Rattle.orc_bundle.proofs.read.read_seen.Goals as goal
 
@@ -19,17 +23,21 @@ returns-then-lacks_header-clause-cost g c =
 pub returns-clause-lawful : goal.returns-clause-lawful
 returns-clause-lawful g c =
     let behind = c.in_ok-behind.behind in
-    let script = settled_script c.read_declarations.new.declared.names behind.at behind.number (lines_of behind.later.now) c.in_ok-script.script c.in_ok-script.ensures.answer in
+    let declared = c.read_declarations.new.declared in
+    let text = c.in_ok-text.text in
+    let script = settled_script declared behind.at behind.number (lines_of behind.later.now) c.in_ok-script.script c.in_ok-script.ensures.answer in
     let known = c.in_ok-behind.ensures.lawful in
     let same = sym c.in_ok-names.ensures.row in
     record {
       decls = record {
         named = c.in_ok-names.ensures.row ∙ known.named;
+        plain = known.plain;
         distinct = subst (λ (names : List (List ℕ)). IsDistinct is_same_text names) same c.in_ok-names.ensures.distinct;
         devices = known.devices;
         few = few_of known.named known.few;
       };
-      steps = subst (λ (names : List (List ℕ)). list_all (is_step names) c.in_ok-script.script ≡ true) same c.in_ok-script.ensures.lawful;
+      steps = subst (λ (names : List (List ℕ)). list_all (is_step (record (decls_with text declared) { names = names })) c.in_ok-script.script ≡ true) same
+          (sym (steps_same [] text declared c.in_ok-script.script) ∙ c.in_ok-script.ensures.lawful);
       settled = script.0;
       few = script.1;
       callers = script.2;
@@ -43,3 +51,15 @@ returns-clause-counts g c =
     let one = c.lacks_header.ensures.cost in
     let two = c.in_ok-behind.ensures.counts in
     let three = c.in_ok-script.ensures.counts in omega arith
+
+pub returns-in_err-declared-clause-cost : goal.returns-in_err-declared-clause-cost
+returns-in_err-declared-clause-cost g c =
+    let one = c.lacks_header.ensures.cost in
+    let within = to_bytes is_kept c.args.bytes.now in omega arith
+
+pub returns-in_err-script-clause-gives : goal.returns-in_err-script-clause-gives
+returns-in_err-script-clause-gives g c =
+    let lines = lines_of c.args.bytes.now in
+    script_fault c.args.bytes.now lines (front_of c.read_declarations.new.declared c.in_ok-behind.behind) _ c.in_err-script.field-0.0
+    c.from_residual-in_err-script.ensures.1 (sym c.if-lacks_header.ensures.lacks)
+    (ap (λ (d : Declared). declarations_of d 0 0 lines) (sym c.in_ok-declared.ensures) ∙ c.in_ok-behind.ensures.answer) c.in_err-script.ensures.answer

@@ -9,7 +9,7 @@ use Rattle.orc_bundle.proofs.read.read_steps.Goals as goal
 
 pub lines-preserved : goal.lines-preserved
 lines-preserved g c =
-    let names = c.args.names.now in
+    let d = c.args.declared.now in
     let line = c.first_line.result.0.now in
     let later = c.first_line.result.1.now in
     let inv = c.lines.invariant in
@@ -20,8 +20,8 @@ lines-preserved g c =
     let count = inv.2 in
     let small = inv.3 in (
       inv.0
-          ∙ ap (script_steps names c.lines.script c.lines.at c.lines.number) c.first_line.ensures.lines
-          ∙ ap (λ (r : Result Script Rule). on_line (c.lines.number + 1) r (λ t. script_steps names t (c.lines.at + length line) (c.lines.number + 1) (lines_of later))) c.in_default.ensures.takes,
+          ∙ ap (script_steps d c.lines.script c.lines.at c.lines.number) c.first_line.ensures.lines
+          ∙ ap (λ (r : Result Script Rule). on_line (c.lines.number + 1) r (λ t. script_steps d t (c.lines.at + length line) (c.lines.number + 1) (lines_of later))) c.in_default.ensures.takes,
       omega arith,
       omega arith,
       c.in_default.ensures.small,
@@ -29,7 +29,7 @@ lines-preserved g c =
       (let line_steps = c.first_line.ensures.cost in
           let looked = c.take.ensures.cost in
           let is = ap (ahead_scripted c.lines.script.part) c.first_line.ensures.lines in
-          let pays = scripted_pays names c.lines.script c.lines.at line (lines_of later) c.take.new.self c.in_default.ensures.takes in
+          let pays = scripted_pays d c.lines.script c.lines.at line (lines_of later) c.take.new.self c.in_default.ensures.takes in
           let so_far = inv.5 in omega arith),
       (let least = inv.6 in let more = c.take.ensures.counts in let line_steps = c.first_line.ensures.cost in omega arith),
     )

@@ -3,18 +3,18 @@ use Rattle.orc_bundle.specs.Lines.{lines_of}
 use Rattle.orc_bundle.specs.Bundles.{script_steps}
 use Rattle.orc_bundle.specs.Scripts.{no_steps}
 use Rattle.orc_bundle.specs.inside.Costs.{ahead_scripted}
-use Rattle.orc_bundle.specs.inside.Lawful.{AreSteps}
+use Rattle.orc_bundle.specs.inside.Lawful.{AreSteps, decls_in}
 use Rattle.orc_bundle.specs.declared.bundle.TheConstants.{LARGEST_BUNDLE}
 use Rattle.orc_bundle.proofs.read.read_steps.Given as goal
 
 -- the lines behind decide
 abbrev pub invariant-lines : goal.invariant-lines
 invariant-lines g l =
-    (script_steps l.names no_steps l.fn.at l.fn.number (lines_of l.bytes) ≡ script_steps l.names l.script l.at l.number (lines_of l.rest))
+    (script_steps l.declared no_steps l.fn.at l.fn.number (lines_of l.bytes) ≡ script_steps l.declared l.script l.at l.number (lines_of l.rest))
     × (l.at + length l.rest ≡ l.fn.at + length l.bytes)
     × (l.number ≤ l.at)
     × (l.at ≤ LARGEST_BUNDLE)
-    × AreSteps l.names l.number l.script
+    × AreSteps (decls_in l.declared) l.number l.script
     × (l.steps + 2 * length l.rest ≤ l.initial.steps + 2 * length l.bytes + ahead_scripted l.script.part (lines_of l.rest))
     × (l.initial.steps + length l.bytes ≤ l.steps + length l.rest)
 

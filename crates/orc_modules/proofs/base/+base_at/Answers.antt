@@ -1,4 +1,4 @@
-use Rattle.std.proofs.Common.{◌≡◌, IfOk, codes, ℕ, suc, ◌-◌, ◌∷◌, sym, ◌∙◌, ap, subst, arith}
+use Rattle.std.proofs.Common.{◌≡◌, IfOk, codes, suc, ◌-◌, sym, ◌∙◌, ap, subst, arith}
 use Rattle.orc_types.specs.BuiltIn.{built_in}
 use Rattle.orc_types.specs.Statements.{first_of}
 use Rattle.orc_modules.specs.Bases.{named_typedef, base_of}

@@ -1,5 +1,5 @@
 -- Each call goes one less deep, and what is left of the block decides.
-use Rattle.std.proofs.Common.{◌≡◌, ℕ, ◌-◌}
+use Rattle.std.proofs.Common.{◌≡◌, ◌-◌}
 use Rattle.std.specs.Prelude.{drop}
 use Rattle.std.specs.List.{list_any}
 use Rattle.orc_types.specs.Statements.{subs}

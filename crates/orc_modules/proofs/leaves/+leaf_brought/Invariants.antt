@@ -1,5 +1,5 @@
 -- Each call goes one less deep, and what is left of the block decides.
-use Rattle.std.proofs.Common.{◌≡◌, ℕ, ◌-◌, ◌∷◌}
+use Rattle.std.proofs.Common.{◌≡◌, ◌-◌, ◌∷◌}
 use Rattle.std.specs.Prelude.{drop}
 use Rattle.orc_types.specs.Statements.{subs}
 use Rattle.orc_modules.specs.Stack.{stack, modules_of}

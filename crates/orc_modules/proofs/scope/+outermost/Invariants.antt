@@ -1,5 +1,5 @@
 -- Each call has one statement fewer around.
-use Rattle.std.proofs.Common.{ℕ, length}
+use Rattle.std.proofs.Common.{length}
 use Rattle.orc_modules.specs.Stack.{stack}
 use Rattle.orc_modules.proofs.scope.+outermost.Given as goal
 

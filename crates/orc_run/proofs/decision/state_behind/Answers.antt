@@ -6,4 +6,4 @@ use Rattle.orc_state.proofs.Fits.{devices-fit}
 use Rattle.orc_run.proofs.decision.state_behind.Goals as goal
 
 pub open-requires : goal.open-requires
-open-requires c = subst (λ (ds : List Device). IsTrue (fits_devices ds)) (sym c.as_slice.ensures) (devices-fit c.args.decls.now.devices c.requires.decls.devices)
+open-requires c = subst (λ (ds : List Device). IsTrue (fits_devices ds)) (sym c.as_slice.ensures) (devices-fit c.args.decls.now.schemas c.args.decls.now.devices c.requires.decls.devices)

@@ -17,7 +17,7 @@ run_step-requires g c =
         declared = can.declared;
         short = can.short;
         sound = c.loop-step.invariant.sound;
-        lawful = list_all-read (is_step c.args.decls.now.names) c.args.steps.now c.loop-step.step-index c.step-item.result c.loop-step-test.true c.step-item.is can.lawful;
+        lawful = list_all-read (is_step c.args.decls.now) c.args.steps.now c.loop-step.step-index c.step-item.result c.loop-step-test.true c.step-item.is can.lawful;
       };
     }
 

@@ -1,6 +1,19 @@
-use Rattle.orc_bundle.proofs.Lawful.{based}
+use Rattle.std.proofs.Common.{◌≡◌, ℕ, true, List, ◌∙◌, ap, sym, subst, Some}
+use Rattle.orc_schema.specs.Schemas.{SchemaTable}
+use Rattle.orc_state.specs.Calls.{is_put, schema_named}
+use Rattle.orc_bundle.specs.Names.{place_of}
+use Rattle.orc_bundle.proofs.Lawful.{based, schema_at}
+use Rattle.orc_bundle.proofs.SchemaPlaces.{schema_placed}
 use Rattle.orc_bundle.proofs.declarations.Declared.take_base.Goals as goal
 
 pub returns-clause-lawful : goal.returns-clause-lawful
 returns-clause-lawful c = λ declared.
-    based c.args.self.now c.in-Some-place.n c.in_ok-put.put c.add_base.new.devices declared c.in_ok-put.ensures.lawful c.in_ok-add_base.ensures
+    let d = c.args.self.now in
+    let n = c.in-Some-place.n in
+    let put = c.in_ok-put.put in
+    let name = c.in_ok-name.name in
+    let placed : schema_named d.schemas d.devices name ≡ schema_at d.schemas d.devices n =
+    schema_placed d.schemas d.devices name (Some n) (ap (λ (ns : List (List ℕ)). place_of ns name) (sym declared.named) ∙ sym c.in-Some-place.ensures.place) in
+    let lawful : is_put (schema_named d.schemas d.devices name) put ≡ true =
+    subst (λ (s : SchemaTable). is_put s put ≡ true) c.schema_named.ensures c.in_ok-put.ensures.lawful in
+    based d n put c.add_base.new.devices declared (subst (λ (s : SchemaTable). is_put s put ≡ true) placed lawful) c.in_ok-add_base.ensures

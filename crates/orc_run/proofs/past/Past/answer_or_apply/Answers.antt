@@ -8,9 +8,9 @@ use Rattle.orc_run.proofs.past.Past.answer_or_apply.Goals as goal
 
 pub apply-requires-clause-fit : goal.apply-requires-clause-fit
 apply-requires-clause-fit c =
-    let names = c.args.decls.now.names in
+    let decls = c.args.decls.now in
     let call = c.args.call.now in
-    subst (λ (a : Action). IsTrue (fits_action a)) (sym c.action_of.ensures) (action-fits names (action_of call) (call-action names call c.requires.call))
+    subst (λ (a : Action). IsTrue (fits_action a)) (sym c.action_of.ensures) (action-fits decls (action_of call) (call-action decls call c.requires.call))
 
 pub returns-clause-answer : goal.returns-clause-answer
 returns-clause-answer c =

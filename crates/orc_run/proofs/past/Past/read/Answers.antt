@@ -8,7 +8,7 @@ use Rattle.orc_run.proofs.Pasts.{past_none, past_upto, illegal_at}
 use Rattle.orc_run.proofs.past.Past.read.Goals as goal
 
 pub open-requires : goal.open-requires
-open-requires c = subst (λ (ds : List Device). IsTrue (fits_devices ds)) (sym c.as_slice.ensures) (devices-fit c.args.decls.now.devices c.requires.decls.devices)
+open-requires c = subst (λ (ds : List Device). IsTrue (fits_devices ds)) (sym c.as_slice.ensures) (devices-fit c.args.decls.now.schemas c.args.decls.now.devices c.requires.decls.devices)
 
 pub returns-then-not-branch-clause-illegal : goal.returns-then-not-branch-clause-illegal
 returns-then-not-branch-clause-illegal c = λ place e.

@@ -1,0 +1,11 @@
+mod Blocks
+mod Lawful
+mod TypeFaults
+mod Chains
+mod Numerals
+mod ChildNames
+mod Marks
+mod Ordered
+mod InOrder
+mod Tables
+mod Uses

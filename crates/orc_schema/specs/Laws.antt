@@ -1,0 +1,52 @@
+-- What the definitions make sure of.
+use Rattle.std.specs.Prelude.{ℕ, suc, ◌≡◌, false, List, [], ◌∷◌, ◌++◌, map, Some, None}
+use Rattle.std.specs.List.{All, IsDistinct}
+use Rattle.orc_yang.specs.declared.statement.Stmt.{Stmt}
+use Rattle.orc_modules.specs.declared.parts.Part.TheVariants.{Node}
+use Rattle.orc_modules.specs.Statements.{Place, module_places}
+use Rattle.orc_modules.specs.Scopes.{Modules, the_modules}
+use Rattle.orc_modules.specs.Children.{block_part, is_deeper}
+use Rattle.orc_schema.specs.declared.fault.SchemaFault.{SchemaFault}
+use Rattle.orc_schema.specs.declared.draft.Draft.{Draft}
+use Rattle.orc_schema.specs.Faults.{fault_here, module_fault}
+use Rattle.orc_schema.specs.Drafts.{Where, draft, drafts_below, drafts_of}
+use Rattle.orc_schema.specs.Links.{same_names}
+use Rattle.orc_schema.specs.Schemas.{SchemaTable, Ascends}
+
+-- no statement of the list is at fault
+abbrev pub AreFaultless : List Stmt → List Place → Type 0
+AreFaultless all [] = Unit {0}
+AreFaultless all (p ∷ ps) = (fault_here (the_modules all) p ≡ None) × AreFaultless all ps
+
+-- f is the fault of a statement, and no statement before it in the text is at fault
+pub record IsFirstFault (all : List Stmt) (f : SchemaFault) : Type 0 where
+  pub front : List Place
+  pub place : Place
+  pub back : List Place
+  pub places : module_places [] all ≡ front ++ place ∷ back
+  pub before : AreFaultless all front
+  pub fault : fault_here (the_modules all) place ≡ Some f
+
+-- The fault of modules is that of their first faulty statement in the order of the text.
+abbrev pub FirstFaultIsLeast : Type 0
+FirstFaultIsLeast = (all : List Stmt) (f : SchemaFault) → module_fault all ≡ Some f → IsFirstFault all f
+
+-- a node is what one statement for a node makes of it where it comes to stand
+pub record StandsFor (ms : Modules) (d : Draft) : Type 0 where
+  pub at : Where
+  pub statement : Stmt
+  pub is_node : block_part statement ≡ Node
+  pub made : d ≡ draft ms at statement
+
+-- Each node of modules stands for one statement.
+abbrev pub NodesStandForStatements : Type 0
+NodesStandForStatements = (ms : Modules) (modules : List Stmt) → All (StandsFor ms) (drafts_of ms modules)
+
+-- Where nodes and groupings stand in one another no deeper than n, a greater depth finds nothing more.
+abbrev pub DepthIsNoLimit : Type 0
+DepthIsNoLimit = (n : ℕ) (ms : Modules) (w : Where) (s : Stmt) → is_deeper n ms.all w.above s ≡ false
+    → drafts_below (suc n) ms w s ≡ drafts_below n ms w s
+
+-- No two lines of a schema have the same names.
+abbrev pub NamesDiffer : Type 0
+NamesDiffer = (s : SchemaTable) → Ascends s.lines → IsDistinct same_names (map (λ l. l.names) s.lines)

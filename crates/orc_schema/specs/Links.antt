@@ -1,0 +1,157 @@
+-- Where leafrefs lead: RFC 7950 section 9.9.
+use Rattle.std.specs.Prelude.{ℕ, zero, suc, ◌-◌, Bool, true, false, ◌&&◌, ◌||◌, not, List, [], ◌∷◌, ◌++◌, length, take, nat_lt, Option, Some, None, codes, is_some, unwrap_or, slice_get, option_map, option_and_then, if◌then◌else◌}
+use Rattle.std.specs.List.{find, before_first}
+use Rattle.std.specs.Option.{option_map_or, option_or}
+use Rattle.std.specs.Cmp.Lexicographic.{pointwise, slice_cmp}
+use Rattle.std.specs.Ordering.{nat_cmp}
+use Rattle.std.specs.declared.cmp.Ordering.{Ordering}
+use Rattle.orc_value.specs.Canon.{same_text}
+use Rattle.orc_value.specs.declared.kind.Kind.{Kind}
+use Rattle.orc_value.specs.declared.kind.Kind.TheVariants as kind
+use Rattle.orc_modules.specs.Scopes.{plain_name}
+use Rattle.orc_modules.specs.declared.place.TheConstants.{MAX_CHAIN}
+use Rattle.orc_schema.specs.declared.fault.SchemaFault.{SchemaFault}
+use Rattle.orc_schema.specs.declared.fault.SchemaFault.TheVariants.{Unknown, BadArgument, Loop}
+use Rattle.orc_schema.specs.declared.reference.Reference.{Reference}
+use Rattle.orc_schema.specs.declared.reference.StepName.{StepName}
+use Rattle.orc_schema.specs.declared.draft.Draft.{Draft}
+use Rattle.orc_schema.specs.declared.draft.DraftType.{DraftType}
+use Rattle.orc_schema.specs.declared.draft.DraftType.TheVariants.{Own, To}
+use Rattle.orc_schema.specs.declared.draft.DraftNode.{DraftNode}
+use Rattle.orc_schema.specs.declared.draft.DraftNode.TheVariants.{Container, List as ListOf, Leaf, LeafList}
+use Rattle.orc_schema.specs.declared.line.Target.{Target}
+use Rattle.orc_schema.specs.declared.cuts.Mark.TheVariants.{Colon}
+use Rattle.orc_schema.specs.Cuts.{is_mark}
+use Rattle.orc_schema.specs.Names.{fault_if}
+use Rattle.orc_schema.specs.Faults.{first_some}
+
+-- The order of names: one by one, by their bytes.
+abbrev pub names_cmp : List (List ℕ) → List (List ℕ) → Ordering
+names_cmp = slice_cmp (slice_cmp nat_cmp)
+
+abbrev pub same_names : List (List ℕ) → List (List ℕ) → Bool
+same_names = pointwise same_text
+
+-- the module of a node: its first name has it, and all below are of that module
+abbrev pub module_in : List (List ℕ) → List ℕ
+module_in [] = []
+module_in (first ∷ later) = before_first (is_mark Colon) first
+
+-- one name further down from these; a name without a prefix is of the module `owner`
+abbrev pub down : List ℕ → List (List ℕ) → StepName → Option (List (List ℕ))
+down owner [] s = Some ((unwrap_or s.owner owner ++ (58 ∷ s.name)) ∷ [])
+down owner (first ∷ later) s = if same_text (unwrap_or s.owner owner) (before_first (is_mark Colon) first)
+    then Some ((first ∷ later) ++ s.name ∷ []) else None
+
+abbrev pub walk : List ℕ → List (List ℕ) → List StepName → Option (List (List ℕ))
+walk owner at [] = Some at
+walk owner at (s ∷ ss) = option_and_then (λ next. walk owner next ss) (down owner at s)
+
+-- how many names of the node stay where a path begins: none where it is absolute or goes up to the top
+abbrev pub kept_names : Draft → Reference → ℕ
+kept_names d r = if r.absolute then 0 else length d.names - r.ups
+
+-- a path goes up past the top
+abbrev pub goes_past : Draft → Reference → Bool
+goes_past d r = not r.absolute && nat_lt (length d.names) r.ups
+
+abbrev pub target_names : Draft → Reference → Option (List (List ℕ))
+target_names d r = if goes_past d r then None else walk (module_in d.names) (take (kept_names d r) d.names) r.names
+
+abbrev pub has_names : List (List ℕ) → Draft → Bool
+has_names names d = same_names d.names names
+
+-- A look-up finds the node of its names, where there is one.
+abbrev pub Lookup : Type 0
+Lookup = List (List ℕ) → Option Draft
+
+abbrev pub node_in : List Draft → Lookup
+node_in ds names = find (has_names names) ds
+
+-- the type of a leaf or a leaf-list
+abbrev pub value_type : DraftNode → Option DraftType
+value_type Container = None
+value_type (ListOf l) = None
+value_type (Leaf l) = Some l.of_type
+value_type (LeafList l) = Some l.of_type
+
+abbrev pub reference_in : DraftType → Option Reference
+reference_in (Own k) = None
+reference_in (To r) = Some r
+
+-- the leafref that a node is
+abbrev pub reference_at : Draft → Option Reference
+reference_at d = option_and_then reference_in (value_type d.node)
+
+abbrev pub if_typed : Draft → Option Draft
+if_typed d = option_map (λ t. d) (value_type d.node)
+
+-- the leaf or leaf-list to which a leafref leads
+abbrev pub led_to : Lookup → Draft → Reference → Option Draft
+led_to look d r = option_and_then if_typed (option_and_then look (target_names d r))
+
+abbrev pub next : Lookup → Draft → Option Draft
+next look d = option_and_then (led_to look d) (reference_at d)
+
+-- at most n leafrefs on from d, a leafref leads to the node of these names
+abbrev pub leads_to : ℕ → Lookup → List (List ℕ) → Draft → Bool
+leads_to zero look names d = false
+leads_to (suc n) look names d = option_map_or (λ e. has_names names e || leads_to n look names e)
+    (next look d) false
+
+-- the kind at the end of at most n leafrefs
+abbrev pub own_kind : Option DraftType → Option Kind
+own_kind None = None
+own_kind (Some (Own k)) = Some k
+own_kind (Some (To r)) = None
+
+abbrev pub end_kind : ℕ → Lookup → Draft → Option Kind
+end_kind zero look d = None
+end_kind (suc n) look d = option_map_or (λ r. option_and_then (end_kind n look) (led_to look d r)) (reference_at d)
+    (own_kind (value_type d.node))
+
+abbrev pub is_key_node : DraftNode → Bool
+is_key_node (Leaf l) = is_some l.key
+is_key_node _ = false
+
+abbrev pub is_empty : Option Kind → Bool
+is_empty (Some kind.Empty) = true
+is_empty _ = false
+
+-- a node's own name, without its module
+abbrev pub own_name : Draft → List ℕ
+own_name d = plain_name (unwrap_or (slice_get d.names (length d.names - 1)) [])
+
+-- 2: the path ends at no leaf or leaf-list; 4: a key of type empty; 6: it leads back to itself
+abbrev pub lost : Lookup → Draft → Reference → Option SchemaFault
+lost look d r = fault_if (not (is_some (led_to look d r))) (Unknown r.text)
+
+abbrev pub empty_key : ℕ → Lookup → Draft → Option SchemaFault
+empty_key n look d = fault_if (is_key_node d.node && is_empty (end_kind n look d)) (BadArgument (codes "key"))
+
+abbrev pub leads_back : ℕ → Lookup → Draft → Option SchemaFault
+leads_back n look d = fault_if (leads_to n look d.names d) (Loop (own_name d))
+
+abbrev pub reference_fault : ℕ → Lookup → Draft → Reference → Option SchemaFault
+reference_fault n look d r = option_or (lost look d r) (option_or (empty_key n look d) (leads_back n look d))
+
+abbrev pub link_fault : ℕ → Lookup → Draft → Option SchemaFault
+link_fault n look d = option_and_then (reference_fault n look d) (reference_at d)
+
+-- so many leafrefs may lead on to one another
+unfoldable pub chain : ℕ
+chain = MAX_CHAIN
+
+-- the first fault of the leafrefs, in the order of the schema
+abbrev pub first_link_fault : List Draft → Option SchemaFault
+first_link_fault ds = first_some (link_fault chain (node_in ds)) ds
+
+-- Where a leafref leads: the names of its target, and how many of them are the node's own entries.
+abbrev pub target_of : Draft → Reference → Target
+target_of d r = record { names = unwrap_or (target_names d r) []; shared = kept_names d r }
+
+abbrev pub target_at : Draft → Option Target
+target_at d = option_map (target_of d) (reference_at d)
+
+abbrev pub kind_at : ℕ → Lookup → Draft → Kind
+kind_at n look d = unwrap_or (end_kind n look d) kind.Empty

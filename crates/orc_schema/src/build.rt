@@ -1,0 +1,232 @@
+//! The schema of modules.
+ghost use Rattle.std.specs.Prelude.{◌≡◌, List, [], ◌++◌, IfOk, OnOk, map, false};
+ghost use Rattle.std.specs.List.{list_any};
+ghost use Rattle.std.specs.List.Sorted.{IsPermutation};
+ghost use Rattle.orc_modules.specs.Stack.{modules_of};
+ghost use Rattle.orc_schema.specs.Drafts.{drafts_of, drafts_below, in_module};
+ghost use Rattle.orc_schema.specs.Faults.{first_some};
+ghost use Rattle.orc_schema.specs.Links.{chain, node_in, link_fault, first_link_fault};
+ghost use Rattle.orc_schema.specs.Schemas.{schema_line, node_of, GivesTable, Builds, schema_of, GivesSchema, is_deep_module, is_cut, IsWhole};
+ghost use Rattle.orc_schema.specs.inside.Indexes.{look, lent, IsIndex};
+ghost use Rattle.orc_schema.specs.inside.Meeting.{Meets};
+
+use crate::draft::{Draft, DraftNode};
+use crate::drafting::{Where, push_drafts};
+use crate::index::index_of;
+use crate::line::{LeafNode, Node, SchemaLine, ValueListNode};
+use crate::links::{Nodes, is_cut, kind_at, link_fault, target_at};
+use crate::walk::first_fault;
+use crate::{Schema, SchemaFault};
+use orc_modules::{Above, MAX_CHAIN, Modules, is_too_deep};
+use orc_text::{Copied, Memory, Row};
+use orc_types::argument;
+use orc_yang::Stmt;
+use std::alloc::Global;
+
+// So many groupings are looked at for the nodes of all modules.
+const MAX_VISITS: u64 = 4_000_000;
+
+// Adds the nodes of one module.
+fn push_module(
+    alloc: Global,
+    modules: &Modules<'_>,
+    stmt: &Stmt,
+    left: &mut u64,
+    out: &mut Row<Draft>,
+) -> Result<(), Memory>
+    ensures { OnOk result (out.new ≡ out.old
+        ++ drafts_below modules.now.most (modules_of modules.now) (in_module stmt.now) stmt.now) }
+{
+    let none = Row::new(alloc);
+    let at = Where {
+        above: &Above::Module(stmt),
+        owner: argument(stmt),
+        names: &none,
+        keys: &none,
+    };
+    push_drafts(alloc, modules.most, &*modules, &at, stmt, left, out)
+}
+
+// The nodes of the modules.
+fn drafts_of(alloc: Global, modules: &Modules<'_>) -> Result<Row<Draft>, Memory>
+    ensures { IfOk result (λ ds. ds ≡ drafts_of (modules_of modules.now) modules.now.all.now) }
+{
+    let mut out = Row::new(alloc);
+    let mut left = MAX_VISITS;
+    for stmt in modules.all {
+        push_module(alloc, &*modules, stmt, &mut left, &mut out)?;
+    }
+    Ok(out)
+}
+
+// Whether nodes and groupings of a module stand in one another deeper than is looked at.
+fn any_deep(modules: &Modules<'_>) -> Result<bool, Memory>
+    ensures { IfOk result (λ deep. deep
+        ≡ list_any (is_deep_module (modules_of modules.now)) modules.now.all.now) }
+{
+    for stmt in modules.all {
+        if is_too_deep(&*modules, &Above::Module(stmt), stmt)? {
+            return Ok(true);
+        }
+    }
+    Ok(false)
+}
+
+// The nodes of the modules, of which none is left out.
+fn whole_drafts(alloc: Global, modules: &Modules<'_>) -> Result<Row<Draft>, Memory>
+    ensures drafts { IfOk result (λ ds. ds ≡ drafts_of (modules_of modules.now) modules.now.all.now) }
+    ensures whole { IfOk result (λ ds.
+        list_any (is_deep_module (modules_of modules.now)) modules.now.all.now ≡ false) }
+{
+    match any_deep(modules)? {
+        true => Err(Memory),
+        false => drafts_of(alloc, modules),
+    }
+}
+
+// The first fault of the leafrefs.
+fn first_link_fault(alloc: Global, drafts: &[Draft], nodes: &Nodes<'_>) -> Result<(), SchemaFault>
+    requires { IsIndex nodes.now.index.now }
+    ensures { Meets (first_some (link_fault nodes.now.chain (look nodes.now)) drafts.now) result }
+{
+    for draft in drafts {
+        if let Err(fault) = link_fault(alloc, nodes, draft) {
+            return Err(fault);
+        }
+    }
+    Ok(())
+}
+
+// What a node is.
+fn node_of(alloc: Global, nodes: &Nodes<'_>, draft: &Draft) -> Result<Node, Memory>
+    requires { IsIndex nodes.now.index.now }
+    ensures { IfOk result (λ node. node ≡ node_of nodes.now.chain (look nodes.now) draft.now draft.now.node) }
+{
+    match &draft.node {
+        DraftNode::Container => Ok(Node::Container),
+        DraftNode::List(list) => Ok(Node::List(list.copy(alloc)?)),
+        DraftNode::Leaf(leaf) => Ok(Node::Leaf(LeafNode {
+            kind: kind_at(alloc, nodes, draft)?,
+            target: target_at(alloc, draft)?,
+            default: Copied::copied(&leaf.default, alloc)?,
+            mandatory: leaf.mandatory,
+            key: leaf.key,
+        })),
+        DraftNode::LeafList(values) => Ok(Node::LeafList(ValueListNode {
+            kind: kind_at(alloc, nodes, draft)?,
+            target: target_at(alloc, draft)?,
+            least: values.least,
+            most: values.most,
+        })),
+    }
+}
+
+// The line of a node.
+fn line_of(alloc: Global, nodes: &Nodes<'_>, draft: &Draft) -> Result<SchemaLine, Memory>
+    requires { IsIndex nodes.now.index.now }
+    ensures { IfOk result (λ line. line ≡ schema_line nodes.now.chain (look nodes.now) draft.now) }
+{
+    Ok(SchemaLine {
+        names: draft.names.copy(alloc)?,
+        node: node_of(alloc, nodes, draft)?,
+    })
+}
+
+// The lines of the nodes, in the order of their names.
+fn lines_of(alloc: Global, nodes: &Nodes<'_>) -> Result<Row<SchemaLine>, Memory>
+    requires { IsIndex nodes.now.index.now }
+    ensures { IfOk result (λ lines. lines
+        ≡ map (schema_line nodes.now.chain (look nodes.now)) (lent nodes.now.index.now)) }
+{
+    let mut lines = Row::new(alloc);
+    for draft in nodes.index {
+        lines.push(line_of(alloc, nodes, *draft)?)?;
+    }
+    Ok(lines)
+}
+
+// Whether the kind of a node stands behind more leafrefs than are followed.
+fn any_cut(alloc: Global, drafts: &[Draft], nodes: &Nodes<'_>) -> Result<bool, Memory>
+    requires { IsIndex nodes.now.index.now }
+    ensures { IfOk result (λ cut. cut ≡ list_any (is_cut nodes.now.chain (look nodes.now)) drafts.now) }
+{
+    for draft in drafts {
+        if is_cut(alloc, nodes, draft)? {
+            return Ok(true);
+        }
+    }
+    Ok(false)
+}
+
+// The lines of the nodes, where the kind of each is found.
+fn whole_lines(
+    alloc: Global,
+    drafts: &[Draft],
+    nodes: &Nodes<'_>,
+) -> Result<Row<SchemaLine>, Memory>
+    requires { IsIndex nodes.now.index.now }
+    ensures lines { IfOk result (λ lines. lines
+        ≡ map (schema_line nodes.now.chain (look nodes.now)) (lent nodes.now.index.now)) }
+    ensures whole { IfOk result (λ lines.
+        list_any (is_cut nodes.now.chain (look nodes.now)) drafts.now ≡ false) }
+{
+    match any_cut(alloc, drafts, nodes)? {
+        true => Err(Memory),
+        false => lines_of(alloc, nodes),
+    }
+}
+
+// The schema of nodes, where their leafrefs are well, by the nodes in the order of their names.
+fn table_by(alloc: Global, drafts: &[Draft], index: &[&Draft]) -> Result<Schema, SchemaFault>
+    requires sorted { IsIndex index.now }
+    requires same { IsPermutation drafts.now (lent index.now) }
+    ensures table { GivesTable (first_link_fault drafts.now) drafts.now result }
+    ensures whole { IfOk result (λ s. list_any (is_cut chain (node_in drafts.now)) drafts.now ≡ false) }
+{
+    let nodes = Nodes {
+        index,
+        chain: MAX_CHAIN,
+    };
+    match first_link_fault(alloc, drafts, &nodes) {
+        Err(fault) => Err(fault),
+        Ok(()) => Ok(Schema::of_lines(whole_lines(alloc, drafts, &nodes)?)),
+    }
+}
+
+// The schema of nodes, where their leafrefs are well.
+fn table_of(alloc: Global, drafts: &[Draft]) -> Result<Schema, SchemaFault>
+    ensures table { GivesTable (first_link_fault drafts.now) drafts.now result }
+    ensures whole { IfOk result (λ s. list_any (is_cut chain (node_in drafts.now)) drafts.now ≡ false) }
+{
+    let index = index_of(alloc, drafts)?;
+    table_by(alloc, drafts, index.as_slice())
+}
+
+// The schema of these modules, or their first fault.
+fn schema_of(alloc: Global, modules: &[Stmt]) -> Result<Schema, SchemaFault>
+    ensures builds { Builds modules.now result }
+    ensures whole { IfOk result (λ s. IsWhole modules.now) }
+{
+    let modules = Modules::of(modules);
+    match first_fault(alloc, &modules) {
+        Err(fault) => Err(fault),
+        Ok(()) => {
+            let drafts = whole_drafts(alloc, &modules)?;
+            table_of(alloc, drafts.as_slice())
+        },
+    }
+}
+
+impl Schema {
+    /// The schema of these modules, or their first fault: that of the first faulty statement in the
+    /// order of the text, modules in the order given and groupings where they are defined, at one
+    /// statement the variant listed first; and then that of the first leafref at fault. A schema of
+    /// more than 1,000,000 nodes wants memory, and so does a leaf behind more than 1,000 leafrefs.
+    pub fn build(alloc: Global, modules: &[Stmt]) -> Result<Schema, SchemaFault>
+        ensures builds { Builds modules.now result }
+        ensures value { GivesSchema (schema_of modules.now) result }
+        ensures whole { IfOk result (λ schema. IsWhole modules.now) }
+    {
+        schema_of(alloc, modules)
+    }
+}

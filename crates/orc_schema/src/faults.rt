@@ -1,0 +1,209 @@
+//! The fault at one statement.
+ghost use Rattle.std.specs.Prelude.{◌≡◌, IfOk, option_map};
+ghost use Rattle.std.specs.Option.{option_or};
+ghost use Rattle.orc_modules.specs.Stack.{stack, place, modules_of};
+ghost use Rattle.orc_schema.specs.declared.fault.SchemaFault.TheVariants.{Loop};
+ghost use Rattle.orc_types.specs.Statements.{argument};
+ghost use Rattle.orc_schema.specs.Names.{fault_if, unknown, duplicate, names_before};
+ghost use Rattle.orc_schema.specs.Arguments.{bad_argument};
+ghost use Rattle.orc_schema.specs.Faults.{innermost, is_leafref, is_leafref_type, has_no_default, unsupported, no_key, is_endless, loops, own_fault_here, fault_here};
+ghost use Rattle.orc_schema.specs.inside.Meeting.{Meets};
+
+use crate::SchemaFault;
+use crate::arguments::bad_argument;
+use crate::duplicates::duplicate;
+use crate::names::{argument_text, unknown};
+use crate::placement::stands_below;
+use crate::type_faults::type_fault_here;
+use crate::typing::typed_around;
+use orc_modules::{Above, Modules, Named, Place, Typed, Word, base_of, leads_past, word_of};
+use orc_text::{Memory, Text};
+use orc_types::{LeafType, has};
+use orc_yang::Stmt;
+use std::alloc::Global;
+
+// The innermost of the statements around.
+fn innermost<'a>(above: &'a Above<'a>) -> Option<&'a Stmt>
+    ensures { option_map (λ s. s.now) result ≡ innermost (stack above.now) }
+{
+    match above {
+        Above::Top => None,
+        Above::Module(stmt) => Some(*stmt),
+        Above::Under(stmt, _) => Some(*stmt),
+    }
+}
+
+fn is_leafref_type(of_type: &LeafType) -> bool
+    ensures { result ≡ is_leafref_type of_type.now }
+{
+    match of_type {
+        LeafType::Leafref(_) => true,
+        _ => false,
+    }
+}
+
+fn is_leafref(typed: &Option<Typed>) -> bool
+    ensures { result ≡ is_leafref typed.now }
+{
+    match typed {
+        Some(known) => is_leafref_type(&known.of_type),
+        None => false,
+    }
+}
+
+// Whether the statement is the default of a leafref.
+fn has_no_default(
+    alloc: Global,
+    modules: &Modules<'_>,
+    here: &Place<'_>,
+    word: Word,
+) -> Result<bool, Memory>
+    ensures { IfOk result (λ faulty. faulty ≡ has_no_default (modules_of modules.now) (place here.now) word) }
+{
+    match word {
+        Word::Default => Ok(is_leafref(&typed_around(alloc, modules, here.above)?)),
+        _ => Ok(false),
+    }
+}
+
+// A statement that may not stand where it stands.
+fn unsupported(
+    alloc: Global,
+    modules: &Modules<'_>,
+    here: &Place<'_>,
+    word: Word,
+) -> Result<(), SchemaFault>
+    ensures { Meets (unsupported (modules_of modules.now) (place here.now) word) result }
+{
+    if !stands_below(innermost(here.above), word) {
+        return Err(SchemaFault::Unsupported {
+            keyword: here.here.keyword.copy(alloc)?,
+        });
+    }
+    match has_no_default(alloc, modules, here, word)? {
+        true => Err(SchemaFault::Unsupported {
+            keyword: here.here.keyword.copy(alloc)?,
+        }),
+        false => Ok(()),
+    }
+}
+
+// A list without a key.
+fn no_key(alloc: Global, here: &Place<'_>, word: Word) -> Result<(), SchemaFault>
+    ensures { Meets (no_key (place here.now) word) result }
+{
+    match word {
+        Word::List => {
+            if has("key", here.here.subs.as_slice()) {
+                Ok(())
+            } else {
+                Err(SchemaFault::NoKey {
+                    list: argument_text(alloc, here.here)?,
+                })
+            }
+        },
+        _ => Ok(()),
+    }
+}
+
+// Ok, or that the statement's name leads on without end.
+fn loop_if(alloc: Global, faulty: bool, stmt: &Stmt) -> Result<(), SchemaFault>
+    ensures { Meets (fault_if faulty (Loop (argument stmt.now))) result }
+{
+    if faulty {
+        return Err(SchemaFault::Loop {
+            name: argument_text(alloc, stmt)?,
+        });
+    }
+    Ok(())
+}
+
+fn is_endless(named: &Named) -> bool
+    ensures { result ≡ is_endless named.now }
+{
+    match named {
+        Named::Endless => true,
+        _ => false,
+    }
+}
+
+// A typedef or a grouping that leads on without end.
+fn loops(
+    alloc: Global,
+    modules: &Modules<'_>,
+    here: &Place<'_>,
+    word: Word,
+) -> Result<(), SchemaFault>
+    ensures { Meets (loops (modules_of modules.now) (place here.now) word) result }
+{
+    match word {
+        Word::Uses => {
+            let past = leads_past(&*modules, here.above, here.here)?;
+            loop_if(alloc, past, here.here)
+        },
+        Word::TypeName => {
+            let named = base_of(alloc, &*modules, here.above, here.here)?;
+            loop_if(alloc, is_endless(&named), here.here)
+        },
+        _ => Ok(()),
+    }
+}
+
+// The fault at a statement past those of its place, its names and its argument.
+fn last_fault(
+    alloc: Global,
+    modules: &Modules<'_>,
+    here: &Place<'_>,
+    word: Word,
+) -> Result<(), SchemaFault>
+    ensures { Meets (option_or (bad_argument (modules_of modules.now) (place here.now) word)
+        (option_or (no_key (place here.now) word) (loops (modules_of modules.now) (place here.now) word))) result }
+{
+    match bad_argument(alloc, modules, here, word) {
+        Err(fault) => Err(fault),
+        Ok(()) => match no_key(alloc, here, word) {
+            Err(fault) => Err(fault),
+            Ok(()) => loops(alloc, modules, here, word),
+        },
+    }
+}
+
+// The fault at a statement: the lowest number.
+fn own_fault_here(
+    alloc: Global,
+    modules: &Modules<'_>,
+    here: &Place<'_>,
+    word: Word,
+    earlier: &[Text],
+) -> Result<(), SchemaFault>
+    requires { earlier.now ≡ names_before (modules_of modules.now) (place here.now) }
+    ensures { Meets (own_fault_here (modules_of modules.now) (place here.now) word) result }
+{
+    match unsupported(alloc, modules, here, word) {
+        Err(fault) => Err(fault),
+        Ok(()) => match unknown(alloc, modules, here, word) {
+            Err(fault) => Err(fault),
+            Ok(()) => match duplicate(alloc, modules, here, word, earlier) {
+                Err(fault) => Err(fault),
+                Ok(()) => last_fault(alloc, modules, here, word),
+            },
+        },
+    }
+}
+
+// The fault at a statement, and below it where it is a `type`. The block has these names before it.
+pub(crate) fn fault_here(
+    alloc: Global,
+    modules: &Modules<'_>,
+    here: &Place<'_>,
+    earlier: &[Text],
+) -> Result<(), SchemaFault>
+    requires { earlier.now ≡ names_before (modules_of modules.now) (place here.now) }
+    ensures { Meets (fault_here (modules_of modules.now) (place here.now)) result }
+{
+    let word = word_of(here.here.keyword.as_str());
+    match own_fault_here(alloc, modules, here, word, earlier) {
+        Err(fault) => Err(fault),
+        Ok(()) => type_fault_here(alloc, modules, here, word),
+    }
+}

@@ -1,0 +1,70 @@
+//! Groupings that are missing.
+ghost use Rattle.std.specs.Prelude.{◌≡◌, List, IfOk};
+ghost use Rattle.orc_modules.specs.Stack.{stack};
+ghost use Rattle.orc_schema.specs.Gaps.{is_incomplete};
+
+use orc_modules::{Above, Modules, Part, block_part, grouping};
+use orc_text::Memory;
+use orc_yang::Stmt;
+
+// Where the statements of a block stand.
+#[derive(Clone, Copy)]
+struct Inside<'a> {
+    above: &'a Above<'a>,
+}
+
+// So many `uses` are looked at for one key.
+const MAX_VISITS: u64 = 1_000_000;
+
+// Whether a `uses` of the block leads to no grouping, or on more than `depth` times. Past so many
+// that are left, it wants memory.
+fn is_incomplete_at<'a>(
+    depth: usize,
+    modules: &Modules<'a>,
+    at: &Inside<'a>,
+    stmt: &'a Stmt,
+    left: &mut u64,
+) -> Result<bool, Memory>
+    ensures { IfOk result (λ found. found
+        ≡ is_incomplete depth modules.now.all.now (stack at.now.above.now) stmt.now) }
+{
+    if depth == 0 {
+        return Ok(true);
+    }
+    for sub in stmt.subs.as_slice() {
+        match block_part(sub) {
+            Part::Uses => {
+                if *left == 0 {
+                    return Err(Memory);
+                }
+                *left -= 1;
+                let Some(found) = grouping(&*modules, at.above, sub) else {
+                    return Ok(true);
+                };
+                let inside = Inside {
+                    above: &Above::Under(found.here, &found.above),
+                };
+                match is_incomplete_at(depth - 1, &*modules, &inside, found.here, left)? {
+                    true => return Ok(true),
+                    false => {},
+                }
+            },
+            Part::Node => {},
+            Part::Nothing => {},
+        }
+    }
+    Ok(false)
+}
+
+// Whether a `uses` of the block of a statement, or of its groupings, leads to no grouping, or to itself.
+pub(crate) fn is_incomplete<'a>(
+    modules: &Modules<'a>,
+    above: &'a Above<'a>,
+    stmt: &'a Stmt,
+) -> Result<bool, Memory>
+    ensures { IfOk result (λ found. found
+        ≡ is_incomplete modules.now.most modules.now.all.now (stack above.now) stmt.now) }
+{
+    let mut left = MAX_VISITS;
+    is_incomplete_at(modules.most, &*modules, &Inside { above }, stmt, &mut left)
+}

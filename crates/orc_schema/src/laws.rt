@@ -1,0 +1,23 @@
+//! What the definitions make sure of: each law is the contract of a function that does nothing.
+ghost use Rattle.orc_schema.specs.Laws.{FirstFaultIsLeast, NodesStandForStatements, DepthIsNoLimit, NamesDiffer};
+
+/// The fault of modules is that of their first faulty statement in the order of the text.
+pub fn first_fault_is_least()
+    ensures { FirstFaultIsLeast }
+{}
+
+/// Each node that modules define stands for one statement.
+pub fn nodes_stand_for_statements()
+    ensures { NodesStandForStatements }
+{}
+
+/// Where nodes and groupings stand in one another no deeper than a number, a greater one finds
+/// nothing more.
+pub fn depth_is_no_limit()
+    ensures { DepthIsNoLimit }
+{}
+
+/// No two lines of a schema have the same names.
+pub fn names_differ()
+    ensures { NamesDiffer }
+{}

@@ -1,0 +1,31 @@
+//! Schemas: what modules of YANG statements say may stand at a path of a configuration (RFC 7950), or
+//! the first fault of the modules.
+#![tactic(auto)]
+
+mod arguments;
+mod build;
+mod counts;
+mod cuts;
+mod draft;
+mod drafting;
+mod duplicates;
+mod fault;
+mod faults;
+mod gaps;
+mod index;
+mod laws;
+mod line;
+mod links;
+mod lookup;
+mod names;
+mod placement;
+mod reference;
+mod schema;
+mod type_faults;
+mod typing;
+mod walk;
+
+pub use fault::SchemaFault;
+pub use laws::{depth_is_no_limit, first_fault_is_least, names_differ, nodes_stand_for_statements};
+pub use line::{LeafNode, ListNode, Node, SchemaLine, Target, ValueListNode};
+pub use schema::Schema;

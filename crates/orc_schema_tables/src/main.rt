@@ -1,0 +1,74 @@
+//! Runs tables of YANG modules and of the schemas that they make: how many cases hold, and which don't.
+//!
+//! Each word names a file of cases. A case begins with a line `=== TITLE`; below it stand the modules,
+//! a line `---`, and the listing: the schema path by path, or its fault (`listing` says how). Lines in
+//! front of the first case say nothing.
+#![tactic(auto)]
+
+mod case;
+mod found;
+mod listing;
+
+use crate::case::Case;
+use std::process::ExitCode;
+use std::rt::{Env, Files};
+use std::{env, fs, io};
+
+// Ends with 0 where each case holds.
+fn main(rt: HostRuntime) -> ExitCode {
+    match run_all(&rt) {
+        Ok(true) => ExitCode::SUCCESS,
+        Ok(false) => ExitCode::FAILURE,
+        Err(error) => {
+            let _ = println!(rt; "{error}");
+            ExitCode::FAILURE
+        }
+    }
+}
+
+// Runs each file, and says whether all is as it must be.
+fn run_all<R: Files<File = fs::File> + Env + Print + AllocGlobal>(rt: &R) -> io::Result<bool> {
+    let mut names = env::args(rt)?;
+    let _program = names.next();
+    let mut good = true;
+    for name in names {
+        let text = fs::read_to_string(rt, name.as_str())?;
+        let holds = run(rt, name.as_str(), text.as_str())?;
+        good = good && holds;
+    }
+    Ok(good)
+}
+
+// Prints how many cases of a file hold, and the others, and says whether there are none of these.
+fn run<R: Print + AllocGlobal>(rt: &R, name: &str, text: &str) -> io::Result<bool> {
+    let mut count: u64 = 0;
+    let mut good = true;
+    for case in text.split("\n=== ").skip(1) {
+        if show(rt, name, case)? {
+            count = count.saturating_add(1);
+        } else {
+            good = false;
+        }
+    }
+    println!(rt; "{name}: {count} cases hold")?;
+    Ok(good)
+}
+
+// Whether a case holds; prints what came where it doesn't.
+fn show<R: Print + AllocGlobal>(rt: &R, name: &str, text: &str) -> io::Result<bool> {
+    let Some(case) = Case::of(text) else {
+        println!(rt; "{name}: {text} is no case")?;
+        return Ok(false);
+    };
+    match case.listing(rt.alloc()) {
+        Ok(listing) if case.is_expected(listing.as_str()) => Ok(true),
+        Ok(listing) => {
+            println!(rt; "{name}: {} DIFFERS\n{}", case.title, listing.as_str())?;
+            Ok(false)
+        }
+        Err(_) => {
+            println!(rt; "{name}: {} wants memory", case.title)?;
+            Ok(false)
+        }
+    }
+}
