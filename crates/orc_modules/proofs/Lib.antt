@@ -1,2 +1,3 @@
+mod Barren
 mod Chains
 mod LeafTypes

@@ -1,2 +1,3 @@
 -- What private contracts and proofs alone speak of.
 pub mod Leaves
+pub mod Known

@@ -3,15 +3,18 @@ ghost use Rattle.std.specs.Prelude.{◌≡◌, List, IfOk};
 ghost use Rattle.orc_modules.specs.Children.{is_deeper, leads_past};
 ghost use Rattle.orc_modules.specs.Stack.{stack};
 
+use crate::bare::bringer;
 use crate::parts::{Part, block_part, grouping};
 use crate::place::Modules;
 use crate::scope::{Above, Site};
 use crate::visits::{MAX_VISITS, visit};
 use orc_text::Memory;
 use orc_yang::Stmt;
+use std::alloc::Global;
 
-// Whether nodes and groupings below a statement stand in one another more than `depth` deep.
+// Whether nodes and groupings below a statement stand in one another `depth` deep or more.
 pub(crate) fn is_deeper<'a>(
+    alloc: Global,
     depth: usize,
     modules: &Modules<'a>,
     at: &Site<'a>,
@@ -30,21 +33,24 @@ pub(crate) fn is_deeper<'a>(
                 let inside = Site {
                     above: &Above::Under(sub, at.above),
                 };
-                match is_deeper(depth - 1, &*modules, &inside, sub, left)? {
+                match is_deeper(alloc, depth - 1, &*modules, &inside, sub, left)? {
                     true => return Ok(true),
                     false => {},
                 }
             },
             Part::Uses => {
                 visit(left)?;
-                if let Some(found) = grouping(&*modules, at.above, sub) {
-                    let inside = Site {
-                        above: &Above::Under(found.here, &found.above),
-                    };
-                    match is_deeper(depth - 1, &*modules, &inside, found.here, left)? {
-                        true => return Ok(true),
-                        false => {},
-                    }
+                match bringer(alloc, depth - 1, &*modules, at.above, sub)? {
+                    Some(found) => {
+                        let inside = Site {
+                            above: &Above::Under(found.here, &found.above),
+                        };
+                        match is_deeper(alloc, depth - 1, &*modules, &inside, found.here, left)? {
+                            true => return Ok(true),
+                            false => {},
+                        }
+                    },
+                    None => {},
                 }
             },
             Part::Nothing => {},
@@ -53,9 +59,10 @@ pub(crate) fn is_deeper<'a>(
     Ok(false)
 }
 
-/// Whether a `uses` leads to itself: what it brings stands in one another more than `most` deep.
+/// Whether a `uses` is taken to lead to itself: what it brings stands in one another as deep as that.
 /// It wants memory where more than 1,000,000 statements would be looked at.
 pub fn leads_past<'a>(
+    alloc: Global,
     modules: &Modules<'a>,
     above: &'a Above<'a>,
     stmt: &Stmt,
@@ -70,13 +77,21 @@ pub fn leads_past<'a>(
             let inside = Site {
                 above: &Above::Under(found.here, &found.above),
             };
-            is_deeper(modules.most, &*modules, &inside, found.here, &mut left)
+            is_deeper(
+                alloc,
+                modules.most,
+                &*modules,
+                &inside,
+                found.here,
+                &mut left,
+            )
         },
     }
 }
 
-/// Whether nodes and groupings below a statement stand in one another more than `most` deep.
+/// Whether nodes and groupings below a statement are taken to lead to themselves.
 pub fn is_too_deep<'a>(
+    alloc: Global,
     modules: &Modules<'a>,
     above: &'a Above<'a>,
     stmt: &'a Stmt,
@@ -84,5 +99,12 @@ pub fn is_too_deep<'a>(
     ensures { IfOk result (λ deep. deep ≡ is_deeper modules.now.most modules.now.all.now (stack above.now) stmt.now) }
 {
     let mut left = MAX_VISITS;
-    is_deeper(modules.most, &*modules, &Site { above }, stmt, &mut left)
+    is_deeper(
+        alloc,
+        modules.most,
+        &*modules,
+        &Site { above },
+        stmt,
+        &mut left,
+    )
 }

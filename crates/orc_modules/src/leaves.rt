@@ -1,10 +1,13 @@
 //! The leaves of a block, those of its groupings among them.
-ghost use Rattle.std.specs.Prelude.{◌≡◌, List, IfOk, option_map};
+ghost use Rattle.std.specs.Prelude.{◌≡◌, List, ◌∷◌, IfOk, None, option_map};
+ghost use Rattle.std.specs.Option.{option_map_or};
+ghost use Rattle.orc_types.specs.Statements.{subs};
 ghost use Rattle.orc_modules.specs.Bases.{type_found};
-ghost use Rattle.orc_modules.specs.Children.{leaf_named};
+ghost use Rattle.orc_modules.specs.Children.{grouping, leaf_named};
 ghost use Rattle.orc_modules.specs.Stack.{stack, found, modules_of};
 ghost use Rattle.orc_modules.specs.inside.Leaves.{leaf_brought, leaf_of_grouping, leaf_in_block};
 
+use crate::bare::bringer;
 use crate::base::typed_in;
 use crate::deep::is_deeper;
 use crate::meant::Typed;
@@ -16,6 +19,25 @@ use crate::visits::{MAX_VISITS, visit};
 use orc_text::Memory;
 use orc_yang::Stmt;
 use std::alloc::Global;
+
+// The grouping that a `uses` names, where it may bring nodes.
+fn bringer_of_leaf<'a>(
+    alloc: Global,
+    depth: usize,
+    modules: &Modules<'a>,
+    above: &'a Above<'a>,
+    name: &str,
+    stmt: &Stmt,
+) -> Result<Option<Found<'a>>, Memory>
+    ensures { IfOk result (λ o.
+        option_map_or (λ g. leaf_brought depth (modules_of modules.now) (g.here ∷ g.above) name.now (subs g.here))
+        (grouping modules.now.all.now (stack above.now) stmt.now) None
+        ≡ option_map_or (λ g. leaf_brought depth (modules_of modules.now) (g.here ∷ g.above) name.now (subs g.here))
+        (option_map found o) None) }
+{
+    let _ = name;
+    bringer(alloc, depth, modules, above, stmt)
+}
 
 // The type of the leaf of this name that a block has, through groupings fewer than `depth` deep.
 fn leaf_brought<'a>(
@@ -43,23 +65,26 @@ fn leaf_brought<'a>(
             },
             Part::Uses => {
                 visit(left)?;
-                if let Some(found) = grouping(&*modules, at.above, stmt) {
-                    let here = found.here;
-                    let inside = Site {
-                        above: &Above::Under(here, &found.above),
-                    };
-                    match leaf_brought(
-                        alloc,
-                        depth - 1,
-                        &*modules,
-                        &inside,
-                        name,
-                        here.subs.as_slice(),
-                        left,
-                    )? {
-                        Some(typed) => return Ok(Some(typed)),
-                        None => {},
-                    }
+                match bringer_of_leaf(alloc, depth - 1, &*modules, at.above, name, stmt)? {
+                    Some(found) => {
+                        let here = found.here;
+                        let inside = Site {
+                            above: &Above::Under(here, &found.above),
+                        };
+                        match leaf_brought(
+                            alloc,
+                            depth - 1,
+                            &*modules,
+                            &inside,
+                            name,
+                            here.subs.as_slice(),
+                            left,
+                        )? {
+                            Some(typed) => return Ok(Some(typed)),
+                            None => {},
+                        }
+                    },
+                    None => {},
                 }
             },
             Part::Nothing => {},
@@ -83,7 +108,7 @@ fn leaf_of_grouping<'a>(
     let inside = Site {
         above: &Above::Under(here, &bringer.above),
     };
-    if is_deeper(modules.most, &*modules, &inside, here, left)? {
+    if is_deeper(alloc, modules.most, &*modules, &inside, here, left)? {
         return Ok(None);
     }
     leaf_brought(

@@ -3,6 +3,7 @@
 //! through its `uses` (RFC 7950 sections 5.5, 6.4.1, 7.3 and 7.13).
 #![tactic(auto)]
 
+mod bare;
 mod base;
 mod deep;
 mod leaves;
@@ -15,6 +16,7 @@ mod statements;
 mod visits;
 mod word;
 
+pub use bare::{bringer, brings_nothing};
 pub use base::{base_of, takes_type, type_at, type_in};
 pub use deep::{is_too_deep, leads_past};
 pub use leaves::leaf_type;

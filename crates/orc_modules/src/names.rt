@@ -1,8 +1,11 @@
 //! The names of the data nodes of a block.
-ghost use Rattle.std.specs.Prelude.{◌≡◌, List, ◌++◌, IfOk, OnOk};
-ghost use Rattle.orc_modules.specs.Children.{brought, brought_by, children, child_names};
+ghost use Rattle.std.specs.Prelude.{◌≡◌, List, [], ◌∷◌, ◌++◌, IfOk, OnOk, option_map};
+ghost use Rattle.std.specs.Option.{option_map_or};
+ghost use Rattle.orc_types.specs.Statements.{subs};
+ghost use Rattle.orc_modules.specs.Children.{grouping, brought, brought_by, children, child_names};
 ghost use Rattle.orc_modules.specs.Stack.{stack, found};
 
+use crate::bare::bringer;
 use crate::deep::is_deeper;
 use crate::parts::{Part, block_part, grouping};
 use crate::place::Modules;
@@ -12,6 +15,23 @@ use orc_text::{Memory, Row, Text};
 use orc_types::argument;
 use orc_yang::Stmt;
 use std::alloc::Global;
+
+// The grouping that a `uses` names, where it may bring nodes.
+fn bringer_of_nodes<'a>(
+    alloc: Global,
+    depth: usize,
+    modules: &Modules<'a>,
+    above: &'a Above<'a>,
+    stmt: &Stmt,
+) -> Result<Option<Found<'a>>, Memory>
+    ensures { IfOk result (λ o.
+        option_map_or (λ g. brought depth modules.now.all.now (g.here ∷ g.above) (subs g.here))
+        (grouping modules.now.all.now (stack above.now) stmt.now) []
+        ≡ option_map_or (λ g. brought depth modules.now.all.now (g.here ∷ g.above) (subs g.here))
+        (option_map found o) []) }
+{
+    bringer(alloc, depth, modules, above, stmt)
+}
 
 // Adds the names of the nodes of a block, through groupings fewer than `depth` deep.
 fn push_brought<'a>(
@@ -37,20 +57,23 @@ fn push_brought<'a>(
             },
             Part::Uses => {
                 visit(left)?;
-                if let Some(found) = grouping(&*modules, at.above, stmt) {
-                    let here = found.here;
-                    let inside = Site {
-                        above: &Above::Under(here, &found.above),
-                    };
-                    push_brought(
-                        alloc,
-                        depth - 1,
-                        &*modules,
-                        &inside,
-                        here.subs.as_slice(),
-                        left,
-                        out,
-                    )?;
+                match bringer_of_nodes(alloc, depth - 1, &*modules, at.above, stmt)? {
+                    Some(found) => {
+                        let here = found.here;
+                        let inside = Site {
+                            above: &Above::Under(here, &found.above),
+                        };
+                        push_brought(
+                            alloc,
+                            depth - 1,
+                            &*modules,
+                            &inside,
+                            here.subs.as_slice(),
+                            left,
+                            out,
+                        )?;
+                    },
+                    None => {},
                 }
             },
             Part::Nothing => {},
@@ -74,7 +97,7 @@ fn push_grouping<'a>(
     let inside = Site {
         above: &Above::Under(here, &bringer.above),
     };
-    if is_deeper(modules.most, &*modules, &inside, here, left)? {
+    if is_deeper(alloc, modules.most, &*modules, &inside, here, left)? {
         return Ok(());
     }
     push_brought(

@@ -6,11 +6,12 @@ ghost use Rattle.orc_modules.specs.Stack.{modules_of};
 use crate::scope::Above;
 use orc_yang::Stmt;
 
-/// How many typedefs, or nodes and groupings, stand in one another at most: more lead back to
-/// themselves.
+/// So many typedefs, or nodes and groupings, that stand in one another are taken to lead back to
+/// themselves; fewer do not.
 pub const MAX_CHAIN: usize = 1_000;
 
-/// The modules, and how many typedefs, or nodes and groupings, stand in one another at most.
+/// The modules, and how many typedefs, or nodes and groupings, that stand in one another are taken
+/// to lead back to themselves.
 #[derive(Clone, Copy)]
 pub struct Modules<'a> {
     pub all: &'a [Stmt],
@@ -18,8 +19,8 @@ pub struct Modules<'a> {
 }
 
 impl<'a> Modules<'a> {
-    /// Modules, of which more than 1,000 typedefs, or nodes and groupings, in one another lead back
-    /// to themselves.
+    /// Modules, of which 1,000 typedefs, or nodes and groupings, or more in one another are taken to
+    /// lead back to themselves.
     pub fn of(all: &'a [Stmt]) -> Modules<'a>
         ensures { modules_of result ≡ the_modules all.now }
     {

@@ -66,7 +66,7 @@ pub fn plain_name(text: &str) -> &str
 }
 
 // The first statement of a block with this keyword and this argument.
-fn definition<'a>(keyword: &str, name: &str, block: &'a [Stmt]) -> Option<&'a Stmt>
+pub(crate) fn definition<'a>(keyword: &str, name: &str, block: &'a [Stmt]) -> Option<&'a Stmt>
     ensures { option_map (λ s. s.now) result ≡ find (defines keyword.now name.now) block.now }
 {
     block.iter().find(|stmt| defines(keyword, name, *stmt))

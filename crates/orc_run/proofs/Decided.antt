@@ -12,8 +12,8 @@ use Rattle.orc_run.specs.Ends.{EndsAs, EndsBy, GivesBundle, GivesFirst, GivesFau
 use Rattle.orc_run.specs.declared.stop.Done.{Done}
 use Rattle.orc_run.specs.declared.stop.Stop.{Stop}
 use Rattle.orc_run.specs.declared.stop.Stop.TheVariants as ending
-use Rattle.orc_run.specs.declared.words.Command.{Command}
-use Rattle.orc_run.specs.declared.words.Command.TheVariants.{Check, Run}
+use Rattle.orc_words.specs.declared.words.Command.{Command}
+use Rattle.orc_words.specs.declared.words.Command.TheVariants.{Check, Run, History}
 
 few_or_more : (n : ℕ) → n ≤ LARGEST_BUNDLE + 1 → (n ≤ LARGEST_BUNDLE) ⊎ (n ≡ LARGEST_BUNDLE + 1)
 few_or_more n most = grind (arith, most)
@@ -37,6 +37,7 @@ module _ {D : Type 0} (meaning : DiskMeaning D) where
   gave : (command : Command) (before after : Outside D) (status : Result Done Stop) → EndsAs meaning command before after status → (bundle : Bundle) × GivesBundle before.left after.left bundle
   gave Check before after status ends = (ends.bundle, ends.gives)
   gave Run before after status ends = (ends.bundle, ends.gives)
+  gave History before after status ends = (ends.bundle, ends.gives)
 
   module _ (before after : Outside D) (all : List ℕ) (told : before.left ≡ Some all) where
     fault_is : (line : ℕ) (rule : Rule) → GivesFault before.left after.left line rule → bundle_of (take (LARGEST_BUNDLE + 1) all) ≡ Err (line, rule)

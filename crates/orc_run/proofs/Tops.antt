@@ -1,8 +1,9 @@
 -- The run of a bundle: what its declarations and its script are, and how it ends.
-use Rattle.std.proofs.Common.{◌≡◌, ◌⊎◌, ℕ, ◌+◌, ◌<◌, ◌≤◌, ◌^◌, Bool, true, false, List, [], ◌++◌, length, IsTrue, Some, Ok, Err, Option, Result, IfSome, IfErr, OnOk, OnErr, is_some, is_err, if◌then◌else◌, inl, inr, ⊎_elim, refl, sym, ap, subst, ◌∙◌, arith}
+use Rattle.std.proofs.Common.{◌≡◌, ◌⊎◌, ℕ, ◌+◌, ◌<◌, ◌≤◌, ◌^◌, Bool, true, false, List, [], ◌++◌, length, IsTrue, Some, None, Ok, Err, Option, Result, IfSome, IfErr, OnOk, OnErr, is_some, is_err, if◌then◌else◌, inl, inr, ⊎_elim, refl, sym, ap, subst, ◌∙◌, arith}
 use Rattle.std.specs.List.{list_all}
 use Rattle.std.proofs.lemmas.List.{length-take-le}
 use Rattle.orc_io.specs.Counts.{Rose}
+use Rattle.std.specs.Io.KnownBytes.{Consumes}
 use Rattle.orc_io.specs.Pieces.{GivesUpTo}
 use Rattle.orc_bundle.specs.declared.bundle.TheConstants.{LARGEST_BUNDLE}
 use Rattle.orc_disk.specs.Moments.{LeavesOnly}
@@ -13,9 +14,9 @@ use Rattle.orc_run.specs.Steps.{EndsBecause}
 use Rattle.orc_run.specs.inside.Controllers.{known_of, pending_of, view_of, CanRun, IsSound, Opens}
 use Rattle.orc_run.specs.Opening.{IsRefused, MayBeOpening}
 use Rattle.orc_run.specs.inside.Inputs.{IsInputStop, IsRunStop}
-use Rattle.orc_run.specs.Ends.{Outside, GivesFault, Starts, Wrote, BundleRun, IsUnopened, EndsOver, WholeCheck, WholeRun, EndsBy}
-use Rattle.orc_run.specs.declared.words.Command.{Command}
-use Rattle.orc_run.specs.declared.words.Command.TheVariants.{Check, Run}
+use Rattle.orc_run.specs.Ends.{Outside, GivesFault, Starts, Wrote, BundleRun, IsUnopened, EndsOver, WholeCheck, WholeHistory, WholeRun, EndsBy, asking_history}
+use Rattle.orc_words.specs.declared.words.Command.{Command}
+use Rattle.orc_words.specs.declared.words.Command.TheVariants.{Check, Run, History}
 use Rattle.orc_state.specs.declared.rule.Rule.{Rule}
 use Rattle.orc_run.specs.inside.Halts.{greeting, Finishes, GreetsAndFinishes}
 use Rattle.orc_disk.specs.Meanings.{DiskMeaning}
@@ -204,6 +205,34 @@ module _ {D : Type 0} (meaning : DiskMeaning D) where
   by_run before after (Err ending.NotJournal) why ends = ends
   by_run before after (Err (ending.Damaged at)) why ends = ends
 
+  -- where the history was asked for
+  pub by_history : (before after : Outside D) (status : Result Done Stop) → IfErr status IsRunStop
+      → WholeHistory meaning before after status → EndsBy meaning (Some History) before after status
+  by_history before after (Ok done) why ends = ends
+  by_history before after (Err (ending.Bundle line rule)) why ends = absurd why
+  by_history before after (Err ending.Usage) why ends = absurd why
+  by_history before after (Err ending.ReadFault) why ends = absurd why
+  by_history before after (Err ending.Memory) why ends = inr ends
+  by_history before after (Err ending.WriteFault) why ends = ends
+  by_history before after (Err ending.JournalFault) why ends = ends
+  by_history before after (Err (ending.Foreign at)) why ends = ends
+  by_history before after (Err (ending.Full len)) why ends = ends
+  by_history before after (Err ending.NotJournal) why ends = ends
+  by_history before after (Err (ending.Damaged at)) why ends = ends
+
+  -- the run of a bundle, where its steps are those of a slice
+  pub ends_over_slice : (bundle : Bundle) (steps : List ScriptStep) → steps ≡ bundle.steps → (before after : Outside D)
+      (status : Result Done Stop) → EndsOver meaning (record { decls = bundle.decls; steps = steps }) before after status
+      → EndsOver meaning bundle before after status
+  ends_over_slice bundle steps is before after status ends =
+      subst (λ (l : List ScriptStep). EndsOver meaning (record { decls = bundle.decls; steps = l }) before after status) is ends
+
+  -- where memory was wanting for the command of the words
+  pub by_words : (command : Option Command) (outside : Outside D) → GivesUpTo (LARGEST_BUNDLE + 1) outside.left outside.left
+      → EndsBy meaning command outside outside (Err ending.Memory)
+  by_words None outside none = refl
+  by_words (Some command) outside none = inl (none, refl, refl)
+
   -- where it was checked
   pub by_check : (before after : Outside D) (status : Result Done Stop) → WholeCheck meaning before after status → EndsBy meaning (Some Check) before after status
   by_check before after (Ok done) ends = ends
@@ -235,6 +264,28 @@ module _ {D : Type 0} (meaning : DiskMeaning D) where
   by_input command before after (ending.Damaged at) why fault took held disk = absurd why
 
 -- ---- small facts
+
+-- the cause for which a run ended is one of its causes
+pub run_is : (status : Result Done Stop) (end : Stop) → IfErr status IsRunStop → status ≡ Err end → IsRunStop end
+run_is status end causes is = subst (λ (s : Result Done Stop). IfErr s IsRunStop) is causes
+
+-- a bundle with `history` as its one step is a bundle
+pub asking_is_bundle : (bundle : Bundle) → IsBundle bundle → IsBundle (asking_history bundle)
+asking_is_bundle bundle lawful = record {
+  decls = lawful.decls;
+  steps = refl;
+  settled = refl;
+  few = omega arith;
+  callers = omega arith;
+}
+
+-- a source that was not asked gave no byte
+pub gives_none : (most : ℕ) (left : Option (List ℕ)) → GivesUpTo most left left
+gives_none most left = ([], omega arith, none left)
+  where
+    none : (left : Option (List ℕ)) → Consumes left left []
+    none None = tt
+    none (Some bytes) = refl
 
 pub ok_of : {T E P : Type 0} (r : Result T E) → is_err r ≡ false → OnOk r P → P
 ok_of (Ok x) e h = h

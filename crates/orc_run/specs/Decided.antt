@@ -11,7 +11,7 @@ use Rattle.orc_run.specs.Ends.{EndsBy, Outside}
 use Rattle.orc_run.specs.declared.stop.Done.{Done}
 use Rattle.orc_run.specs.declared.stop.Stop.{Stop}
 use Rattle.orc_run.specs.declared.stop.Stop.TheVariants as ending
-use Rattle.orc_run.specs.declared.words.Command.{Command}
+use Rattle.orc_words.specs.declared.words.Command.{Command}
 
 -- A bundle doesn't end with Bundle. Bytes that are none end with it, and with the first line at fault and the first
 -- rule that it breaks, unless reading failed or memory ran out.

@@ -18,14 +18,19 @@ use Rattle.orc_bundle.specs.declared.bundle.TheConstants.{LARGEST_BUNDLE}
 use Rattle.orc_bundle.specs.declared.bundle.Bundle.{Bundle}
 use Rattle.orc_bundle.specs.declared.bundle.ScriptStep.{ScriptStep}
 use Rattle.orc_bundle.specs.declared.bundle.ScriptStep.TheVariants.{Serve}
+use Rattle.orc_bundle.specs.declared.bundle.ScriptStep.TheVariants as step
 use Rattle.orc_state.specs.declared.declarations.Decls.{Decls}
 use Rattle.orc_run.specs.declared.stop.Done.{Done}
 use Rattle.orc_run.specs.declared.stop.Stop.{Stop}
 use Rattle.orc_run.specs.declared.stop.Stop.TheVariants as ending
 use Rattle.orc_state.specs.declared.rule.Rule.{Rule}
 use Rattle.orc_run.specs.Checks.{EndsCheck}
-use Rattle.orc_run.specs.declared.words.Command.{Command}
-use Rattle.orc_run.specs.declared.words.Command.TheVariants.{Check, Run}
+use Rattle.orc_words.specs.declared.words.Command.{Command}
+use Rattle.orc_words.specs.declared.words.Command.TheVariants.{Check, Run, History}
+
+-- the declarations of a bundle with `history` as the one step
+abbrev pub asking_history : Bundle → Bundle
+asking_history bundle = record bundle { steps = step.History ∷ [] }
 
 -- what stands outside a run: the bytes that its source has left, those that its sink holds, each where it tells them,
 -- and its disk
@@ -214,15 +219,24 @@ module _ {D : Type 0} (meaning : DiskMeaning D) where
     pub ends : EndsCheck bundle before.held after.held status
     pub disk_is : after.disk ≡ before.disk
 
+  -- The source gave a bundle, and the run of its declarations with `history` as the one step ended so. No step of its
+  -- own script was done.
+  pub record WholeHistory (before after : Outside D) (status : Result Done Stop) : Type 0 where
+    pub bundle : Bundle
+    pub gives : GivesBundle before.left after.left bundle
+    pub ends : EndsOver (asking_history bundle) before after status
+
   -- a command was done, to this status
   abbrev pub EndsAs : Command → Outside D → Outside D → Result Done Stop → Type 0
   EndsAs Check before after status = WholeCheck before after status
   EndsAs Run before after status = WholeRun before after status
+  EndsAs History before after status = WholeHistory before after status
 
-  -- How the program ended, by the command and the status. It ends with Bundle exactly where the first bytes of the
-  -- source are none, whatever the command; where it ends with ReadFault or Memory these may not all have been read, and
-  -- no others were.
+  -- How the program ended, by the command and the status. It ends with Usage exactly where the words have no command,
+  -- and with Bundle exactly where the first bytes of the source are none, whatever the command; where it ends with
+  -- ReadFault or Memory these may not all have been read, and no others were.
   abbrev pub EndsBy : Option Command → Outside D → Outside D → Result Done Stop → Type 0
+  EndsBy None before after (Err ending.Memory) = after ≡ before
   EndsBy None before after status = status ≡ Err ending.Usage
   EndsBy (Some command) before after (Err ending.Usage) = ⊥
   EndsBy (Some command) before after (Err ending.ReadFault) = GivesUpTo (LARGEST_BUNDLE + 1) before.left after.left

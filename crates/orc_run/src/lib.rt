@@ -1,5 +1,5 @@
-//! The program's top call: a bundle is read and checked, or its script is run over a journal, and what
-//! that prints is written as it is done.
+//! The program's top call: a bundle is read, and it is checked, or its script is run over a journal, or
+//! the journal's history is printed; what that prints is written as it is done.
 #![tactic(auto)]
 
 mod checking;
@@ -18,7 +18,6 @@ mod serving;
 mod step;
 mod stop;
 mod top;
-mod words;
 
 pub use laws::{
     acknowledged_stays, bytes_decide, file_tells_one_history, has_these_numbers, one_transcript,
@@ -26,4 +25,3 @@ pub use laws::{
 pub use orc_state::Rule;
 pub use stop::{Done, Ended, Stop, status};
 pub use top::orchestrate;
-pub use words::Command;

@@ -7,7 +7,7 @@ ghost use Rattle.orc_io.specs.Pieces.{GivesUpTo};
 ghost use Rattle.orc_bundle.specs.declared.bundle.TheConstants.{LARGEST_BUNDLE};
 ghost use Rattle.orc_bundle.specs.Bundles.{is_step, IsBundle};
 ghost use Rattle.orc_state.specs.Declarations.{AreDecls};
-ghost use Rattle.orc_run.specs.Words.{command_of};
+ghost use Rattle.orc_words.specs.Words.{command_of};
 ghost use Rattle.orc_run.specs.inside.Controllers.{CanRun, IsSound};
 ghost use Rattle.orc_run.specs.Ends.{EndsBy, EndsOver, GivesBundle, GivesFault};
 ghost use Rattle.orc_run.specs.inside.Inputs.{IsInputStop, IsRunStop};
@@ -18,18 +18,18 @@ use crate::checking::check_bundle;
 use crate::controller::Controller;
 use crate::printing::recovered_text;
 use crate::run::run_steps;
-use crate::words::command_of;
-use crate::{Command, Ended, Stop};
+use crate::{Ended, Stop};
 use orc_bundle::{Bundle, LARGEST_BUNDLE, ScriptStep, read_bundle};
 use orc_disk::Disk;
 use orc_io::{Sink, Source, WholeFault, read_whole, write_whole};
 use orc_state::{BundleFault, Decls};
 use orc_text::{Memory, Row};
+use orc_words::{Command, WordsFault, command_of};
 use std::alloc::Global;
 
 /// Does what the words ask for with the bundle that a source gives: checks it, or runs its script over
-/// the journal on a disk, and writes what that prints to a sink, step by step. The disk is handed
-/// back.
+/// the journal on a disk, or prints the history that the journal holds, and writes what that prints to
+/// a sink, step by step. The disk is handed back.
 ///
 /// The words come first, then the whole source, the bundle, the journal, and the steps. `Usage` and
 /// `Bundle` leave the sink and the disk as they were, and a check never touches the disk. After
@@ -55,9 +55,10 @@ pub fn orchestrate<S: Source, K: Sink, D: Disk>(
     ensures write { IsErrOf result.status Stop.WriteFault → Rose (K.sink.faults sink.old) (K.sink.faults sink.new) }
     ensures journal { IsErrOf result.status Stop.JournalFault → Rose (D.disk.faults disk) (D.disk.faults result.disk) }
 {
-    let command = match command_of(words) {
-        Some(command) => command,
-        None => return Ended::at(disk, Stop::Usage),
+    let command = match command_of(alloc, words) {
+        Ok(command) => command,
+        Err(WordsFault::Usage) => return Ended::at(disk, Stop::Usage),
+        Err(WordsFault::Memory) => return Ended::at(disk, Stop::Memory),
     };
     let bundle = match read_input(alloc, source) {
         Ok(bundle) => bundle,
@@ -68,7 +69,8 @@ pub fn orchestrate<S: Source, K: Sink, D: Disk>(
             disk,
             status: check_bundle(alloc, &bundle, sink),
         },
-        Command::Run => run_bundle(alloc, bundle, sink, disk),
+        Command::Run => run_over(alloc, &bundle.decls, bundle.steps.as_slice(), sink, disk),
+        Command::History => run_over(alloc, &bundle.decls, &[ScriptStep::History], sink, disk),
     }
 }
 
@@ -79,8 +81,7 @@ fn read_input<S: Source>(alloc: Global, source: &mut S) -> Result<Bundle, Stop>
     ensures short { IfOk result (λ bundle. length bundle.decls.text < 2 ^ 32) }
     ensures fault { (line : ℕ) (rule : Rule) → IsErrOf result (Stop.Bundle line rule)
         → GivesFault (S.source.left source.old) (S.source.left source.new) line rule }
-    ensures begun { OnErr result
-        (GivesUpTo (LARGEST_BUNDLE + 1) (S.source.left source.old) (S.source.left source.new)) }
+    ensures begun { GivesUpTo (LARGEST_BUNDLE + 1) (S.source.left source.old) (S.source.left source.new) }
     ensures read { IsErrOf result Stop.ReadFault → Rose (S.source.faults source.old) (S.source.faults source.new) }
     ensures causes { IfErr result IsInputStop }
 {
@@ -96,11 +97,17 @@ fn read_input<S: Source>(alloc: Global, source: &mut S) -> Result<Bundle, Stop>
     }
 }
 
-// Runs the script of a bundle over the journal on a disk.
-fn run_bundle<K: Sink, D: Disk>(alloc: Global, bundle: Bundle, sink: &mut K, disk: D) -> Ended<D>
-    requires bundle { IsBundle bundle }
-    requires short { length bundle.decls.text < 2 ^ 32 }
-    ensures ends { (before after : Option (List ℕ)) → EndsOver D.disk bundle
+// Does the steps under the declarations over the journal on a disk.
+fn run_over<K: Sink, D: Disk>(
+    alloc: Global,
+    decls: &Decls,
+    steps: &[ScriptStep],
+    sink: &mut K,
+    disk: D,
+) -> Ended<D>
+    requires bundle { IsBundle (record { decls = decls.now; steps = steps.now }) }
+    requires short { length decls.now.text < 2 ^ 32 }
+    ensures ends { (before after : Option (List ℕ)) → EndsOver D.disk (record { decls = decls.now; steps = steps.now })
         (record { left = before; held = K.sink.held sink.old; disk = disk })
         (record { left = after; held = K.sink.held sink.new; disk = result.disk })
         result.status }
@@ -108,9 +115,8 @@ fn run_bundle<K: Sink, D: Disk>(alloc: Global, bundle: Bundle, sink: &mut K, dis
     ensures journal { IsErrOf result.status Stop.JournalFault → Rose (D.disk.faults disk) (D.disk.faults result.disk) }
     ensures causes { IfErr result.status IsRunStop }
 {
-    let Bundle { decls, steps } = bundle;
-    match Controller::open(alloc, &decls, disk) {
-        Ok(controller) => run_script(alloc, &decls, controller, steps.as_slice(), sink),
+    match Controller::open(alloc, decls, disk) {
+        Ok(controller) => run_script(alloc, decls, controller, steps, sink),
         Err((stop, disk)) => Ended::at(disk, stop),
     }
 }

@@ -21,23 +21,23 @@ use Rattle.orc_schema.specs.Links.{names_cmp}
 use Rattle.orc_schema.specs.Schemas.{SchemaTable, put_in, in_order, table_of, schema_lines, drafts, IsTableOf, Builds, GivesSchema, schema_of}
 use Rattle.orc_schema.proofs.Ordered.{Names, Sorted, is_at, pick, names_total, same_is, less_before, some_is, is_none, others_fail, equal_is, later_less, find_sorted}
 
-abbrev names_at : SchemaLine → Names
+abbrev pub names_at : SchemaLine → Names
 names_at l = l.names
 
-abbrev at : Names → SchemaLine → Bool
+abbrev pub at : Names → SchemaLine → Bool
 at k = is_at names_at k
 
-abbrev InOrder : List SchemaLine → Type 0
+abbrev pub InOrder : List SchemaLine → Type 0
 InOrder = Sorted names_at
 
 at_itself : (l : SchemaLine) → at l.names l ≡ true
 at_itself l = same_is l.names l.names ∙ ap is_eq (tied_itself names_total l.names)
 
 -- how many lines have these names
-abbrev one_at : Names → SchemaLine → ℕ
+abbrev pub one_at : Names → SchemaLine → ℕ
 one_at k l = cond (at k l) 1 0
 
-abbrev count : Names → List SchemaLine → ℕ
+abbrev pub count : Names → List SchemaLine → ℕ
 count k ls = sum_by (one_at k) ls
 
 count-none : (k : Names) (ls : List SchemaLine) → AllByRecursion (λ l. at k l ≡ false) ls → count k ls ≡ 0
@@ -47,7 +47,7 @@ count-none k (l ∷ ls) h =
     let none : one_at k l ≡ 0 = ap (λ b. cond b 1 0) h.0 in
     omega (arith, c, none, count-none k ls h.1)
 
-one_most : (k : Names) (ls : List SchemaLine) → InOrder ls → count k ls ≤ 1
+pub one_most : (k : Names) (ls : List SchemaLine) → InOrder ls → count k ls ≤ 1
 one_most k [] s = omega arith
 one_most k (l ∷ ls) s = on (at k l) refl (one_most k ls (sorted_tail names_cmp l.names (map names_at ls) s))
   where

@@ -1,3 +1,4 @@
+mod Barren
 mod Blocks
 mod Lawful
 mod TypeFaults
@@ -7,5 +8,12 @@ mod ChildNames
 mod Marks
 mod Ordered
 mod InOrder
+mod Orders
 mod Tables
 mod Uses
+mod Seens
+mod SoundLists
+mod SoundWords
+mod SoundNodes
+mod SoundKeys
+mod SoundTables

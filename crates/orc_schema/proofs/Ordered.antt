@@ -136,7 +136,7 @@ module _ {X : Type 0} (p : X → Bool) where
       on false is (inl none) = inl (ap (λ t. cond t (Some x) (find p xs)) is ∙ none)
       on false is (inr some) = inr (ap (λ t. cond t (Some x) (find p xs)) is ∙ some)
 
-  fail_alone : (y : X) (xs : List X) → Fail xs → Alone y xs
+  pub fail_alone : (y : X) (xs : List X) → Fail xs → Alone y xs
   fail_alone y [] h = tt
   fail_alone y (x ∷ xs) h = ((λ is. absurd (false≢true (sym h.0 ∙ is))), fail_alone y xs h.1)
 

@@ -1,6 +1,7 @@
 -- What the definitions make sure of.
 use Rattle.std.specs.Prelude.{ℕ, suc, ◌≡◌, false, List, [], ◌∷◌, ◌++◌, map, Some, None}
 use Rattle.std.specs.List.{All, IsDistinct}
+use Rattle.std.specs.List.Sorted.{IsPermutation}
 use Rattle.orc_yang.specs.declared.statement.Stmt.{Stmt}
 use Rattle.orc_modules.specs.declared.parts.Part.TheVariants.{Node}
 use Rattle.orc_modules.specs.Statements.{Place, module_places}
@@ -9,9 +10,9 @@ use Rattle.orc_modules.specs.Children.{block_part, is_deeper}
 use Rattle.orc_schema.specs.declared.fault.SchemaFault.{SchemaFault}
 use Rattle.orc_schema.specs.declared.draft.Draft.{Draft}
 use Rattle.orc_schema.specs.Faults.{fault_here, module_fault}
-use Rattle.orc_schema.specs.Drafts.{Where, draft, drafts_below, drafts_of}
+use Rattle.orc_schema.specs.Drafts.{Where, draft, drafts_in, drafts_below, drafts_of}
 use Rattle.orc_schema.specs.Links.{same_names}
-use Rattle.orc_schema.specs.Schemas.{SchemaTable, Ascends}
+use Rattle.orc_schema.specs.Schemas.{SchemaTable, Ascends, IsTableOf}
 
 -- no statement of the list is at fault
 abbrev pub AreFaultless : List Stmt → List Place → Type 0
@@ -50,3 +51,14 @@ DepthIsNoLimit = (n : ℕ) (ms : Modules) (w : Where) (s : Stmt) → is_deeper n
 -- No two lines of a schema have the same names.
 abbrev pub NamesDiffer : Type 0
 NamesDiffer = (s : SchemaTable) → Ascends s.lines → IsDistinct same_names (map (λ l. l.names) s.lines)
+
+-- Two statements of a block that stand beside one another may change places, where names mean the same as before: the
+-- same nodes come of the block.
+abbrev pub OrderIsFree : Type 0
+OrderIsFree = (n : ℕ) (ms : Modules) (w : Where) (front : List Stmt) (s t : Stmt) (back : List Stmt)
+    → IsPermutation (drafts_in ms (drafts_below n ms) w (front ++ s ∷ t ∷ back))
+    (drafts_in ms (drafts_below n ms) w (front ++ t ∷ s ∷ back))
+
+-- The order in which nodes come makes no other schema.
+abbrev pub NodesMakeOneTable : Type 0
+NodesMakeOneTable = (ds es : List Draft) (s : SchemaTable) → IsPermutation ds es → IsTableOf ds s → IsTableOf es s

@@ -3,3 +3,4 @@ pub mod Meeting
 pub mod Cutting
 pub mod Carried
 pub mod Indexes
+pub mod Seen

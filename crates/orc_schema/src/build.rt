@@ -60,12 +60,12 @@ fn drafts_of(alloc: Global, modules: &Modules<'_>) -> Result<Row<Draft>, Memory>
 }
 
 // Whether nodes and groupings of a module stand in one another deeper than is looked at.
-fn any_deep(modules: &Modules<'_>) -> Result<bool, Memory>
+fn any_deep(alloc: Global, modules: &Modules<'_>) -> Result<bool, Memory>
     ensures { IfOk result (λ deep. deep
         ≡ list_any (is_deep_module (modules_of modules.now)) modules.now.all.now) }
 {
     for stmt in modules.all {
-        if is_too_deep(&*modules, &Above::Module(stmt), stmt)? {
+        if is_too_deep(alloc, &*modules, &Above::Module(stmt), stmt)? {
             return Ok(true);
         }
     }
@@ -78,7 +78,7 @@ fn whole_drafts(alloc: Global, modules: &Modules<'_>) -> Result<Row<Draft>, Memo
     ensures whole { IfOk result (λ ds.
         list_any (is_deep_module (modules_of modules.now)) modules.now.all.now ≡ false) }
 {
-    match any_deep(modules)? {
+    match any_deep(alloc, modules)? {
         true => Err(Memory),
         false => drafts_of(alloc, modules),
     }
@@ -221,7 +221,7 @@ impl Schema {
     /// The schema of these modules, or their first fault: that of the first faulty statement in the
     /// order of the text, modules in the order given and groupings where they are defined, at one
     /// statement the variant listed first; and then that of the first leafref at fault. A schema of
-    /// more than 1,000,000 nodes wants memory, and so does a leaf behind more than 1,000 leafrefs.
+    /// more than 1,000,000 nodes wants memory, and so does a leaf behind 1,000 leafrefs or more.
     pub fn build(alloc: Global, modules: &[Stmt]) -> Result<Schema, SchemaFault>
         ensures builds { Builds modules.now result }
         ensures value { GivesSchema (schema_of modules.now) result }

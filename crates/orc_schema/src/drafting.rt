@@ -1,6 +1,8 @@
 //! The nodes that statements define, in the order of the text.
 ghost use Rattle.std.specs.Prelude.{◌≡◌, List, [], ◌∷◌, ◌++◌, IfOk, OnOk, option_map};
 ghost use Rattle.std.specs.List.{position};
+ghost use Rattle.std.specs.Option.{option_map_or};
+ghost use Rattle.orc_modules.specs.Children.{grouping};
 ghost use Rattle.orc_value.specs.Canon.{same_text};
 ghost use Rattle.orc_types.specs.Types.{kind_of};
 ghost use Rattle.orc_types.specs.Defaults as types;
@@ -9,7 +11,7 @@ ghost use Rattle.orc_types.specs.Statements.{argument};
 ghost use Rattle.orc_modules.specs.Statements.{word};
 ghost use Rattle.orc_modules.specs.declared.word.Word.TheVariants.{Leaf, LeafList};
 ghost use Rattle.orc_schema.specs.Arguments.{keys_of};
-ghost use Rattle.orc_schema.specs.Drafts.{name_behind, names_at, least_count, most_count, draft_kind, draft_of, draft_type, canonical, inherited, default_text, leaf_default, leaf_node, draft_node, draft, drafts_below};
+ghost use Rattle.orc_schema.specs.Drafts.{name_behind, names_at, least_count, most_count, draft_kind, draft_of, draft_type, canonical, inherited, default_text, leaf_default, leaf_node, draft_node, draft, in_grouping, drafts_below};
 ghost use Rattle.orc_schema.specs.inside.Carried.{where_of};
 
 use crate::arguments::{is_mandatory, keys_of};
@@ -19,7 +21,7 @@ use crate::line::ListNode;
 use crate::reference::reference_of;
 use crate::typing::typed;
 use orc_modules::{
-    Above, Modules, Part, Typed, Word, argument_below, block_part, grouping, module_called,
+    Above, Found, Modules, Part, Typed, Word, argument_below, block_part, bringer, module_called,
     sub_text, word_of,
 };
 use orc_text::{Memory, Row, Text};
@@ -299,8 +301,26 @@ fn take_one(left: &mut u64) -> Result<(), Memory> {
     Ok(())
 }
 
+// The grouping that a `uses` names, where it may define nodes.
+fn bringer_at<'a>(
+    alloc: Global,
+    depth: usize,
+    modules: &Modules<'a>,
+    at: &Where<'a>,
+    stmt: &Stmt,
+) -> Result<Option<Found<'a>>, Memory>
+    ensures { IfOk result (λ o.
+        option_map_or (λ g. drafts_below depth (modules_of modules.now) (in_grouping (where_of at.now) g) g.here)
+        (grouping modules.now.all.now (stack at.now.above.now) stmt.now) []
+        ≡ option_map_or (λ g. drafts_below depth (modules_of modules.now) (in_grouping (where_of at.now) g) g.here)
+        (option_map found o) []) }
+{
+    bringer(alloc, depth, modules, at.above, stmt)
+}
+
 // Adds the nodes that the statements below one define, which stand in one another at most `depth`
 // deep; where they are deeper, or more than `left` groupings are looked at, it wants memory.
+#[cycle(drafts)]
 pub(crate) fn push_drafts<'a>(
     alloc: Global,
     depth: usize,
@@ -330,21 +350,41 @@ pub(crate) fn push_drafts<'a>(
                 };
                 push_drafts(alloc, depth - 1, modules, &inside, sub, left, out)?;
             },
-            Part::Uses => {
-                take_one(left)?;
-                if let Some(found) = grouping(modules, at.above, sub) {
-                    let owner = at.owner;
-                    let inside = Where {
-                        above: &Above::Under(found.here, &found.above),
-                        owner,
-                        names: at.names,
-                        keys: at.keys,
-                    };
-                    push_drafts(alloc, depth - 1, modules, &inside, found.here, left, out)?;
-                }
-            },
+            Part::Uses => push_uses(alloc, depth - 1, &*modules, &*at, sub, left, out)?,
             Part::Nothing => {},
         }
     }
     Ok(())
+}
+
+// Adds the nodes that the grouping of a `uses` defines.
+#[cycle(drafts)]
+fn push_uses<'a>(
+    alloc: Global,
+    depth: usize,
+    modules: &Modules<'a>,
+    at: &Where<'a>,
+    stmt: &Stmt,
+    left: &mut u64,
+    out: &mut Row<Draft>,
+) -> Result<(), Memory>
+    ensures { OnOk result (out.new ≡ out.old
+        ++ option_map_or (λ g. drafts_below depth (modules_of modules.now) (in_grouping (where_of at.now) g) g.here)
+        (grouping modules.now.all.now (stack at.now.above.now) stmt.now) []) }
+{
+    take_one(left)?;
+    match bringer_at(alloc, depth, &*modules, &*at, stmt)? {
+        Some(found) => {
+            let owner = at.owner;
+            let here = found.here;
+            let inside = Where {
+                above: &Above::Under(here, &found.above),
+                owner,
+                names: &*at.names,
+                keys: &*at.keys,
+            };
+            push_drafts(alloc, depth, &*modules, &inside, here, left, out)
+        },
+        None => Ok(()),
+    }
 }

@@ -9,10 +9,12 @@ ghost use Rattle.orc_schema.specs.Cuts.{words};
 ghost use Rattle.orc_schema.specs.Names.{fault_if, contains_text, outer, stands_once, repeated, is_defined, is_type_name_taken, is_own_prefix, is_prefix_taken, duplicate_prefix, names_before, repeated_node, repeated_among, duplicate_key, duplicate};
 ghost use Rattle.orc_schema.specs.declared.fault.SchemaFault.TheVariants.{Duplicate};
 ghost use Rattle.orc_schema.specs.inside.Meeting.{Meets};
+ghost use Rattle.orc_schema.specs.inside.Seen.{is_seen, HasSame};
 
 use crate::SchemaFault;
 use crate::cuts::words;
 use crate::names::{argument_text, contains_text, is_built_in};
+use crate::seen::Seen;
 use orc_modules::{
     Above, Modules, Place, Word, child_names, defines, imports_as, in_scope, is_own, module_around,
     sub_text,
@@ -119,13 +121,23 @@ fn is_prefix_taken(here: &Place<'_>, prefix: &str) -> bool
     is_own_prefix(here, prefix) || any_imports_as(prefix, here.before)
 }
 
-// The first of the names that stands among the others.
-fn first_among<'a>(others: &[Text], names: &'a [Text]) -> Option<&'a Text>
-    ensures { option_map (λ name. name.now) result ≡ find (contains_text others.now) names.now }
+// The first of the names that was seen.
+fn first_seen<'a>(seen: &Seen, names: &'a [Text]) -> Option<&'a Text>
+    ensures { option_map (λ name. name.now) result ≡ find (is_seen seen.now) names.now }
 {
-    names
-        .iter()
-        .find(|name| contains_text(others, name.as_str()))
+    names.iter().find(|name| seen.has(*name))
+}
+
+// Ok, or that one of the names was seen.
+fn none_seen(alloc: Global, seen: &Seen, names: &[Text]) -> Result<(), SchemaFault>
+    ensures { Meets (option_map Duplicate (find (is_seen seen.now) names.now)) result }
+{
+    match first_seen(seen, names) {
+        Some(name) => Err(SchemaFault::Duplicate {
+            name: name.copy(alloc)?,
+        }),
+        None => Ok(()),
+    }
 }
 
 // A name that a statement gives to its block, and that the block has before it.
@@ -133,9 +145,9 @@ fn repeated_node(
     alloc: Global,
     modules: &Modules<'_>,
     here: &Place<'_>,
-    earlier: &[Text],
+    earlier: &Seen,
 ) -> Result<(), SchemaFault>
-    requires { earlier.now ≡ names_before (modules_of modules.now) (place here.now) }
+    requires { HasSame earlier.now (names_before (modules_of modules.now) (place here.now)) }
     ensures { Meets (option_map Duplicate (repeated_node (modules_of modules.now) (place here.now))) result }
 {
     let names = child_names(
@@ -144,12 +156,7 @@ fn repeated_node(
         here.above,
         std::slice::from_ref(here.here),
     )?;
-    match first_among(earlier, names.as_slice()) {
-        Some(name) => Err(SchemaFault::Duplicate {
-            name: name.copy(alloc)?,
-        }),
-        None => Ok(()),
-    }
+    none_seen(alloc, earlier, names.as_slice())
 }
 
 // The first of the names that stands among those before it.
@@ -207,9 +214,9 @@ pub(crate) fn duplicate(
     modules: &Modules<'_>,
     here: &Place<'_>,
     word: Word,
-    earlier: &[Text],
+    earlier: &Seen,
 ) -> Result<(), SchemaFault>
-    requires { earlier.now ≡ names_before (modules_of modules.now) (place here.now) }
+    requires { HasSame earlier.now (names_before (modules_of modules.now) (place here.now)) }
     ensures { Meets (duplicate (modules_of modules.now) (place here.now) word) result }
 {
     let name = argument(here.here);

@@ -8,16 +8,18 @@ ghost use Rattle.orc_schema.specs.Names.{fault_if, unknown, duplicate, names_bef
 ghost use Rattle.orc_schema.specs.Arguments.{bad_argument};
 ghost use Rattle.orc_schema.specs.Faults.{innermost, is_leafref, is_leafref_type, has_no_default, unsupported, no_key, is_endless, loops, own_fault_here, fault_here};
 ghost use Rattle.orc_schema.specs.inside.Meeting.{Meets};
+ghost use Rattle.orc_schema.specs.inside.Seen.{HasSame};
 
 use crate::SchemaFault;
 use crate::arguments::bad_argument;
 use crate::duplicates::duplicate;
 use crate::names::{argument_text, unknown};
 use crate::placement::stands_below;
+use crate::seen::Seen;
 use crate::type_faults::type_fault_here;
 use crate::typing::typed_around;
 use orc_modules::{Above, Modules, Named, Place, Typed, Word, base_of, leads_past, word_of};
-use orc_text::{Memory, Text};
+use orc_text::Memory;
 use orc_types::{LeafType, has};
 use orc_yang::Stmt;
 use std::alloc::Global;
@@ -138,7 +140,7 @@ fn loops(
 {
     match word {
         Word::Uses => {
-            let past = leads_past(&*modules, here.above, here.here)?;
+            let past = leads_past(alloc, &*modules, here.above, here.here)?;
             loop_if(alloc, past, here.here)
         },
         Word::TypeName => {
@@ -174,9 +176,9 @@ fn own_fault_here(
     modules: &Modules<'_>,
     here: &Place<'_>,
     word: Word,
-    earlier: &[Text],
+    earlier: &Seen,
 ) -> Result<(), SchemaFault>
-    requires { earlier.now ≡ names_before (modules_of modules.now) (place here.now) }
+    requires { HasSame earlier.now (names_before (modules_of modules.now) (place here.now)) }
     ensures { Meets (own_fault_here (modules_of modules.now) (place here.now) word) result }
 {
     match unsupported(alloc, modules, here, word) {
@@ -196,9 +198,9 @@ pub(crate) fn fault_here(
     alloc: Global,
     modules: &Modules<'_>,
     here: &Place<'_>,
-    earlier: &[Text],
+    earlier: &Seen,
 ) -> Result<(), SchemaFault>
-    requires { earlier.now ≡ names_before (modules_of modules.now) (place here.now) }
+    requires { HasSame earlier.now (names_before (modules_of modules.now) (place here.now)) }
     ensures { Meets (fault_here (modules_of modules.now) (place here.now)) result }
 {
     let word = word_of(here.here.keyword.as_str());

@@ -3,9 +3,10 @@ ghost use Rattle.std.specs.Prelude.{◌≡◌, List, IfOk};
 ghost use Rattle.orc_modules.specs.Stack.{stack};
 ghost use Rattle.orc_schema.specs.Gaps.{is_incomplete};
 
-use orc_modules::{Above, Modules, Part, block_part, grouping};
+use orc_modules::{Above, Modules, Part, block_part, brings_nothing, grouping};
 use orc_text::Memory;
 use orc_yang::Stmt;
+use std::alloc::Global;
 
 // Where the statements of a block stand.
 #[derive(Clone, Copy)]
@@ -19,6 +20,7 @@ const MAX_VISITS: u64 = 1_000_000;
 // Whether a `uses` of the block leads to no grouping, or on more than `depth` times. Past so many
 // that are left, it wants memory.
 fn is_incomplete_at<'a>(
+    alloc: Global,
     depth: usize,
     modules: &Modules<'a>,
     at: &Inside<'a>,
@@ -41,12 +43,24 @@ fn is_incomplete_at<'a>(
                 let Some(found) = grouping(&*modules, at.above, sub) else {
                     return Ok(true);
                 };
-                let inside = Inside {
-                    above: &Above::Under(found.here, &found.above),
-                };
-                match is_incomplete_at(depth - 1, &*modules, &inside, found.here, left)? {
-                    true => return Ok(true),
-                    false => {},
+                match brings_nothing(alloc, depth - 1, &*modules, &found)? {
+                    true => {},
+                    false => {
+                        let inside = Inside {
+                            above: &Above::Under(found.here, &found.above),
+                        };
+                        match is_incomplete_at(
+                            alloc,
+                            depth - 1,
+                            &*modules,
+                            &inside,
+                            found.here,
+                            left,
+                        )? {
+                            true => return Ok(true),
+                            false => {},
+                        }
+                    },
                 }
             },
             Part::Node => {},
@@ -58,6 +72,7 @@ fn is_incomplete_at<'a>(
 
 // Whether a `uses` of the block of a statement, or of its groupings, leads to no grouping, or to itself.
 pub(crate) fn is_incomplete<'a>(
+    alloc: Global,
     modules: &Modules<'a>,
     above: &'a Above<'a>,
     stmt: &'a Stmt,
@@ -66,5 +81,12 @@ pub(crate) fn is_incomplete<'a>(
         ≡ is_incomplete modules.now.most modules.now.all.now (stack above.now) stmt.now) }
 {
     let mut left = MAX_VISITS;
-    is_incomplete_at(modules.most, &*modules, &Inside { above }, stmt, &mut left)
+    is_incomplete_at(
+        alloc,
+        modules.most,
+        &*modules,
+        &Inside { above },
+        stmt,
+        &mut left,
+    )
 }

@@ -21,11 +21,15 @@ mod names;
 mod placement;
 mod reference;
 mod schema;
+mod seen;
 mod type_faults;
 mod typing;
 mod walk;
 
 pub use fault::SchemaFault;
-pub use laws::{depth_is_no_limit, first_fault_is_least, names_differ, nodes_stand_for_statements};
+pub use laws::{
+    depth_is_no_limit, first_fault_is_least, names_differ, nodes_make_one_table,
+    nodes_stand_for_statements, order_is_free, schemas_are_sound,
+};
 pub use line::{LeafNode, ListNode, Node, SchemaLine, Target, ValueListNode};
 pub use schema::Schema;

@@ -96,13 +96,13 @@ fn is_unknown_key(
 }
 
 // Whether each `uses` of the statement around leads to its groupings.
-fn is_complete(modules: &Modules<'_>, above: &Above<'_>) -> Result<bool, Memory>
+fn is_complete(alloc: Global, modules: &Modules<'_>, above: &Above<'_>) -> Result<bool, Memory>
     ensures { IfOk result (λ complete. complete ≡ is_complete (modules_of modules.now) (stack above.now)) }
 {
     match above {
         Above::Top => Ok(true),
         Above::Module(stmt) | Above::Under(stmt, _) => {
-            Ok(!is_incomplete(&*modules, above, *stmt)?)
+            Ok(!is_incomplete(alloc, &*modules, above, *stmt)?)
         },
     }
 }
@@ -129,7 +129,7 @@ fn first_unknown_key<'a>(
 fn unknown_key(alloc: Global, modules: &Modules<'_>, here: &Place<'_>) -> Result<(), SchemaFault>
     ensures { Meets (option_map Unknown (unknown_key (modules_of modules.now) (place here.now))) result }
 {
-    if !is_complete(modules, here.above)? {
+    if !is_complete(alloc, modules, here.above)? {
         return Ok(());
     }
     let names = words(alloc, argument(here.here))?;

@@ -5,20 +5,22 @@ ghost use Rattle.orc_modules.specs.Stack.{stack, place, modules_of};
 ghost use Rattle.orc_modules.specs.Statements.{places_below, module_places};
 ghost use Rattle.orc_schema.specs.Faults.{fault_here, first_some, module_fault};
 ghost use Rattle.orc_schema.specs.inside.Meeting.{Meets};
+ghost use Rattle.orc_schema.specs.inside.Seen.{all_seen};
 
 use crate::SchemaFault;
 use crate::faults::fault_here;
+use crate::seen::Seen;
 use orc_modules::{Above, Modules, Place, Word, child_names, is_read, word_of};
-use orc_text::{Memory, Row, Text};
+use orc_text::{Memory, Text};
 use orc_yang::Stmt;
 use std::alloc::Global;
 
 // Adds copies of texts.
-fn push_all(alloc: Global, more: &[Text], names: &mut Row<Text>) -> Result<(), Memory>
-    ensures { OnOk result (names.new ≡ names.old ++ more.now) }
+fn push_all(alloc: Global, more: &[Text], names: &mut Seen) -> Result<(), Memory>
+    ensures { OnOk result (names.new ≡ all_seen names.old more.now) }
 {
     for name in more {
-        names.push(name.copy(alloc)?)?;
+        names.add(name.copy(alloc)?)?;
     }
     Ok(())
 }
@@ -29,10 +31,10 @@ fn add_names<'a>(
     modules: &Modules<'a>,
     above: &'a Above<'a>,
     stmt: &'a Stmt,
-    names: &mut Row<Text>,
+    names: &mut Seen,
 ) -> Result<(), Memory>
-    ensures { OnOk result (names.new ≡ names.old
-        ++ child_names (children modules.now.most modules.now.all.now (stack above.now) (stmt.now ∷ []))) }
+    ensures { OnOk result (names.new ≡ all_seen names.old
+        (child_names (children modules.now.most modules.now.all.now (stack above.now) (stmt.now ∷ [])))) }
 {
     let more = child_names(alloc, &*modules, above, std::slice::from_ref(stmt))?;
     push_all(alloc, more.as_slice(), names)
@@ -50,7 +52,7 @@ fn first_fault_below<'a>(
 {
     let parent = word_of(stmt.keyword.as_str());
     let block = stmt.subs.as_slice();
-    let mut names = Row::new(alloc);
+    let mut names = Seen::new(alloc);
     for (at, here) in block.iter().enumerate() {
         if is_read(parent, here) {
             let before = &block[..at];
@@ -62,7 +64,7 @@ fn first_fault_below<'a>(
                     before,
                     here,
                 },
-                names.as_slice(),
+                &names,
             ) {
                 return Err(fault);
             }
@@ -85,7 +87,7 @@ pub(crate) fn first_fault(alloc: Global, modules: &Modules<'_>) -> Result<(), Sc
     ensures { Meets (first_some (fault_here (modules_of modules.now)) (module_places [] modules.now.all.now)) result }
 {
     let all = modules.all;
-    let mut names = Row::new(alloc);
+    let mut names = Seen::new(alloc);
     for (at, here) in all.iter().enumerate() {
         let before = &all[..at];
         let place = Place {
@@ -93,7 +95,7 @@ pub(crate) fn first_fault(alloc: Global, modules: &Modules<'_>) -> Result<(), Sc
             before,
             here,
         };
-        if let Err(fault) = fault_here(alloc, &*modules, &place, names.as_slice()) {
+        if let Err(fault) = fault_here(alloc, &*modules, &place, &names) {
             return Err(fault);
         }
         if let Err(fault) = first_fault_below(alloc, &*modules, here, &Above::Module(here)) {

@@ -1,12 +1,16 @@
-//! Runs tables of YANG modules and of the schemas that they make: how many cases hold, and which don't.
+//! Runs tables of YANG modules, of the schemas that they make and of configurations under these: how many
+//! cases hold, and which don't.
 //!
 //! Each word names a file of cases. A case begins with a line `=== TITLE`; below it stand the modules,
-//! a line `---`, and the listing: the schema path by path, or its fault (`listing` says how). Lines in
-//! front of the first case say nothing.
+//! a line `---`, and the listing: the schema path by path, or its fault (`listing` says how). Behind a
+//! line `--- data` stand configurations in place of a listing, each with what it breaks (`checks` says
+//! how). Lines in front of the first case say nothing.
 #![tactic(auto)]
 
 mod case;
+mod checks;
 mod found;
+mod json_cases;
 mod listing;
 
 use crate::case::Case;
@@ -33,7 +37,11 @@ fn run_all<R: Files<File = fs::File> + Env + Print + AllocGlobal>(rt: &R) -> io:
     let mut good = true;
     for name in names {
         let text = fs::read_to_string(rt, name.as_str())?;
-        let holds = run(rt, name.as_str(), text.as_str())?;
+        let holds = if name.as_str().ends_with("json") {
+            json_cases::run(rt, name.as_str(), text.as_str())?
+        } else {
+            run(rt, name.as_str(), text.as_str())?
+        };
         good = good && holds;
     }
     Ok(good)

@@ -11,4 +11,4 @@ mod typed;
 pub use canonical::{canonical_item, canonical_path};
 pub use laws::{canonical_is_typed, canonical_keeps, typed_is_canonical};
 pub use placed::is_in_schema;
-pub use typed::is_typed;
+pub use typed::{has_canonical_keys, is_canonical_value, is_typed};

@@ -55,8 +55,9 @@ fn has_no_key(keys: &[Text]) -> bool
     keys.is_empty()
 }
 
-// Whether each key of a step is. `steps` are those down to it and with it.
-fn has_canonical_keys(schema: &Schema, steps: &[Step], step: &Step) -> bool
+/// Whether each key of a step is the canonical text of a value of its leaf's type; `steps` are those
+/// down to it and with it. It takes no memory.
+pub fn has_canonical_keys(schema: &Schema, steps: &[Step], step: &Step) -> bool
     ensures { result ≡ has_canonical_keys schema.now (path_names steps.now) step.now }
 {
     let keys = step.keys.as_slice();
@@ -80,8 +81,9 @@ fn are_canonical_steps(schema: &Schema, steps: &[Step]) -> bool
     }
 }
 
-// Whether the text of an item at a path is.
-fn is_canonical_value(schema: &Schema, path: &Path, item: &Item) -> bool
+/// Whether an item at a path is an entry, or its text the canonical one of a value of the leaf's
+/// type. It takes no memory.
+pub fn is_canonical_value(schema: &Schema, path: &Path, item: &Item) -> bool
     ensures { result ≡ is_canonical_value (kind_at_path schema.now path.now) item.now }
 {
     match item {

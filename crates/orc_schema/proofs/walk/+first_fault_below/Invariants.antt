@@ -3,6 +3,7 @@ use Rattle.std.proofs.Common.{◌≡◌, take}
 use Rattle.orc_modules.specs.Children.{children, child_names}
 use Rattle.orc_modules.specs.Stack.{stack, modules_of}
 use Rattle.orc_modules.specs.Statements.{places_below}
+use Rattle.orc_schema.specs.inside.Seen.{HasSame}
 use Rattle.orc_schema.specs.Faults.{fault_here, first_some}
 use Rattle.orc_schema.proofs.Blocks.{rest}
 use Rattle.orc_schema.proofs.walk.+first_fault_below.Given as goal
@@ -11,5 +12,5 @@ abbrev pub invariant-loop-at : goal.invariant-loop-at
 invariant-loop-at l = record {
   left : first_some (fault_here (modules_of l.fn.modules)) (places_below l.fn.stmt (stack l.fn.above))
       ≡ first_some (fault_here (modules_of l.fn.modules)) (rest l.parent (stack l.fn.above) l.block l.at);
-  names : l.names ≡ child_names (children l.fn.modules.most l.fn.modules.all.now (stack l.fn.above) (take l.at l.block));
+  names : HasSame l.names (child_names (children l.fn.modules.most l.fn.modules.all.now (stack l.fn.above) (take l.at l.block)));
 }

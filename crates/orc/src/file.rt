@@ -1,0 +1,53 @@
+//! The file that holds the journal.
+use std::fs::{File, TryLockError};
+use std::os::unix::fs::FileExt;
+use std::rt::Files;
+use std::{fs, io};
+
+/// The file of this name, opened to be read and written and locked, which is made where it isn't
+/// there. A file that can't be opened, locked or read is left as it was.
+///
+/// The lock is the advisory one on the whole file (`flock`). It holds until the program ends, so that
+/// two programs never write one journal.
+pub(crate) fn journal_file<R: Files<File = File> + AllocGlobal>(
+    rt: &R,
+    name: &str,
+) -> io::Result<File> {
+    let mut options = File::options();
+    options.read(true).write(true).create(true);
+    let file = options.open(rt, name)?;
+    lock(&file)?;
+    if is_empty(&file)? {
+        sync_folder(rt, name)?;
+    }
+    Ok(file)
+}
+
+// Locks a file for this program alone, without waiting for another one.
+fn lock(file: &File) -> io::Result<()> {
+    match file.try_lock() {
+        Ok(()) => Ok(()),
+        Err(TryLockError::WouldBlock) => {
+            let message = "another program has it in use";
+            Err(io::Error::new(io::ErrorKind::WouldBlock, message))
+        }
+        Err(TryLockError::Error(error)) => Err(error),
+    }
+}
+
+// Whether a read gives no byte. The length says nothing, since a device may have none.
+fn is_empty(file: &File) -> io::Result<bool> {
+    let mut byte = [0u8; 1];
+    Ok(file.read_at(&mut byte, 0)? == 0)
+}
+
+// Makes the name of a file in its folder outlive a crash, where a link leads to it the name at the
+// link's end. Nothing was written to the file before that, so no journal is ever in a file whose name
+// may be gone behind a crash.
+fn sync_folder<R: Files<File = File> + AllocGlobal>(rt: &R, name: &str) -> io::Result<()> {
+    let path = fs::canonicalize(rt, name)?;
+    match path.parent() {
+        Some(folder) => File::open(rt, folder)?.sync_all(),
+        None => Ok(()),
+    }
+}

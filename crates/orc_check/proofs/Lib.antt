@@ -1,0 +1,14 @@
+mod Least
+mod TypedRows
+mod Entered
+mod Folds
+mod Orders
+mod Reached
+mod Alone
+mod Ended
+mod Named
+mod Single
+mod Ascending
+mod Shared
+mod Listed
+mod Settled

@@ -1,0 +1,6 @@
+pub mod Validity
+pub mod Answers
+pub mod Acceptance
+pub mod Laws
+pub mod TypedRows
+pub mod inside

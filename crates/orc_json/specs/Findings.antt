@@ -1,0 +1,162 @@
+-- What the JSON of a configuration states, and which rules its members break: RFC 7951 sections 4 to 6.
+use Rattle.std.specs.Prelude.{ℕ, Bool, List, [], ◌∷◌, ◌++◌, ◌==◌, Option, Some, None, Result, Ok, Err, option_map, option_and_then, is_some, if◌then◌else◌}
+use Rattle.std.specs.List.{list_any}
+use Rattle.std.specs.Result.{result_ok}
+use Rattle.serde_json.specs.Data.{Data, null, boolean, number, string, array, object, Items, no_items, item, Members, no_members, member}
+use Rattle.serde_json.specs.Find.{get, as_array}
+use Rattle.orc_path.specs.Steps.{PathStep, is_name_behind}
+use Rattle.orc_path.specs.declared.item.Item.{Item}
+use Rattle.orc_path.specs.declared.item.Item.TheVariants.{Entry, Leaf}
+use Rattle.orc_value.specs.Canon.{same_text}
+use Rattle.orc_value.specs.Json.{canon_of_json}
+use Rattle.orc_value.specs.declared.kind.Kind.{Kind}
+use Rattle.orc_schema.specs.Schemas.{SchemaTable, path_names, node_at, kind_in}
+use Rattle.orc_schema.specs.declared.line.Node.{Node}
+use Rattle.orc_schema.specs.declared.line.Node.TheVariants as node
+use Rattle.orc_schema.specs.declared.line.LeafNode.{LeafNode}
+use Rattle.orc_json.specs.declared.fault.TheConstants.{MEMBER, KIND, VALUE, KEY, OTHER_KIND}
+
+-- A member states that an item stands at a path, or breaks a rule there: MEMBER, KIND, VALUE or KEY.
+pub data Finding : Type 0 where
+  states : List PathStep → Item → Finding
+  breaks : List PathStep → ℕ → Finding
+
+-- the path of a name below another path, with keys or none
+abbrev pub below : List PathStep → List ℕ → List (List ℕ) → List PathStep
+below at name keys = at ++ record { node = name; keys = keys } ∷ []
+
+-- the node of a name below a path
+abbrev pub node_below : SchemaTable → List PathStep → List ℕ → Option Node
+node_below s at name = node_at s (path_names at ++ name ∷ [])
+
+-- Values: RFC 7951 section 6 ------------------------------------------------------------------------------------------
+
+-- A JSON value of another kind than the type's breaks KIND, and one that is no value of the type breaks VALUE.
+abbrev pub value_rule : ℕ → ℕ
+value_rule rule = if rule == OTHER_KIND then KIND else VALUE
+
+-- A leaf: section 5.1. Its value's canonical text stands at its path.
+abbrev pub leaf_value : List PathStep → Result (List ℕ) ℕ → List Finding
+leaf_value path (Ok text) = states path (Leaf text) ∷ []
+leaf_value path (Err rule) = breaks path (value_rule rule) ∷ []
+
+-- A value of a leaf-list: section 5.3. It is an entry whose key is the canonical text.
+abbrev pub entry_value : List PathStep → List ℕ → Result (List ℕ) ℕ → List Finding
+entry_value at name (Ok text) = states (below at name (text ∷ [])) Entry ∷ []
+entry_value at name (Err rule) = breaks (below at name []) (value_rule rule) ∷ []
+
+abbrev pub values : Kind → List PathStep → List ℕ → Items → List Finding
+values kind at name no_items = []
+values kind at name (item d ds) = entry_value at name (canon_of_json kind d) ++ values kind at name ds
+
+-- an array of values
+abbrev pub leaf_list : Kind → List PathStep → List ℕ → Option Items → List Finding
+leaf_list kind at name (Some ds) = values kind at name ds
+leaf_list kind at name None = breaks (below at name []) KIND ∷ []
+
+-- Keys of an entry: section 5.4 ---------------------------------------------------------------------------------------
+
+-- the kind of a key of the list of these names
+abbrev pub key_kind : SchemaTable → List (List ℕ) → List ℕ → Option Kind
+key_kind s names key = option_and_then kind_in (node_at s (names ++ key ∷ []))
+
+-- the canonical text of one key of an entry, where the entry has a value of the key's type
+abbrev pub entry_key : SchemaTable → List (List ℕ) → Data → List ℕ → Option (List ℕ)
+entry_key s names d key = option_and_then
+    (λ kind. option_and_then (λ value. result_ok (canon_of_json kind value)) (get key d)) (key_kind s names key)
+
+abbrev pub key_texts : SchemaTable → List (List ℕ) → Data → List (List ℕ) → Option (List (List ℕ))
+key_texts s names d [] = Some []
+key_texts s names d (key ∷ later) = option_and_then
+    (λ text. option_map (λ texts. text ∷ texts) (key_texts s names d later)) (entry_key s names d key)
+
+-- all keys of an entry, of which there is one at least
+abbrev pub entry_keys : SchemaTable → List (List ℕ) → Data → List (List ℕ) → Option (List (List ℕ))
+entry_keys s names d [] = None
+entry_keys s names d (key ∷ later) = key_texts s names d (key ∷ later)
+
+-- An entry of a list: it stands where its keys say, with what is inside. One without its keys breaks KEY at the list.
+abbrev pub entry_object : List PathStep → List ℕ → Option (List (List ℕ)) → (List PathStep → List Finding)
+    → List Finding
+entry_object at name (Some keys) inside = states (below at name keys) Entry ∷ inside (below at name keys)
+entry_object at name None inside = breaks (below at name []) KEY ∷ []
+
+-- Members: sections 4, 5.1 to 5.4 -------------------------------------------------------------------------------------
+
+-- A leaf that is a key belongs to an entry of its list, and stands nowhere else.
+abbrev pub leaf_found : LeafNode → List PathStep → Data → List Finding
+leaf_found l path d = if is_some l.key then breaks path MEMBER ∷ [] else leaf_value path (canon_of_json l.kind d)
+
+-- one of the names
+abbrev pub is_key_name : List (List ℕ) → List ℕ → Bool
+is_key_name names name = list_any (same_text name) names
+
+-- A name that no path can have below this one breaks MEMBER at the object, and one that isn't in the schema at itself.
+abbrev pub strange_name : List PathStep → List Finding
+strange_name at = breaks at MEMBER ∷ []
+
+-- A node with its JSON: `inside` is what the JSON gives as an object, and `entries` what it gives as a list of objects
+-- with these keys.
+abbrev pub node_found : List PathStep → List ℕ → Data → List Finding → (List (List ℕ) → List Finding) → Option Node
+    → List Finding
+node_found at name d inside entries None = breaks (below at name []) MEMBER ∷ []
+node_found at name d inside entries (Some node.Container) = inside
+node_found at name d inside entries (Some (node.List l)) = entries l.keys
+node_found at name d inside entries (Some (node.Leaf l)) = leaf_found l (below at name []) d
+node_found at name d inside entries (Some (node.LeafList l)) = leaf_list l.kind at name (as_array d)
+
+-- A member. That of a key states nothing more.
+abbrev pub member_found : SchemaTable → List (List ℕ) → List PathStep → List ℕ → Data → List Finding
+    → (List (List ℕ) → List Finding) → List Finding
+member_found s keys at name d inside entries = if is_key_name keys name then [] else
+    if is_name_behind at name then node_found at name d inside entries (node_below s at name) else strange_name at
+
+abbrev mutual
+  -- The JSON object of the root, of a container or of an entry at a path. `keys` are the names of the keys that an
+  -- entry of a list has in it, of which its path tells; no others have any.
+  pub object_at : SchemaTable → List (List ℕ) → List PathStep → Data → List Finding
+  object_at s keys at null = breaks at KIND ∷ []
+  object_at s keys at (boolean b) = breaks at KIND ∷ []
+  object_at s keys at (number n) = breaks at KIND ∷ []
+  object_at s keys at (string t) = breaks at KIND ∷ []
+  object_at s keys at (array ds) = breaks at KIND ∷ []
+  object_at s keys at (object ms) = members_at s keys at ms
+
+  pub members_at : SchemaTable → List (List ℕ) → List PathStep → Members → List Finding
+  members_at s keys at no_members = []
+  members_at s keys at (member name d ms) =
+      member_found s keys at name d (object_at s [] (below at name []) d) (λ names. list_at s names at name d)
+      ++ members_at s keys at ms
+
+  -- the JSON array of a list whose keys have these names
+  pub list_at : SchemaTable → List (List ℕ) → List PathStep → List ℕ → Data → List Finding
+  list_at s keys at name null = breaks (below at name []) KIND ∷ []
+  list_at s keys at name (boolean b) = breaks (below at name []) KIND ∷ []
+  list_at s keys at name (number n) = breaks (below at name []) KIND ∷ []
+  list_at s keys at name (string t) = breaks (below at name []) KIND ∷ []
+  list_at s keys at name (array ds) = entries_at s keys at name ds
+  list_at s keys at name (object ms) = breaks (below at name []) KIND ∷ []
+
+  pub entries_at : SchemaTable → List (List ℕ) → List PathStep → List ℕ → Items → List Finding
+  entries_at s keys at name no_items = []
+  entries_at s keys at name (item d ds) = entry_at s keys at name d ++ entries_at s keys at name ds
+
+  -- an object among them
+  pub entry_at : SchemaTable → List (List ℕ) → List PathStep → List ℕ → Data → List Finding
+  entry_at s keys at name null = breaks (below at name []) KIND ∷ []
+  entry_at s keys at name (boolean b) = breaks (below at name []) KIND ∷ []
+  entry_at s keys at name (number n) = breaks (below at name []) KIND ∷ []
+  entry_at s keys at name (string t) = breaks (below at name []) KIND ∷ []
+  entry_at s keys at name (array ds) = breaks (below at name []) KIND ∷ []
+  entry_at s keys at name (object ms) = entry_object at name
+      (entry_keys s (path_names at ++ name ∷ []) (object ms) keys) (λ entry. members_at s keys entry ms)
+
+-- a node, and a member, with its JSON
+abbrev pub node_of_name : SchemaTable → List PathStep → List ℕ → Data → List Finding
+node_of_name s at name d =
+    node_found at name d (object_at s [] (below at name []) d) (λ names. list_at s names at name d)
+    (node_below s at name)
+
+abbrev pub member_at : SchemaTable → List (List ℕ) → List PathStep → List ℕ → Data → List Finding
+member_at s keys at name d =
+    member_found s keys at name d (object_at s [] (below at name []) d) (λ names. list_at s names at name d)

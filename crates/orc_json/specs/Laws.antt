@@ -1,0 +1,14 @@
+-- What is written is read again.
+use Rattle.std.specs.Prelude.{◌≡◌, [], Ok}
+use Rattle.std.specs.FinMap.{entries}
+use Rattle.serde_json.specs.Data.{Members, object}
+use Rattle.orc_path.specs.Configurations.{Config, IsConfig}
+use Rattle.orc_schema.specs.Schemas.{SchemaTable}
+use Rattle.orc_json.specs.Readings.{reading, outcome}
+use Rattle.orc_json.specs.Written.{AreMembers}
+
+-- The JSON value of a configuration is read as that configuration.
+abbrev pub JsonIsRead : Type 0
+JsonIsRead =
+    (s : SchemaTable) (config : Config) (ms : Members) → IsConfig config → AreMembers s [] [] (entries config) ms
+    → outcome (reading s [] (object ms)) ≡ Ok config

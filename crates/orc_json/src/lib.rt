@@ -1,0 +1,25 @@
+//! JSON of configurations (RFC 7951), over `serde_json`.
+//!
+//! Each member of a JSON text states that an item stands at a path, or is at fault there. `read`
+//! gives the configuration of all of them, or the least fault, and `read_entry` what a service body
+//! gives below its entry. `write` gives the text of the one JSON value of a configuration, which is
+//! read as that configuration.
+#![tactic(auto)]
+
+mod fault;
+mod keys;
+mod laws;
+mod members;
+mod object;
+mod reader;
+mod reading;
+mod runs;
+mod steps;
+mod texts;
+mod values;
+mod writer;
+
+pub use fault::{DUPLICATE, JsonFault, KEY, KIND, MEMBER, VALUE};
+pub use laws::{json_is_read, typed_has_json};
+pub use reader::{read, read_entry};
+pub use writer::write;

@@ -1,0 +1,180 @@
+//! Groupings that bring no data node, through whatever groupings they use.
+ghost use Rattle.std.specs.Prelude.{◌≡◌, ◌∷◌, [], List, IfOk, OnOk, IfSome, Some, true, false, option_map, codes};
+ghost use Rattle.std.specs.List.{list_any};
+ghost use Rattle.orc_types.specs.Statements.{argument};
+ghost use Rattle.orc_modules.specs.Bare.{may_bring, Brings};
+ghost use Rattle.orc_modules.specs.Children.{grouping};
+ghost use Rattle.orc_modules.specs.Stack.{stack, found};
+ghost use Rattle.orc_modules.specs.inside.Known.{beside, beside_brings, AreBare, is_known};
+
+use crate::parts::{Part, block_part, grouping};
+use crate::place::Modules;
+use crate::scope::{Above, Found, definition, prefix_of};
+use orc_text::Memory;
+use orc_types::{argument, has};
+use orc_yang::Stmt;
+use std::alloc::Global;
+
+// So many groupings of one block are kept in mind.
+const MAX_KNOWN: usize = 10_000;
+
+// A grouping of the innermost block that brings nothing, through groupings fewer than `depth` deep.
+#[derive(Clone, Copy)]
+struct Known<'a> {
+    name: &'a str,
+    depth: usize,
+}
+
+// The grouping of this name in the innermost block.
+fn beside<'a>(above: &'a Above<'a>, name: &str) -> Option<&'a Stmt>
+    ensures { option_map (λ s. s.now) result ≡ beside (stack above.now) name.now }
+{
+    match above {
+        Above::Top => None,
+        Above::Module(stmt) => definition("grouping", name, stmt.subs.as_slice()),
+        Above::Under(stmt, _) => definition("grouping", name, stmt.subs.as_slice()),
+    }
+}
+
+// The grouping that a `uses` in the block of another names, where it is one of the block that the other stands in.
+fn neighbour<'a>(above: &'a Above<'a>, here: &Stmt, stmt: &Stmt) -> Option<&'a Stmt>
+    ensures beside { IfSome result (λ next. beside (stack above.now) (argument stmt.now) ≡ Some next.now) }
+    ensures means { IfSome result (λ next. (modules : List Stmt)
+        → grouping modules (here.now ∷ stack above.now) stmt.now
+        ≡ Some (record { above = stack above.now; here = next.now })) }
+{
+    if prefix_of(argument(stmt)).is_some() {
+        return None;
+    }
+    if definition("grouping", argument(stmt), here.subs.as_slice()).is_some() {
+        return None;
+    }
+    beside(above, argument(stmt))
+}
+
+// Whether it is known of the grouping of this name.
+fn is_known(depth: usize, name: &str, known: &[Known<'_>]) -> bool
+    ensures { result ≡ list_any (is_known depth name.now) known.now }
+{
+    known.iter().any(|k| k.depth <= depth && k.name == name)
+}
+
+// Whether it is clear that a grouping brings nothing, through groupings fewer than `depth` deep. Each that brings
+// nothing is looked at once.
+#[cycle(bare)]
+fn is_bare<'a>(
+    alloc: Global,
+    depth: usize,
+    modules: &Modules<'a>,
+    above: &'a Above<'a>,
+    here: &'a Stmt,
+    known: &mut Vec<Known<'a>>,
+) -> Result<bool, Memory>
+    requires { AreBare modules.now.all.now (stack above.now) known.old.items }
+    ensures bare { IfOk result (λ bare. bare ≡ true
+        → may_bring depth modules.now.all.now (here.now ∷ stack above.now) here.now ≡ false) }
+    ensures known { OnOk result (AreBare modules.now.all.now (stack above.now) known.new.items) }
+{
+    if depth == 0 {
+        return Ok(false);
+    }
+    if known.len() >= MAX_KNOWN {
+        return Ok(false);
+    }
+    for sub in here.subs.as_slice() {
+        match block_part(sub) {
+            Part::Node => return Ok(false),
+            Part::Uses => {
+                let Some(next) = neighbour(above, here, sub) else {
+                    return Ok(false);
+                };
+                match is_bare_named(
+                    alloc,
+                    depth - 1,
+                    &*modules,
+                    above,
+                    argument(sub),
+                    next,
+                    known,
+                )? {
+                    true => {},
+                    false => return Ok(false),
+                }
+            },
+            Part::Nothing => {},
+        }
+    }
+    Ok(true)
+}
+
+// The same of the grouping of this name in the innermost block.
+#[cycle(bare)]
+fn is_bare_named<'a>(
+    alloc: Global,
+    depth: usize,
+    modules: &Modules<'a>,
+    above: &'a Above<'a>,
+    name: &'a str,
+    here: &'a Stmt,
+    known: &mut Vec<Known<'a>>,
+) -> Result<bool, Memory>
+    requires named { beside (stack above.now) name.now ≡ Some here.now }
+    requires known { AreBare modules.now.all.now (stack above.now) known.old.items }
+    ensures bare { IfOk result (λ bare. bare ≡ true
+        → may_bring depth modules.now.all.now (here.now ∷ stack above.now) here.now ≡ false) }
+    ensures known { OnOk result (AreBare modules.now.all.now (stack above.now) known.new.items) }
+{
+    if is_known(depth, name, known.as_slice()) {
+        return Ok(true);
+    }
+    match is_bare(alloc, depth, &*modules, above, here, known)? {
+        true => {
+            known.push(Known { name, depth })?;
+            Ok(true)
+        },
+        false => Ok(false),
+    }
+}
+
+/// Whether it is clear that a grouping brings no data node, through groupings fewer than `depth`
+/// deep: these all stand in one block, none has a definition of a name that is used, and each is
+/// looked at once.
+pub fn brings_nothing<'a>(
+    alloc: Global,
+    depth: usize,
+    modules: &Modules<'a>,
+    bringer: &'a Found<'a>,
+) -> Result<bool, Memory>
+    ensures { IfOk result (λ bare. bare ≡ true → may_bring depth modules.now.all.now
+        (bringer.now.here.now ∷ stack bringer.now.above) bringer.now.here.now ≡ false) }
+{
+    let mut known = Vec::new(alloc);
+    is_bare(
+        alloc,
+        depth,
+        &*modules,
+        &bringer.above,
+        bringer.here,
+        &mut known,
+    )
+}
+
+/// The grouping that a `uses` names, where it isn't clear that it brings no data node, through
+/// groupings fewer than `depth` deep.
+pub fn bringer<'a>(
+    alloc: Global,
+    depth: usize,
+    modules: &Modules<'a>,
+    above: &'a Above<'a>,
+    stmt: &Stmt,
+) -> Result<Option<Found<'a>>, Memory>
+    ensures { IfOk result (λ o. Brings depth modules.now.all.now (stack above.now) stmt.now (option_map found o)) }
+{
+    match grouping(&*modules, above, stmt) {
+        Some(found) => match brings_nothing(alloc, depth, &*modules, &found)? {
+            true => Ok(None),
+            false => Ok(Some(found)),
+        },
+        None => Ok(None),
+    }
+}

@@ -1,0 +1,57 @@
+-- What every schema of modules makes sure of: what a node is called, which nodes stand in which, and which leaves are
+-- keys (RFC 7950 sections 4.2.2, 6.2 and 7.8.2).
+use Rattle.std.specs.Prelude.{◌≡◌, ◌≢◌, ℕ, Bool, false, true, IsTrue, ◌&&◌, List, [], ◌∷◌, ◌++◌, Option, Some, Ok, is_some}
+use Rattle.std.specs.List.{list_all, Contains, IsDistinct}
+use Rattle.orc_path.specs.Alphabet.{is_identifier, is_qualified}
+use Rattle.orc_value.specs.Canon.{same_text}
+use Rattle.orc_yang.specs.declared.statement.Stmt.{Stmt}
+use Rattle.orc_schema.specs.declared.line.ListNode.{ListNode}
+use Rattle.orc_schema.specs.declared.line.Node.{Node}
+use Rattle.orc_schema.specs.declared.line.Node.TheVariants.{Container, List as ListOf, Leaf}
+use Rattle.orc_schema.specs.Schemas.{SchemaTable, node_at, plain_table, Builds, IsWhole}
+
+-- the names down to a node: the first is an identifier behind its module's name, and the later ones are identifiers
+abbrev pub are_node_names : List (List ℕ) → Bool
+are_node_names [] = false
+are_node_names (first ∷ later) = is_qualified first && list_all is_identifier later
+
+-- a container or a list
+abbrev pub holds_nodes : Option Node → Bool
+holds_nodes (Some Container) = true
+holds_nodes (Some (ListOf l)) = true
+holds_nodes _ = false
+
+-- a leaf that is a key
+abbrev pub is_list_key : Option Node → Bool
+is_list_key (Some (Leaf l)) = is_some l.key
+is_list_key _ = false
+
+-- The list of these names has a key, its keys differ, and each is a leaf that stands in the list and is a key.
+pub record HasItsKeys (s : SchemaTable) (names : List (List ℕ)) (l : ListNode) : Type 0 where
+  pub any : l.keys ≢ []
+  pub differ : IsDistinct same_text l.keys
+  pub leaves : (key : List ℕ) → Contains l.keys key → IsTrue (is_list_key (node_at s (names ++ key ∷ [])))
+
+-- the node of these names is a list that has a key of this name
+pub record IsKeyedBy (s : SchemaTable) (names : List (List ℕ)) (name : List ℕ) : Type 0 where
+  pub keyed : ListNode
+  pub here : node_at s names ≡ Some (ListOf keyed)
+  pub key : Contains keyed.keys name
+
+-- Nodes have names that a path can have; what stands below another node stands in a container or a list; a list has
+-- its keys, and no other leaf is a key.
+pub record IsSound (s : SchemaTable) : Type 0 where
+  pub named : (names : List (List ℕ)) (node : Node) → node_at s names ≡ Some node → IsTrue (are_node_names names)
+  pub parents : (names : List (List ℕ)) (name : List ℕ) (node : Node) → names ≢ []
+      → node_at s (names ++ name ∷ []) ≡ Some node → IsTrue (holds_nodes (node_at s names))
+  pub keys : (names : List (List ℕ)) (l : ListNode) → node_at s names ≡ Some (ListOf l) → HasItsKeys s names l
+  pub no_other_key : (names : List (List ℕ)) (name : List ℕ) → IsTrue (is_list_key (node_at s (names ++ name ∷ [])))
+      → IsKeyedBy s names name
+
+-- Modules of which nothing was cut off make a sound schema.
+abbrev pub SchemasAreSound : Type 0
+SchemasAreSound = (modules : List Stmt) (s : SchemaTable) → Builds modules (Ok s) → IsWhole modules → IsSound s
+
+-- A plain schema is sound, since it has no node.
+abbrev pub PlainIsSound : Type 0
+PlainIsSound = IsSound plain_table

@@ -1,0 +1,3 @@
+pub mod Refusals
+pub mod Forms
+pub mod Found

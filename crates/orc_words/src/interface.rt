@@ -1,0 +1,76 @@
+//! What the program takes, for the parser of command lines.
+ghost use Rattle.std.specs.Prelude.{◌≡◌, IfOk, false};
+ghost use Rattle.clap.specs.Words.{app_of, rule_of};
+ghost use Rattle.clap.specs.declared.builder.command.Command.TheViews.{out-Command};
+ghost use Rattle.orc_words.specs.Interface.{bare_program, check_interface, history_interface, journal_option, program, run_interface};
+
+use clap::{Arg, Command};
+use std::alloc::{AllocError, Global};
+
+/// The program with its commands.
+pub(crate) fn program<'a>(alloc: Global) -> Result<Command<'a>, AllocError>
+    ensures { IfOk result (λ command. app_of command ≡ program) }
+{
+    bare_program(alloc)
+        .subcommand(check_command(alloc))?
+        .subcommand(run_command(alloc)?)?
+        .subcommand(history_command(alloc)?)
+}
+
+// The program without its commands.
+fn bare_program<'a>(alloc: Global) -> Command<'a>
+    ensures { app_of result ≡ bare_program }
+{
+    Command::new(alloc, "orc")
+        .about(
+            "Orchestrates network services: a bundle on standard input declares devices and calls on services",
+        )
+        .version("0.1.0")
+        .no_binary_name(true)
+        .disable_help_subcommand(true)
+        .subcommand_required(true)
+        .arg_required_else_help(true)
+}
+
+// `check`.
+fn check_command<'a>(alloc: Global) -> Command<'a>
+    ensures app { app_of result ≡ check_interface }
+    ensures local { (out-Command result).has_globals ≡ false }
+{
+    Command::new(alloc, "check").about(
+        "Reads the bundle, and prints how many devices and steps it has",
+    )
+}
+
+// `run`.
+fn run_command<'a>(alloc: Global) -> Result<Command<'a>, AllocError>
+    ensures app { IfOk result (λ command. app_of command ≡ run_interface) }
+    ensures local { IfOk result (λ command. (out-Command command).has_globals ≡ false) }
+{
+    Command::new(alloc, "run")
+        .about("Runs the bundle's script over the journal, and prints what each step gives")
+        .arg(journal_option(alloc))
+}
+
+// `history`.
+fn history_command<'a>(alloc: Global) -> Result<Command<'a>, AllocError>
+    ensures app { IfOk result (λ command. app_of command ≡ history_interface) }
+    ensures local { IfOk result (λ command. (out-Command command).has_globals ≡ false) }
+{
+    Command::new(alloc, "history")
+        .about("Prints the calls that the journal holds, under the bundle's declarations")
+        .arg(journal_option(alloc))
+}
+
+// `--journal FILE`.
+fn journal_option<'a>(alloc: Global) -> Arg<'a>
+    ensures rule { rule_of result ≡ journal_option }
+    ensures local { result.global ≡ false }
+{
+    Arg::new(alloc, "journal")
+        .long("journal")
+        .value_name("FILE")
+        .help(
+            "The file that holds the journal, which is made where it isn't there; without one the journal is in memory",
+        )
+}

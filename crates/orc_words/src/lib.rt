@@ -1,0 +1,16 @@
+//! The command words: what the program is asked to do, and the file that holds its journal.
+//!
+//! The words are those behind the program's name. `clap` reads them, by an interface that the
+//! definitions state as a value of `clap`'s own specification.
+#![tactic(auto)]
+
+mod interface;
+mod journal;
+mod laws;
+mod reading;
+mod words;
+
+pub use journal::journal_word;
+pub use laws::{faulty_words_are_refused, taken_words_have_command, written_words_are_taken};
+pub use reading::{command_of, usage_text};
+pub use words::{Command, WordsFault};
