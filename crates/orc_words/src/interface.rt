@@ -11,25 +11,28 @@ use std::alloc::{AllocError, Global};
 pub(crate) fn program<'a>(alloc: Global) -> Result<Command<'a>, AllocError>
     ensures { IfOk result (λ command. app_of command ≡ program) }
 {
-    bare_program(alloc)
+    bare_program(alloc)?
         .subcommand(check_command(alloc))?
         .subcommand(run_command(alloc)?)?
         .subcommand(history_command(alloc)?)
 }
 
-// The program without its commands.
-fn bare_program<'a>(alloc: Global) -> Command<'a>
-    ensures { app_of result ≡ bare_program }
+// The program without its commands. Its name stands in what is said of them (`Usage: orc run`).
+fn bare_program<'a>(alloc: Global) -> Result<Command<'a>, AllocError>
+    ensures { IfOk result (λ command. app_of command ≡ bare_program) }
 {
-    Command::new(alloc, "orc")
-        .about(
-            "Orchestrates network services: a bundle on standard input declares devices and calls on services",
-        )
-        .version("0.1.0")
-        .no_binary_name(true)
-        .disable_help_subcommand(true)
-        .subcommand_required(true)
-        .arg_required_else_help(true)
+    let program = Command::new(alloc, "orc").bin_name("orc")?;
+    Ok(
+        program
+            .about(
+                "Orchestrates network services: a bundle on standard input declares devices and calls on services",
+            )
+            .version("0.1.0")
+            .no_binary_name(true)
+            .disable_help_subcommand(true)
+            .subcommand_required(true)
+            .arg_required_else_help(true),
+    )
 }
 
 // `check`.
