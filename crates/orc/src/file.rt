@@ -5,7 +5,7 @@ use std::rt::Files;
 use std::{fs, io};
 
 /// The file of this name, opened to be read and written and locked, which is made where it isn't
-/// there. A file that can't be opened, locked or read is left as it was.
+/// there. A file that can't be opened, locked or read is left as it was. Its name outlives a crash.
 ///
 /// The lock is the advisory one on the whole file (`flock`). It holds until the program ends, so that
 /// two programs never write one journal.
@@ -17,9 +17,8 @@ pub(crate) fn journal_file<R: Files<File = File> + AllocGlobal>(
     options.read(true).write(true).create(true);
     let file = options.open(rt, name)?;
     lock(&file)?;
-    if is_empty(&file)? {
-        sync_folder(rt, name)?;
-    }
+    look(&file)?;
+    sync_folder(rt, name)?;
     Ok(file)
 }
 
@@ -35,15 +34,16 @@ fn lock(file: &File) -> io::Result<()> {
     }
 }
 
-// Whether a read gives no byte. The length says nothing, since a device may have none.
-fn is_empty(file: &File) -> io::Result<bool> {
+// Reads a byte, which a file that can't hold a journal refuses, as a pipe does.
+fn look(file: &File) -> io::Result<()> {
     let mut byte = [0u8; 1];
-    Ok(file.read_at(&mut byte, 0)? == 0)
+    file.read_at(&mut byte, 0)?;
+    Ok(())
 }
 
 // Makes the name of a file in its folder outlive a crash, where a link leads to it the name at the
-// link's end. Nothing was written to the file before that, so no journal is ever in a file whose name
-// may be gone behind a crash.
+// link's end. That comes before anything is written, also where others made the file or gave it its
+// name, so no call is answered whose journal's name may be gone behind a crash.
 fn sync_folder<R: Files<File = File> + AllocGlobal>(rt: &R, name: &str) -> io::Result<()> {
     let path = fs::canonicalize(rt, name)?;
     match path.parent() {

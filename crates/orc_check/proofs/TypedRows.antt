@@ -214,9 +214,6 @@ pub types_are_kept : ValidIsTyped
 types_are_kept s c modules is = record {
   typed = typed_rows s c is;
   kept = All-weaker (IsTypedRow s) (KeepsTypes s c) (row_kept s c modules) (entries c);
-  valid = valid;
-  found = λ e path x at. found_row (IsTypedRow s) (entries c) path x (valid e) (sym (get-entries c path) ∙ at);
+  found = λ keep path x at. found_row (IsTypedRow s) (entries c) path x (typed_rows s c is keep) (sym (get-entries c path) ∙ at);
+  valid = none_keep s c modules;
 }
-  where
-    valid : broken_of s c ≡ None → All (IsTypedRow s) (entries c)
-    valid e = typed_rows s c is (none_keep s c modules e)

@@ -21,14 +21,14 @@ KeepsTypes s c row = All (λ breach. is_type_rule breach.rule ≡ false) (row_br
 abbrev pub IsTypedRow : SchemaTable → (List PathStep × Item) → Type 0
 IsTypedRow s row = IsTrue (is_typed s row.0 row.1)
 
--- Where no row breaks the rule of kinds or that of keys, each row is typed, and the other way round. Each row of a
--- configuration in which nothing is broken is typed, and so is each item that is found in it.
+-- Where no row breaks the rule of kinds or that of keys, each row is typed, and the other way round; so is each item
+-- that is found. Where nothing is broken, no row breaks either.
 pub record TypesAreKept (s : SchemaTable) (c : Config) : Type 0 where
   pub typed : All (KeepsTypes s c) (entries c) → All (IsTypedRow s) (entries c)
   pub kept : All (IsTypedRow s) (entries c) → All (KeepsTypes s c) (entries c)
-  pub valid : broken_of s c ≡ None → All (IsTypedRow s) (entries c)
-  pub found : broken_of s c ≡ None → (path : List PathStep) (item : Item) → get c path ≡ Some item
+  pub found : All (KeepsTypes s c) (entries c) → (path : List PathStep) (item : Item) → get c path ≡ Some item
       → IsTrue (is_typed s path item)
+  pub valid : broken_of s c ≡ None → All (KeepsTypes s c) (entries c)
 
 -- That is so of each configuration under a schema of modules. A row shows the keys of its last step alone; the keys in
 -- front are those of entries on the way, which are rows of their own.
