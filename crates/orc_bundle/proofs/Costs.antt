@@ -108,13 +108,11 @@ open_ahead : (p : Part) (lines : List (List ℕ)) → is_resting p ≡ false →
 open_ahead part.Steps lines h = absurd (false≢true (sym h))
 open_ahead part.Call lines h = refl
 open_ahead part.Literal lines h = refl
-open_ahead part.Delete lines h = refl
 
 skipped_ahead : (p : Part) (line : List ℕ) (later : List (List ℕ)) → is_skipped (text_of line) ≡ true → ahead_scripted p (line ∷ later) ≡ length line + ahead_scripted p later
 skipped_ahead part.Steps line later h = to_behind is_kept line later (ap not h)
 skipped_ahead part.Call line later h = to_behind is_end line later (skipped_no_end (text_of line) h)
 skipped_ahead part.Literal line later h = to_behind is_end line later (skipped_no_end (text_of line) h)
-skipped_ahead part.Delete line later h = to_behind is_end line later (skipped_no_end (text_of line) h)
 
 looks_by : (line : List ℕ) (later : List (List ℕ)) (k : Keyword) → keyword_of (first_word (text_of line)) ≡ k → scripted_looks_at line later ≡ step_looks_at k later
 looks_by line later k is = ap (λ (x : Keyword). step_looks_at x later) is

@@ -1,5 +1,5 @@
 -- What a line of declarations makes of what was declared so far.
-use Rattle.std.proofs.Common.{◌≡◌, ℕ, ◌<◌, ◌-◌, Bool, true, false, not, ◌&&◌, ◌||◌, nat_le, nat_lt, cond, List, [], ◌∷◌, codes, length, Result, Ok, Err, Option, Some, None, refl, ap, sym, ◌∙◌, subst, lt-ltb, eqb-true}
+use Rattle.std.proofs.Common.{◌≡◌, ℕ, ◌<◌, ◌-◌, Bool, true, false, not, ◌&&◌, ◌||◌, nat_le, nat_lt, cond, List, [], ◌∷◌, ◌++◌, codes, length, Result, Ok, Err, Option, Some, None, refl, ap, sym, ◌∙◌, subst, lt-ltb, eqb-true}
 use Rattle.std.specs.Str.{is_utf8}
 use Rattle.std.proofs.lemmas.Bool.{false≢true}
 use Rattle.orc_path.specs.Alphabet.{is_identifier}
@@ -9,8 +9,8 @@ use Rattle.orc_state.specs.declared.declarations.TheConstants.{MOST_DEVICES}
 use Rattle.orc_state.specs.declared.rule.Rule.{Rule}
 use Rattle.orc_state.specs.declared.rule.Rule.TheVariants as rule
 use Rattle.orc_bundle.specs.Bundles.{is_script}
-use Rattle.orc_bundle.specs.Declarations.{after_base, after_datamodel, after_device, after_devicetype, after_header, after_script, after_text, after_yang, bare_declaration, base_words, block_size, declaration, declaration_words, declared_at, device_words, is_header, is_taken, lines_taken, schema_place, schema_words, taken_by, type_words, with_base, with_device, with_module, with_type, words_take}
-use Rattle.orc_bundle.specs.Items.{put_of}
+use Rattle.orc_bundle.specs.Declarations.{after_base, after_data, after_datamodel, after_device, after_devicetype, after_forbid, after_header, after_max, after_rule, after_script, after_text, after_yang, bare_declaration, base_words, block_size, declaration, declaration_words, declared_at, device_words, is_header, is_taken, lines_taken, max_words, rule_kind, rule_line, schema_place, schema_words, taken_by, type_words, with_base, with_device, with_forbid, with_max, with_module, with_type, words_take}
+use Rattle.orc_bundle.specs.Items.{forbidden_of, list_path_of, put_of}
 use Rattle.orc_bundle.specs.Keywords.{keyword_of}
 use Rattle.orc_bundle.specs.Lines.{block_of, is_large, is_skipped, text_of}
 use Rattle.orc_bundle.specs.Modules.{module_of}
@@ -67,7 +67,7 @@ module _ (d e : Declared) (text : List ℕ) (later : List (List ℕ)) (none : d.
     unfolding after_datamodel taken_by
     of_datamodel is h =
         let one = on_ok_ok (schema_words d (words_of words.1) (with_name (words_of words.1) (codes "orc")) d.has_data) _ e h in
-        keeps keyword.Datamodel is refl (record d { has_data = true }) refl refl one.1.1
+        keeps keyword.Datamodel is refl (record d { has_data = true; data_schema = one.0; «data» = [] }) refl refl one.1.1
 
     of_type : keyword_of words.0 ≡ keyword.Devicetype → (names : List (List ℕ)) → type_words d names ≡ Ok e → Declares d text e
     unfolding taken_by
@@ -82,9 +82,48 @@ module _ (d e : Declared) (text : List ℕ) (later : List (List ℕ)) (none : d.
     of_base is None h = absurd (no_ok rule.Line e h)
     of_base is (Some names) h =
         let one = passed (not (is_identifier names.0)) rule.Line _ e h in
-        let two = on_ok_ok (put_of (schema_named d.schemas d.devices names.0) (is_long_name names.0) names.1) _ e one.1 in
+        let two = on_ok_ok (put_of false (schema_named d.schemas d.devices names.0) (is_long_name names.0) names.1) _ e one.1 in
         let three = or_rule_ok (place_of d.names names.0) rule.Unknown (λ n. Ok (record d { devices = with_base n two.0 d.devices })) e two.1.1 in
         keeps keyword.Base is refl (record d { devices = with_base three.0 two.0 d.devices }) refl refl three.1.1
+
+    -- a rule of a device
+    of_max : keyword_of words.0 ≡ keyword.Rule → (name : List ℕ) (o : Option (List ℕ × List ℕ)) → max_words d name o ≡ Ok e → Declares d text e
+    unfolding taken_by
+    of_max is name None h = absurd (no_ok rule.Line e h)
+    of_max is name (Some parts) h =
+        let one = or_rule_ok (number_in parts.1) rule.Line _ e h in
+        let two = on_ok_ok (list_path_of (schema_named d.schemas d.devices name) (is_long_name name) parts.0) _ e one.1.1 in
+        let three = or_rule_ok (place_of d.names name) rule.Unknown (λ n. Ok (record d { devices = with_max n (two.0, one.0) d.devices })) e two.1.1 in
+        keeps keyword.Rule is refl (record d { devices = with_max three.0 (two.0, one.0) d.devices }) refl refl three.1.1
+
+    of_forbid : keyword_of words.0 ≡ keyword.Rule → (name rest : List ℕ) → after_forbid d name rest ≡ Ok e → Declares d text e
+    unfolding after_forbid taken_by
+    of_forbid is name rest h =
+        let one = on_ok_ok (forbidden_of (schema_named d.schemas d.devices name) (is_long_name name) rest) _ e h in
+        let two = or_rule_ok (place_of d.names name) rule.Unknown (λ n. Ok (record d { devices = with_forbid n one.0 d.devices })) e one.1.1 in
+        keeps keyword.Rule is refl (record d { devices = with_forbid two.0 one.0 d.devices }) refl refl two.1.1
+
+    of_kind : keyword_of words.0 ≡ keyword.Rule → (name : List ℕ) (o : Option (List ℕ × List ℕ)) → rule_kind d name o ≡ Ok e → Declares d text e
+    unfolding after_max
+    of_kind is name None h = absurd (no_ok rule.Line e h)
+    of_kind is name (Some parts) h = on (is_text parts.0 (codes "max")) (is_text parts.0 (codes "forbid")) h where
+      on : (m f : Bool) → cond m (after_max d name parts.1) (cond f (after_forbid d name parts.1) (Err rule.Line)) ≡ Ok e → Declares d text e
+      on true f h = of_max is name (cut_at 32 parts.1) h
+      on false true h = of_forbid is name parts.1 h
+      on false false h = absurd (no_ok rule.Line e h)
+
+    of_rule : keyword_of words.0 ≡ keyword.Rule → (o : Option (List ℕ × List ℕ)) → rule_line d o ≡ Ok e → Declares d text e
+    of_rule is None h = absurd (no_ok rule.Line e h)
+    of_rule is (Some parts) h =
+        let one = passed (not (is_identifier parts.0)) rule.Line _ e h in
+        of_kind is parts.0 (cut_at 32 parts.1) one.1
+
+    -- an item of the data
+    of_data : keyword_of words.0 ≡ keyword.Data → after_data d words.1 ≡ Ok e → Declares d text e
+    unfolding after_data taken_by
+    of_data is h =
+        let one = on_ok_ok (put_of true d.data_schema false words.1) (λ put. Ok (record d { «data» = d.data ++ put ∷ [] })) e h in
+        keeps keyword.Data is refl (record d { «data» = d.data ++ one.0 ∷ [] }) refl refl one.1.1
 
     of_yang : keyword_of words.0 ≡ keyword.Yang → after_yang d words.1 later ≡ Ok e → Declares d text e
     unfolding after_yang taken_by
@@ -99,11 +138,13 @@ module _ (d e : Declared) (text : List ℕ) (later : List (List ℕ)) (none : d.
         (sym (ap (λ (x : Declared). x.skip) same) ∙ sym (takes keyword.Yang is ∙ ap block_size one.1.0)) no_script
 
     of_words : (k : Keyword) → keyword_of words.0 ≡ k → declaration k d words.1 later ≡ Ok e → Declares d text e
-    unfolding declaration after_device after_devicetype after_base
+    unfolding declaration after_device after_devicetype after_base after_rule
     of_words keyword.Device is h = of_device is (cut_at 32 words.1) h
     of_words keyword.Datamodel is h = of_datamodel is h
     of_words keyword.Devicetype is h = of_type is (words_of words.1) h
+    of_words keyword.Rule is h = of_rule is (cut_at 32 words.1) h
     of_words keyword.Base is h = of_base is (cut_at 32 words.1) h
+    of_words keyword.Data is h = of_data is h
     of_words keyword.Yang is h = of_yang is h
     of_words _ is h = absurd (no_ok rule.Line e h)
 

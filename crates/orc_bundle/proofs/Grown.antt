@@ -10,7 +10,7 @@ use Rattle.orc_bundle.specs.Names.{is_among, with_name}
 use Rattle.orc_bundle.specs.Scripts.{is_caller_more, is_full, no_steps, scripted_at}
 use Rattle.orc_bundle.specs.Words.{is_text}
 use Rattle.orc_bundle.specs.declared.bundle.ScriptStep.{ScriptStep}
-use Rattle.orc_bundle.specs.declared.bundle.ScriptStep.TheVariants.{Show, Serve, Settle, Stop, StopAt, Recover, History}
+use Rattle.orc_bundle.specs.declared.bundle.ScriptStep.TheVariants.{Show, Json, Data, Serve, Settle, Stop, StopAt, Recover, History}
 use Rattle.orc_bundle.specs.declared.script.Script.{Script}
 use Rattle.orc_bundle.specs.declared.script.Part.{Part}
 use Rattle.orc_bundle.specs.declared.script.Part.TheVariants as part
@@ -54,6 +54,8 @@ both_sides p here not_here = false≢true (sym not_here ∙ here)
 settled_plain : (step : ScriptStep) (more : List ScriptStep) → is_plain step ≡ true → are_settled (step ∷ more) ≡ are_settled more
 settled_plain (Serve call) more h = absurd (false≢true h)
 settled_plain (Show device) more h = refl
+settled_plain (Json device) more h = refl
+settled_plain Data more h = refl
 settled_plain Settle more h = refl
 settled_plain Stop more h = refl
 settled_plain (StopAt count bytes) more h = refl
@@ -63,6 +65,8 @@ settled_plain History more h = refl
 callers_plain : (callers : List (List ℕ)) (step : ScriptStep) (more : List ScriptStep) → is_plain step ≡ true → callers_behind callers (step ∷ more) ≡ callers_behind callers more
 callers_plain callers (Serve call) more h = absurd (false≢true h)
 callers_plain callers (Show device) more h = refl
+callers_plain callers (Json device) more h = refl
+callers_plain callers Data more h = refl
 callers_plain callers Settle more h = refl
 callers_plain callers Stop more h = refl
 callers_plain callers (StopAt count bytes) more h = refl

@@ -1,31 +1,32 @@
 -- What was read stays lawful.
-use Rattle.std.proofs.Common.{◌≡◌, ◌<◌, ◌≤◌, ◌+◌, ℕ, zero, suc, List, [], ◌∷◌, ◌++◌, Bool, true, false, cond, ◌&&◌, ◌||◌, nat_lt, length, slice_get, Some, is_some, length-append, get_or, slice_set, refl, ap, sym, ◌∙◌, subst, arith, IsTrue, nat_le, Result, Ok, Err}
+use Rattle.std.proofs.Common.{◌≡◌, ◌<◌, ◌≤◌, ◌+◌, ℕ, zero, suc, List, [], ◌∷◌, ◌++◌, Bool, true, false, not, cond, ◌&&◌, ◌||◌, nat_lt, length, slice_get, Some, is_some, length-append, get_or, slice_set, refl, ap, sym, ◌∙◌, subst, arith, IsTrue, Result, Ok, Err}
 use Rattle.std.specs.List.{list_all}
 use Rattle.std.specs.Option.{option_map_or}
 use Rattle.std.specs.Result.{OnOk}
 use Rattle.std.specs.Cmp.{first_so, second_so}
-use Rattle.orc_call.specs.declared.call.Action.TheVariants.{Literal}
+use Rattle.orc_call.specs.declared.call.TheConstants.{MOST_ACTIONS}
+use Rattle.orc_path.specs.Steps.{PathStep}
+use Rattle.orc_state.specs.Actions.{is_named_by}
 use Rattle.orc_call.specs.declared.call.Put.{Put}
 use Rattle.orc_call.specs.declared.call.DevicePut.{DevicePut}
 use Rattle.orc_state.specs.States.{is_same_text, names_of}
 use Rattle.orc_schema.specs.Schemas.{SchemaTable, plain_table}
-use Rattle.orc_state.specs.Calls.{device_named, is_action, is_device, is_lawful_name, is_put, is_write, schema_in, schema_named}
+use Rattle.orc_state.specs.Calls.{device_named, is_data_item, is_device, is_forbid_rule, is_kept, is_lawful_name, is_max_rule, is_put, is_write, schema_in, schema_named}
 use Rattle.orc_state.specs.declared.declarations.Decls.{Decls}
 use Rattle.orc_state.specs.declared.declarations.Device.{Device}
-use Rattle.orc_state.specs.declared.lawful.TheConstants.{MOST_WRITES}
 use Rattle.orc_bundle.specs.declared.declarations.Declared.{Declared}
 use Rattle.orc_bundle.specs.Names.{is_among}
-use Rattle.orc_bundle.specs.Declarations.{with_base}
-use Rattle.orc_bundle.specs.inside.Lawful.{AreDeclared, AreSteps, decls_in, has_caller, is_open}
+use Rattle.orc_bundle.specs.Declarations.{changed_at, with_base, with_forbid, with_max}
+use Rattle.orc_bundle.specs.inside.Lawful.{AreDeclared, AreSteps, are_begun, decls_in, has_caller, is_literal_begun, is_open}
 use Rattle.orc_bundle.specs.declared.script.Script.{Script}
 use Rattle.orc_bundle.specs.declared.script.Part.{Part}
 use Rattle.orc_bundle.specs.declared.script.Part.TheVariants as part
 
-both : (a b : Bool) → a ≡ true → b ≡ true → (a && b) ≡ true
+pub both : (a b : Bool) → a ≡ true → b ≡ true → (a && b) ≡ true
 both true b p q = q
 both false b p q = p
 
-all_more : {X : Type 0} (f : X → Bool) (xs : List X) (x : X) → list_all f xs ≡ true → f x ≡ true → list_all f (xs ++ x ∷ []) ≡ true
+pub all_more : {X : Type 0} (f : X → Bool) (xs : List X) (x : X) → list_all f xs ≡ true → f x ≡ true → list_all f (xs ++ x ∷ []) ≡ true
 all_more f [] x h e = both (f x) true e refl
 all_more f (y ∷ ys) x h e =
     both (f y) (list_all f (ys ++ x ∷ [])) (first_so (f y) (list_all f ys) h) (all_more f ys x (second_so (f y) (list_all f ys) h) e)
@@ -52,15 +53,22 @@ pub written : (d : Declared) (most : ℕ) (s : Script) (w : DevicePut) (writes :
     → writes ≡ s.writes ++ w ∷ [] → AreSteps (decls_in d) (most + 1) (record s { writes = writes })
 written d most s w writes known h here named item grown =
     let decls = decls_in d in
-    let front : Bool = has_caller s && is_lawful_name s.name in
+    let call : Bool = has_caller s && are_begun decls s in
+    let room : Bool = nat_lt (length s.actions) MOST_ACTIONS && not (is_named_by s.actions s.name) in
+    let before = list_all (is_write decls) s.writes in
+    let behind = list_all (is_write decls) (s.writes ++ w ∷ []) in
     let t : Script = record s { writes = s.writes ++ w ∷ [] } in
-    let call : (front && list_all (is_write decls) s.writes) ≡ true = subst (λ (p : Part). is_open decls s p ≡ true) here h.call in
+    let so_far : (call && is_literal_begun decls s) ≡ true = subst (λ (p : Part). is_open decls s p ≡ true) here h.call in
+    let begun = second_so call (is_literal_begun decls s) so_far in
+    let first = first_so (is_lawful_name s.name && before) room begun in
     let there : is_some (device_named d.devices w.device) ≡ true =
     named_same w.device d.devices ∙ ap (λ (ns : List (List ℕ)). is_among ns w.device) (sym known.named) ∙ named in
-    let all = all_more (is_write decls) s.writes w (second_so front (list_all (is_write decls) s.writes) call)
+    let all = all_more (is_write decls) s.writes w (second_so (is_lawful_name s.name) before first)
     (both (is_some (device_named d.devices w.device)) (is_put (schema_named d.schemas d.devices w.device) (record { path = w.path; item = w.item })) there item) in
     let opened : is_open decls t part.Literal ≡ true =
-    both front (list_all (is_write decls) (s.writes ++ w ∷ [])) (first_so front (list_all (is_write decls) s.writes) call) all in
+    both call (is_literal_begun decls t) (first_so call (is_literal_begun decls s) so_far)
+    (both (is_lawful_name s.name && behind) room (both (is_lawful_name s.name) behind (first_so (is_lawful_name s.name) before first) all)
+    (second_so (is_lawful_name s.name && before) room begun)) in
     let few = h.few in
     let size = length-append s.writes (w ∷ []) in
     let lawful : AreSteps decls (most + 1) t = record {
@@ -70,41 +78,87 @@ written d most s w writes known h here named item grown =
     } in
     subst (λ (ws : List DevicePut). AreSteps decls (most + 1) (record s { writes = ws })) (sym grown) lawful
 
--- the names stay, and so do lawful devices, where a base gets an item more
-names_stay : (n : ℕ) (put : Put) (ds : List Device) → names_of (with_base n put ds) ≡ names_of ds
-names_stay n put [] = refl
-names_stay zero put (d ∷ ds) = refl
-names_stay (suc n) put (d ∷ ds) = ap (λ (ns : List (List ℕ)). d.name ∷ ns) (names_stay n put ds)
+-- the names stay, and so do lawful devices, where a device is changed
+names_stay : (n : ℕ) (f : Device → Device) (ds : List Device) → ((d : Device) → (f d).name ≡ d.name) → names_of (changed_at n f ds) ≡ names_of ds
+names_stay n f [] same = refl
+names_stay zero f (d ∷ ds) same = ap (λ (n : List ℕ). n ∷ names_of ds) (same d)
+names_stay (suc n) f (d ∷ ds) same = ap (λ (ns : List (List ℕ)). d.name ∷ ns) (names_stay n f ds same)
 
 -- the schema of the device of a place
 abbrev pub schema_at : List SchemaTable → List Device → ℕ → SchemaTable
 schema_at schemas ds n = option_map_or (λ (d : Device). schema_in schemas d.schema) (slice_get ds n) plain_table
 
-lawful_stay : (schemas : List SchemaTable) (n : ℕ) (put : Put) (ds : List Device) → is_put (schema_at schemas ds n) put ≡ true → list_all (is_device schemas) ds ≡ true → list_all (is_device schemas) (with_base n put ds) ≡ true
-lawful_stay schemas n put [] p h = refl
-lawful_stay schemas zero put (d ∷ ds) p h =
-    let one = first_so (is_device schemas d) (list_all (is_device schemas) ds) h in
-    let front : Bool = is_lawful_name d.name && nat_lt d.schema (length schemas) in
-    let puts = list_all (is_put (schema_in schemas d.schema)) d.base in
-    both (is_device schemas (record d { base = d.base ++ put ∷ [] })) (list_all (is_device schemas) ds)
-    (both front (list_all (is_put (schema_in schemas d.schema)) (d.base ++ put ∷ [])) (first_so front puts one)
-    (all_more (is_put (schema_in schemas d.schema)) d.base put (second_so front puts one) p))
+-- what is good for a schema keeps devices of that schema lawful
+abbrev KeepsDevices : List SchemaTable → (SchemaTable → Bool) → (Device → Device) → Type 0
+KeepsDevices schemas good f = (d : Device) → good (schema_in schemas d.schema) ≡ true → is_device schemas d ≡ true → is_device schemas (f d) ≡ true
+
+lawful_stay : (schemas : List SchemaTable) (n : ℕ) (good : SchemaTable → Bool) (f : Device → Device) (ds : List Device) → KeepsDevices schemas good f
+    → good (schema_at schemas ds n) ≡ true → list_all (is_device schemas) ds ≡ true → list_all (is_device schemas) (changed_at n f ds) ≡ true
+lawful_stay schemas n good f [] keeps p h = refl
+lawful_stay schemas zero good f (d ∷ ds) keeps p h =
+    both (is_device schemas (f d)) (list_all (is_device schemas) ds) (keeps d p (first_so (is_device schemas d) (list_all (is_device schemas) ds) h))
     (second_so (is_device schemas d) (list_all (is_device schemas) ds) h)
-lawful_stay schemas (suc n) put (d ∷ ds) p h =
-    both (is_device schemas d) (list_all (is_device schemas) (with_base n put ds)) (first_so (is_device schemas d) (list_all (is_device schemas) ds) h)
-    (lawful_stay schemas n put ds p (second_so (is_device schemas d) (list_all (is_device schemas) ds) h))
+lawful_stay schemas (suc n) good f (d ∷ ds) keeps p h =
+    both (is_device schemas d) (list_all (is_device schemas) (changed_at n f ds)) (first_so (is_device schemas d) (list_all (is_device schemas) ds) h)
+    (lawful_stay schemas n good f ds keeps p (second_so (is_device schemas d) (list_all (is_device schemas) ds) h))
 
--- an item more for the device of a number, or for none
-pub past_all : (n : ℕ) (put : Put) (ds : List Device) → length ds ≤ n → with_base n put ds ≡ ds
-past_all n put [] h = refl
-past_all zero put (d ∷ ds) h = absurd (omega arith)
-past_all (suc n) put (d ∷ ds) h = ap (λ (rest : List Device). d ∷ rest) (past_all n put ds (omega arith))
+module _ (schemas : List SchemaTable) (d : Device) where
+  abbrev s : SchemaTable
+  s = schema_in schemas d.schema
 
-pub put_at : (n : ℕ) (put : Put) (ds : List Device) (d : Device) → n < length ds
-    → with_base n put ds ≡ slice_set ds n (record (get_or ds n d) { base = (get_or ds n d).base ++ put ∷ [] })
-put_at n put [] d h = absurd (omega arith)
-put_at zero put (e ∷ ds) d h = refl
-put_at (suc n) put (e ∷ ds) d h = ap (λ (rest : List Device). e ∷ rest) (put_at n put ds d (omega arith))
+  abbrev front : Bool
+  front = is_lawful_name d.name && nat_lt d.schema (length schemas)
+
+  abbrev puts : Bool
+  puts = list_all (is_put s) d.base
+
+  abbrev limits : Bool
+  limits = list_all (is_max_rule s) d.max
+
+  abbrev leaves : Bool
+  leaves = list_all (is_forbid_rule s) d.forbid
+
+  in_front : is_device schemas d ≡ true → front ≡ true
+  in_front h = first_so front (puts && limits && leaves) h
+
+  under : is_device schemas d ≡ true → (puts && limits && leaves) ≡ true
+  under h = second_so front (puts && limits && leaves) h
+
+  joined : (a b c : Bool) → front ≡ true → a ≡ true → b ≡ true → c ≡ true → (front && (a && b && c)) ≡ true
+  joined a b c f x y z = both front (a && b && c) f (both (a && b) c (both a b x y) z)
+
+  puts_so : is_device schemas d ≡ true → puts ≡ true
+  puts_so h = first_so puts limits (first_so (puts && limits) leaves (under h))
+
+  limits_so : is_device schemas d ≡ true → limits ≡ true
+  limits_so h = second_so puts limits (first_so (puts && limits) leaves (under h))
+
+  leaves_so : is_device schemas d ≡ true → leaves ≡ true
+  leaves_so h = second_so (puts && limits) leaves (under h)
+
+  base_grows : (put : Put) → is_put s put ≡ true → is_device schemas d ≡ true → is_device schemas (record d { base = d.base ++ put ∷ [] }) ≡ true
+  base_grows put p h =
+      joined (list_all (is_put s) (d.base ++ put ∷ [])) limits leaves (in_front h) (all_more (is_put s) d.base put (puts_so h) p) (limits_so h) (leaves_so h)
+
+  max_grows : (limit : List PathStep × ℕ) → is_max_rule s limit ≡ true → is_device schemas d ≡ true → is_device schemas (record d { max = d.max ++ limit ∷ [] }) ≡ true
+  max_grows limit p h =
+      joined puts (list_all (is_max_rule s) (d.max ++ limit ∷ [])) leaves (in_front h) (puts_so h) (all_more (is_max_rule s) d.max limit (limits_so h) p) (leaves_so h)
+
+  forbid_grows : (leaf : List PathStep × List ℕ) → is_forbid_rule s leaf ≡ true → is_device schemas d ≡ true
+      → is_device schemas (record d { forbid = d.forbid ++ leaf ∷ [] }) ≡ true
+  forbid_grows leaf p h =
+      joined puts limits (list_all (is_forbid_rule s) (d.forbid ++ leaf ∷ [])) (in_front h) (puts_so h) (limits_so h) (all_more (is_forbid_rule s) d.forbid leaf (leaves_so h) p)
+
+-- a change of the device of a number, or of none
+pub past_all : (n : ℕ) (f : Device → Device) (ds : List Device) → length ds ≤ n → changed_at n f ds ≡ ds
+past_all n f [] h = refl
+past_all zero f (d ∷ ds) h = absurd (omega arith)
+past_all (suc n) f (d ∷ ds) h = ap (λ (rest : List Device). d ∷ rest) (past_all n f ds (omega arith))
+
+pub put_at : (n : ℕ) (f : Device → Device) (ds : List Device) (d : Device) → n < length ds → changed_at n f ds ≡ slice_set ds n (f (get_or ds n d))
+put_at n f [] d h = absurd (omega arith)
+put_at zero f (e ∷ ds) d h = refl
+put_at (suc n) f (e ∷ ds) d h = ap (λ (rest : List Device). e ∷ rest) (put_at n f ds d (omega arith))
 
 pub on_ok_more : {T E : Type 0} (r : Result T E) (P Q : Type 0) → (P → Q) → OnOk r P → OnOk r Q
 on_ok_more (Ok x) P Q f h = f h
@@ -114,43 +168,61 @@ pub both_ok : {T E : Type 0} (r : Result T E) (P Q S : Type 0) → (P → Q → 
 both_ok (Ok x) P Q S f h k = f h k
 both_ok (Err e) P Q S f h k = h
 
-pub pushed : {E : Type 0} (n : ℕ) (put : Put) (ds : List Device) (d : Device) (base : List Put) (r : Result (Unit {0}) E) → n < length ds
-    → OnOk r (base ≡ (get_or ds n d).base ++ put ∷ [])
-    → OnOk r (slice_set ds n (record { name = (get_or ds n d).name; schema = (get_or ds n d).schema; base = base }) ≡ with_base n put ds)
-pushed n put ds d base r within h =
-    on_ok_more r _ _
-    (λ grown. ap (λ (b : List Put). slice_set ds n (record { name = (get_or ds n d).name; schema = (get_or ds n d).schema; base = b })) grown ∙ sym (put_at n put ds d within)) h
+module _ {E : Type 0} (n : ℕ) (ds : List Device) (d : Device) (r : Result (Unit {0}) E) (within : n < length ds) where
+  pub pushed : (put : Put) (base : List Put) → OnOk r (base ≡ (get_or ds n d).base ++ put ∷ [])
+      → OnOk r (slice_set ds n (record (get_or ds n d) { base = base }) ≡ with_base n put ds)
+  pushed put base h =
+      on_ok_more r _ _ (λ grown. ap (λ (b : List Put). slice_set ds n (record (get_or ds n d) { base = b })) grown
+      ∙ sym (put_at n (λ (e : Device). record e { base = e.base ++ put ∷ [] }) ds d within)) h
 
-pub based : (d : Declared) (n : ℕ) (put : Put) (devices : List Device)
-    → AreDeclared d → is_put (schema_at d.schemas d.devices n) put ≡ true → devices ≡ with_base n put d.devices → AreDeclared (record d { devices = devices })
-based d n put devices h lawful grown = subst (λ (ds : List Device). AreDeclared (record d { devices = ds })) (sym grown) (record {
-  named = h.named ∙ sym (names_stay n put d.devices);
+  pub pushed_max : (limit : List PathStep × ℕ) (max : List (List PathStep × ℕ)) → OnOk r (max ≡ (get_or ds n d).max ++ limit ∷ [])
+      → OnOk r (slice_set ds n (record (get_or ds n d) { max = max }) ≡ with_max n limit ds)
+  pushed_max limit max h =
+      on_ok_more r _ _ (λ grown. ap (λ (b : List (List PathStep × ℕ)). slice_set ds n (record (get_or ds n d) { max = b })) grown
+      ∙ sym (put_at n (λ (e : Device). record e { max = e.max ++ limit ∷ [] }) ds d within)) h
+
+  pub pushed_forbid : (leaf : List PathStep × List ℕ) (forbid : List (List PathStep × List ℕ)) → OnOk r (forbid ≡ (get_or ds n d).forbid ++ leaf ∷ [])
+      → OnOk r (slice_set ds n (record (get_or ds n d) { forbid = forbid }) ≡ with_forbid n leaf ds)
+  pushed_forbid leaf forbid h =
+      on_ok_more r _ _ (λ grown. ap (λ (b : List (List PathStep × List ℕ)). slice_set ds n (record (get_or ds n d) { forbid = b })) grown
+      ∙ sym (put_at n (λ (e : Device). record e { forbid = e.forbid ++ leaf ∷ [] }) ds d within)) h
+
+module _ (d : Declared) (n : ℕ) (devices : List Device) (h : AreDeclared d) where
+  changed : (good : SchemaTable → Bool) (f : Device → Device) → KeepsDevices d.schemas good f → ((e : Device) → (f e).name ≡ e.name)
+      → good (schema_at d.schemas d.devices n) ≡ true → devices ≡ changed_at n f d.devices → AreDeclared (record d { devices = devices })
+  changed good f keeps same lawful grown = subst (λ (ds : List Device). AreDeclared (record d { devices = ds })) (sym grown) (record {
+    named = h.named ∙ sym (names_stay n f d.devices same);
+    plain = h.plain;
+    typed = h.typed;
+    devices = lawful_stay d.schemas n good f d.devices keeps lawful h.devices;
+    few = h.few;
+    items = h.items;
+    sound = h.sound;
+  })
+
+  pub based : (put : Put) → is_put (schema_at d.schemas d.devices n) put ≡ true → devices ≡ with_base n put d.devices → AreDeclared (record d { devices = devices })
+  based put =
+      changed (λ (s : SchemaTable). is_put s put) (λ (e : Device). record e { base = e.base ++ put ∷ [] }) (λ e. base_grows d.schemas e put) (λ e. refl)
+
+  pub limited : (limit : List PathStep × ℕ) → is_max_rule (schema_at d.schemas d.devices n) limit ≡ true → devices ≡ with_max n limit d.devices
+      → AreDeclared (record d { devices = devices })
+  limited limit =
+      changed (λ (s : SchemaTable). is_max_rule s limit) (λ (e : Device). record e { max = e.max ++ limit ∷ [] }) (λ e. max_grows d.schemas e limit) (λ e. refl)
+
+  pub forbidden : (leaf : List PathStep × List ℕ) → is_forbid_rule (schema_at d.schemas d.devices n) leaf ≡ true → devices ≡ with_forbid n leaf d.devices
+      → AreDeclared (record d { devices = devices })
+  forbidden leaf =
+      changed (λ (s : SchemaTable). is_forbid_rule s leaf) (λ (e : Device). record e { forbid = e.forbid ++ leaf ∷ [] }) (λ e. forbid_grows d.schemas e leaf) (λ e. refl)
+
+-- the data have an item more
+pub data_more : (d : Declared) (put : Put) (items : List Put) → AreDeclared d → is_put d.data_schema put ≡ true → is_kept put.path ≡ false
+    → items ≡ d.data ++ put ∷ [] → AreDeclared (record d { «data» = items })
+data_more d put items h lawful free grown = subst (λ (ps : List Put). AreDeclared (record d { «data» = ps })) (sym grown) (record {
+  named = h.named;
   plain = h.plain;
   typed = h.typed;
-  devices = lawful_stay d.schemas n put d.devices lawful h.devices;
+  devices = h.devices;
   few = h.few;
+  items = all_more (is_data_item d.data_schema) d.data put h.items (both (is_put d.data_schema put) (not (is_kept put.path)) lawful (ap not free));
+  sound = h.sound;
 })
-
-few_enough : (n most : ℕ) → n ≤ most → nat_le n most ≡ true
-few_enough n most h = grind arith
-
--- what ends a deletion, and what ends a literal
-pub deletion : (decls : Decls) (most : ℕ) (s : Script) → AreSteps decls most s → s.part ≡ part.Delete
-    → (has_caller s ≡ true) × (is_lawful_name s.name ≡ true)
-deletion decls most s h here =
-    let call : (has_caller s && is_lawful_name s.name) ≡ true = subst (λ (p : Part). is_open decls s p ≡ true) here h.call in
-    (first_so (has_caller s) (is_lawful_name s.name) call, second_so (has_caller s) (is_lawful_name s.name) call)
-
-pub literal : (decls : Decls) (most : ℕ) (s : Script) → AreSteps decls most s → s.part ≡ part.Literal → most ≤ MOST_WRITES
-    → (has_caller s ≡ true) × (is_action decls (Literal s.name s.writes) ≡ true)
-literal decls most s h here small =
-    let front : Bool = has_caller s && is_lawful_name s.name in
-    let call : (front && list_all (is_write decls) s.writes) ≡ true = subst (λ (p : Part). is_open decls s p ≡ true) here h.call in
-    let begun = first_so front (list_all (is_write decls) s.writes) call in
-    let few = h.few in
-    let size = few_enough (length s.writes) MOST_WRITES (omega arith) in (
-      first_so (has_caller s) (is_lawful_name s.name) begun,
-      both (is_lawful_name s.name && nat_le (length s.writes) MOST_WRITES) (list_all (is_write decls) s.writes)
-          (both (is_lawful_name s.name) (nat_le (length s.writes) MOST_WRITES) (second_so (has_caller s) (is_lawful_name s.name) begun) size)
-          (second_so front (list_all (is_write decls) s.writes) call),
-    )

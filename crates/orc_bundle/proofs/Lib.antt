@@ -7,9 +7,13 @@ mod DeclarationWords
 mod DeclaredLines
 mod Grown
 mod Keywords
+mod KeptPaths
 mod Lawful
+mod CallLines
 mod LinesOf
 mod Numbers
+mod Opened
+mod Placed
 mod RepeatedNames
 mod Rules
 mod SchemaPlaces
@@ -24,6 +28,7 @@ mod Utf8
 mod WordCuts
 mod Shown
 mod WrittenBases
+mod WrittenPreamble
 mod WrittenDeclarations
 mod WrittenDevices
 mod WrittenItems

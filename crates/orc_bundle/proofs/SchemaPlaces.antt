@@ -3,9 +3,11 @@ use Rattle.std.proofs.Common.{◌≡◌, ◌<◌, ◌+◌, ℕ, zero, suc, List,
 use Rattle.std.specs.List.{list_all, position_or_len}
 use Rattle.std.specs.Option.{option_map_or}
 use Rattle.std.proofs.lemmas.Bool.{and_from, and_parts, false≢true}
+use Rattle.std.proofs.lemmas.List.Elements.{All-push}
 use Rattle.orc_schema.specs.Schemas.{SchemaTable, plain_table}
+use Rattle.orc_schema.specs.Sound.{IsSound}
 use Rattle.orc_state.specs.States.{is_same_text, names_of}
-use Rattle.orc_state.specs.Calls.{device_named, is_device, is_lawful_name, is_put, schema_in, schema_named}
+use Rattle.orc_state.specs.Calls.{device_named, is_device, is_lawful_name, schema_in, schema_named, is_device_under}
 use Rattle.orc_state.specs.declared.declarations.Device.{Device}
 use Rattle.orc_state.specs.declared.declarations.TheConstants.{MOST_DEVICES}
 use Rattle.orc_bundle.specs.Declarations.{schema_place, with_device, with_type}
@@ -17,13 +19,13 @@ use Rattle.orc_bundle.proofs.Lawful.{schema_at}
 
 -- the device of a name stands at the name's place
 
-one_more : (n : ℕ) → 1 + n ≡ suc n
+pub one_more : (n : ℕ) → 1 + n ≡ suc n
 one_more n = omega arith
 
-within_more : (k n : ℕ) → nat_lt (1 + k) (suc n) ≡ nat_lt k n
+pub within_more : (k n : ℕ) → nat_lt (1 + k) (suc n) ≡ nat_lt k n
 within_more k n = grind arith
 
-some_first : (n : ℕ) → nat_lt 0 (suc n) ≡ true
+pub some_first : (n : ℕ) → nat_lt 0 (suc n) ≡ true
 some_first n = lt-ltb 0 (suc n) (omega arith)
 
 pub named_at : (name : List ℕ) (ds : List Device) → device_named ds name ≡ option_and_then (slice_get ds) (place_of (names_of ds) name)
@@ -69,10 +71,10 @@ schema_found schemas ds name n device is there =
 
 -- the place of a kind is one of a schema
 
-some_same : (a b : ℕ) → Some a ≡ Some b → a ≡ b
+pub some_same : (a b : ℕ) → Some a ≡ Some b → a ≡ b
 some_same a b h = ap (λ (o : Option ℕ). option_map_or (λ n. n) o 0) h
 
-no_some : (b : ℕ) → None ≡ Some b → ⊥
+pub no_some : (b : ℕ) → None ≡ Some b → ⊥
 no_some b h = false≢true (ap (λ (o : Option ℕ). is_some o) h)
 
 kind_within : (d : Declared) (t : Bool) (o : Option ℕ) (place : ℕ) → length d.schemas ≡ suc (length d.types)
@@ -82,7 +84,7 @@ kind_within d false None place size within h = absurd (no_some place h)
 kind_within d false (Some n) place size within h =
     let here = within n refl in let behind = some_same (suc n) place h in omega arith
 
-place_within : (ns : List (List ℕ)) (name : List ℕ) (n : ℕ) → place_of ns name ≡ Some n → n < length ns
+pub place_within : (ns : List (List ℕ)) (name : List ℕ) (n : ℕ) → place_of ns name ≡ Some n → n < length ns
 place_within ns name n h = on (nat_lt k (length ns)) refl h where
   k : ℕ
   k = position_or_len (is_same_text name) ns
@@ -109,7 +111,7 @@ names_last (x ∷ xs) d = ap (λ (ns : List (List ℕ)). x.name ∷ ns) (names_l
 pub device_more : (d : Declared) (name : List ℕ) (place : ℕ) → AreDeclared d → is_lawful_name name ≡ true → place < length d.schemas
     → length d.names < MOST_DEVICES → AreDeclared (with_device d name place)
 device_more d name place known lawful within few =
-    let new : Device = record { name = name; schema = place; base = [] } in
+    let new : Device = record { name = name; schema = place; base = []; max = []; forbid = [] } in
     let size = length-append d.names (name ∷ []) in
     record {
       named = ap (λ (ns : List (List ℕ)). ns ++ name ∷ []) known.named ∙ sym (names_last d.devices new);
@@ -119,6 +121,8 @@ device_more d name place known lawful within few =
           (and_from (is_lawful_name name && nat_lt place (length d.schemas)) true
           (and_from (is_lawful_name name) (nat_lt place (length d.schemas)) lawful (lt-ltb place (length d.schemas) within)) refl);
       few = omega arith;
+      items = known.items;
+      sound = known.sound;
     }
 
 -- a type more
@@ -131,15 +135,15 @@ get_more (s ∷ ss) schema (suc n) h = get_more ss schema n (omega arith)
 device_kept : (schemas : List SchemaTable) (schema : SchemaTable) (d : Device) → is_device schemas d ≡ true → is_device (schemas ++ schema ∷ []) d ≡ true
 device_kept schemas schema d h =
     let more = schemas ++ schema ∷ [] in
-    let two = and_parts (is_lawful_name d.name && nat_lt d.schema (length schemas)) (list_all (is_put (schema_in schemas d.schema)) d.base) h in
+    let two = and_parts (is_lawful_name d.name && nat_lt d.schema (length schemas)) (is_device_under (schema_in schemas d.schema) d) h in
     let one = and_parts (is_lawful_name d.name) (nat_lt d.schema (length schemas)) two.0 in
     let within = ltb-true d.schema (length schemas) one.1 in
     let size = length-append schemas (schema ∷ []) in
     let same : schema_in schemas d.schema ≡ schema_in more d.schema =
     ap (λ (o : Option SchemaTable). option_map_or (λ s. s) o plain_table) (sym (get_more schemas schema d.schema within)) in
-    and_from (is_lawful_name d.name && nat_lt d.schema (length more)) (list_all (is_put (schema_in more d.schema)) d.base)
+    and_from (is_lawful_name d.name && nat_lt d.schema (length more)) (is_device_under (schema_in more d.schema) d)
     (and_from (is_lawful_name d.name) (nat_lt d.schema (length more)) one.0 (lt-ltb d.schema (length more) (omega arith)))
-    (subst (λ (s : SchemaTable). list_all (is_put s) d.base ≡ true) same two.1)
+    (subst (λ (s : SchemaTable). is_device_under s d ≡ true) same two.1)
 
 devices_kept : (schemas : List SchemaTable) (schema : SchemaTable) (ds : List Device) → list_all (is_device schemas) ds ≡ true
     → list_all (is_device (schemas ++ schema ∷ [])) ds ≡ true
@@ -149,8 +153,8 @@ devices_kept schemas schema (d ∷ ds) h =
     and_from (is_device (schemas ++ schema ∷ []) d) (list_all (is_device (schemas ++ schema ∷ [])) ds)
     (device_kept schemas schema d parts.0) (devices_kept schemas schema ds parts.1)
 
-pub type_more : (d : Declared) (name : List ℕ) (schema : SchemaTable) → AreDeclared d → AreDeclared (with_type d name schema)
-type_more d name schema known =
+pub type_more : (d : Declared) (name : List ℕ) (schema : SchemaTable) → AreDeclared d → IsSound schema → AreDeclared (with_type d name schema)
+type_more d name schema known sound =
     let types = length-append d.types (name ∷ []) in
     let schemas = length-append d.schemas (schema ∷ []) in
     let size = known.typed in
@@ -160,6 +164,8 @@ type_more d name schema known =
       typed = omega arith;
       devices = devices_kept d.schemas schema d.devices known.devices;
       few = known.few;
+      items = known.items;
+      sound = All-push IsSound d.schemas schema known.sound sound;
     }
 
 -- the same of what was read
@@ -170,7 +176,7 @@ with_new names name new = ap (λ (b : Bool). cond b names (names ++ name ∷ [])
 pub device_added : (d : Declared) (name copy kind : List ℕ) (place : ℕ) (names : List (List ℕ)) (devices : List Device)
     → AreDeclared d → is_lawful_name name ≡ true → schema_place d kind ≡ Some place
     → length d.names < MOST_DEVICES → is_among d.names name ≡ false → copy ≡ name → names ≡ with_name d.names copy
-    → devices ≡ d.devices ++ (record { name = name; schema = place; base = [] }) ∷ [] → AreDeclared (record d { names = names; devices = devices })
+    → devices ≡ d.devices ++ (record { name = name; schema = place; base = []; max = []; forbid = [] }) ∷ [] → AreDeclared (record d { names = names; devices = devices })
 device_added d name copy kind place names devices known lawful placed few new copied named grown =
     let all : names ≡ d.names ++ name ∷ [] = named ∙ ap (with_name d.names) copied ∙ with_new d.names name new in
     subst (λ (ns : List (List ℕ)). AreDeclared (record d { names = ns; devices = devices })) (sym all)
@@ -178,10 +184,10 @@ device_added d name copy kind place names devices known lawful placed few new co
     (device_more d name place known lawful (placed_within d kind place known placed) few))
 
 pub type_added : (d : Declared) (name copy : List ℕ) (schema : SchemaTable) (types : List (List ℕ)) (schemas : List SchemaTable)
-    → AreDeclared d → is_among d.types name ≡ false → copy ≡ name → types ≡ with_name d.types copy → schemas ≡ d.schemas ++ schema ∷ []
-    → AreDeclared (record d { types = types; schemas = schemas })
-type_added d name copy schema types schemas known new copied named grown =
+    → AreDeclared d → IsSound schema → is_among d.types name ≡ false → copy ≡ name → types ≡ with_name d.types copy
+    → schemas ≡ d.schemas ++ schema ∷ [] → AreDeclared (record d { types = types; schemas = schemas })
+type_added d name copy schema types schemas known sound new copied named grown =
     let all : types ≡ d.types ++ name ∷ [] = named ∙ ap (with_name d.types) copied ∙ with_new d.types name new in
     subst (λ (ts : List (List ℕ)). AreDeclared (record d { types = ts; schemas = schemas })) (sym all)
     (subst (λ (ss : List SchemaTable). AreDeclared (record d { types = d.types ++ name ∷ []; schemas = ss })) (sym grown)
-    (type_more d name schema known))
+    (type_more d name schema known sound))

@@ -1,26 +1,26 @@
 -- What a line of a script makes of the steps so far.
-use Rattle.std.proofs.Common.{◌≡◌, ℕ, Bool, true, false, not, ◌||◌, cond, List, [], ◌∷◌, ◌++◌, codes, Ok, Err, Option, Some, None, refl, ap, sym, ◌∙◌, subst}
+use Rattle.std.proofs.Common.{◌≡◌, ℕ, Bool, true, false, not, ◌||◌, nat_eq, cond, List, [], ◌∷◌, ◌++◌, codes, length, Ok, Option, Some, None, is_some, refl, ap, sym, ◌∙◌, subst}
 use Rattle.std.specs.List.{list_any}
 use Rattle.std.specs.Str.{is_utf8}
 use Rattle.std.proofs.lemmas.Bool.{false≢true, or_parts}
 use Rattle.orc_path.specs.Alphabet.{is_identifier}
 use Rattle.orc_path.specs.Limits.{is_long_name}
-use Rattle.orc_call.specs.declared.call.Action.{Action}
 use Rattle.orc_call.specs.declared.call.Action.TheVariants as action
 use Rattle.orc_call.specs.declared.call.Call.{Call}
+use Rattle.orc_state.specs.Actions.{is_named_by}
 use Rattle.orc_state.specs.Calls.{schema_named}
 use Rattle.orc_state.specs.declared.rule.Rule.{Rule}
 use Rattle.orc_state.specs.declared.rule.Rule.TheVariants as rule
 use Rattle.orc_bundle.specs.declared.declarations.Declared.{Declared}
-use Rattle.orc_bundle.specs.Items.{put_of}
+use Rattle.orc_bundle.specs.Items.{data_path_of, put_of}
 use Rattle.orc_bundle.specs.Keywords.{keyword_of}
 use Rattle.orc_bundle.specs.Lines.{is_end, is_large, is_settled, is_skipped, text_of}
 use Rattle.orc_bundle.specs.Names.{is_among, place_of, with_name}
-use Rattle.orc_bundle.specs.Rules.{or_rule}
-use Rattle.orc_bundle.specs.Scripts.{a_step, a_write, after_bare, after_call, after_end, after_json, after_show, after_step, after_stop, after_write, an_action, bare_step, begun, behind_action, call_words, is_caller_more, is_followed, is_full, scripted_at, step_words, stop_words, with_call, with_step, word_at, words_at, write_words}
+use Rattle.orc_bundle.specs.Rules.{checked, or_rule}
+use Rattle.orc_bundle.specs.Scripts.{a_step, after_bare, after_call, after_delete, after_end, after_json, after_literal, after_set, after_show, after_step, after_stop, after_unset, after_write, an_action, bare_step, behind_literal, call_end, call_words, is_call_full, is_caller_more, is_followed, is_full, name_rules, scripted_at, step_words, stop_words, with_action, with_call, with_literal, with_step, word_at, words_at, write_words}
 use Rattle.orc_bundle.specs.Words.{cut_at, first_word, is_text, number_in, word_before}
 use Rattle.orc_bundle.specs.declared.bundle.ScriptStep.{ScriptStep}
-use Rattle.orc_bundle.specs.declared.bundle.ScriptStep.TheVariants.{Show, Serve, Settle, Stop, StopAt, Recover, History}
+use Rattle.orc_bundle.specs.declared.bundle.ScriptStep.TheVariants.{Show, Json, Data, Serve, Settle, Stop, StopAt, Recover, History}
 use Rattle.orc_bundle.specs.declared.keyword.Keyword.{Keyword}
 use Rattle.orc_bundle.specs.declared.keyword.Keyword.TheVariants as keyword
 use Rattle.orc_bundle.specs.declared.script.Script.{Script}
@@ -137,6 +137,7 @@ module _ (d : Declared) (s : Script) (text : List ℕ) (later : List (List ℕ))
     one_word keyword.Stop is h = a_bare Stop refl (λ e. absurd (no_settle keyword.Stop is refl e)) (unlooked_at keyword.Stop is refl) h
     one_word keyword.Recover is h = a_bare Recover refl (λ e. absurd (no_settle keyword.Recover is refl e)) (unlooked_at keyword.Recover is refl) h
     one_word keyword.History is h = a_bare History refl (λ e. absurd (no_settle keyword.History is refl e)) (unlooked_at keyword.History is refl) h
+    one_word keyword.Data is h = a_bare Data refl (λ e. absurd (no_settle keyword.Data is refl e)) (unlooked_at keyword.Data is refl) h
     one_word _ is h = absurd (no_ok rule.Line t h)
 
     shown : (rest : List ℕ) → word ≡ keyword.Show → after_show d s rest ≡ Ok t → MakesOf s text later t
@@ -157,13 +158,23 @@ module _ (d : Declared) (s : Script) (text : List ℕ) (later : List (List ℕ))
           unlooked = unlooked_at keyword.Show is refl;
         })
 
-    untyped : (rest : List ℕ) → after_json d s rest ≡ Ok t → ⊥
-    unfolding after_json
-    untyped rest h =
+    printed : (rest : List ℕ) → word ≡ keyword.Json → after_json d s rest ≡ Ok t → MakesOf s text later t
+    unfolding after_json step_looks_at
+    printed rest is h =
         let one = passed (not (is_identifier rest)) rule.Line _ t h in
         let two = passed (is_long_name rest || is_full s) rule.Size _ t one.1 in
-        let three = passed (schema_named d.schemas d.devices rest).plain rule.Unknown (Err rule.Line) t two.1 in
-        no_ok rule.Line t three.1
+        let three = passed (schema_named d.schemas d.devices rest).plain rule.Unknown _ t two.1 in
+        let found = or_rule_ok (place_of d.names rest) rule.Unknown (λ n. Ok (with_step s (Json n))) t three.1 in
+        stepped (record {
+          step = Json found.0;
+          kept = kept;
+          resting = resting;
+          room = (or_parts (is_long_name rest) (is_full s) two.0).1;
+          is = sym (same_ok (with_step s (Json found.0)) t found.1.1);
+          plain = refl;
+          settles = λ e. absurd (no_settle keyword.Json is refl e);
+          unlooked = unlooked_at keyword.Json is refl;
+        })
 
     stops : (o : Option (List ℕ × List ℕ)) → word ≡ keyword.Stop → stop_words s o ≡ Ok t → MakesOf s text later t
     unfolding step_looks_at
@@ -179,7 +190,7 @@ module _ (d : Declared) (s : Script) (text : List ℕ) (later : List (List ℕ))
     calls (Some words) followed is follows h =
         let found = or_rule_ok (number_in words.1) rule.Line _ t h in
         let number = found.0 in
-        let after : Script = record s { part = part.Call; callers = with_name s.callers words.0; caller = words.0; number = number } in
+        let after : Script = record s { part = part.Call; callers = with_name s.callers words.0; caller = words.0; number = number; actions = [] } in
         let one = passed (not (is_identifier words.0)) rule.Line _ t found.1.1 in
         let two = passed (is_long_name words.0 || is_full s || is_caller_more s words.0) rule.Size _ t one.1 in
         let three = passed (not followed) rule.Line (Ok after) t two.1 in
@@ -203,7 +214,7 @@ module _ (d : Declared) (s : Script) (text : List ℕ) (later : List (List ℕ))
     more_words : (k : Keyword) (rest : List ℕ) (followed : Bool) → word ≡ k → is_followed word later ≡ followed → a_step k d s rest followed ≡ Ok t → MakesOf s text later t
     unfolding a_step after_stop after_call
     more_words keyword.Show rest followed is follows h = shown rest is h
-    more_words keyword.Json rest followed is follows h = absurd (untyped rest h)
+    more_words keyword.Json rest followed is follows h = printed rest is h
     more_words keyword.Stop rest followed is follows h = stops (cut_at 32 rest) is h
     more_words keyword.Call rest followed is follows h = calls (cut_at 32 rest) followed is follows h
     more_words _ rest followed is follows h = absurd (no_ok rule.Line t h)
@@ -225,69 +236,89 @@ module _ (d : Declared) (s : Script) (text : List ℕ) (later : List (List ℕ))
           unlooked = unlooked_at k is none;
         })
 
-    begins : (k : Keyword) → word ≡ k → is_end_word k ≡ false → step_looks_at k later ≡ 0 → (kind : Part) → is_resting kind ≡ false → (name : List ℕ)
-        → begun s kind name ≡ Ok t → MakesOf s text later t
-    begins k is other none kind open_now name h =
-        let one = passed (not (is_identifier name)) rule.Line _ t h in
-        let two = passed (is_long_name name) rule.Size _ t one.1 in
-        goes_on k is other none (record s { part = kind; name = name; writes = [] }) two.1 open_now refl refl refl
-
-    acts : (k : Keyword) (rest : List ℕ) → word ≡ k → an_action k s rest ≡ Ok t → MakesOf s text later t
-    unfolding an_action step_looks_at
-    acts keyword.Literal rest is h = begins keyword.Literal is refl refl part.Literal refl rest h
-    acts keyword.Delete rest is h = begins keyword.Delete is refl refl part.Delete refl rest h
-    acts _ rest is h = absurd (no_ok rule.Line t h)
-
     writes : (o : Option (List ℕ × List ℕ)) → word ≡ keyword.Write → write_words d s o ≡ Ok t → MakesOf s text later t
     unfolding step_looks_at
     writes None is h = absurd (no_ok rule.Line t h)
     writes (Some words) is h =
         let one = passed (not (is_identifier words.0)) rule.Line _ t h in
-        let found = on_ok_ok (put_of (schema_named d.schemas d.devices words.0) (is_long_name words.0) words.1) _ t one.1 in
+        let found = on_ok_ok (put_of false (schema_named d.schemas d.devices words.0) (is_long_name words.0) words.1) _ t one.1 in
         let put = found.0 in
         let after : Script = record s { writes = s.writes ++ (record { device = words.0; path = put.path; item = put.item }) ∷ [] } in
         let two = passed (not (is_among d.names words.0)) rule.Unknown (Ok after) t found.1.1 in
         goes_on keyword.Write is refl refl after two.1 was_open refl refl refl
 
-    a_line : (k : Keyword) (rest : List ℕ) → word ≡ k → a_write k d s rest ≡ Ok t → MakesOf s text later t
-    unfolding a_write after_write
-    a_line keyword.Write rest is h = writes (cut_at 32 rest) is h
-    a_line _ rest is h = absurd (no_ok rule.Line t h)
+    -- behind the actions so far, where an open literal is one of them
+    module _ (u : Script) (open_yet : is_resting u.part ≡ false) (steps : u.steps ≡ s.steps) (callers : u.callers ≡ s.callers) (caller : u.caller ≡ s.caller) where
+      names : (name : List ℕ) (v : Script) → checked (name_rules u name) (ok Script Rule v) ≡ Ok t → ok Script Rule v ≡ Ok t
+      names name v h =
+          let one = passed (not (is_identifier name) || is_call_full u) rule.Line _ t h in
+          let two = passed (is_long_name name) rule.Size _ t one.1 in
+          (passed (is_named_by u.actions name) rule.Duplicate (Ok v) t two.1).1
 
-    ends : (k : Keyword) (a : Action) (followed : Bool) → cut_at 32 text ≡ None → word ≡ k → is_followed word later ≡ followed → behind_action k s a followed ≡ Ok t → MakesOf s text later t
-    unfolding behind_action after_end is_followed
-    ends keyword.End a followed alone is follows h =
-        let one = passed (not followed) rule.Line (Ok (with_call s a)) t h in
-        let same = same_ok (with_call s a) t one.1 in
-        let call : Call = record { caller = s.caller; number = s.number; actions = a ∷ [] } in
-        ended (record {
-          call = call;
-          kept = kept;
-          was_open = was_open;
-          resting = sym (ap (λ (x : Script). x.part) same);
-          steps = sym (ap (λ (x : Script). x.steps) same);
-          callers = sym (ap (λ (x : Script). x.callers) same);
-          caller = refl;
-          ends = end_known text (ap (λ (o : Option (List ℕ × List ℕ)). keyword_of (word_before text o)) (sym alone) ∙ is);
-          followed = sym (ap (λ (x : Keyword). is_followed x later) is) ∙ follows ∙ so followed one.0;
-          looked = is;
-        })
-    ends _ a followed alone is follows h = absurd (no_ok rule.Line t h)
+      sets : (rest : List ℕ) → word ≡ keyword.Set → after_set d u rest ≡ Ok t → MakesOf s text later t
+      unfolding after_set step_looks_at
+      sets rest is h =
+          let one = passed (is_call_full u) rule.Line _ t h in
+          let found = on_ok_ok (put_of true d.data_schema false rest) (λ put. Ok (with_action u (action.Set put))) t one.1 in
+          goes_on keyword.Set is refl refl (with_action u (action.Set found.0)) found.1.1 open_yet steps callers caller
+
+      unsets : (rest : List ℕ) → word ≡ keyword.Unset → after_unset d u rest ≡ Ok t → MakesOf s text later t
+      unfolding after_unset step_looks_at
+      unsets rest is h =
+          let one = passed (is_call_full u || is_some (cut_at 32 rest)) rule.Line _ t h in
+          let found = on_ok_ok (data_path_of d.data_schema rest) (λ path. Ok (with_action u (action.Unset path))) t one.1 in
+          goes_on keyword.Unset is refl refl (with_action u (action.Unset found.0)) found.1.1 open_yet steps callers caller
+
+      acts : (k : Keyword) (rest : List ℕ) → word ≡ k → an_action k d u rest ≡ Ok t → MakesOf s text later t
+      unfolding an_action after_literal after_delete step_looks_at
+      acts keyword.Literal rest is h =
+          let v : Script = record u { part = part.Literal; name = rest; writes = [] } in
+          goes_on keyword.Literal is refl refl v (names rest v h) refl steps callers caller
+      acts keyword.Delete rest is h =
+          let v : Script = with_action u (action.Delete rest) in
+          goes_on keyword.Delete is refl refl v (names rest v h) open_yet steps callers caller
+      acts keyword.Set rest is h = sets rest is h
+      acts keyword.Unset rest is h = unsets rest is h
+      acts _ rest is h = absurd (no_ok rule.Line t h)
+
+      ends : (k : Keyword) (followed : Bool) → cut_at 32 text ≡ None → word ≡ k → is_followed word later ≡ followed → call_end k u followed ≡ Ok t → MakesOf s text later t
+      unfolding call_end after_end is_followed
+      ends keyword.End followed alone is follows h =
+          let some = passed (nat_eq (length u.actions) 0) rule.Line _ t h in
+          let one = passed (not followed) rule.Line (Ok (with_call u)) t some.1 in
+          let same = same_ok (with_call u) t one.1 in
+          let call : Call = record { caller = u.caller; number = u.number; actions = u.actions } in
+          ended (record {
+            call = call;
+            kept = kept;
+            was_open = was_open;
+            resting = sym (ap (λ (x : Script). x.part) same);
+            steps = sym (ap (λ (x : Script). x.steps) same) ∙ ap (λ (x : List ScriptStep). x ++ Serve call ∷ []) steps;
+            callers = sym (ap (λ (x : Script). x.callers) same) ∙ callers;
+            caller = caller;
+            ends = end_known text (ap (λ (o : Option (List ℕ × List ℕ)). keyword_of (word_before text o)) (sym alone) ∙ is);
+            followed = sym (ap (λ (x : Keyword). is_followed x later) is) ∙ follows ∙ so followed one.0;
+            looked = is;
+          })
+      ends _ followed alone is follows h = absurd (no_ok rule.Line t h)
+
+    a_line : (k : Keyword) (rest : List ℕ) → word ≡ k → behind_literal k d s rest ≡ Ok t → MakesOf s text later t
+    unfolding behind_literal after_write
+    a_line keyword.Write rest is h = writes (cut_at 32 rest) is h
+    a_line k rest is h = acts (with_literal s) refl refl refl refl k rest is h
 
   -- by what is open
   of_words : (p : Part) → s.part ≡ p → (rest : List ℕ) (followed : Bool) → is_followed word later ≡ followed → words_at p word d s rest followed ≡ Ok t → MakesOf s text later t
   unfolding words_at
   of_words part.Steps here rest followed follows h = more_words here word rest followed refl follows h
-  of_words part.Call here rest followed follows h = acts (ap is_resting here) word rest refl h
+  of_words part.Call here rest followed follows h = acts (ap is_resting here) s (ap is_resting here) refl refl refl word rest refl h
   of_words part.Literal here rest followed follows h = a_line (ap is_resting here) word rest refl h
-  of_words part.Delete here rest followed follows h = absurd (no_ok rule.Line t h)
 
   of_word : (p : Part) → s.part ≡ p → (followed : Bool) → cut_at 32 text ≡ None → is_followed word later ≡ followed → word_at p word s followed ≡ Ok t → MakesOf s text later t
   unfolding word_at
   of_word part.Steps here followed alone follows h = one_word here word refl h
-  of_word part.Call here followed alone follows h = absurd (no_ok rule.Line t h)
-  of_word part.Literal here followed alone follows h = ends (ap is_resting here) word (action.Literal s.name s.writes) followed alone refl follows h
-  of_word part.Delete here followed alone follows h = ends (ap is_resting here) word (action.Delete s.name) followed alone refl follows h
+  of_word part.Call here followed alone follows h = ends (ap is_resting here) s (ap is_resting here) refl refl refl word followed alone refl follows h
+  of_word part.Literal here followed alone follows h = ends (ap is_resting here) (with_literal s) refl refl refl refl word followed alone refl follows h
 
   of_cut : (o : Option (List ℕ × List ℕ)) → cut_at 32 text ≡ o → (followed : Bool) → is_followed word later ≡ followed → step_words d s word followed o ≡ Ok t → MakesOf s text later t
   of_cut None is followed follows h = of_word s.part refl followed is follows h

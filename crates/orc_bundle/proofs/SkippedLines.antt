@@ -5,12 +5,10 @@ use Rattle.std.specs.Option.{is_none, option_map, option_map_or}
 use Rattle.std.specs.Str.{is_utf8}
 use Rattle.std.proofs.lemmas.Bool.{false≢true, le-leb, lt-leb, le-ltb, or_from}
 use Rattle.std.proofs.lemmas.List.{take_all}
-use Rattle.orc_schema.specs.Schemas.{SchemaTable}
-use Rattle.orc_state.specs.declared.declarations.Device.{Device}
 use Rattle.orc_state.specs.declared.rule.Rule.{Rule}
 use Rattle.orc_state.specs.declared.rule.Rule.TheVariants as rule
-use Rattle.orc_bundle.specs.Bundles.{Front, bundle_in, bundle_of, declarations_of, decls_of, header_rule, is_script, lacks_header, on_line, script_of, script_steps}
-use Rattle.orc_bundle.specs.Declarations.{after_header, after_text, after_yang, declaration, declaration_words, declared_at, is_header, is_taken, lines_taken, nothing_declared, taken_by, words_take, with_module}
+use Rattle.orc_bundle.specs.Bundles.{Front, bundle_in, bundle_of, declarations_of, decls_of, decls_with, header_rule, is_script, lacks_header, on_line, opened, script_of, script_steps}
+use Rattle.orc_bundle.specs.Declarations.{after_header, after_text, after_yang, declaration, declaration_words, declared_at, is_header, is_opening, is_taken, lines_taken, nothing_declared, taken_by, words_take, with_module}
 use Rattle.orc_bundle.specs.Keywords.{keyword_of}
 use Rattle.orc_bundle.specs.Laws.{IsSkipped, SkippedLinesChangeNothing, left_of_block, meaning_of, moved_behind}
 use Rattle.orc_bundle.specs.Lines.{as_line, block_of, first_kept, is_end, is_large, is_skipped, lines_of, text_of}
@@ -67,7 +65,7 @@ followed_same keyword.End before after line is = ap (λ (o : Option (List ℕ)).
 followed_same _ before after line is = refl
 
 -- a block in front of the line
-block_same : (n : ℕ) (before a b : List (List ℕ)) → left_of_block n before ≡ 0 → block_of n (before ++ a) ≡ block_of n (before ++ b)
+pub block_same : (n : ℕ) (before a b : List (List ℕ)) → left_of_block n before ≡ 0 → block_of n (before ++ a) ≡ block_of n (before ++ b)
 block_same zero before a b h = refl
 block_same (suc n) [] a b h = absurd (omega arith)
 block_same (suc n) (l ∷ ls) a b h = ap (option_map (λ (block : List ℕ). as_line (text_of l) ++ block)) (block_same n ls a b h)
@@ -101,7 +99,9 @@ unfolding declaration
 form_same keyword.Device d rest a b same = refl
 form_same keyword.Datamodel d rest a b same = refl
 form_same keyword.Devicetype d rest a b same = refl
+form_same keyword.Rule d rest a b same = refl
 form_same keyword.Base d rest a b same = refl
+form_same keyword.Data d rest a b same = refl
 form_same keyword.Yang d rest a b same = yang_same d rest a b same
 form_same _ d rest a b same = refl
 
@@ -114,7 +114,7 @@ text_same : (d : Declared) (text : List ℕ) (a b : List (List ℕ)) → block_o
 unfolding after_text
 text_same d text a b same = ap (λ (r : Result Declared Rule). cond (is_header d.section) (after_header d text) r) (words_same d text (cut_at 32 text) a b same)
 
-declared_same : (d : Declared) (at to : ℕ) (l : List ℕ) (a b : List (List ℕ)) → at + length l ≤ LARGEST_BUNDLE → to + length l ≤ LARGEST_BUNDLE
+pub declared_same : (d : Declared) (at to : ℕ) (l : List ℕ) (a b : List (List ℕ)) → at + length l ≤ LARGEST_BUNDLE → to + length l ≤ LARGEST_BUNDLE
     → (d.skip ≡ 0 → block_of (lines_taken (text_of l)) a ≡ block_of (lines_taken (text_of l)) b) → declared_at d at l a ≡ declared_at d to l b
 unfolding declared_at
 declared_same d at to l a b here there same =
@@ -140,7 +140,7 @@ moves : {X : Type 0} (k n : ℕ) (r : Rule) → k ≤ n → err X (ℕ × Rule) 
 moves k n r h = ap (λ (b : Bool). Err (cond b (n + 1) (n + 1 + 1), r)) (sym (lt-leb (n + 1) k (omega arith)))
 
 abbrev Meant : Type 0
-Meant = Result (List (List ℕ) × List SchemaTable × List Device × List ScriptStep) (ℕ × Rule)
+Meant = Result Bundle (ℕ × Rule)
 
 -- a script
 
@@ -178,7 +178,7 @@ insert_script d k line (l ∷ ls) after s at n is place within =
 -- declarations and a script
 
 abbrev with_script : Declared → Result (List ScriptStep) (ℕ × Rule) → Meant
-with_script d r = on_ok r (λ steps. Ok (d.names, d.schemas, d.devices, steps))
+with_script d r = on_ok r (λ steps. Ok (record { decls = decls_with [] d; steps = steps }))
 
 moved_script : (d : Declared) (k : ℕ) (r : Result (List ScriptStep) (ℕ × Rule)) → with_script d (moved_behind k r) ≡ moved_behind k (with_script d r)
 moved_script d k (Ok steps) = refl
@@ -190,8 +190,12 @@ of_front f = with_script f.declared (script_of f)
 abbrev go : Declared → ℕ → ℕ → List (List ℕ) → Meant
 go d at n lines = on_ok (declarations_of d at n lines) of_front
 
+-- the script behind declarations that end in the line of this number
+abbrev started : ℕ → Bool → Meant → Meant
+started n opens meant = cond opens meant (Err (n, rule.Opening))
+
 abbrev goes : ℕ → ℕ → List (List ℕ) → Declared → Meant
-goes at n later e = cond (is_script e.section) (with_script e (script_steps e no_steps at n later)) (go e at n later)
+goes at n later e = cond (is_script e.section) (started n (is_opening e) (with_script e (script_steps e no_steps at n later))) (go e at n later)
 
 abbrev behind : ℕ → ℕ → List (List ℕ) → Result Declared Rule → Meant
 behind at n later r = on_line n r (goes at n later)
@@ -201,19 +205,28 @@ front_at at n l later e = record { declared = e; size = at; at = at + length l; 
 
 go_line : (d : Declared) (at n : ℕ) (l : List ℕ) (later : List (List ℕ)) → go d at n (l ∷ later) ≡ behind (at + length l) (n + 1) later (declared_at d at l later)
 go_line d at n l later = on (declared_at d at l later) where
-  pick : (e : Declared) (b : Bool) → on_ok (cond b (Ok (front_at at n l later e)) (declarations_of e (at + length l) (n + 1) later)) of_front
-      ≡ cond b (with_script e (script_steps e no_steps (at + length l) (n + 1) later)) (go e (at + length l) (n + 1) later)
-  pick e true = refl
+  opens : (e : Declared) (b : Bool) → on_ok (cond b (Ok (front_at at n l later e)) (err Front (ℕ × Rule) (n + 1, rule.Opening))) of_front
+      ≡ started (n + 1) b (with_script e (script_steps e no_steps (at + length l) (n + 1) later))
+  opens e true = refl
+  opens e false = refl
+
+  pick : (e : Declared) (b : Bool) → on_ok (cond b (opened (n + 1) (front_at at n l later e)) (declarations_of e (at + length l) (n + 1) later)) of_front
+      ≡ cond b (started (n + 1) (is_opening e) (with_script e (script_steps e no_steps (at + length l) (n + 1) later))) (go e (at + length l) (n + 1) later)
+  pick e true = opens e (is_opening e)
   pick e false = refl
 
   on : (r : Result Declared Rule)
-      → on_ok (on_line (n + 1) r (λ e. cond (is_script e.section) (Ok (front_at at n l later e)) (declarations_of e (at + length l) (n + 1) later))) of_front ≡ behind (at + length l) (n + 1) later r
+      → on_ok (on_line (n + 1) r (λ e. cond (is_script e.section) (opened (n + 1) (front_at at n l later e)) (declarations_of e (at + length l) (n + 1) later))) of_front ≡ behind (at + length l) (n + 1) later r
   on (Err rule) = refl
   on (Ok e) = pick e (is_script e.section)
 
 shift_go : (k : ℕ) (lines : List (List ℕ)) (d : Declared) (at to n : ℕ) → k ≤ n → at + bytes_in lines ≤ LARGEST_BUNDLE → to + bytes_in lines ≤ LARGEST_BUNDLE
     → go d to (n + 1) lines ≡ moved_behind k (go d at n lines)
-shift_go k [] d at to n h here there = refl
+shift_go k [] d at to n h here there = on (is_opening d) where
+  on : (b : Bool) → on_ok (cond b (Ok (record { declared = d; size = to; at = to; number = n + 1; later = [] })) (err Front (ℕ × Rule) (n + 1 + 1, rule.Opening))) of_front
+      ≡ moved_behind k (on_ok (cond b (Ok (record { declared = d; size = at; at = at; number = n; later = [] })) (err Front (ℕ × Rule) (n + 1, rule.Opening))) of_front)
+  on true = refl
+  on false = moves k n rule.Opening h
 shift_go k (l ∷ ls) d at to n h here there =
     go_line d to (n + 1) l ls
     ∙ ap (behind (to + length l) (n + 1 + 1) ls) (declared_same d to at l ls ls (omega arith) (omega arith) (λ none. refl))
@@ -222,9 +235,15 @@ shift_go k (l ∷ ls) d at to n h here there =
     ∙ ap (moved_behind k) (sym (go_line d at n l ls)) where
       pick : (e : Declared) (b : Bool) → go e (to + length l) (n + 1 + 1) ls ≡ moved_behind k (go e (at + length l) (n + 1) ls)
           → script_steps e no_steps (to + length l) (n + 1 + 1) ls ≡ moved_behind k (script_steps e no_steps (at + length l) (n + 1) ls)
-          → cond b (with_script e (script_steps e no_steps (to + length l) (n + 1 + 1) ls)) (go e (to + length l) (n + 1 + 1) ls)
-          ≡ moved_behind k (cond b (with_script e (script_steps e no_steps (at + length l) (n + 1) ls)) (go e (at + length l) (n + 1) ls))
-      pick e true more steps = ap (with_script e) steps ∙ moved_script e k (script_steps e no_steps (at + length l) (n + 1) ls)
+          → cond b (started (n + 1 + 1) (is_opening e) (with_script e (script_steps e no_steps (to + length l) (n + 1 + 1) ls))) (go e (to + length l) (n + 1 + 1) ls)
+          ≡ moved_behind k (cond b (started (n + 1) (is_opening e) (with_script e (script_steps e no_steps (at + length l) (n + 1) ls))) (go e (at + length l) (n + 1) ls))
+      pick e true more steps =
+          opens (is_opening e) (ap (with_script e) steps ∙ moved_script e k (script_steps e no_steps (at + length l) (n + 1) ls)) where
+            opens : (b : Bool) → with_script e (script_steps e no_steps (to + length l) (n + 1 + 1) ls) ≡ moved_behind k (with_script e (script_steps e no_steps (at + length l) (n + 1) ls))
+                → started (n + 1 + 1) b (with_script e (script_steps e no_steps (to + length l) (n + 1 + 1) ls))
+                ≡ moved_behind k (started (n + 1) b (with_script e (script_steps e no_steps (at + length l) (n + 1) ls)))
+            opens true same = same
+            opens false same = moves k n rule.Opening h
       pick e false more steps = more
 
       on : (r : Result Declared Rule) → ((e : Declared) → go e (to + length l) (n + 1 + 1) ls ≡ moved_behind k (go e (at + length l) (n + 1) ls))
@@ -239,7 +258,7 @@ left_none : (n : ℕ) → left_of_block n [] ≡ n
 left_none zero = refl
 left_none (suc n) = refl
 
-left_here : (l : List ℕ) (ls : List (List ℕ)) → left_of_block 0 (l ∷ ls) ≡ 0 → is_text (text_of l) (codes "script") ≡ false → left_of_block (lines_taken (text_of l)) ls ≡ 0
+pub left_here : (l : List ℕ) (ls : List (List ℕ)) → left_of_block 0 (l ∷ ls) ≡ 0 → is_text (text_of l) (codes "script") ≡ false → left_of_block (lines_taken (text_of l)) ls ≡ 0
 left_here l ls h other = ap (λ (b : Bool). cond b 0 (left_of_block (lines_taken (text_of l)) ls)) (sym other) ∙ h
 
 block_here : (l line : List ℕ) (ls after : List (List ℕ)) → left_of_block 0 (l ∷ ls) ≡ 0
@@ -251,7 +270,7 @@ block_here l line ls after h = on (is_text (text_of l) (codes "script")) refl wh
       ap (λ (n : ℕ). block_of n (ls ++ line ∷ after)) none ∙ ap (λ (n : ℕ). block_of n (ls ++ after)) (sym none)
   on false is = block_same (lines_taken (text_of l)) ls (line ∷ after) after (left_here l ls h is)
 
-left_behind : (d e : Declared) (at : ℕ) (l : List ℕ) (later ls : List (List ℕ)) → is_script d.section ≡ false → is_script e.section ≡ false
+pub left_behind : (d e : Declared) (at : ℕ) (l : List ℕ) (later ls : List (List ℕ)) → is_script d.section ≡ false → is_script e.section ≡ false
     → declared_at d at l later ≡ Ok e → left_of_block d.skip (l ∷ ls) ≡ 0 → left_of_block e.skip ls ≡ 0
 left_behind d e at l later ls before behind_it reads h = on d.skip refl h where
   makes : d.skip ≡ 0 → left_of_block 0 (l ∷ ls) ≡ 0 → Declares d (text_of l) e → left_of_block e.skip ls ≡ 0
@@ -284,7 +303,7 @@ insert_go : (k : ℕ) (line : List ℕ) (before after : List (List ℕ)) (d : De
 insert_go k line [] after d at n is open_yet left place within =
     go_line d at n line after
     ∙ ap (behind (at + length line) (n + 1) after) (declarations at line after d (passes at line is (omega arith)) (sym (left_none d.skip) ∙ left))
-    ∙ ap (λ (b : Bool). cond b (with_script d (script_steps d no_steps (at + length line) (n + 1) after)) (go d (at + length line) (n + 1) after)) open_yet
+    ∙ ap (λ (b : Bool). cond b (started (n + 1) (is_opening d) (with_script d (script_steps d no_steps (at + length line) (n + 1) after))) (go d (at + length line) (n + 1) after)) open_yet
     ∙ shift_go k after d at (at + length line) n (omega arith) (omega arith) (omega arith)
 insert_go k line (l ∷ ls) after d at n is open_yet left place within =
     let sum = bytes_joined ls (line ∷ after) in
@@ -297,16 +316,24 @@ insert_go k line (l ∷ ls) after d at n is open_yet left place within =
     (λ e. insert_script e k line ls after no_steps (at + length l) (n + 1) is (omega arith) (omega arith)) (omega arith)
     ∙ ap (moved_behind k) (sym (go_line d at n l (ls ++ after))) where
       pick : (e : Declared) (b : Bool) → is_script e.section ≡ b → (is_script e.section ≡ false → Goes k (at + length l) (n + 1) (ls ++ line ∷ after) (ls ++ after) e) → Scripts k (at + length l) (n + 1) (ls ++ line ∷ after) (ls ++ after) e
-          → cond b (with_script e (script_steps e no_steps (at + length l) (n + 1) (ls ++ line ∷ after))) (go e (at + length l) (n + 1) (ls ++ line ∷ after))
-          ≡ moved_behind k (cond b (with_script e (script_steps e no_steps (at + length l) (n + 1) (ls ++ after))) (go e (at + length l) (n + 1) (ls ++ after)))
-      pick e true now more steps = ap (with_script e) steps ∙ moved_script e k (script_steps e no_steps (at + length l) (n + 1) (ls ++ after))
-      pick e false now more steps = more now
+          → n < k
+          → cond b (started (n + 1) (is_opening e) (with_script e (script_steps e no_steps (at + length l) (n + 1) (ls ++ line ∷ after)))) (go e (at + length l) (n + 1) (ls ++ line ∷ after))
+          ≡ moved_behind k (cond b (started (n + 1) (is_opening e) (with_script e (script_steps e no_steps (at + length l) (n + 1) (ls ++ after)))) (go e (at + length l) (n + 1) (ls ++ after)))
+      pick e true now more steps front =
+          opens (is_opening e) (ap (with_script e) steps ∙ moved_script e k (script_steps e no_steps (at + length l) (n + 1) (ls ++ after))) where
+            opens : (b : Bool) → with_script e (script_steps e no_steps (at + length l) (n + 1) (ls ++ line ∷ after))
+                ≡ moved_behind k (with_script e (script_steps e no_steps (at + length l) (n + 1) (ls ++ after)))
+                → started (n + 1) b (with_script e (script_steps e no_steps (at + length l) (n + 1) (ls ++ line ∷ after)))
+                ≡ moved_behind k (started (n + 1) b (with_script e (script_steps e no_steps (at + length l) (n + 1) (ls ++ after))))
+            opens true same = same
+            opens false same = stays k n rule.Opening front
+      pick e false now more steps front = more now
 
       on : (r : Result Declared Rule) → declared_at d at l (ls ++ after) ≡ r → ((e : Declared) → is_script e.section ≡ false → left_of_block e.skip ls ≡ 0 → Goes k (at + length l) (n + 1) (ls ++ line ∷ after) (ls ++ after) e)
           → ((e : Declared) → Scripts k (at + length l) (n + 1) (ls ++ line ∷ after) (ls ++ after) e) → n < k → behind (at + length l) (n + 1) (ls ++ line ∷ after) r ≡ moved_behind k (behind (at + length l) (n + 1) (ls ++ after) r)
       on (Err rule) reads more steps front = stays k n rule front
       on (Ok e) reads more steps front =
-          pick e (is_script e.section) refl (λ open_now. more e open_now (left_behind d e at l (ls ++ after) ls open_yet open_now reads left)) (steps e)
+          pick e (is_script e.section) refl (λ open_now. more e open_now (left_behind d e at l (ls ++ after) ls open_yet open_now reads left)) (steps e) front
 
 -- bundles
 

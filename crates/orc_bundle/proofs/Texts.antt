@@ -235,7 +235,7 @@ lawful_at p item h =
 pub lawful_under : (schema : SchemaTable) (p : List PathStep) (item : Item) → is_item_under schema p item ≡ true → IsLawfulAt p item
 lawful_under schema p item h = lawful_at p item (and_parts (is_item_at p item) (is_typed schema p item) h).0
 
-path_short : (p : List PathStep) → is_long_path p ≡ false → length (path_text p) ≤ PATH_LEN
+pub path_short : (p : List PathStep) → is_long_path p ≡ false → length (path_text p) ≤ PATH_LEN
 path_short p h =
     let two = or_parts (nat_lt PATH_STEPS (length p)) (nat_lt PATH_LEN (length (path_text p)) || list_any is_long_step p) h in
     ltb-false PATH_LEN (length (path_text p)) (or_parts (nat_lt PATH_LEN (length (path_text p))) (list_any is_long_step p) two.1).0

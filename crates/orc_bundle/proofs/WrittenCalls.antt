@@ -1,34 +1,46 @@
 -- Calls that are written are read.
-use Rattle.std.proofs.Common.{◌≡◌, ℕ, Bool, true, false, ◌&&◌, ◌||◌, List, [], ◌∷◌, ◌++◌, codes, length, length-append, map, refl, ap, sym, ◌∙◌, subst, arith, append_assoc, append-nil, Result, Ok, is_some, nat_le}
-use Rattle.std.specs.List.{list_all}
+use Rattle.std.proofs.Common.{◌≡◌, ℕ, ◌≤◌, Bool, true, false, not, ◌&&◌, ◌||◌, nat_eq, cond, List, [], ◌∷◌, ◌++◌, codes, length, length-append, map, refl, ap, sym, ◌∙◌, subst, arith, append_assoc, append-nil, Result, Ok, Err, Option, Some, None, is_some, nat_le}
+use Rattle.std.specs.List.{flat_map, list_all}
+use Rattle.std.specs.Option.{option_map_or}
 use Rattle.std.specs.Cmp.Lexicographic.{bytes_decides}
-use Rattle.std.proofs.lemmas.Bool.{and_parts, false≢true}
+use Rattle.std.proofs.lemmas.Bool.{and_parts, false≢true, lt-leb, or_from, or_parts}
 use Rattle.orc_path.specs.Items.{item_text}
+use Rattle.orc_path.specs.Steps.{PathStep}
+use Rattle.orc_path.specs.Texts.{path_text}
+use Rattle.orc_path.specs.declared.limits.TheConstants.{PATH_LEN}
 use Rattle.orc_call.specs.declared.call.Action.{Action}
 use Rattle.orc_call.specs.declared.call.Action.TheVariants as action
 use Rattle.orc_call.specs.declared.call.DevicePut.{DevicePut}
-use Rattle.orc_schema.specs.Schemas.{SchemaTable, plain_table}
+use Rattle.orc_call.specs.declared.call.Put.{Put}
+use Rattle.orc_call.specs.declared.call.TheConstants.{MOST_ACTIONS}
+use Rattle.orc_schema.specs.Schemas.{SchemaTable}
+use Rattle.orc_typed.specs.Typed.{are_canonical_steps, is_in_schema}
+use Rattle.orc_state.specs.Actions.{is_named_by, name_each_once, named, names}
 use Rattle.orc_state.specs.States.{is_same_text, names_of}
-use Rattle.orc_state.specs.Calls.{device_named, is_action, is_item_under, is_lawful_name, is_write, schema_named}
+use Rattle.orc_state.specs.Calls.{blank_item, device_named, is_action, is_data_item, is_data_path, is_item_at, is_item_under, is_kept, is_lawful_name, is_path_under, is_write, schema_named}
 use Rattle.orc_state.specs.declared.lawful.TheConstants.{MOST_WRITES}
 use Rattle.orc_state.specs.declared.rule.Rule.{Rule}
+use Rattle.orc_state.specs.declared.rule.Rule.TheVariants as rule
 use Rattle.orc_bundle.specs.Bundles.{decls_with}
 use Rattle.orc_bundle.specs.declared.declarations.Declared.{Declared}
+use Rattle.orc_bundle.specs.Items.{data_path_of, put_of}
 use Rattle.orc_bundle.specs.Keywords.{keyword_of}
 use Rattle.orc_bundle.specs.Lines.{is_settled}
 use Rattle.orc_bundle.specs.Names.{is_among}
-use Rattle.orc_bundle.specs.Scripts.{a_write, after_end, after_step, after_write, an_action, behind_action, is_followed, word_at, words_at, write_words}
+use Rattle.orc_bundle.specs.Rules.{on_ok}
+use Rattle.orc_bundle.specs.Scripts.{after_delete, after_end, after_literal, after_set, after_step, after_unset, after_write, an_action, behind_literal, call_end, is_followed, with_action, word_at, words_at, write_words}
 use Rattle.orc_bundle.specs.Words.{cut_at}
 use Rattle.orc_bundle.specs.Written.{AreLinesOf, lines_of_action, line_of_write}
 use Rattle.orc_bundle.specs.declared.bundle.ScriptStep.{ScriptStep}
 use Rattle.orc_bundle.specs.declared.bundle.ScriptStep.TheVariants.{Serve}
 use Rattle.orc_bundle.specs.declared.script.Script.{Script}
 use Rattle.orc_bundle.specs.declared.script.Part.TheVariants as part
-use Rattle.orc_bundle.proofs.Texts.{IsLawfulAt, IsLawfulName, item_short, lawful_name, lawful_under, part_append, part_known, part_of_item, part_of_word}
+use Rattle.orc_bundle.proofs.LinesOf.{untrue}
+use Rattle.orc_bundle.proofs.Texts.{IsLawfulAt, IsLawfulName, IsWord, item_short, lawful_at, lawful_name, lawful_under, part_append, part_known, part_of_item, part_of_word, path_short, word_of_path}
 use Rattle.orc_bundle.proofs.Lawful.{named_same}
-use Rattle.orc_bundle.proofs.WrittenDevices.{plain_named}
-use Rattle.orc_bundle.proofs.WrittenItems.{item_again}
-use Rattle.orc_bundle.proofs.WrittenLines.{IsText, cut_word}
+use Rattle.orc_bundle.proofs.WrittenDevices.{data_again, same_back}
+use Rattle.orc_bundle.proofs.WrittenItems.{data_path_again, item_again}
+use Rattle.orc_bundle.proofs.WrittenLines.{IsText, cut_alone, cut_word}
 use Rattle.orc_bundle.proofs.WrittenScript.{Ends, one_line, resting}
 
 -- a name among lawful ones is lawful
@@ -41,25 +53,59 @@ lawful_among (n ∷ ns) name h named =
       on true is parts more h = subst (λ (x : List ℕ). is_lawful_name x ≡ true) (sym ((bytes_decides name n).0 is)) parts.0
       on false is parts more h = more h
 
--- what is known where no type is declared
-pub record IsPlainly (d : Declared) : Type 0 where
+-- what is known of the devices' names
+pub record AreNamed (d : Declared) : Type 0 where
   pub lawful : list_all is_lawful_name d.names ≡ true
   pub named : d.names ≡ names_of d.devices
-  pub plain : d.schemas ≡ plain_table ∷ []
 
-plain_at : (d : Declared) → IsPlainly d → (name : List ℕ) → schema_named d.schemas d.devices name ≡ plain_table
-plain_at d known name =
-    ap (λ (schemas : List SchemaTable). schema_named schemas d.devices name) known.plain ∙ plain_named d.devices name
+-- what is known of a lawful write
+pub record IsWrittenOn (d : Declared) (w : DevicePut) : Type 0 where
+  pub device : IsLawfulName w.device
+  pub declared : is_among d.names w.device ≡ true
+  pub item : is_item_under (schema_named d.schemas d.devices w.device) w.path w.item ≡ true
+  pub at : IsLawfulAt w.path w.item
 
--- a lawful write is one on a declared device, and its item may stand there
-pub write_parts : (text : List ℕ) (d : Declared) (w : DevicePut) → IsPlainly d → is_write (decls_with text d) w ≡ true
-    → (is_among d.names w.device ≡ true) × IsLawfulAt w.path w.item
-write_parts text d w known h =
+pub write_known : (text : List ℕ) (d : Declared) (w : DevicePut) → AreNamed d → is_write (decls_with text d) w ≡ true → IsWrittenOn d w
+write_known text d w known h =
     let schema = schema_named d.schemas d.devices w.device in
-    let parts = and_parts (is_some (device_named d.devices w.device)) (is_item_under schema w.path w.item) h in (
-      ap (λ (ns : List (List ℕ)). is_among ns w.device) known.named ∙ sym (named_same w.device d.devices) ∙ parts.0,
-      lawful_under schema w.path w.item parts.1,
-    )
+    let parts = and_parts (is_some (device_named d.devices w.device)) (is_item_under schema w.path w.item) h in
+    let there : is_among d.names w.device ≡ true = ap (λ (ns : List (List ℕ)). is_among ns w.device) known.named ∙ sym (named_same w.device d.devices) ∙ parts.0 in
+    record {
+      device = lawful_name w.device (lawful_among d.names w.device known.lawful there);
+      declared = there;
+      item = parts.1;
+      at = lawful_under schema w.path w.item parts.1;
+    }
+
+-- what is known of a lawful path of the data
+pub record IsPathWord (p : List PathStep) : Type 0 where
+  pub word : IsWord (path_text p)
+  pub size : length (path_text p) ≤ PATH_LEN
+
+pub path_known : (s : SchemaTable) (p : List PathStep) → is_data_path s p ≡ true → IsPathWord p
+path_known s p h =
+    let two = and_parts (is_path_under s p) (not (is_kept p)) h in
+    let one = and_parts (is_item_at p (blank_item p)) (is_in_schema s p (blank_item p) && (s.plain || are_canonical_steps s [] p)) two.0 in
+    let l = lawful_at p (blank_item p) one.0 in
+    record { word = word_of_path p l.path; size = path_short p l.short }
+
+-- a service that actions name once
+
+named_seam : (xs : List Action) (a : Action) (ys : List Action) (id : List ℕ) → is_named_by (xs ++ a ∷ ys) id ≡ false → names a id ≡ false
+named_seam [] a ys id h = (or_parts (names a id) (is_named_by ys id) h).0
+named_seam (x ∷ xs) a ys id h = named_seam xs a ys id (or_parts (names x id) (is_named_by (xs ++ a ∷ ys) id) h).1
+
+-- the actions in front of one don't name the service that it names
+new_name : (xs : List Action) (a : Action) (ys : List Action) (id : List ℕ) → named a ≡ Some id → name_each_once (xs ++ a ∷ ys) ≡ true → is_named_by xs id ≡ false
+new_name [] a ys id is h = refl
+new_name (x ∷ xs) a ys id is h =
+    let parts = and_parts (option_map_or (λ own. not (is_named_by (xs ++ a ∷ ys) own)) (named x) true) (name_each_once (xs ++ a ∷ ys)) h in
+    or_from (names x id) (is_named_by xs id) (on (named x) parts.0) (new_name xs a ys id is parts.1) where
+      on : (o : Option (List ℕ)) → option_map_or (λ own. not (is_named_by (xs ++ a ∷ ys) own)) o true ≡ true → option_map_or (λ own. is_same_text id own) o false ≡ false
+      on None once = refl
+      on (Some own) once =
+          let seam = named_seam xs a ys own (untrue (is_named_by (xs ++ a ∷ ys) own) once) in
+          same_back own id (sym (ap (λ (o : Option (List ℕ)). option_map_or (λ x. is_same_text own x) o false) is) ∙ seam)
 
 -- texts of calls
 
@@ -94,109 +140,207 @@ write_text w l at =
       short = omega arith;
     }
 
+pub set_text : (s : SchemaTable) (put : Put) → is_data_item s put ≡ true → IsText (codes "set " ++ item_text put.path put.item)
+set_text s put h =
+    let item = item_text put.path put.item in
+    let at = lawful_under s put.path put.item (and_parts (is_item_under s put.path put.item) (not (is_kept put.path)) h).0 in
+    let most = item_short put.path put.item at in
+    let whole = length-append (codes "set ") item in
+    record { part = part_append (codes "set ") item (part_known (codes "set ") refl refl) (part_of_item put.path put.item at); kept = refl; short = omega arith }
+
+pub unset_text : (s : SchemaTable) (p : List PathStep) → is_data_path s p ≡ true → IsText (codes "unset " ++ path_text p)
+unset_text s p h =
+    let k = path_known s p h in
+    let most = k.size in
+    let whole = length-append (codes "unset ") (path_text p) in
+    record { part = part_append (codes "unset ") (path_text p) (part_known (codes "unset ") refl refl) (part_of_word (path_text p) k.word); kept = refl; short = omega arith }
+
 -- the places inside a call
 module _ (callers : List (List ℕ)) (done : List ScriptStep) (caller : List ℕ) (number : ℕ) where
-  abbrev pub opened : Script
-  opened = record { part = part.Call; callers = callers; steps = done; caller = caller; number = number; name = []; writes = [] }
+  -- these actions stand
+  abbrev pub opened : List Action → Script
+  opened actions = record { part = part.Call; callers = callers; steps = done; caller = caller; number = number; actions = actions; name = []; writes = [] }
 
-  abbrev pub literal : List ℕ → List DevicePut → Script
-  literal id writes = record { part = part.Literal; callers = callers; steps = done; caller = caller; number = number; name = id; writes = writes }
+  -- and behind them a literal, whose writes may go on
+  abbrev literal : List Action → List ℕ → List DevicePut → Script
+  literal actions id writes =
+      record { part = part.Literal; callers = callers; steps = done; caller = caller; number = number; actions = actions; name = id; writes = writes }
 
-  abbrev pub deletion : List ℕ → Script
-  deletion id = record { part = part.Delete; callers = callers; steps = done; caller = caller; number = number; name = id; writes = [] }
+  abbrev pub served : List Action → Script
+  served actions = resting callers (done ++ Serve (record { caller = caller; number = number; actions = actions }) ∷ []) number
 
-  abbrev pub served : Action → Script
-  served a = resting callers (done ++ Serve (record { caller = caller; number = number; actions = a ∷ [] }) ∷ []) number
+  -- the call has these actions, where a literal that is open is the last of them
+  data HasActions : Script → List Action → Type 0 where
+    closed : (actions : List Action) → HasActions (opened actions) actions
+    begun : (actions : List Action) (id : List ℕ) (writes : List DevicePut) → HasActions (literal actions id writes) (actions ++ action.Literal id writes ∷ [])
 
   -- the next line that is not skipped is `settle`
   abbrev pub IsFollowed : List (List ℕ) → Type 0
   IsFollowed ts = (later : List (List ℕ)) → AreLinesOf ts later → is_settled later ≡ true
 
+  -- a line of an action closes the literal that is open
+
+  at_literal : (d : Declared) (s : Script) (actions : List Action) (id : List ℕ) (later : List (List ℕ)) → HasActions s actions
+      → after_step d s (codes "literal " ++ id) later ≡ after_literal (opened actions) id
+  unfolding after_step words_at an_action behind_literal keyword_of
+  at_literal d _ _ id later (closed actions) = refl
+  at_literal d _ _ id later (begun actions other writes) = refl
+
+  at_delete : (d : Declared) (s : Script) (actions : List Action) (id : List ℕ) (later : List (List ℕ)) → HasActions s actions
+      → after_step d s (codes "delete " ++ id) later ≡ after_delete (opened actions) id
+  unfolding after_step words_at an_action behind_literal keyword_of
+  at_delete d _ _ id later (closed actions) = refl
+  at_delete d _ _ id later (begun actions other writes) = refl
+
+  at_set : (d : Declared) (s : Script) (actions : List Action) (rest : List ℕ) (later : List (List ℕ)) → HasActions s actions
+      → after_step d s (codes "set " ++ rest) later ≡ after_set d (opened actions) rest
+  unfolding after_step words_at an_action behind_literal keyword_of
+  at_set d _ _ rest later (closed actions) = refl
+  at_set d _ _ rest later (begun actions other writes) = refl
+
+  at_unset : (d : Declared) (s : Script) (actions : List Action) (rest : List ℕ) (later : List (List ℕ)) → HasActions s actions
+      → after_step d s (codes "unset " ++ rest) later ≡ after_unset d (opened actions) rest
+  unfolding after_step words_at an_action behind_literal keyword_of
+  at_unset d _ _ rest later (closed actions) = refl
+  at_unset d _ _ rest later (begun actions other writes) = refl
+
+  at_end : (d : Declared) (s : Script) (actions : List Action) (later : List (List ℕ)) → HasActions s actions → is_settled later ≡ true
+      → after_step d s (codes "end") later ≡ after_end (opened actions) true
+  unfolding after_step word_at call_end keyword_of is_followed
+  at_end d _ _ later (closed actions) settled = rw settled refl
+  at_end d _ _ later (begun actions other writes) settled = rw settled refl
+
+  -- what an action makes
+  module _ (actions : List Action) (room : nat_le MOST_ACTIONS (length actions) ≡ false) where
+    literal_made : (id : List ℕ) → IsLawfulName id → is_named_by actions id ≡ false → after_literal (opened actions) id ≡ Ok (literal actions id [])
+    unfolding after_literal
+    literal_made id l new = let ident = l.identifier in let short = l.short in rw ident (rw room (rw short (rw new refl)))
+
+    delete_made : (id : List ℕ) → IsLawfulName id → is_named_by actions id ≡ false → after_delete (opened actions) id ≡ Ok (opened (actions ++ action.Delete id ∷ []))
+    unfolding after_delete
+    delete_made id l new = let ident = l.identifier in let short = l.short in rw ident (rw room (rw short (rw new refl)))
+
+    set_made : (d : Declared) (put : Put) → is_data_item d.data_schema put ≡ true
+        → after_set d (opened actions) (item_text put.path put.item) ≡ Ok (opened (actions ++ action.Set put ∷ []))
+    unfolding after_set
+    set_made d put h =
+        ap (λ (b : Bool). cond b (Err rule.Line) (on_ok (put_of true d.data_schema false (item_text put.path put.item)) (λ p. Ok (with_action (opened actions) (action.Set p))))) room
+        ∙ ap (λ (r : Result Put Rule). on_ok r (λ p. Ok (with_action (opened actions) (action.Set p)))) (data_again d.data_schema put h)
+
+    unset_made : (d : Declared) (p : List PathStep) → is_data_path d.data_schema p ≡ true
+        → after_unset d (opened actions) (path_text p) ≡ Ok (opened (actions ++ action.Unset p ∷ []))
+    unfolding after_unset
+    unset_made d p h =
+        let one : (nat_le MOST_ACTIONS (length actions) || is_some (cut_at 32 (path_text p))) ≡ false =
+        or_from (nat_le MOST_ACTIONS (length actions)) (is_some (cut_at 32 (path_text p))) room
+        (ap (λ (o : Option (List ℕ × List ℕ)). is_some o) (cut_alone (path_text p) (path_known d.data_schema p h).word)) in
+        ap (λ (b : Bool). cond b (Err rule.Line) (on_ok (data_path_of d.data_schema (path_text p)) (λ q. Ok (with_action (opened actions) (action.Unset q))))) one
+        ∙ ap (λ (r : Result (List PathStep) Rule). on_ok r (λ q. Ok (with_action (opened actions) (action.Unset q)))) (data_path_again d.data_schema p h)
+
   module _ (d : Declared) (rest : List (List ℕ)) (r : Result (List ScriptStep) (ℕ × Rule)) where
-    end_literal_reads : (later : List (List ℕ)) (id : List ℕ) (writes : List DevicePut) → is_settled later ≡ true
-        → after_step d (literal id writes) (codes "end") later ≡ Ok (served (action.Literal id writes))
-    unfolding after_step word_at behind_action keyword_of after_end is_followed
-    end_literal_reads later id writes settled = rw settled refl
+    end_made : (actions : List Action) → nat_eq (length actions) 0 ≡ false → after_end (opened actions) true ≡ Ok (served actions)
+    unfolding after_end
+    end_made actions some = rw some refl
 
-    pub end_literal : (id : List ℕ) (writes : List DevicePut) → IsFollowed rest
-        → Ends d (served (action.Literal id writes)) rest r → Ends d (literal id writes) (codes "end" ∷ rest) r
-    end_literal id writes settled =
-        one_line d (literal id writes) (served (action.Literal id writes)) (codes "end") rest r end_text
-        (λ later are. end_literal_reads later id writes (settled later are))
+    end_line : (s : Script) (actions : List Action) → HasActions s actions → nat_eq (length actions) 0 ≡ false → IsFollowed rest
+        → Ends d (served actions) rest r → Ends d s (codes "end" ∷ rest) r
+    end_line s actions has some settled =
+        one_line d s (served actions) (codes "end") rest r end_text (λ later are. at_end d s actions later has (settled later are) ∙ end_made actions some)
 
-    end_deletion_reads : (later : List (List ℕ)) (id : List ℕ) → is_settled later ≡ true
-        → after_step d (deletion id) (codes "end") later ≡ Ok (served (action.Delete id))
-    unfolding after_step word_at behind_action keyword_of after_end is_followed
-    end_deletion_reads later id settled = rw settled refl
-
-    pub end_deletion : (id : List ℕ) → IsFollowed rest
-        → Ends d (served (action.Delete id)) rest r → Ends d (deletion id) (codes "end" ∷ rest) r
-    end_deletion id settled =
-        one_line d (deletion id) (served (action.Delete id)) (codes "end") rest r end_text
-        (λ later are. end_deletion_reads later id (settled later are))
-
-    literal_reads : (later : List (List ℕ)) (id : List ℕ) → IsLawfulName id → after_step d opened (codes "literal " ++ id) later ≡ Ok (literal id [])
-    unfolding after_step words_at an_action keyword_of
-    literal_reads later id l = let ident = l.identifier in let short = l.short in rw ident (rw short refl)
-
-    pub literal_line : (id : List ℕ) → IsLawfulName id → Ends d (literal id []) rest r → Ends d opened ((codes "literal " ++ id) ∷ rest) r
-    literal_line id l = one_line d opened (literal id []) (codes "literal " ++ id) rest r (literal_text id l) (λ later are. literal_reads later id l)
-
-    delete_reads : (later : List (List ℕ)) (id : List ℕ) → IsLawfulName id → after_step d opened (codes "delete " ++ id) later ≡ Ok (deletion id)
-    unfolding after_step words_at an_action keyword_of
-    delete_reads later id l = let ident = l.identifier in let short = l.short in rw ident (rw short refl)
-
-    pub delete_line : (id : List ℕ) → IsLawfulName id → Ends d (deletion id) rest r → Ends d opened ((codes "delete " ++ id) ∷ rest) r
-    delete_line id l = one_line d opened (deletion id) (codes "delete " ++ id) rest r (delete_text id l) (λ later are. delete_reads later id l)
-
-    write_reads : (later : List (List ℕ)) (id : List ℕ) (writes : List DevicePut) (w : DevicePut) → IsLawfulName w.device → is_among d.names w.device ≡ true → IsLawfulAt w.path w.item
-        → schema_named d.schemas d.devices w.device ≡ plain_table
-        → after_step d (literal id writes) (line_of_write w) later ≡ Ok (literal id (writes ++ w ∷ []))
-    unfolding after_step words_at a_write keyword_of after_write
-    write_reads later id writes w l named at plain =
+    write_reads : (later : List (List ℕ)) (actions : List Action) (id : List ℕ) (writes : List DevicePut) (w : DevicePut) → IsWrittenOn d w
+        → after_step d (literal actions id writes) (line_of_write w) later ≡ Ok (literal actions id (writes ++ w ∷ []))
+    unfolding after_step words_at behind_literal keyword_of after_write
+    write_reads later actions id writes w k =
         let item = item_text w.path w.item in
-        let ident = l.identifier in
-        let short = l.short in
-        let reads = item_again w.path w.item at in
-        ap (λ (x : List ℕ). write_words d (literal id writes) (cut_at 32 x)) (append_assoc w.device (codes " ") item)
-        ∙ ap (write_words d (literal id writes)) (cut_word w.device item l.word)
-        ∙ rw ident (rw short (rw plain (rw reads (rw named refl))))
+        let ident = k.device.identifier in
+        let short = k.device.short in
+        let reads = item_again false (schema_named d.schemas d.devices w.device) w.path w.item k.item refl in
+        let declared = k.declared in
+        ap (λ (x : List ℕ). write_words d (literal actions id writes) (cut_at 32 x)) (append_assoc w.device (codes " ") item)
+        ∙ ap (write_words d (literal actions id writes)) (cut_word w.device item k.device.word)
+        ∙ rw ident (rw short (rw reads (rw declared refl)))
 
-    pub write_line : (id : List ℕ) (writes : List DevicePut) (w : DevicePut) → IsLawfulName w.device → is_among d.names w.device ≡ true → IsLawfulAt w.path w.item
-        → schema_named d.schemas d.devices w.device ≡ plain_table
-        → Ends d (literal id (writes ++ w ∷ [])) rest r → Ends d (literal id writes) (line_of_write w ∷ rest) r
-    write_line id writes w l named at plain =
-        one_line d (literal id writes) (literal id (writes ++ w ∷ [])) (line_of_write w) rest r (write_text w l at) (λ later are. write_reads later id writes w l named at plain)
+    write_line : (actions : List Action) (id : List ℕ) (writes : List DevicePut) (w : DevicePut) → IsWrittenOn d w
+        → Ends d (literal actions id (writes ++ w ∷ [])) rest r → Ends d (literal actions id writes) (line_of_write w ∷ rest) r
+    write_line actions id writes w k =
+        one_line d (literal actions id writes) (literal actions id (writes ++ w ∷ [])) (line_of_write w) rest r (write_text w k.device k.at)
+        (λ later are. write_reads later actions id writes w k)
 
   -- all writes of a literal
-  pub writes_read : (text : List ℕ) (d : Declared) (id : List ℕ) (before todo : List DevicePut) (rest : List (List ℕ)) (r : Result (List ScriptStep) (ℕ × Rule))
-      → IsPlainly d → list_all (is_write (decls_with text d)) todo ≡ true
-      → Ends d (literal id (before ++ todo)) rest r → Ends d (literal id before) (map line_of_write todo ++ rest) r
-  writes_read text d id before [] rest r known all behind = subst (λ (ws : List DevicePut). Ends d (literal id ws) rest r) (append-nil before) behind
-  writes_read text d id before (w ∷ ws) rest r known all behind =
+  writes_read : (text : List ℕ) (d : Declared) (actions : List Action) (id : List ℕ) (before todo : List DevicePut) (rest : List (List ℕ)) (r : Result (List ScriptStep) (ℕ × Rule))
+      → AreNamed d → list_all (is_write (decls_with text d)) todo ≡ true
+      → Ends d (literal actions id (before ++ todo)) rest r → Ends d (literal actions id before) (map line_of_write todo ++ rest) r
+  writes_read text d actions id before [] rest r known all behind = subst (λ (ws : List DevicePut). Ends d (literal actions id ws) rest r) (append-nil before) behind
+  writes_read text d actions id before (w ∷ ws) rest r known all behind =
       let decls = decls_with text d in
       let parts = and_parts (is_write decls w) (list_all (is_write decls) ws) all in
-      let each = write_parts text d w known parts.0 in
-      write_line d (map line_of_write ws ++ rest) r id before w
-      (lawful_name w.device (lawful_among d.names w.device known.lawful each.0)) each.0 each.1 (plain_at d known w.device)
-      (writes_read text d id (before ++ w ∷ []) ws rest r known parts.1
-      (subst (λ (all : List DevicePut). Ends d (literal id all) rest r) (sym (append_assoc before (w ∷ []) ws)) behind))
+      write_line d (map line_of_write ws ++ rest) r actions id before w (write_known text d w known parts.0)
+      (writes_read text d actions id (before ++ w ∷ []) ws rest r known parts.1
+      (subst (λ (all : List DevicePut). Ends d (literal actions id all) rest r) (sym (append_assoc before (w ∷ []) ws)) behind))
 
-  -- an action and the line that ends it
-  pub action_read : (text : List ℕ) (d : Declared) (a : Action) (rest : List (List ℕ)) (r : Result (List ScriptStep) (ℕ × Rule))
-      → IsPlainly d → is_action (decls_with text d) a ≡ true → IsFollowed rest
-      → Ends d (served a) rest r → Ends d opened (lines_of_action a ++ codes "end" ∷ rest) r
-  action_read text d (action.Literal id writes) rest r known is settled behind =
-      let two = and_parts (is_lawful_name id && nat_le (length writes) MOST_WRITES) (list_all (is_write (decls_with text d)) writes) is in
-      let first = and_parts (is_lawful_name id) (nat_le (length writes) MOST_WRITES) two.0 in
-      literal_line d (map line_of_write writes ++ codes "end" ∷ rest) r id (lawful_name id first.0)
-      (writes_read text d id [] writes (codes "end" ∷ rest) r known two.1 (end_literal d rest r id writes settled behind))
-  action_read text d (action.Delete id) rest r known is settled behind =
-      delete_line d (codes "end" ∷ rest) r id (lawful_name id is) (end_deletion d rest r id settled behind)
-  action_read text d (action.Create id body) rest r known is settled behind = absurd (false≢true is)
-  action_read text d (action.Modify id body) rest r known is settled behind = absurd (false≢true is)
-  action_read text d (action.Redeploy id) rest r known is settled behind = absurd (false≢true is)
-  action_read text d (action.Set put) rest r known is settled behind = absurd (false≢true is)
-  action_read text d (action.Unset path) rest r known is settled behind = absurd (false≢true is)
-  action_read text d (action.BasePut put) rest r known is settled behind = absurd (false≢true is)
-  action_read text d (action.BaseRemove device path) rest r known is settled behind = absurd (false≢true is)
+  -- an action in front of what is read behind it
+  module _ (text : List ℕ) (d : Declared) (known : AreNamed d) (before : List Action) (room : nat_le MOST_ACTIONS (length before) ≡ false) (s : Script) (has : HasActions s before)
+      (rest : List (List ℕ)) (r : Result (List ScriptStep) (ℕ × Rule)) where
+    -- wherever the call stands behind the action
+    abbrev Behind : Action → Type 0
+    Behind a = (u : Script) → HasActions u (before ++ a ∷ []) → Ends d u rest r
+
+    action_read : (a : Action) → is_action (decls_with text d) a ≡ true → ((id : List ℕ) → named a ≡ Some id → is_named_by before id ≡ false) → Behind a
+        → Ends d s (lines_of_action a ++ rest) r
+    action_read (action.Literal id writes) is new behind =
+        let two = and_parts (is_lawful_name id && nat_le (length writes) MOST_WRITES) (list_all (is_write (decls_with text d)) writes) is in
+        let first = and_parts (is_lawful_name id) (nat_le (length writes) MOST_WRITES) two.0 in
+        let l = lawful_name id first.0 in
+        one_line d s (literal before id []) (codes "literal " ++ id) (map line_of_write writes ++ rest) r (literal_text id l)
+        (λ later are. at_literal d s before id later has ∙ literal_made before room id l (new id refl))
+        (writes_read text d before id [] writes rest r known two.1 (behind (literal before id writes) (begun before id writes)))
+    action_read (action.Delete id) is new behind =
+        let l = lawful_name id is in
+        one_line d s (opened (before ++ action.Delete id ∷ [])) (codes "delete " ++ id) rest r (delete_text id l)
+        (λ later are. at_delete d s before id later has ∙ delete_made before room id l (new id refl))
+        (behind (opened (before ++ action.Delete id ∷ [])) (closed (before ++ action.Delete id ∷ [])))
+    action_read (action.Set put) is new behind =
+        one_line d s (opened (before ++ action.Set put ∷ [])) (codes "set " ++ item_text put.path put.item) rest r (set_text d.data_schema put is)
+        (λ later are. at_set d s before (item_text put.path put.item) later has ∙ set_made before room d put is)
+        (behind (opened (before ++ action.Set put ∷ [])) (closed (before ++ action.Set put ∷ [])))
+    action_read (action.Unset path) is new behind =
+        one_line d s (opened (before ++ action.Unset path ∷ [])) (codes "unset " ++ path_text path) rest r (unset_text d.data_schema path is)
+        (λ later are. at_unset d s before (path_text path) later has ∙ unset_made before room d path is)
+        (behind (opened (before ++ action.Unset path ∷ [])) (closed (before ++ action.Unset path ∷ [])))
+    action_read (action.Create id body) is new behind = absurd (false≢true is)
+    action_read (action.Modify id body) is new behind = absurd (false≢true is)
+    action_read (action.Redeploy id) is new behind = absurd (false≢true is)
+    action_read (action.BasePut put) is new behind = absurd (false≢true is)
+    action_read (action.BaseRemove device path) is new behind = absurd (false≢true is)
+
+  -- the rest of a call's actions, and the line that ends it
+  actions_read : (text : List ℕ) (d : Declared) (before todo : List Action) (s : Script) (rest : List (List ℕ)) (r : Result (List ScriptStep) (ℕ × Rule))
+      → AreNamed d → HasActions s before → list_all (is_action (decls_with text d)) todo ≡ true → name_each_once (before ++ todo) ≡ true
+      → length (before ++ todo) ≤ MOST_ACTIONS → nat_eq (length (before ++ todo)) 0 ≡ false → IsFollowed rest
+      → Ends d (served (before ++ todo)) rest r → Ends d s (flat_map lines_of_action todo ++ codes "end" ∷ rest) r
+  actions_read text d before [] s rest r known has all once few some settled behind =
+      let same = append-nil before in
+      end_line d rest r s before has (subst (λ (ys : List Action). nat_eq (length ys) 0 ≡ false) same some) settled
+      (subst (λ (ys : List Action). Ends d (served ys) rest r) same behind)
+  actions_read text d before (a ∷ ys) s rest r known has all once few some settled behind =
+      let decls = decls_with text d in
+      let parts = and_parts (is_action decls a) (list_all (is_action decls) ys) all in
+      let size = length-append before (a ∷ ys) in
+      let room = lt-leb MOST_ACTIONS (length before) (omega arith) in
+      let seam : before ++ a ∷ ys ≡ (before ++ a ∷ []) ++ ys = sym (append_assoc before (a ∷ []) ys) in
+      let more = flat_map lines_of_action ys ++ codes "end" ∷ rest in
+      subst (λ (ts : List (List ℕ)). Ends d s ts r) (sym (append_assoc (lines_of_action a) (flat_map lines_of_action ys) (codes "end" ∷ rest)))
+      (action_read text d known before room s has more r a parts.0 (λ id is. new_name before a ys id is once)
+      (λ u now. actions_read text d (before ++ a ∷ []) ys u rest r known now parts.1
+      (subst (λ (xs : List Action). name_each_once xs ≡ true) seam once)
+      (subst (λ (xs : List Action). length xs ≤ MOST_ACTIONS) seam few)
+      (subst (λ (xs : List Action). nat_eq (length xs) 0 ≡ false) seam some) settled
+      (subst (λ (xs : List Action). Ends d (served xs) rest r) seam behind)))
+
+  -- all of them
+  pub call_read : (text : List ℕ) (d : Declared) (actions : List Action) (rest : List (List ℕ)) (r : Result (List ScriptStep) (ℕ × Rule))
+      → AreNamed d → list_all (is_action (decls_with text d)) actions ≡ true → name_each_once actions ≡ true
+      → length actions ≤ MOST_ACTIONS → nat_eq (length actions) 0 ≡ false → IsFollowed rest
+      → Ends d (served actions) rest r → Ends d (opened []) (flat_map lines_of_action actions ++ codes "end" ∷ rest) r
+  call_read text d actions rest r known all once few some settled behind =
+      actions_read text d [] actions (opened []) rest r known (closed []) all once few some settled behind

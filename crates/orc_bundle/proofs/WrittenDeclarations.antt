@@ -3,8 +3,8 @@ use Rattle.std.proofs.Common.{◌≡◌, ℕ, ◌≤◌, ◌+◌, Bool, true, fa
 use Rattle.std.specs.Str.{is_utf8}
 use Rattle.orc_state.specs.declared.rule.Rule.{Rule}
 use Rattle.orc_state.specs.declared.rule.Rule.TheVariants as rule
-use Rattle.orc_bundle.specs.Bundles.{Front, declarations_of, is_script, on_line}
-use Rattle.orc_bundle.specs.Declarations.{after_script, after_text, bare_declaration, declared_at, in_open_block}
+use Rattle.orc_bundle.specs.Bundles.{Front, declarations_of, is_script, on_line, opened}
+use Rattle.orc_bundle.specs.Declarations.{after_script, after_text, bare_declaration, declared_at, in_open_block, is_opening}
 use Rattle.orc_bundle.specs.Keywords.{keyword_of}
 use Rattle.orc_bundle.specs.Lines.{is_skipped, text_of}
 use Rattle.orc_bundle.specs.declared.bundle.TheConstants.{LARGEST_BUNDLE}
@@ -24,7 +24,7 @@ bytes_of (l ∷ ls) = length l + bytes_of ls
 
 -- a line is looked at by its text
 
-declared_by_text : (d : Declared) (at : ℕ) (t line : List ℕ) (later : List (List ℕ)) → IsText t → IsLineOf t line → at + length line ≤ LARGEST_BUNDLE → d.skip ≡ 0
+pub declared_by_text : (d : Declared) (at : ℕ) (t line : List ℕ) (later : List (List ℕ)) → IsText t → IsLineOf t line → at + length line ≤ LARGEST_BUNDLE → d.skip ≡ 0
     → declared_at d at line later ≡ after_text d t later
 unfolding declared_at
 declared_by_text d at t line later is spells within skip =
@@ -50,10 +50,10 @@ Fronts d ts e line later =
     → (k : ℕ) × (declarations_of d at n (ls ++ line ∷ later)
     ≡ Ok (record { declared = e; size = at + bytes_of ls; at = at + bytes_of ls + length line; number = k; later = later }))
 
-abbrev on_front : ℕ → Result Declared Rule → ℕ → ℕ → List (List ℕ) → Result Front (ℕ × Rule)
+abbrev pub on_front : ℕ → Result Declared Rule → ℕ → ℕ → List (List ℕ) → Result Front (ℕ × Rule)
 on_front n r at next later = on_line (n + 1) r (λ e.
     if is_script e.section
-    then Ok (record { declared = e; size = at; at = next; number = n + 1; later = later })
+    then opened (n + 1) (record { declared = e; size = at; at = next; number = n + 1; later = later })
     else declarations_of e next (n + 1) later)
 
 -- what is found behind a line is found behind it and the line
@@ -69,7 +69,7 @@ module _ (e : Declared) (line : List ℕ) (later : List (List ℕ)) where
       let sum : at + length l + bytes_of ls ≡ at + (length l + bytes_of ls) = omega arith in (
         found.0,
         ap (λ (r : Result Declared Rule). on_front n r at (at + length l) rest) reads
-            ∙ ap (λ (b : Bool). cond b (Ok (record { declared = f; size = at; at = at + length l; number = n + 1; later = rest })) (declarations_of f (at + length l) (n + 1) rest)) goes
+            ∙ ap (λ (b : Bool). cond b (opened (n + 1) (record { declared = f; size = at; at = at + length l; number = n + 1; later = rest })) (declarations_of f (at + length l) (n + 1) rest)) goes
             ∙ found.1
             ∙ ap (λ (m : ℕ). found_at m found.0) sum,
       )
@@ -95,9 +95,9 @@ script_reads : (d : Declared) (later : List (List ℕ)) → d.section ≡ sectio
 unfolding after_text bare_declaration after_script keyword_of
 script_reads d later here = rw here refl
 
-pub script_line : (d : Declared) (line : List ℕ) (later : List (List ℕ)) → d.skip ≡ 0 → d.section ≡ section.Declarations → IsLineOf (codes "script") line
+pub script_line : (d : Declared) (line : List ℕ) (later : List (List ℕ)) → d.skip ≡ 0 → d.section ≡ section.Declarations → is_opening d ≡ true → IsLineOf (codes "script") line
     → Fronts d [] (record d { section = section.Script }) line later
-script_line d line later skip here spells = front where
+script_line d line later skip here opens spells = front where
   e : Declared
   e = record d { section = section.Script }
 
@@ -106,6 +106,7 @@ script_line d line later skip here spells = front where
       let sum : at ≡ at + 0 = omega arith in (
         n + 1,
         ap (λ (r : Result Declared Rule). on_front n r at (at + length line) later) (declared_by_text d at (codes "script") line later script_text spells (omega arith) skip ∙ script_reads d later here)
+            ∙ ap (λ (b : Bool). cond b (Ok (record { declared = record d { section = section.Script }; size = at; at = at + length line; number = n + 1; later = later })) (Err (n + 1, rule.Opening))) opens
             ∙ ap (λ (m : ℕ). Ok (record { declared = record d { section = section.Script }; size = m; at = m + length line; number = n + 1; later = later })) sum,
       )
   front ls (skipped text l texts more shows over utf8 short are) at n within =

@@ -3,17 +3,18 @@ use Rattle.std.proofs.Common.{◌≡◌, ℕ, ◌<◌, ◌≤◌, ◌+◌, ◌^�
 use Rattle.std.specs.List.{list_all}
 use Rattle.std.specs.Str.{is_utf8}
 use Rattle.std.proofs.lemmas.Bool.{lt-leb}
+use Rattle.orc_state.specs.Calls.{schema_named}
 use Rattle.orc_state.specs.declared.rule.Rule.{Rule}
 use Rattle.orc_state.specs.declared.rule.Rule.TheVariants as rule
 use Rattle.orc_bundle.specs.Bundles.{on_line, script_steps}
 use Rattle.orc_bundle.specs.Keywords.{keyword_of}
 use Rattle.orc_bundle.specs.Lines.{is_skipped, text_of}
 use Rattle.orc_bundle.specs.Names.{place_of}
-use Rattle.orc_bundle.specs.Scripts.{a_step, after_show, after_step, after_stop, bare_step, scripted_at, stop_words, word_at, words_at}
+use Rattle.orc_bundle.specs.Scripts.{a_step, after_json, after_show, after_step, after_stop, bare_step, scripted_at, stop_words, word_at, words_at}
 use Rattle.orc_bundle.specs.Words.{cut_at}
 use Rattle.orc_bundle.specs.declared.declarations.Declared.{Declared}
 use Rattle.orc_bundle.specs.declared.bundle.ScriptStep.{ScriptStep}
-use Rattle.orc_bundle.specs.declared.bundle.ScriptStep.TheVariants.{Show, Settle, Stop, StopAt, Recover, History}
+use Rattle.orc_bundle.specs.declared.bundle.ScriptStep.TheVariants.{Show, Json, Data, Settle, Stop, StopAt, Recover, History}
 use Rattle.orc_bundle.specs.declared.bundle.TheConstants.{LARGEST_BUNDLE}
 use Rattle.orc_bundle.specs.declared.script.Script.{Script}
 use Rattle.orc_bundle.specs.declared.script.Part.TheVariants as part
@@ -74,7 +75,7 @@ one_line d s u t ts r is reads behind = ends where
 
 -- no call is open
 abbrev pub resting : List (List ℕ) → List ScriptStep → ℕ → Script
-resting callers done number = record { part = part.Steps; callers = callers; steps = done; caller = []; number = number; name = []; writes = [] }
+resting callers done number = record { part = part.Steps; callers = callers; steps = done; caller = []; number = number; actions = []; name = []; writes = [] }
 
 pub room : (done : List ScriptStep) → length done < MOST_STEPS → nat_le MOST_STEPS (length done) ≡ false
 room done h = lt-leb MOST_STEPS (length done) h
@@ -91,6 +92,12 @@ show_text name l =
     let size = l.size in
     let whole = length-append (codes "show ") name in
     record { part = part_append (codes "show ") name (part_known (codes "show ") refl refl) (part_of_word name l.word); kept = refl; short = omega arith }
+
+pub json_text : (name : List ℕ) → IsLawfulName name → IsText (codes "json " ++ name)
+json_text name l =
+    let size = l.size in
+    let whole = length-append (codes "json ") name in
+    record { part = part_append (codes "json ") name (part_known (codes "json ") refl refl) (part_of_word name l.word); kept = refl; short = omega arith }
 
 pub stop_at_text : (count bytes : ℕ) → count < 2 ^ 64 → bytes < 2 ^ 64 → IsText (codes "stop " ++ decimal count ++ codes " " ++ decimal bytes)
 stop_at_text count bytes c b =
@@ -130,6 +137,10 @@ module _ (d : Declared) (callers : List (List ℕ)) (done : List ScriptStep) (nu
   unfolding after_step word_at bare_step keyword_of
   history_reads later = let full = room done few in rw full refl
 
+  data_reads : (later : List (List ℕ)) → after_step d here (codes "data") later ≡ Ok (behind Data)
+  unfolding after_step word_at bare_step keyword_of
+  data_reads later = let full = room done few in rw full refl
+
   pub settle_line : Ends d (behind Settle) rest r → Ends d here (codes "settle" ∷ rest) r
   settle_line = one_line d here (behind Settle) (codes "settle") rest r (bare_text (codes "settle") refl refl refl (omega arith)) (λ later are. settle_reads later)
 
@@ -141,6 +152,9 @@ module _ (d : Declared) (callers : List (List ℕ)) (done : List ScriptStep) (nu
 
   pub history_line : Ends d (behind History) rest r → Ends d here (codes "history" ∷ rest) r
   history_line = one_line d here (behind History) (codes "history") rest r (bare_text (codes "history") refl refl refl (omega arith)) (λ later are. history_reads later)
+
+  pub data_line : Ends d (behind Data) rest r → Ends d here (codes "data" ∷ rest) r
+  data_line = one_line d here (behind Data) (codes "data") rest r (bare_text (codes "data") refl refl refl (omega arith)) (λ later are. data_reads later)
 
   -- steps of more words
 
@@ -157,6 +171,20 @@ module _ (d : Declared) (callers : List (List ℕ)) (done : List ScriptStep) (nu
       → Ends d (behind (Show device)) rest r → Ends d here ((codes "show " ++ name) ∷ rest) r
   show_line name device l place =
       one_line d here (behind (Show device)) (codes "show " ++ name) rest r (show_text name l) (λ later are. show_reads later name device l place)
+
+  json_reads : (later : List (List ℕ)) (name : List ℕ) (device : ℕ) → IsLawfulName name → place_of d.names name ≡ Some device
+      → (schema_named d.schemas d.devices name).plain ≡ false → after_step d here (codes "json " ++ name) later ≡ Ok (behind (Json device))
+  unfolding after_step words_at a_step keyword_of after_json
+  json_reads later name device l place typed =
+      let full = room done few in
+      let ident = l.identifier in
+      let short = l.short in
+      rw ident (rw short (rw full (rw typed (rw place refl))))
+
+  pub json_line : (name : List ℕ) (device : ℕ) → IsLawfulName name → place_of d.names name ≡ Some device → (schema_named d.schemas d.devices name).plain ≡ false
+      → Ends d (behind (Json device)) rest r → Ends d here ((codes "json " ++ name) ∷ rest) r
+  json_line name device l place typed =
+      one_line d here (behind (Json device)) (codes "json " ++ name) rest r (json_text name l) (λ later are. json_reads later name device l place typed)
 
   stop_at_reads : (later : List (List ℕ)) (count bytes : ℕ) → count < 2 ^ 64 → bytes < 2 ^ 64
       → after_step d here (codes "stop " ++ decimal count ++ codes " " ++ decimal bytes) later

@@ -1,12 +1,13 @@
 -- All steps that are written are read.
-use Rattle.std.proofs.Common.{◌≡◌, inl, ℕ, zero, suc, ◌<◌, ◌≤◌, ◌+◌, ◌^◌, Bool, true, false, not, ◌&&◌, ◌==◌, cond, List, [], ◌∷◌, ◌++◌, codes, length, length-append, refl, ap, sym, ◌∙◌, subst, arith, append_assoc, append-nil, Result, Ok, Some, None, decimal, nat_le, nat_lt, eqb-true}
+use Rattle.std.proofs.Common.{◌≡◌, inl, ℕ, zero, suc, ◌<◌, ◌≤◌, ◌+◌, ◌^◌, Bool, true, false, not, ◌&&◌, nat_eq, cond, List, [], ◌∷◌, ◌++◌, codes, length, length-append, refl, ap, sym, ◌∙◌, subst, arith, append_assoc, append-nil, Result, Ok, Some, None, decimal, nat_le, nat_lt}
 use Rattle.std.specs.List.{AllByRecursion, IsDistinct, flat_map, list_all, list_any, position_or_len}
 use Rattle.std.specs.Cmp.Lexicographic.{bytes_decides}
 use Rattle.std.proofs.lemmas.Bool.{and_parts, lt-leb, lt-ltb, ltb-true, false≢true}
-use Rattle.orc_call.specs.declared.call.Action.{Action}
 use Rattle.orc_call.specs.declared.call.Call.{Call}
-use Rattle.orc_state.specs.States.{action_of, first_action, is_same_text, name_of}
-use Rattle.orc_state.specs.Calls.{is_action, is_call, is_lawful_name}
+use Rattle.orc_call.specs.declared.call.TheConstants.{MOST_ACTIONS}
+use Rattle.orc_state.specs.Actions.{name_each_once}
+use Rattle.orc_state.specs.States.{is_same_text, name_of}
+use Rattle.orc_state.specs.Calls.{is_action, is_call, is_lawful_name, schema_named}
 use Rattle.orc_state.specs.declared.declarations.Decls.{Decls}
 use Rattle.orc_state.specs.declared.rule.Rule.{Rule}
 use Rattle.orc_bundle.specs.Bundles.{are_settled, begins_settled, callers_behind, decls_with, is_step}
@@ -18,14 +19,15 @@ use Rattle.orc_bundle.specs.Scripts.{a_step, after_call, after_step, call_words,
 use Rattle.orc_bundle.specs.Words.{cut_at, is_text}
 use Rattle.orc_bundle.specs.Written.{AreLinesOf, lines_of_action, step_lines}
 use Rattle.orc_bundle.specs.declared.bundle.ScriptStep.{ScriptStep}
-use Rattle.orc_bundle.specs.declared.bundle.ScriptStep.TheVariants.{Show, Serve, Settle, Stop, StopAt, Recover, History}
+use Rattle.orc_bundle.specs.declared.bundle.ScriptStep.TheVariants.{Show, Json, Data, Serve, Settle, Stop, StopAt, Recover, History}
 use Rattle.orc_bundle.specs.declared.script.Script.{Script}
 use Rattle.orc_bundle.specs.declared.script.TheConstants.{MOST_CALLERS, MOST_STEPS}
+use Rattle.orc_bundle.proofs.LinesOf.{untrue}
 use Rattle.orc_bundle.proofs.Texts.{IsLawfulName, lawful_name, number_short, part_append, part_known, part_of_word, word_of_number}
-use Rattle.orc_bundle.proofs.WrittenCalls.{IsPlainly, action_read, opened}
+use Rattle.orc_bundle.proofs.WrittenCalls.{AreNamed, call_read, opened}
 use Rattle.orc_bundle.proofs.WrittenDevices.{same_name}
 use Rattle.orc_bundle.proofs.WrittenLines.{IsText, among, contained_behind, cut_word, number_again, settled_first}
-use Rattle.orc_bundle.proofs.WrittenScript.{Ends, history_line, no_line, one_line, recover_line, resting, room, settle_line, show_line, stop_at_line, stop_line}
+use Rattle.orc_bundle.proofs.WrittenScript.{Ends, data_line, history_line, json_line, no_line, one_line, recover_line, resting, room, settle_line, show_line, stop_at_line, stop_line}
 
 -- the line of a call
 
@@ -39,7 +41,7 @@ no_caller_more callers done number caller h = on (is_among callers caller) h whe
 call_reads : (d : Declared) (callers : List (List ℕ)) (done : List ScriptStep) (before : ℕ) (caller : List ℕ) (number : ℕ) (later : List (List ℕ))
     → length done < MOST_STEPS → IsLawfulName caller → number < 2 ^ 64 → length (with_name callers caller) ≤ MOST_CALLERS → list_any is_end later ≡ true
     → after_step d (resting callers done before) (codes "call " ++ caller ++ codes " " ++ decimal number) later
-    ≡ Ok (opened (with_name callers caller) done caller number)
+    ≡ Ok (opened (with_name callers caller) done caller number [])
 unfolding after_step words_at a_step keyword_of after_call is_followed
 call_reads d callers done before caller number later few l fits known ends =
     let s = resting callers done before in
@@ -73,58 +75,64 @@ HasEnd ts = (later : List (List ℕ)) → AreLinesOf ts later → list_any is_en
 
 call_line : (d : Declared) (callers : List (List ℕ)) (done : List ScriptStep) (before : ℕ) (caller : List ℕ) (number : ℕ) (rest : List (List ℕ)) (r : Result (List ScriptStep) (ℕ × Rule))
     → length done < MOST_STEPS → IsLawfulName caller → number < 2 ^ 64 → length (with_name callers caller) ≤ MOST_CALLERS → HasEnd rest
-    → Ends d (opened (with_name callers caller) done caller number) rest r
+    → Ends d (opened (with_name callers caller) done caller number []) rest r
     → Ends d (resting callers done before) ((codes "call " ++ caller ++ codes " " ++ decimal number) ∷ rest) r
 call_line d callers done before caller number rest r few l fits most ends =
-    one_line d (resting callers done before) (opened (with_name callers caller) done caller number) (codes "call " ++ caller ++ codes " " ++ decimal number) rest r
+    one_line d (resting callers done before) (opened (with_name callers caller) done caller number []) (codes "call " ++ caller ++ codes " " ++ decimal number) rest r
     (call_text caller number l fits) (λ later are. call_reads d callers done before caller number later few l fits most (ends later are))
 
 -- a call
-
-one_action : (actions : List Action) → (length actions == 1) ≡ true → first_action actions ∷ [] ≡ actions
-one_action [] h = absurd (let no_one : 0 ≡ 1 = eqb-true 0 1 h in omega arith)
-one_action (a ∷ []) h = refl
-one_action (a ∷ b ∷ more) h = absurd (let no_one : length (a ∷ b ∷ more) ≡ 1 = eqb-true (length (a ∷ b ∷ more)) 1 h in omega arith)
 
 -- what is known of a lawful call
 pub record IsKnown (decls : Decls) (call : Call) : Type 0 where
   pub caller : IsLawfulName call.caller
   pub number : call.number < 2 ^ 64
-  pub one : first_action call.actions ∷ [] ≡ call.actions
-  pub action : is_action decls (action_of call) ≡ true
+  pub some : nat_eq (length call.actions) 0 ≡ false
+  pub few : length call.actions ≤ MOST_ACTIONS
+  pub actions : list_all (is_action decls) call.actions ≡ true
+  pub once : name_each_once call.actions ≡ true
+
+not_none : (n : ℕ) → nat_le 1 n ≡ true → nat_eq n 0 ≡ false
+not_none n h = grind arith
+
+at_most : (n most : ℕ) → nat_le n most ≡ true → n ≤ most
+at_most n most h = grind arith
 
 pub known : (decls : Decls) (call : Call) → is_call decls call ≡ true → IsKnown decls call
 known decls call h =
-    let three = and_parts (is_lawful_name call.caller && nat_lt call.number (2 ^ 64) && (length call.actions == 1)) (is_action decls (action_of call)) h in
-    let two = and_parts (is_lawful_name call.caller && nat_lt call.number (2 ^ 64)) (length call.actions == 1) three.0 in
-    let one = and_parts (is_lawful_name call.caller) (nat_lt call.number (2 ^ 64)) two.0 in
+    let count = nat_le 1 (length call.actions) && nat_le (length call.actions) MOST_ACTIONS in
+    let named = is_lawful_name call.caller && nat_lt call.number (2 ^ 64) in
+    let all = and_parts (named && count) (list_all (is_action decls) call.actions && name_each_once call.actions) h in
+    let front = and_parts named count all.0 in
+    let one = and_parts (is_lawful_name call.caller) (nat_lt call.number (2 ^ 64)) front.0 in
+    let two = and_parts (nat_le 1 (length call.actions)) (nat_le (length call.actions) MOST_ACTIONS) front.1 in
+    let three = and_parts (list_all (is_action decls) call.actions) (name_each_once call.actions) all.1 in
     record {
       caller = lawful_name call.caller one.0;
       number = ltb-true call.number (2 ^ 64) one.1;
-      one = one_action call.actions two.1;
-      action = three.1;
+      some = not_none (length call.actions) two.0;
+      few = at_most (length call.actions) MOST_ACTIONS two.1;
+      actions = three.0;
+      once = three.1;
     }
 
 is_the_end : (line : List ℕ) → text_of line ≡ codes "end" → is_end line ≡ true
 is_the_end line says = ap (λ (t : List ℕ). is_text t (codes "end")) says
 
 serve_lines : (text : List ℕ) (d : Declared) (callers : List (List ℕ)) (done : List ScriptStep) (before : ℕ) (call : Call) (rest : List (List ℕ)) (r : Result (List ScriptStep) (ℕ × Rule))
-    → IsPlainly d → length done < MOST_STEPS → is_call (decls_with text d) call ≡ true → length (with_name callers call.caller) ≤ MOST_CALLERS
+    → AreNamed d → length done < MOST_STEPS → is_call (decls_with text d) call ≡ true → length (with_name callers call.caller) ≤ MOST_CALLERS
     → ((later : List (List ℕ)) → AreLinesOf rest later → is_settled later ≡ true)
     → Ends d (resting (with_name callers call.caller) (done ++ Serve call ∷ []) call.number) rest r
     → Ends d (resting callers done before) (step_lines d.names (Serve call) ++ rest) r
-serve_lines text d callers done before call rest r plainly few is most settled behind =
+serve_lines text d callers done before call rest r names few is most settled behind =
     let k = known (decls_with text d) call is in
-    let a = action_of call in
-    let more = lines_of_action a ++ codes "end" ∷ rest in
-    let same : record { caller = call.caller; number = call.number; actions = a ∷ [] } ≡ call =
-    ap (λ (actions : List Action). record call { actions = actions }) k.one in
-    let served = subst (λ (c : Call). Ends d (resting (with_name callers call.caller) (done ++ Serve c ∷ []) call.number) rest r) (sym same) behind in
+    let actions = flat_map lines_of_action call.actions in
+    let more = actions ++ codes "end" ∷ rest in
     let line = codes "call " ++ call.caller ++ codes " " ++ decimal call.number in
-    subst (λ (ts : List (List ℕ)). Ends d (resting callers done before) (line ∷ ts) r) (sym (append_assoc (lines_of_action a) (codes "end" ∷ []) rest))
+    subst (λ (ts : List (List ℕ)). Ends d (resting callers done before) (line ∷ ts) r) (sym (append_assoc actions (codes "end" ∷ []) rest))
     (call_line d callers done before call.caller call.number more r few k.caller k.number most
-    (λ later are. among more later (codes "end") is_end are is_the_end (contained_behind (lines_of_action a) (codes "end" ∷ rest) (codes "end") (inl refl)))
-    (action_read (with_name callers call.caller) done call.caller call.number text d a rest r plainly k.action settled served))
+    (λ later are. among more later (codes "end") is_end are is_the_end (contained_behind actions (codes "end" ∷ rest) (codes "end") (inl refl)))
+    (call_read (with_name callers call.caller) done call.caller call.number text d call.actions rest r names k.actions k.once k.few k.some settled behind))
 
 -- the devices' names
 
@@ -166,6 +174,8 @@ callers_more : (callers : List (List ℕ)) (steps : List ScriptStep) → length 
 callers_more callers [] = omega arith
 callers_more callers (Serve call ∷ steps) = let one = with_more callers call.caller in let rest = callers_more (with_name callers call.caller) steps in omega arith
 callers_more callers (Show device ∷ steps) = callers_more callers steps
+callers_more callers (Json device ∷ steps) = callers_more callers steps
+callers_more callers (Data ∷ steps) = callers_more callers steps
 callers_more callers (Settle ∷ steps) = callers_more callers steps
 callers_more callers (Stop ∷ steps) = callers_more callers steps
 callers_more callers (StopAt count bytes ∷ steps) = callers_more callers steps
@@ -178,13 +188,15 @@ settled_lines names [] h later are = absurd (false≢true h)
 settled_lines names (Settle ∷ steps) h later are = settled_first (flat_map (step_lines names) steps) later are
 settled_lines names (Serve call ∷ steps) h later are = absurd (false≢true h)
 settled_lines names (Show device ∷ steps) h later are = absurd (false≢true h)
+settled_lines names (Json device ∷ steps) h later are = absurd (false≢true h)
+settled_lines names (Data ∷ steps) h later are = absurd (false≢true h)
 settled_lines names (Stop ∷ steps) h later are = absurd (false≢true h)
 settled_lines names (StopAt count bytes ∷ steps) h later are = absurd (false≢true h)
 settled_lines names (Recover ∷ steps) h later are = absurd (false≢true h)
 settled_lines names (History ∷ steps) h later are = absurd (false≢true h)
 
 -- the rest of the steps
-module _ (text : List ℕ) (d : Declared) (plainly : IsPlainly d) (distinct : IsDistinct is_same_text d.names) where
+module _ (text : List ℕ) (d : Declared) (known_names : AreNamed d) (distinct : IsDistinct is_same_text d.names) where
   abbrev names : List (List ℕ)
   names = d.names
 
@@ -209,14 +221,25 @@ module _ (text : List ℕ) (d : Declared) (plainly : IsPlainly d) (distinct : Is
       let parts = and_parts (is_one (Show device)) (list_all is_one steps) all in
       let within = ltb-true device (length names) parts.0 in
       show_line d callers done number (lines steps) (Ok (done ++ Show device ∷ steps)) (omega arith) (name_of names device) device
-      (lawful_name (name_of names device) (name_lawful names device plainly.lawful within)) (place_again names device distinct within)
+      (lawful_name (name_of names device) (name_lawful names device known_names.lawful within)) (place_again names device distinct within)
       (moved _ done (Show device) steps (steps_read callers (done ++ Show device ∷ []) steps number parts.1 settled (next done (Show device) steps few) most))
+  steps_read callers done (Json device ∷ steps) number all settled few most =
+      let parts = and_parts (is_one (Json device)) (list_all is_one steps) all in
+      let typed = (schema_named d.schemas d.devices (name_of names device)).plain in
+      let fits = and_parts (nat_lt device (length names)) (not typed) parts.0 in
+      let within = ltb-true device (length names) fits.0 in
+      json_line d callers done number (lines steps) (Ok (done ++ Json device ∷ steps)) (omega arith) (name_of names device) device
+      (lawful_name (name_of names device) (name_lawful names device known_names.lawful within)) (place_again names device distinct within) (untrue typed fits.1)
+      (moved _ done (Json device) steps (steps_read callers (done ++ Json device ∷ []) steps number parts.1 settled (next done (Json device) steps few) most))
+  steps_read callers done (Data ∷ steps) number all settled few most =
+      data_line d callers done number (lines steps) (Ok (done ++ Data ∷ steps)) (omega arith)
+      (moved _ done Data steps (steps_read callers (done ++ Data ∷ []) steps number all settled (next done Data steps few) most))
   steps_read callers done (Serve call ∷ steps) number all settled few most =
       let parts = and_parts (is_one (Serve call)) (list_all is_one steps) all in
       let two = and_parts (begins_settled steps) (are_settled steps) settled in
       let now = with_name callers call.caller in
       let grows = callers_more now steps in
-      serve_lines text d callers done number call (lines steps) (Ok (done ++ Serve call ∷ steps)) plainly (omega arith) parts.0 (omega arith) (settled_lines names steps two.0)
+      serve_lines text d callers done number call (lines steps) (Ok (done ++ Serve call ∷ steps)) known_names (omega arith) parts.0 (omega arith) (settled_lines names steps two.0)
       (moved _ done (Serve call) steps (steps_read now (done ++ Serve call ∷ []) steps call.number parts.1 two.1 (next done (Serve call) steps few) most))
   steps_read callers done (Settle ∷ steps) number all settled few most =
       settle_line d callers done number (lines steps) (Ok (done ++ Settle ∷ steps)) (omega arith)

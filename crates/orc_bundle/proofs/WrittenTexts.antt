@@ -1,29 +1,33 @@
 -- No line of a written bundle has a line feed or a carriage return.
-use Rattle.std.proofs.Common.{◌≡◌, ℕ, ◌^◌, Bool, true, ◌&&◌, List, [], ◌∷◌, ◌++◌, codes, length, map, refl, ◌∙◌, nat_le, nat_lt, decimal}
+use Rattle.std.proofs.Common.{◌≡◌, ℕ, ◌^◌, Bool, true, not, ◌&&◌, List, [], ◌∷◌, ◌++◌, codes, length, map, refl, ◌∙◌, nat_le, nat_lt, decimal}
 use Rattle.std.specs.List.{flat_map, list_all}
 use Rattle.std.proofs.lemmas.Bool.{and_parts, and_from, ltb-true}
 use Rattle.std.proofs.lemmas.List.Folds.{list_all-append}
+use Rattle.orc_path.specs.Items.{item_text}
+use Rattle.orc_path.specs.Steps.{PathStep}
+use Rattle.orc_path.specs.Texts.{path_text}
 use Rattle.orc_call.specs.declared.call.Action.{Action}
 use Rattle.orc_call.specs.declared.call.Action.TheVariants as action
 use Rattle.orc_call.specs.declared.call.DevicePut.{DevicePut}
 use Rattle.orc_call.specs.declared.call.Put.{Put}
-use Rattle.orc_state.specs.States.{action_of, name_of}
-use Rattle.orc_schema.specs.Schemas.{plain_table}
-use Rattle.orc_state.specs.Calls.{is_action, is_device, is_lawful_name, is_put, is_write}
+use Rattle.orc_state.specs.States.{name_of}
+use Rattle.orc_schema.specs.Schemas.{SchemaTable}
+use Rattle.orc_state.specs.Calls.{is_action, is_data_item, is_forbid_rule, is_lawful_name, is_max_rule, is_put, is_write, schema_in, schema_named}
 use Rattle.orc_state.specs.declared.declarations.Decls.{Decls}
 use Rattle.orc_state.specs.declared.declarations.Device.{Device}
 use Rattle.orc_state.specs.declared.lawful.TheConstants.{MOST_WRITES}
 use Rattle.orc_bundle.specs.Bundles.{decls_with, is_step}
 use Rattle.orc_bundle.specs.declared.declarations.Declared.{Declared}
-use Rattle.orc_bundle.specs.Written.{lines_of_action, base_line, device_lines, step_lines, line_of_write}
+use Rattle.orc_bundle.specs.Laws.{Preamble}
+use Rattle.orc_bundle.specs.Written.{base_line, data_line, device_lines, forbid_line, line_of_write, lines_of_action, max_line, step_lines}
 use Rattle.orc_bundle.specs.declared.bundle.ScriptStep.{ScriptStep}
-use Rattle.orc_bundle.specs.declared.bundle.ScriptStep.TheVariants.{Show, Serve, Settle, Stop, StopAt, Recover, History}
+use Rattle.orc_bundle.specs.declared.bundle.ScriptStep.TheVariants.{Show, Json, Data, Serve, Settle, Stop, StopAt, Recover, History}
 use Rattle.orc_bundle.proofs.Texts.{IsLawfulName, is_line_byte, lawful_name, lawful_under}
-use Rattle.orc_bundle.proofs.WrittenBases.{plain_device, plain_only}
-use Rattle.orc_bundle.proofs.WrittenCalls.{IsPlainly, delete_text, lawful_among, literal_text, write_parts, write_text}
-use Rattle.orc_bundle.proofs.WrittenDevices.{base_text, device_text}
+use Rattle.orc_bundle.proofs.WrittenBases.{AreKnown}
+use Rattle.orc_bundle.proofs.WrittenCalls.{AreNamed, delete_text, literal_text, set_text, unset_text, write_known, write_text}
+use Rattle.orc_bundle.proofs.WrittenDevices.{base_text, data_text, device_line, device_text, forbid_text, max_text}
 use Rattle.orc_bundle.proofs.WrittenLines.{IsText}
-use Rattle.orc_bundle.proofs.WrittenScript.{show_text, stop_at_text}
+use Rattle.orc_bundle.proofs.WrittenScript.{json_text, show_text, stop_at_text}
 use Rattle.orc_bundle.proofs.WrittenSteps.{call_text, known, name_lawful}
 
 abbrev pub is_clean : List ℕ → Bool
@@ -35,23 +39,47 @@ clean_append a b h k = list_all-append is_clean a b ∙ and_from _ _ h k
 clean_more : (t : List ℕ) (ts : List (List ℕ)) → IsText t → list_all is_clean ts ≡ true → list_all is_clean (t ∷ ts) ≡ true
 clean_more t ts is h = and_from (is_clean t) (list_all is_clean ts) is.part.bytes h
 
-bases_clean : (name : List ℕ) (base : List Put) → IsLawfulName name → list_all (is_put plain_table) base ≡ true → list_all is_clean (map (base_line name) base) ≡ true
-bases_clean name [] l h = refl
-bases_clean name (put ∷ base) l h =
-    let parts = and_parts (is_put plain_table put) (list_all (is_put plain_table) base) h in
-    clean_more (base_line name put) (map (base_line name) base) (base_text name put l (lawful_under plain_table put.path put.item parts.0)) (bases_clean name base l parts.1)
+bases_clean : (s : SchemaTable) (name : List ℕ) (base : List Put) → IsLawfulName name → list_all (is_put s) base ≡ true → list_all is_clean (map (base_line name) base) ≡ true
+bases_clean s name [] l h = refl
+bases_clean s name (put ∷ base) l h =
+    let parts = and_parts (is_put s put) (list_all (is_put s) base) h in
+    clean_more (base_line name put) (map (base_line name) base) (base_text name put l (lawful_under s put.path put.item parts.0)) (bases_clean s name base l parts.1)
 
-pub devices_clean : (devices : List Device) → list_all (is_device plain_only) devices ≡ true → list_all is_clean (flat_map device_lines devices) ≡ true
-devices_clean [] h = refl
-devices_clean (d ∷ ds) h =
-    let both = and_parts (is_device plain_only d) (list_all (is_device plain_only) ds) h in
-    let parts = plain_device d both.0 in
-    let l = lawful_name d.name parts.name in
-    clean_append (device_lines d) (flat_map device_lines ds)
-    (clean_more (codes "device " ++ d.name ++ codes " plain") (map (base_line d.name) d.base) (device_text d.name l) (bases_clean d.name d.base l parts.base))
-    (devices_clean ds both.1)
+limits_clean : (s : SchemaTable) (name : List ℕ) (max : List (List PathStep × ℕ)) → IsLawfulName name → list_all (is_max_rule s) max ≡ true → list_all is_clean (map (max_line name) max) ≡ true
+limits_clean s name [] l h = refl
+limits_clean s name (limit ∷ max) l h =
+    let parts = and_parts (is_max_rule s limit) (list_all (is_max_rule s) max) h in
+    clean_more (max_line name limit) (map (max_line name) max) (max_text s name limit l parts.0) (limits_clean s name max l parts.1)
 
-module _ (text : List ℕ) (d : Declared) (plainly : IsPlainly d) where
+forbids_clean : (s : SchemaTable) (name : List ℕ) (forbid : List (List PathStep × List ℕ)) → IsLawfulName name → list_all (is_forbid_rule s) forbid ≡ true
+    → list_all is_clean (map (forbid_line name) forbid) ≡ true
+forbids_clean s name [] l h = refl
+forbids_clean s name (leaf ∷ forbid) l h =
+    let parts = and_parts (is_forbid_rule s leaf) (list_all (is_forbid_rule s) forbid) h in
+    clean_more (forbid_line name leaf) (map (forbid_line name) forbid) (forbid_text s name leaf l parts.0) (forbids_clean s name forbid l parts.1)
+
+pub devices_clean : (h : Preamble) (kind : ℕ → List ℕ) (devices : List Device) → AreKnown h kind devices → list_all is_clean (flat_map (device_lines kind) devices) ≡ true
+devices_clean h kind [] known = refl
+devices_clean h kind (d ∷ ds) known =
+    let parts = known.0 in
+    let l = parts.name in
+    let s = schema_in h.schemas d.schema in
+    let line = device_line d.name (kind d.schema) in
+    let front = line ∷ map (base_line d.name) d.base in
+    clean_append (device_lines kind d) (flat_map (device_lines kind) ds)
+    (clean_append (front ++ map (max_line d.name) d.max) (map (forbid_line d.name) d.forbid)
+    (clean_append front (map (max_line d.name) d.max)
+    (clean_more line (map (base_line d.name) d.base) (device_text d.name (kind d.schema) l parts.of_kind) (bases_clean s d.name d.base l parts.base))
+    (limits_clean s d.name d.max l parts.limits)) (forbids_clean s d.name d.forbid l parts.leaves))
+    (devices_clean h kind ds known.1)
+
+pub data_clean : (s : SchemaTable) (puts : List Put) → list_all (is_data_item s) puts ≡ true → list_all is_clean (map data_line puts) ≡ true
+data_clean s [] h = refl
+data_clean s (put ∷ puts) h =
+    let parts = and_parts (is_data_item s put) (list_all (is_data_item s) puts) h in
+    clean_more (data_line put) (map data_line puts) (data_text s put parts.0) (data_clean s puts parts.1)
+
+module _ (text : List ℕ) (d : Declared) (known_names : AreNamed d) where
   abbrev decls : Decls
   decls = decls_with text d
 
@@ -59,9 +87,8 @@ module _ (text : List ℕ) (d : Declared) (plainly : IsPlainly d) where
   writes_clean [] h = refl
   writes_clean (w ∷ ws) h =
       let parts = and_parts (is_write decls w) (list_all (is_write decls) ws) h in
-      let one = write_parts text d w plainly parts.0 in
-      clean_more (line_of_write w) (map line_of_write ws)
-      (write_text w (lawful_name w.device (lawful_among d.names w.device plainly.lawful one.0)) one.1) (writes_clean ws parts.1)
+      let one = write_known text d w known_names parts.0 in
+      clean_more (line_of_write w) (map line_of_write ws) (write_text w one.device one.at) (writes_clean ws parts.1)
 
   action_clean : (a : Action) → is_action decls a ≡ true → list_all is_clean (lines_of_action a) ≡ true
   action_clean (action.Literal id writes) h =
@@ -72,19 +99,31 @@ module _ (text : List ℕ) (d : Declared) (plainly : IsPlainly d) where
   action_clean (action.Create id body) h = refl
   action_clean (action.Modify id body) h = refl
   action_clean (action.Redeploy id) h = refl
-  action_clean (action.Set put) h = refl
-  action_clean (action.Unset path) h = refl
+  action_clean (action.Set put) h = clean_more (codes "set " ++ item_text put.path put.item) [] (set_text d.data_schema put h) refl
+  action_clean (action.Unset path) h = clean_more (codes "unset " ++ path_text path) [] (unset_text d.data_schema path h) refl
   action_clean (action.BasePut put) h = refl
   action_clean (action.BaseRemove device path) h = refl
+
+  actions_clean : (actions : List Action) → list_all (is_action decls) actions ≡ true → list_all is_clean (flat_map lines_of_action actions) ≡ true
+  actions_clean [] h = refl
+  actions_clean (a ∷ ys) h =
+      let parts = and_parts (is_action decls a) (list_all (is_action decls) ys) h in
+      clean_append (lines_of_action a) (flat_map lines_of_action ys) (action_clean a parts.0) (actions_clean ys parts.1)
 
   step_clean : (step : ScriptStep) → is_step decls step ≡ true → list_all is_clean (step_lines d.names step) ≡ true
   step_clean (Show device) h =
       let within = ltb-true device (length d.names) h in
-      clean_more (codes "show " ++ name_of d.names device) [] (show_text (name_of d.names device) (lawful_name (name_of d.names device) (name_lawful d.names device plainly.lawful within))) refl
+      clean_more (codes "show " ++ name_of d.names device) [] (show_text (name_of d.names device) (lawful_name (name_of d.names device) (name_lawful d.names device known_names.lawful within))) refl
+  step_clean (Json device) h =
+      let fits = and_parts (nat_lt device (length d.names)) (not (schema_named d.schemas d.devices (name_of d.names device)).plain) h in
+      let within = ltb-true device (length d.names) fits.0 in
+      clean_more (codes "json " ++ name_of d.names device) [] (json_text (name_of d.names device) (lawful_name (name_of d.names device) (name_lawful d.names device known_names.lawful within))) refl
+  step_clean Data h = refl
   step_clean (Serve call) h =
       let k = known decls call h in
-      clean_more (codes "call " ++ call.caller ++ codes " " ++ decimal call.number) (lines_of_action (action_of call) ++ codes "end" ∷ []) (call_text call.caller call.number k.caller k.number)
-      (clean_append (lines_of_action (action_of call)) (codes "end" ∷ []) (action_clean (action_of call) k.action) refl)
+      let actions = flat_map lines_of_action call.actions in
+      clean_more (codes "call " ++ call.caller ++ codes " " ++ decimal call.number) (actions ++ codes "end" ∷ []) (call_text call.caller call.number k.caller k.number)
+      (clean_append actions (codes "end" ∷ []) (actions_clean call.actions k.actions) refl)
   step_clean Settle h = refl
   step_clean Stop h = refl
   step_clean (StopAt count bytes) h =

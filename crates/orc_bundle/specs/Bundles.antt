@@ -1,10 +1,12 @@
 -- The bundle of bytes, or the first line at fault with the first rule that it breaks.
-use Rattle.std.specs.Prelude.{ℕ, ◌≤◌, ◌^◌, ◌+◌, Bool, true, false, ◌&&◌, nat_lt, List, [], ◌∷◌, length, take, IsTrue, Result, if◌then◌else◌}
+use Rattle.std.specs.Prelude.{ℕ, ◌≤◌, ◌^◌, ◌+◌, Bool, true, false, ◌&&◌, not, nat_lt, List, [], ◌∷◌, length, take, IsTrue, Result, if◌then◌else◌}
 use Rattle.std.specs.declared.result.Result.TheVariants.{Ok, Err}
-use Rattle.std.specs.List.{list_all}
+use Rattle.std.specs.List.{list_all, All}
 use Rattle.std.specs.Option.{is_none}
 use Rattle.std.specs.Str.{is_utf8}
-use Rattle.orc_state.specs.Calls.{is_call}
+use Rattle.orc_schema.specs.Sound.{IsSound}
+use Rattle.orc_state.specs.Calls.{is_call, schema_named}
+use Rattle.orc_state.specs.States.{name_of}
 use Rattle.orc_state.specs.Declarations.{AreDecls}
 use Rattle.orc_state.specs.declared.declarations.Decls.{Decls}
 use Rattle.orc_state.specs.declared.rule.Rule.{Rule}
@@ -12,11 +14,11 @@ use Rattle.orc_state.specs.declared.rule.Rule.TheVariants as rule
 use Rattle.orc_bundle.specs.Rules.{on_ok}
 use Rattle.orc_bundle.specs.Lines.{first_kept, is_large, lines_of, seen, text_of}
 use Rattle.orc_bundle.specs.Names.{with_name}
-use Rattle.orc_bundle.specs.Declarations.{declared_at, nothing_declared}
+use Rattle.orc_bundle.specs.Declarations.{declared_at, is_opening, nothing_declared}
 use Rattle.orc_bundle.specs.Scripts.{no_steps, scripted_at}
 use Rattle.orc_bundle.specs.declared.bundle.Bundle.{Bundle}
 use Rattle.orc_bundle.specs.declared.bundle.ScriptStep.{ScriptStep}
-use Rattle.orc_bundle.specs.declared.bundle.ScriptStep.TheVariants.{Show, Serve, Settle, Stop, StopAt, Recover, History}
+use Rattle.orc_bundle.specs.declared.bundle.ScriptStep.TheVariants.{Show, Json, Data, Serve, Settle, Stop, StopAt, Recover, History}
 use Rattle.orc_bundle.specs.declared.declarations.Declared.{Declared}
 use Rattle.orc_bundle.specs.declared.declarations.Section.{Section}
 use Rattle.orc_bundle.specs.declared.declarations.Section.TheVariants as section
@@ -44,13 +46,17 @@ abbrev pub is_script : Section → Bool
 is_script section.Script = true
 is_script _ = false
 
+-- The declarations end in the line of this number, or behind the last one.
+abbrev pub opened : ℕ → Front → Result Front (ℕ × Rule)
+opened n front = if is_opening front.declared then Ok front else Err (n, rule.Opening)
+
 -- the declarations in lines, in front of which stand so many bytes and so many lines
 abbrev pub declarations_of : Declared → ℕ → ℕ → List (List ℕ) → Result Front (ℕ × Rule)
-declarations_of d at n [] = Ok (record { declared = d; size = at; at = at; number = n; later = [] })
+declarations_of d at n [] = opened (n + 1) (record { declared = d; size = at; at = at; number = n; later = [] })
 declarations_of d at n (line ∷ later) =
     on_line (n + 1) (declared_at d at line later) (λ e.
     if is_script e.section
-    then Ok (record { declared = e; size = at; at = at + length line; number = n + 1; later = later })
+    then opened (n + 1) (record { declared = e; size = at; at = at + length line; number = n + 1; later = later })
     else declarations_of e (at + length line) (n + 1) later)
 
 -- the steps in lines, behind these declarations
@@ -61,7 +67,14 @@ script_steps d s at n (line ∷ later) =
 
 -- what was declared, with its text
 abbrev pub decls_with : List ℕ → Declared → Decls
-decls_with text d = record { text = text; names = d.names; schemas = d.schemas; devices = d.devices }
+decls_with text d = record {
+  text = text;
+  names = d.names;
+  schemas = d.schemas;
+  devices = d.devices;
+  data_schema = d.data_schema;
+  «data» = d.data;
+}
 
 -- the declarations, and their text as the journal stores it
 abbrev pub decls_of : List ℕ → Front → Decls
@@ -94,9 +107,12 @@ bundle_of bytes = bundle_in (seen bytes) (lines_of (seen bytes))
 
 -- what a bundle has
 
--- a step of a script behind these declarations
+-- a step of a script behind these declarations; a step `json` names a device with a type
 abbrev pub is_step : Decls → ScriptStep → Bool
 is_step decls (Show device) = nat_lt device (length decls.names)
+is_step decls (Json device) = nat_lt device (length decls.names)
+    && not (schema_named decls.schemas decls.devices (name_of decls.names device)).plain
+is_step decls Data = true
 is_step decls (Serve call) = is_call decls call
 is_step decls Settle = true
 is_step decls Stop = true
@@ -121,10 +137,11 @@ callers_behind callers [] = callers
 callers_behind callers (Serve call ∷ steps) = callers_behind (with_name callers call.caller) steps
 callers_behind callers (_ ∷ steps) = callers_behind callers steps
 
--- Declarations are lawful, and each step is one that these devices allow; behind each call stands `settle`, and there
--- are no more steps and callers than can be.
+-- Declarations are lawful, their schemas are sound, and each step is one that these devices allow; behind each call
+-- stands `settle`, and there are no more steps and callers than can be.
 pub record IsBundle (bundle : Bundle) : Type 0 where
   pub decls : AreDecls bundle.decls
+  pub sound : All IsSound bundle.decls.schemas
   pub steps : IsTrue (list_all (is_step bundle.decls) bundle.steps)
   pub settled : IsTrue (are_settled bundle.steps)
   pub few : length bundle.steps ≤ MOST_STEPS

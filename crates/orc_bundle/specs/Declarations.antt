@@ -1,5 +1,5 @@
 -- What each form of a declaration makes of what was declared so far.
-use Rattle.std.specs.Prelude.{ℕ, zero, suc, Bool, true, false, not, ◌&&◌, ◌||◌, ◌-◌, nat_le, nat_lt, List, [], ◌∷◌, ◌++◌, codes, length, slice_get, Option, Result, is_some, option_and_then, option_map, option_to_list, if◌then◌else◌}
+use Rattle.std.specs.Prelude.{ℕ, zero, suc, Bool, true, false, not, ◌&&◌, ◌||◌, ◌-◌, nat_le, nat_lt, List, [], ◌∷◌, ◌++◌, codes, length, slice_get, Option, Result, is_none, is_some, option_and_then, option_map, option_to_list, if◌then◌else◌}
 use Rattle.std.specs.declared.option.Option.TheVariants.{None, Some}
 use Rattle.std.specs.declared.result.Result.TheVariants.{Ok, Err}
 use Rattle.std.specs.List.{flat_map, list_all, list_any}
@@ -8,8 +8,12 @@ use Rattle.std.specs.Str.{is_utf8}
 use Rattle.orc_path.specs.Alphabet.{is_identifier}
 use Rattle.orc_path.specs.Limits.{is_long_name}
 use Rattle.orc_call.specs.declared.call.Put.{Put}
+use Rattle.orc_path.specs.Steps.{PathStep}
+use Rattle.orc_check.specs.Validity.{broken_of}
 use Rattle.orc_schema.specs.Schemas.{SchemaTable, plain_table}
 use Rattle.orc_state.specs.Calls.{schema_named}
+use Rattle.orc_state.specs.Declarations.{accepts_base}
+use Rattle.orc_state.specs.States.{opening_data}
 use Rattle.orc_state.specs.declared.declarations.Device.{Device}
 use Rattle.orc_state.specs.declared.declarations.TheConstants.{MOST_DEVICES}
 use Rattle.orc_state.specs.declared.rule.Rule.{Rule}
@@ -19,7 +23,7 @@ use Rattle.orc_bundle.specs.Lines.{block_of, is_large, is_skipped, text_of}
 use Rattle.orc_bundle.specs.Words.{cut_at, is_text, number_in, words_of}
 use Rattle.orc_bundle.specs.Keywords.{keyword_of}
 use Rattle.orc_bundle.specs.Names.{is_among, place_of, repeats, with_name}
-use Rattle.orc_bundle.specs.Items.{put_of}
+use Rattle.orc_bundle.specs.Items.{forbidden_of, list_path_of, put_of}
 use Rattle.orc_bundle.specs.Modules.{orc_module, module_of}
 use Rattle.orc_bundle.specs.Schemas.{schema_or_rule}
 use Rattle.orc_yang.specs.declared.statement.Stmt.{Stmt}
@@ -29,6 +33,15 @@ use Rattle.orc_bundle.specs.declared.declarations.Declared.{Declared}
 use Rattle.orc_bundle.specs.declared.module.Module.{Module}
 use Rattle.orc_bundle.specs.declared.declarations.Section.{Section}
 use Rattle.orc_bundle.specs.declared.declarations.Section.TheVariants as section
+
+-- the schema of modules that make one, else the plain one
+abbrev pub schema_or_plain : Result SchemaTable Rule → SchemaTable
+schema_or_plain (Ok schema) = schema
+schema_or_plain (Err rule) = plain_table
+
+-- the schema of the built-in module alone
+abbrev pub built_in_schema : SchemaTable
+built_in_schema = schema_or_plain (schema_or_rule (orc_module ∷ []))
 
 -- nothing is declared, and the header is due
 abbrev pub nothing_declared : Declared
@@ -42,6 +55,8 @@ nothing_declared = record {
   schemas = plain_table ∷ [];
   names = [];
   devices = [];
+  data_schema = built_in_schema;
+  «data» = [];
 }
 
 -- the forms
@@ -76,11 +91,12 @@ schema_words d words names is_double =
     ∷ [])
     (schema_or_rule (modules_named d names))
 
--- `datamodel M M ..`; the built-in module is always one of them
+-- `datamodel M M ..`; the built-in module is always one of them. No item of the data stands above this line, since a
+-- line may name no path of the built-in module.
 unfoldable pub after_datamodel : Declared → List ℕ → Result Declared Rule
 after_datamodel d rest =
     on_ok (schema_words d (words_of rest) (with_name (words_of rest) (codes "orc")) d.has_data) (λ schema.
-    Ok (record d { has_data = true }))
+    Ok (record d { has_data = true; data_schema = schema; «data» = [] }))
 
 -- a type of devices, and its schema
 abbrev pub with_type : Declared → List ℕ → SchemaTable → Declared
@@ -105,7 +121,7 @@ schema_place d kind = if is_text kind (codes "plain") then Some 0 else option_ma
 abbrev pub with_device : Declared → List ℕ → ℕ → Declared
 with_device d name place = record d {
   names = d.names ++ name ∷ [];
-  devices = d.devices ++ (record { name = name; schema = place; base = [] }) ∷ [];
+  devices = d.devices ++ (record { name = name; schema = place; base = []; max = []; forbid = [] }) ∷ [];
 }
 
 -- `device D plain` and `device D T`
@@ -124,23 +140,75 @@ device_words d (Some words) =
 unfoldable pub after_device : Declared → List ℕ → Result Declared Rule
 after_device d rest = device_words d (cut_at 32 rest)
 
--- the base of the device of a number has one item more
+-- the device of a number is changed
+abbrev pub changed_at : ℕ → (Device → Device) → List Device → List Device
+changed_at n change [] = []
+changed_at zero change (device ∷ devices) = change device ∷ devices
+changed_at (suc n) change (device ∷ devices) = device ∷ changed_at n change devices
+
+-- its base has one item more
 abbrev pub with_base : ℕ → Put → List Device → List Device
-with_base n put [] = []
-with_base zero put (device ∷ devices) = record device { base = device.base ++ put ∷ [] } ∷ devices
-with_base (suc n) put (device ∷ devices) = device ∷ with_base n put devices
+with_base n put = changed_at n (λ device. record device { base = device.base ++ put ∷ [] })
 
 -- `base D ITEM`
 abbrev pub base_words : Declared → Option (List ℕ × List ℕ) → Result Declared Rule
 base_words d None = Err rule.Line
 base_words d (Some words) =
     checked ((not (is_identifier words.0), rule.Line) ∷ [])
-    (on_ok (put_of (schema_named d.schemas d.devices words.0) (is_long_name words.0) words.1) (λ put.
+    (on_ok (put_of false (schema_named d.schemas d.devices words.0) (is_long_name words.0) words.1) (λ put.
     or_rule (place_of d.names words.0) rule.Unknown (λ n.
     Ok (record d { devices = with_base n put d.devices }))))
 
 unfoldable pub after_base : Declared → List ℕ → Result Declared Rule
 after_base d rest = base_words d (cut_at 32 rest)
+
+-- it has one rule more: a list's path, and the most entries that it may have
+abbrev pub with_max : ℕ → List PathStep × ℕ → List Device → List Device
+with_max n limit = changed_at n (λ device. record device { max = device.max ++ limit ∷ [] })
+
+-- or a leaf's path, and a text that it may not have
+abbrev pub with_forbid : ℕ → List PathStep × List ℕ → List Device → List Device
+with_forbid n leaf = changed_at n (λ device. record device { forbid = device.forbid ++ leaf ∷ [] })
+
+-- `rule D max LISTPATH N`, behind the word `max`
+abbrev pub max_words : Declared → List ℕ → Option (List ℕ × List ℕ) → Result Declared Rule
+max_words d name None = Err rule.Line
+max_words d name (Some words) =
+    or_rule (number_in words.1) rule.Line (λ count.
+    on_ok (list_path_of (schema_named d.schemas d.devices name) (is_long_name name) words.0) (λ path.
+    or_rule (place_of d.names name) rule.Unknown (λ n.
+    Ok (record d { devices = with_max n (path, count) d.devices }))))
+
+unfoldable pub after_max : Declared → List ℕ → List ℕ → Result Declared Rule
+after_max d name rest = max_words d name (cut_at 32 rest)
+
+-- `rule D forbid PATH = VALUE`, behind the word `forbid`
+unfoldable pub after_forbid : Declared → List ℕ → List ℕ → Result Declared Rule
+after_forbid d name rest =
+    on_ok (forbidden_of (schema_named d.schemas d.devices name) (is_long_name name) rest) (λ leaf.
+    or_rule (place_of d.names name) rule.Unknown (λ n.
+    Ok (record d { devices = with_forbid n leaf d.devices })))
+
+-- a rule of the device of this name, by its kind
+abbrev pub rule_kind : Declared → List ℕ → Option (List ℕ × List ℕ) → Result Declared Rule
+rule_kind d name None = Err rule.Line
+rule_kind d name (Some words) =
+    if is_text words.0 (codes "max") then after_max d name words.1 else
+    if is_text words.0 (codes "forbid") then after_forbid d name words.1 else Err rule.Line
+
+abbrev pub rule_line : Declared → Option (List ℕ × List ℕ) → Result Declared Rule
+rule_line d None = Err rule.Line
+rule_line d (Some words) =
+    checked ((not (is_identifier words.0), rule.Line) ∷ []) (rule_kind d words.0 (cut_at 32 words.1))
+
+-- `rule D max ..` and `rule D forbid ..`
+unfoldable pub after_rule : Declared → List ℕ → Result Declared Rule
+after_rule d rest = rule_line d (cut_at 32 rest)
+
+-- `data ITEM`
+unfoldable pub after_data : Declared → List ℕ → Result Declared Rule
+after_data d rest =
+    on_ok (put_of true d.data_schema false rest) (λ put. Ok (record d { «data» = d.data ++ put ∷ [] }))
 
 -- a module of this name can't be declared: it is, or is built in
 abbrev pub is_taken : Declared → List ℕ → Bool
@@ -189,7 +257,9 @@ unfoldable pub declaration : Keyword → Declared → List ℕ → List (List �
 declaration keyword.Device d rest later = after_device d rest
 declaration keyword.Datamodel d rest later = after_datamodel d rest
 declaration keyword.Devicetype d rest later = after_devicetype d rest
+declaration keyword.Rule d rest later = after_rule d rest
 declaration keyword.Base d rest later = after_base d rest
+declaration keyword.Data d rest later = after_data d rest
 declaration keyword.Yang d rest later = after_yang d rest later
 declaration _ d rest later = Err rule.Line
 
@@ -222,3 +292,8 @@ declared_at d at line later =
     (in_open_block d (
     checked ((not (is_utf8 (text_of line)), rule.Utf8) ∷ [])
     (if is_skipped (text_of line) then Ok d else after_text d (text_of line) later)))
+
+-- where the declarations end: the opening data is valid, and each device accepts its base
+abbrev pub is_opening : Declared → Bool
+is_opening d =
+    is_none (broken_of d.data_schema (opening_data d.names d.data)) && list_all (accepts_base d.schemas) d.devices

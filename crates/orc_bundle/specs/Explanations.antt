@@ -22,25 +22,34 @@ form_words keyword.Datamodel =
     codes "The schema of the data is declared as `datamodel MODULE ..`, once, before the line `script`."
 form_words keyword.Devicetype =
     codes "A type of devices is declared as `devicetype NAME MODULE ..`, before the line `script`."
+form_words keyword.Rule =
+    codes "A rule of a device is `rule DEVICE max PATH N`, with a list's path without keys at its end, or "
+    ++ codes "`rule DEVICE forbid PATH = VALUE`, before the line `script`."
 form_words keyword.Base =
     codes "An item of a device's base is `base DEVICE PATH` for an entry or `base DEVICE PATH = VALUE` for a "
     ++ codes "leaf, before the line `script`."
+form_words keyword.Data =
+    codes "An item of the opening data is `data PATH` for an entry or `data PATH = VALUE` for a leaf, before "
+    ++ codes "the line `script`; below that line the step `data` has nothing behind that word, and stands not "
+    ++ codes "within a call."
 form_words keyword.Yang =
     codes "A module is the line `yang N` and the N lines below it, before the line `script`."
 form_words keyword.Script =
     codes "The line `script` ends the declarations, once, and has nothing behind that word."
 form_words keyword.Show =
     codes "The step `show DEVICE` stands below the line `script`, and not within a call."
-form_words keyword.Json = codes "The step `json DEVICE` is not built yet."
+form_words keyword.Json = codes "The step `json DEVICE` stands below the line `script`, and not within a call."
 form_words keyword.Call =
     codes "A call begins with `call CALLER NUMBER`, below the line `script` and not within another call."
-form_words keyword.Literal =
-    codes "An action `literal NAME` is the only one of its call, and stands right below the line `call`."
+form_words keyword.Literal = codes "An action `literal NAME` stands within a call, which has 64 actions at most."
 form_words keyword.Write =
     codes "A line `write DEVICE PATH` for an entry or `write DEVICE PATH = VALUE` for a leaf stands below the "
     ++ codes "line `literal NAME` of its call."
-form_words keyword.Delete =
-    codes "An action `delete NAME` is the only one of its call, and stands right below the line `call`."
+form_words keyword.Delete = codes "An action `delete NAME` stands within a call, which has 64 actions at most."
+form_words keyword.Set =
+    codes "An action `set PATH` for an entry or `set PATH = VALUE` for a leaf stands within a call, which has "
+    ++ codes "64 actions at most."
+form_words keyword.Unset = codes "An action `unset PATH` stands within a call, which has 64 actions at most."
 form_words keyword.End =
     codes "The line `end` ends a call that has an action, and `settle` is the next line."
 form_words keyword.Settle =
@@ -55,9 +64,9 @@ form_words keyword.History =
     codes "The step `history` has nothing behind that word, and stands below the line `script` and not within "
     ++ codes "a call."
 form_words keyword.Other =
-    codes "A line begins with `device`, `base`, `yang`, `datamodel`, `devicetype` or `script`; below `script` with "
-    ++ codes "`show`, `call`, `settle`, `stop`, `recover` or `history`; within a call with `literal`, `write`, "
-    ++ codes "`delete` or `end`."
+    codes "A line begins with `device`, `base`, `rule`, `data`, `yang`, `datamodel`, `devicetype` or `script`; "
+    ++ codes "below `script` with `show`, `json`, `data`, `call`, `settle`, `stop`, `recover` or `history`; "
+    ++ codes "within a call with `literal`, `write`, `delete`, `set`, `unset` or `end`."
 
 -- words, names and numbers
 abbrev pub word_words : List ℕ
@@ -96,6 +105,8 @@ unknown_words _ =
 -- what is declared once
 unfoldable pub duplicate_words : Keyword → List ℕ
 duplicate_words keyword.Datamodel = codes "The schema of the data is declared once."
+duplicate_words keyword.Literal = codes "A call names each service once."
+duplicate_words keyword.Delete = codes "A call names each service once."
 duplicate_words _ = codes "A name is declared once, and the module `orc` is built in."
 
 -- what a rule allows in a line with this first word
@@ -110,12 +121,15 @@ rule_words rule.Path word =
     codes "A path is written as /if:port[ge-0/0/1]/mtu: in front of its first name stands the module's, and "
     ++ codes "keys stand in brackets; in a key a backslash is \\\\, a closing bracket \\], a space \\s, a tab "
     ++ codes "\\t, a line feed \\n, a carriage return \\r. A path that ends in keys is an entry and has no ` = "
-    ++ codes "VALUE`; any other is a leaf and has one. On a device with a type the names are those of its "
-    ++ codes "modules, an entry has each key of its list, or a leaf-list's value, and a key has no line of its own."
+    ++ codes "VALUE`; any other is a leaf and has one, but in `unset`, which has a path alone. On a device with a "
+    ++ codes "type, and in the data, the names are those of its modules, an entry has each key of its list, or a "
+    ++ codes "leaf-list's value, and a key has no line of its own. No line of the data (`data`, `set` and `unset`) "
+    ++ codes "names /orc:device, nor what stands below it. Behind `max` stands the path of a list or leaf-list, "
+    ++ codes "without keys at its end."
 rule_words rule.Value word =
     codes "In a value a backslash is \\\\, a tab \\t, a line feed \\n and a carriage return \\r. It has no "
-    ++ codes "other control character below U+0020, and no noncharacter. On a device with a type each key and "
-    ++ codes "value is one of its YANG type (RFC 7950 section 9)."
+    ++ codes "other control character below U+0020, and no noncharacter. On a device with a type, and in the data, "
+    ++ codes "each key and value is one of its YANG type (RFC 7950 section 9)."
 rule_words rule.Unknown word = unknown_words word
 rule_words rule.Duplicate word = duplicate_words word
 rule_words rule.Yang word =

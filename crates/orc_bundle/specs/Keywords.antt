@@ -9,7 +9,9 @@ keyword_of word =
     if is_text word (codes "device") then keyword.Device else
     if is_text word (codes "datamodel") then keyword.Datamodel else
     if is_text word (codes "devicetype") then keyword.Devicetype else
+    if is_text word (codes "rule") then keyword.Rule else
     if is_text word (codes "base") then keyword.Base else
+    if is_text word (codes "data") then keyword.Data else
     if is_text word (codes "yang") then keyword.Yang else
     if is_text word (codes "script") then keyword.Script else
     if is_text word (codes "show") then keyword.Show else
@@ -18,6 +20,8 @@ keyword_of word =
     if is_text word (codes "literal") then keyword.Literal else
     if is_text word (codes "write") then keyword.Write else
     if is_text word (codes "delete") then keyword.Delete else
+    if is_text word (codes "set") then keyword.Set else
+    if is_text word (codes "unset") then keyword.Unset else
     if is_text word (codes "end") then keyword.End else
     if is_text word (codes "settle") then keyword.Settle else
     if is_text word (codes "stop") then keyword.Stop else

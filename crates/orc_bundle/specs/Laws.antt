@@ -1,20 +1,26 @@
 -- What lines and bytes mean.
-use Rattle.std.specs.Prelude.{◌≡◌, ◌≤◌, ◌+◌, ℕ, zero, suc, true, false, nat_le, List, [], ◌∷◌, ◌++◌, codes, length, Result, if◌then◌else◌}
+use Rattle.std.specs.Prelude.{◌≡◌, ◌≤◌, ◌+◌, ℕ, zero, suc, Bool, true, false, ◌&&◌, nat_eq, nat_le, List, [], ◌∷◌, ◌++◌, codes, length, map, IsTrue, Result, if◌then◌else◌}
 use Rattle.std.specs.declared.result.Result.TheVariants.{Ok, Err}
-use Rattle.std.specs.List.{concat}
+use Rattle.std.specs.List.{concat, list_all}
+use Rattle.std.specs.Option.{option_map_or}
 use Rattle.std.specs.Str.{is_utf8}
+use Rattle.orc_yang.specs.declared.statement.Stmt.{Stmt}
 use Rattle.orc_schema.specs.Schemas.{SchemaTable, plain_table}
+use Rattle.orc_state.specs.Calls.{is_lawful_name}
 use Rattle.orc_state.specs.declared.declarations.Decls.{Decls}
 use Rattle.orc_state.specs.declared.declarations.Device.{Device}
 use Rattle.orc_state.specs.declared.rule.Rule.{Rule}
-use Rattle.orc_bundle.specs.Bundles.{IsBundle, bundle_of, lacks_header}
-use Rattle.orc_bundle.specs.Declarations.{lines_taken}
+use Rattle.orc_state.specs.declared.rule.Rule.TheVariants as rule
+use Rattle.orc_bundle.specs.Bundles.{IsBundle, bundle_of, is_script, lacks_header}
+use Rattle.orc_bundle.specs.Declarations.{built_in_schema, declared_at, lines_taken, nothing_declared, schema_place}
 use Rattle.orc_bundle.specs.Lines.{is_skipped, lines_of, text_of}
+use Rattle.orc_bundle.specs.Rules.{on_ok}
 use Rattle.orc_bundle.specs.Words.{is_text}
-use Rattle.orc_bundle.specs.Written.{IsSpelling, bundle_text, declared_text}
+use Rattle.orc_bundle.specs.Written.{AreLinesOf, IsSpelling, bundle_text, declared_text}
 use Rattle.orc_bundle.specs.declared.bundle.Bundle.{Bundle}
-use Rattle.orc_bundle.specs.declared.bundle.ScriptStep.{ScriptStep}
 use Rattle.orc_bundle.specs.declared.bundle.TheConstants.{LARGEST_BUNDLE}
+use Rattle.orc_bundle.specs.declared.declarations.Declared.{Declared}
+use Rattle.orc_bundle.specs.declared.declarations.Section.TheVariants as section
 use Rattle.orc_bundle.specs.declared.lines.TheConstants.{LONGEST_LINE}
 
 -- a line is empty or a comment, UTF-8, and not too long
@@ -31,10 +37,9 @@ left_of_block (suc n) (line ∷ later) = left_of_block n later
 left_of_block zero (line ∷ later) =
     if is_text (text_of line) (codes "script") then 0 else left_of_block (lines_taken (text_of line)) later
 
--- what a bundle says, without the bytes that the journal stores; or its fault
-abbrev pub meaning_of : Result Bundle (ℕ × Rule)
-    → Result (List (List ℕ) × List SchemaTable × List Device × List ScriptStep) (ℕ × Rule)
-meaning_of (Ok bundle) = Ok (bundle.decls.names, bundle.decls.schemas, bundle.decls.devices, bundle.steps)
+-- what a bundle says: all that it has, but for the bytes that the journal stores; or its fault
+abbrev pub meaning_of : Result Bundle (ℕ × Rule) → Result Bundle (ℕ × Rule)
+meaning_of (Ok bundle) = Ok (record bundle { decls = record bundle.decls { text = [] } })
 meaning_of (Err fault) = Err fault
 
 -- the same with the fault's line one further down, unless it is one of the first so many
@@ -53,19 +58,72 @@ SkippedLinesChangeNothing =
     → lacks_header (before ++ after) ≡ false → length longer ≤ LARGEST_BUNDLE
     → meaning_of (bundle_of longer) ≡ moved_behind (length before) (meaning_of (bundle_of bytes))
 
--- no type is declared, so that each device is a plain one; the text of a type's modules is kept nowhere
-abbrev pub ArePlain : Decls → Type 0
-ArePlain decls = decls.schemas ≡ plain_table ∷ []
+-- What is declared of modules, types of devices and the data schema.
+pub record Preamble : Type 0 where
+  pub modules : List (List ℕ)
+  pub statements : List Stmt
+  pub has_data : Bool
+  pub types : List (List ℕ)
+  pub schemas : List SchemaTable
+  pub data_schema : SchemaTable
 
--- Each spelling of a bundle of plain devices is read as that bundle: with comments and empty lines put in, and with
--- carriage returns before line feeds.
+-- these are declared, and no device and no data
+abbrev pub preamble_alone : Preamble → Declared
+preamble_alone preamble = record {
+  section = section.Declarations;
+  skip = 0;
+  modules = preamble.modules;
+  statements = preamble.statements;
+  has_data = preamble.has_data;
+  types = preamble.types;
+  schemas = preamble.schemas;
+  names = [];
+  devices = [];
+  data_schema = preamble.data_schema;
+  «data» = [];
+}
+
+-- What lines make of what was declared, none of which is the line `script`; so many bytes stand in front of them.
+abbrev pub declared_by : Declared → ℕ → List (List ℕ) → Result Declared Rule
+declared_by d at [] = Ok d
+declared_by d at (line ∷ later) =
+    on_ok (declared_at d at line later) (λ e.
+    if is_script e.section then Err rule.Line else declared_by e (at + length line) later)
+
+-- Lines with the header among them, no block of which goes on behind them, are read as this preamble.
+pub record IsPreamble (preamble : Preamble) (lines : List (List ℕ)) : Type 0 where
+  pub ended : AreLinesOf (map text_of lines) lines
+  pub whole : left_of_block 0 lines ≡ 0
+  pub header : lacks_header lines ≡ false
+  pub read : declared_by nothing_declared 0 lines ≡ Ok (preamble_alone preamble)
+
+-- a line `device` that names the kind of a device gives it the schema that it has
+abbrev pub is_kind : Preamble → (ℕ → List ℕ) → Device → Bool
+is_kind preamble kind device = is_lawful_name (kind device.schema)
+    && option_map_or (nat_eq device.schema) (schema_place (preamble_alone preamble) (kind device.schema)) false
+
+-- the schemas are those of the preamble, and each device is of a kind that it declares
+pub record FollowPreamble (preamble : Preamble) (kind : ℕ → List ℕ) (decls : Decls) : Type 0 where
+  pub types : decls.schemas ≡ preamble.schemas
+  pub data_model : decls.data_schema ≡ preamble.data_schema
+  pub kinds : IsTrue (list_all (is_kind preamble kind) decls.devices)
+
+-- Each spelling of a bundle is read as that bundle, behind any lines that declare modules, types of devices and the
+-- data schema: with comments and empty lines put in, and with carriage returns before line feeds.
 abbrev pub SpelledIsRead : Type 0
 SpelledIsRead =
-    (bundle : Bundle) (front : List (List ℕ)) (line : List ℕ) (later : List (List ℕ))
-    → IsBundle bundle → ArePlain bundle.decls → IsSpelling bundle front line later
-    → bundle_of (concat (front ++ line ∷ later)) ≡ Ok bundle
+    (bundle : Bundle) (preamble : Preamble) (kind : ℕ → List ℕ) (head front : List (List ℕ)) (line : List ℕ)
+    (later : List (List ℕ))
+    → IsBundle bundle → IsPreamble preamble head → FollowPreamble preamble kind bundle.decls
+    → IsSpelling bundle kind head front line later
+    → bundle_of (concat (head ++ front ++ line ∷ later)) ≡ Ok bundle
 
--- So is its text in the plainest spelling.
+-- No type is declared, so that each device is a plain one, and no `datamodel`: the text of modules is kept nowhere.
+pub record ArePlain (decls : Decls) : Type 0 where
+  pub types : decls.schemas ≡ plain_table ∷ []
+  pub data_model : decls.data_schema ≡ built_in_schema
+
+-- The text of a bundle that declares no modules, in the plainest spelling, is read as that bundle.
 abbrev pub WrittenIsRead : Type 0
 WrittenIsRead =
     (bundle : Bundle) → IsBundle bundle → ArePlain bundle.decls

@@ -1,5 +1,5 @@
 -- What each form of a script's line makes of the steps so far, behind declarations.
-use Rattle.std.specs.Prelude.{ℕ, Bool, true, not, ◌&&◌, ◌||◌, nat_le, List, [], ◌∷◌, ◌++◌, length, Option, Result, if◌then◌else◌}
+use Rattle.std.specs.Prelude.{ℕ, Bool, true, false, not, ◌&&◌, ◌||◌, nat_eq, nat_le, List, [], ◌∷◌, ◌++◌, length, Option, is_some, Result, if◌then◌else◌}
 use Rattle.std.specs.declared.option.Option.TheVariants.{None, Some}
 use Rattle.std.specs.declared.result.Result.TheVariants.{Ok, Err}
 use Rattle.std.specs.List.{list_any}
@@ -8,6 +8,8 @@ use Rattle.orc_path.specs.Alphabet.{is_identifier}
 use Rattle.orc_path.specs.Limits.{is_long_name}
 use Rattle.orc_call.specs.declared.call.Action.{Action}
 use Rattle.orc_call.specs.declared.call.Action.TheVariants as action
+use Rattle.orc_call.specs.declared.call.TheConstants.{MOST_ACTIONS}
+use Rattle.orc_state.specs.Actions.{is_named_by}
 use Rattle.orc_state.specs.Calls.{schema_named}
 use Rattle.orc_state.specs.declared.rule.Rule.{Rule}
 use Rattle.orc_state.specs.declared.rule.Rule.TheVariants as rule
@@ -16,7 +18,7 @@ use Rattle.orc_bundle.specs.Lines.{is_end, is_large, is_settled, is_skipped, tex
 use Rattle.orc_bundle.specs.Words.{cut_at, first_word, number_in}
 use Rattle.orc_bundle.specs.Keywords.{keyword_of}
 use Rattle.orc_bundle.specs.Names.{is_among, place_of, with_name}
-use Rattle.orc_bundle.specs.Items.{put_of}
+use Rattle.orc_bundle.specs.Items.{data_path_of, put_of}
 use Rattle.orc_bundle.specs.declared.declarations.Declared.{Declared}
 use Rattle.orc_bundle.specs.declared.bundle.ScriptStep.{ScriptStep}
 use Rattle.orc_bundle.specs.declared.bundle.ScriptStep.TheVariants as step
@@ -29,7 +31,16 @@ use Rattle.orc_bundle.specs.declared.script.TheConstants.{MOST_CALLERS, MOST_STE
 
 -- no step, and no call is open
 abbrev pub no_steps : Script
-no_steps = record { part = part.Steps; callers = []; steps = []; caller = []; number = 0; name = []; writes = [] }
+no_steps = record {
+  part = part.Steps;
+  callers = [];
+  steps = [];
+  caller = [];
+  number = 0;
+  actions = [];
+  name = [];
+  writes = [];
+}
 
 -- steps of one line
 
@@ -50,7 +61,7 @@ after_show d s rest =
     checked ((not (is_identifier rest), rule.Line) ∷ (is_long_name rest || is_full s, rule.Size) ∷ [])
     (or_rule (place_of d.names rest) rule.Unknown (λ n. Ok (with_step s (step.Show n))))
 
--- `json D`, of a device with a type; it is not built yet
+-- `json D`, of a device with a type
 unfoldable pub after_json : Declared → Script → List ℕ → Result Script Rule
 after_json d s rest =
     checked (
@@ -58,7 +69,7 @@ after_json d s rest =
     ∷ (is_long_name rest || is_full s, rule.Size)
     ∷ ((schema_named d.schemas d.devices rest).plain, rule.Unknown)
     ∷ [])
-    (Err rule.Line)
+    (or_rule (place_of d.names rest) rule.Unknown (λ n. Ok (with_step s (step.Json n))))
 
 -- `stop K B`
 abbrev pub stop_words : Script → Option (List ℕ × List ℕ) → Result Script Rule
@@ -99,23 +110,63 @@ call_words s followed (Some words) =
       callers = with_name s.callers words.0;
       caller = words.0;
       number = number;
+      actions = [];
     })))
 
 unfoldable pub after_call : Script → List ℕ → Bool → Result Script Rule
 after_call s rest followed = call_words s followed (cut_at 32 rest)
 
--- an action of this kind on the service of this name, which the call gets
-abbrev pub begun : Script → Part → List ℕ → Result Script Rule
-begun s kind name =
-    checked ((not (is_identifier name), rule.Line) ∷ (is_long_name name, rule.Size) ∷ [])
-    (Ok (record s { part = kind; name = name; writes = [] }))
+-- no action more can stand in the open call
+abbrev pub is_call_full : Script → Bool
+is_call_full s = nat_le MOST_ACTIONS (length s.actions)
+
+-- what is said of the service that an action more names: the call has room, and names it once
+abbrev pub name_rules : Script → List ℕ → List (Bool × Rule)
+name_rules s name =
+    (not (is_identifier name) || is_call_full s, rule.Line)
+    ∷ (is_long_name name, rule.Size)
+    ∷ (is_named_by s.actions name, rule.Duplicate)
+    ∷ []
+
+-- `literal NAME`, whose writes are to come
+unfoldable pub after_literal : Script → List ℕ → Result Script Rule
+after_literal s name = checked (name_rules s name) (Ok (record s { part = part.Literal; name = name; writes = [] }))
+
+-- an action more
+abbrev pub with_action : Script → Action → Script
+with_action s action = record s { actions = s.actions ++ action ∷ [] }
+
+-- `delete NAME`
+unfoldable pub after_delete : Script → List ℕ → Result Script Rule
+after_delete s name = checked (name_rules s name) (Ok (with_action s (action.Delete name)))
+
+-- `set ITEM`
+unfoldable pub after_set : Declared → Script → List ℕ → Result Script Rule
+after_set d s rest =
+    checked ((is_call_full s, rule.Line) ∷ [])
+    (on_ok (put_of true d.data_schema false rest) (λ put. Ok (with_action s (action.Set put))))
+
+-- `unset PATH`
+unfoldable pub after_unset : Declared → Script → List ℕ → Result Script Rule
+after_unset d s rest =
+    checked ((is_call_full s || is_some (cut_at 32 rest), rule.Line) ∷ [])
+    (on_ok (data_path_of d.data_schema rest) (λ path. Ok (with_action s (action.Unset path))))
+
+-- the open literal gets its writes: the call has it as an action
+abbrev pub with_literal : Script → Script
+with_literal s = record s {
+  part = part.Call;
+  actions = s.actions ++ action.Literal s.name s.writes ∷ [];
+  name = [];
+  writes = [];
+}
 
 -- `write D ITEM`
 abbrev pub write_words : Declared → Script → Option (List ℕ × List ℕ) → Result Script Rule
 write_words d s None = Err rule.Line
 write_words d s (Some words) =
     checked ((not (is_identifier words.0), rule.Line) ∷ [])
-    (on_ok (put_of (schema_named d.schemas d.devices words.0) (is_long_name words.0) words.1) (λ put.
+    (on_ok (put_of false (schema_named d.schemas d.devices words.0) (is_long_name words.0) words.1) (λ put.
     checked ((not (is_among d.names words.0), rule.Unknown) ∷ [])
     (Ok (record s {
       writes = s.writes ++ (record { device = words.0; path = put.path; item = put.item }) ∷ [];
@@ -124,19 +175,19 @@ write_words d s (Some words) =
 unfoldable pub after_write : Declared → Script → List ℕ → Result Script Rule
 after_write d s rest = write_words d s (cut_at 32 rest)
 
--- the call with its action is a step
-abbrev pub with_call : Script → Action → Script
-with_call s action = record s {
+-- the call with its actions is a step
+abbrev pub with_call : Script → Script
+with_call s = record s {
   part = part.Steps;
-  steps = s.steps ++ step.Serve (record { caller = s.caller; number = s.number; actions = action ∷ [] }) ∷ [];
+  steps = s.steps ++ step.Serve (record { caller = s.caller; number = s.number; actions = s.actions }) ∷ [];
   caller = [];
-  name = [];
-  writes = [];
+  actions = [];
 }
 
--- `end`, behind an action, followed or not
-unfoldable pub after_end : Script → Action → Bool → Result Script Rule
-after_end s action followed = checked ((not followed, rule.Line) ∷ []) (Ok (with_call s action))
+-- `end`, behind an action at least, followed or not
+unfoldable pub after_end : Script → Bool → Result Script Rule
+after_end s followed =
+    checked ((nat_eq (length s.actions) 0, rule.Line) ∷ (not followed, rule.Line) ∷ []) (Ok (with_call s))
 
 -- which forms stand where
 
@@ -154,37 +205,38 @@ bare_step keyword.Settle s = after_bare s step.Settle
 bare_step keyword.Stop s = after_bare s step.Stop
 bare_step keyword.Recover s = after_bare s step.Recover
 bare_step keyword.History s = after_bare s step.History
+bare_step keyword.Data s = after_bare s step.Data
 bare_step _ s = Err rule.Line
 
--- the one action of a call: `literal NAME` or `delete NAME`
-unfoldable pub an_action : Keyword → Script → List ℕ → Result Script Rule
-an_action keyword.Literal s rest = begun s part.Literal rest
-an_action keyword.Delete s rest = begun s part.Delete rest
-an_action _ s rest = Err rule.Line
+-- an action of the open call
+unfoldable pub an_action : Keyword → Declared → Script → List ℕ → Result Script Rule
+an_action keyword.Literal d s rest = after_literal s rest
+an_action keyword.Delete d s rest = after_delete s rest
+an_action keyword.Set d s rest = after_set d s rest
+an_action keyword.Unset d s rest = after_unset d s rest
+an_action _ d s rest = Err rule.Line
 
--- a line of a literal
-unfoldable pub a_write : Keyword → Declared → Script → List ℕ → Result Script Rule
-a_write keyword.Write d s rest = after_write d s rest
-a_write _ d s rest = Err rule.Line
+-- a line of a literal, or the action behind it
+unfoldable pub behind_literal : Keyword → Declared → Script → List ℕ → Result Script Rule
+behind_literal keyword.Write d s rest = after_write d s rest
+behind_literal word d s rest = an_action word d (with_literal s) rest
 
--- the line behind an action
-unfoldable pub behind_action : Keyword → Script → Action → Bool → Result Script Rule
-behind_action keyword.End s action followed = after_end s action followed
-behind_action _ s action followed = Err rule.Line
+-- the line that ends the open call
+unfoldable pub call_end : Keyword → Script → Bool → Result Script Rule
+call_end keyword.End s followed = after_end s followed
+call_end _ s followed = Err rule.Line
 
 -- a line of more than one word
 unfoldable pub words_at : Part → Keyword → Declared → Script → List ℕ → Bool → Result Script Rule
 words_at part.Steps word d s rest followed = a_step word d s rest followed
-words_at part.Call word d s rest followed = an_action word s rest
-words_at part.Literal word d s rest followed = a_write word d s rest
-words_at part.Delete word d s rest followed = Err rule.Line
+words_at part.Call word d s rest followed = an_action word d s rest
+words_at part.Literal word d s rest followed = behind_literal word d s rest
 
 -- a line of one word
 unfoldable pub word_at : Part → Keyword → Script → Bool → Result Script Rule
 word_at part.Steps word s followed = bare_step word s
-word_at part.Call word s followed = Err rule.Line
-word_at part.Literal word s followed = behind_action word s (action.Literal s.name s.writes) followed
-word_at part.Delete word s followed = behind_action word s (action.Delete s.name) followed
+word_at part.Call word s followed = call_end word s followed
+word_at part.Literal word s followed = call_end word (with_literal s) followed
 
 -- a line with this first word
 abbrev pub step_words : Declared → Script → Keyword → Bool → Option (List ℕ × List ℕ) → Result Script Rule

@@ -4,16 +4,20 @@ use Rattle.std.specs.Fmt.{decimal}
 use Rattle.std.specs.List.{concat, flat_map, list_all}
 use Rattle.std.specs.Str.{is_utf8}
 use Rattle.orc_path.specs.Items.{item_text}
+use Rattle.orc_path.specs.Steps.{PathStep}
+use Rattle.orc_path.specs.Texts.{path_text}
+use Rattle.orc_path.specs.declared.item.Item.TheVariants.{Leaf}
 use Rattle.orc_call.specs.declared.call.Action.{Action}
-use Rattle.orc_call.specs.declared.call.Action.TheVariants.{Literal, Delete}
+use Rattle.orc_call.specs.declared.call.Action.TheVariants.{Literal, Delete, Set, Unset}
 use Rattle.orc_call.specs.declared.call.DevicePut.{DevicePut}
 use Rattle.orc_call.specs.declared.call.Put.{Put}
-use Rattle.orc_state.specs.States.{action_of, name_of}
+use Rattle.orc_state.specs.States.{name_of}
+use Rattle.orc_state.specs.declared.declarations.Decls.{Decls}
 use Rattle.orc_state.specs.declared.declarations.Device.{Device}
 use Rattle.orc_bundle.specs.Lines.{as_line, is_skipped, text_of}
 use Rattle.orc_bundle.specs.declared.bundle.Bundle.{Bundle}
 use Rattle.orc_bundle.specs.declared.bundle.ScriptStep.{ScriptStep}
-use Rattle.orc_bundle.specs.declared.bundle.ScriptStep.TheVariants.{Show, Serve, Settle, Stop, StopAt, Recover, History}
+use Rattle.orc_bundle.specs.declared.bundle.ScriptStep.TheVariants.{Show, Json, Data, Serve, Settle, Stop, StopAt, Recover, History}
 use Rattle.orc_bundle.specs.declared.bundle.TheConstants.{LARGEST_BUNDLE}
 use Rattle.orc_bundle.specs.declared.lines.TheConstants.{LONGEST_LINE}
 
@@ -23,9 +27,23 @@ use Rattle.orc_bundle.specs.declared.lines.TheConstants.{LONGEST_LINE}
 abbrev pub base_line : List ℕ → Put → List ℕ
 base_line name put = codes "base " ++ name ++ codes " " ++ item_text put.path put.item
 
--- a plain device with its base
-abbrev pub device_lines : Device → List (List ℕ)
-device_lines device = (codes "device " ++ device.name ++ codes " plain") ∷ map (base_line device.name) device.base
+-- a list of a device, and the most entries that it may have
+abbrev pub max_line : List ℕ → List PathStep × ℕ → List ℕ
+max_line name limit = codes "rule " ++ name ++ codes " max " ++ path_text limit.0 ++ codes " " ++ decimal limit.1
+
+-- a leaf of a device, and a text that it may not have
+abbrev pub forbid_line : List ℕ → List PathStep × List ℕ → List ℕ
+forbid_line name leaf = codes "rule " ++ name ++ codes " forbid " ++ item_text leaf.0 (Leaf leaf.1)
+
+-- a device with its base and its rules; `kind` says what its line calls the schema of a place
+abbrev pub device_lines : (ℕ → List ℕ) → Device → List (List ℕ)
+device_lines kind device =
+    (codes "device " ++ device.name ++ codes " " ++ kind device.schema) ∷ map (base_line device.name) device.base
+    ++ map (max_line device.name) device.max ++ map (forbid_line device.name) device.forbid
+
+-- an item of the opening data
+abbrev pub data_line : Put → List ℕ
+data_line put = codes "data " ++ item_text put.path put.item
 
 -- an item that a literal writes on a device
 abbrev pub line_of_write : DevicePut → List ℕ
@@ -35,22 +53,27 @@ line_of_write write = codes "write " ++ write.device ++ codes " " ++ item_text w
 abbrev pub lines_of_action : Action → List (List ℕ)
 lines_of_action (Literal id writes) = (codes "literal " ++ id) ∷ map line_of_write writes
 lines_of_action (Delete id) = (codes "delete " ++ id) ∷ []
+lines_of_action (Set put) = (codes "set " ++ item_text put.path put.item) ∷ []
+lines_of_action (Unset path) = (codes "unset " ++ path_text path) ∷ []
 lines_of_action other = []
 
 -- a step of the script, where these devices are declared
 abbrev pub step_lines : List (List ℕ) → ScriptStep → List (List ℕ)
 step_lines names (Show device) = (codes "show " ++ name_of names device) ∷ []
+step_lines names (Json device) = (codes "json " ++ name_of names device) ∷ []
+step_lines names Data = codes "data" ∷ []
 step_lines names (Serve call) =
     (codes "call " ++ call.caller ++ codes " " ++ decimal call.number)
-    ∷ lines_of_action (action_of call) ++ codes "end" ∷ []
+    ∷ flat_map lines_of_action call.actions ++ codes "end" ∷ []
 step_lines names Settle = codes "settle" ∷ []
 step_lines names Stop = codes "stop" ∷ []
 step_lines names (StopAt count bytes) = (codes "stop " ++ decimal count ++ codes " " ++ decimal bytes) ∷ []
 step_lines names Recover = codes "recover" ∷ []
 step_lines names History = codes "history" ∷ []
 
-abbrev pub declared_lines : List Device → List (List ℕ)
-declared_lines devices = codes "orc 1" ∷ flat_map device_lines devices
+-- the declarations behind those of modules, types and the data schema
+abbrev pub declared_lines : (ℕ → List ℕ) → Decls → List (List ℕ)
+declared_lines kind decls = flat_map (device_lines kind) decls.devices ++ map data_line decls.data
 
 abbrev pub script_lines : List (List ℕ) → List ScriptStep → List (List ℕ)
 script_lines names steps = flat_map (step_lines names) steps
@@ -73,22 +96,29 @@ pub data AreLinesOf : List (List ℕ) → List (List ℕ) → Type 0 where
       → is_skipped text ≡ true → is_utf8 text ≡ true → length text ≤ LONGEST_LINE
       → AreLinesOf texts lines → AreLinesOf texts (line ∷ lines)
 
--- These are the lines of the declarations, the line `script`, and those of the script. The text of the declarations is
--- that of their lines, and all keep the limit of a bundle.
-pub record IsSpelling (bundle : Bundle) (front : List (List ℕ)) (line : List ℕ) (later : List (List ℕ)) : Type 0 where
-  pub declared : AreLinesOf (declared_lines bundle.decls.devices) front
+-- Behind lines that declare modules, types and the data schema, these are the lines of the other declarations, the
+-- line `script`, and those of the script. The text of the declarations is that of their lines, and all keep the limit
+-- of a bundle.
+pub record IsSpelling (bundle : Bundle) (kind : ℕ → List ℕ) (head front : List (List ℕ)) (line : List ℕ)
+    (later : List (List ℕ)) : Type 0 where
+  pub declared : AreLinesOf (declared_lines kind bundle.decls) front
   pub script : IsLineOf (codes "script") line
   pub steps : AreLinesOf (script_lines bundle.decls.names bundle.steps) later
-  pub text : bundle.decls.text ≡ concat front
-  pub small : length (concat (front ++ line ∷ later)) ≤ LARGEST_BUNDLE
+  pub text : bundle.decls.text ≡ concat (head ++ front)
+  pub small : length (concat (head ++ front ++ line ∷ later)) ≤ LARGEST_BUNDLE
 
 -- the plainest spelling
 
 abbrev pub text_of_lines : List (List ℕ) → List ℕ
 text_of_lines texts = flat_map as_line texts
 
+-- where each device is a plain one
+abbrev pub plain_kind : ℕ → List ℕ
+plain_kind place = codes "plain"
+
+-- where no modules are declared
 abbrev pub declared_text : Bundle → List ℕ
-declared_text bundle = text_of_lines (declared_lines bundle.decls.devices)
+declared_text bundle = text_of_lines (codes "orc 1" ∷ declared_lines plain_kind bundle.decls)
 
 abbrev pub bundle_text : Bundle → List ℕ
 bundle_text bundle =

@@ -11,6 +11,10 @@ pub const LARGEST_BUNDLE: usize = 16_777_216;
 pub enum ScriptStep {
     /// Print the tree of a device.
     Show(u32),
+    /// Print the tree of a device with a type, as JSON.
+    Json(u32),
+    /// Print the data.
+    Data,
     /// Submit a call.
     Serve(Call),
     /// Bring all that is in flight to its end. Nothing is, behind a call.

@@ -1,45 +1,110 @@
 //! What each line of a call block makes of the open call.
-ghost use Rattle.std.specs.Prelude.{◌≡◌, ◌≤◌, ◌+◌, ℕ, List, IsTrue, OnOk};
-ghost use Rattle.std.specs.List.{list_all};
-ghost use Rattle.orc_state.specs.Calls.{is_action};
+ghost use Rattle.std.specs.Prelude.{◌≡◌, ◌≤◌, ◌+◌, ℕ, OnOk};
 ghost use Rattle.orc_state.specs.declared.declarations.Decls.{Decls};
 ghost use Rattle.orc_state.specs.declared.lawful.TheConstants.{MOST_WRITES};
-ghost use Rattle.orc_bundle.specs.Bundles.{is_step};
-ghost use Rattle.orc_bundle.specs.Scripts.{a_write, after_end, after_write, an_action, begun, behind_action};
-ghost use Rattle.orc_bundle.specs.inside.Lawful.{AreDeclared, AreSteps, decls_in, has_caller};
+ghost use Rattle.orc_bundle.specs.Scripts.{after_delete, after_end, after_literal, after_set, after_unset, after_write, an_action, behind_literal, call_end, is_call_full, with_literal};
+ghost use Rattle.orc_bundle.specs.inside.Lawful.{AreDeclared, AreSteps, decls_in};
 ghost use Rattle.orc_bundle.specs.inside.Readers.{Takes};
 
 use crate::bundle::ScriptStep;
 use crate::declarations::Declared;
 use crate::fault::{LineFault, breaks};
-use crate::items::read_put;
+use crate::items::{read_data_path, read_put};
 use crate::keyword::Keyword;
 use crate::script::{Part, Script};
 use crate::words::cut;
-use orc_call::{Action, Call, DevicePut};
+use orc_call::{Action, Call, DevicePut, MOST_ACTIONS};
 use orc_path::{is_identifier, is_long_name};
 use orc_schema::Schema;
-use orc_state::Rule;
-use orc_text::{Row, Text};
+use orc_state::{Rule, is_named_by};
+use orc_text::{Memory, Row, Text};
 use std::alloc::Global;
 use std::mem::replace;
 
 impl Script {
-    // An action of this kind on the service of this name.
-    fn begin(&mut self, alloc: Global, part: Part, name: &str) -> Result<(), LineFault>
-        ensures takes { Takes (begun self.old part name.now) self.new result }
+    // Whether no action more can stand in the open call.
+    fn is_call_full(&self) -> bool
+        ensures { result ≡ is_call_full self.now }
+    {
+        self.actions.len() >= MOST_ACTIONS
+    }
+
+    // `literal NAME`, whose writes are to come.
+    #[tactic(auto, unfolding(crate::specs::Scripts::after_literal))]
+    fn take_literal(&mut self, alloc: Global, name: &str) -> Result<(), LineFault>
+        ensures takes { Takes (after_literal self.old name.now) self.new result }
         ensures lawful { (decls : Decls) (most : ℕ) → AreSteps decls most self.old
             → self.old.part ≡ Part.Call → OnOk result (AreSteps decls most self.new) }
     {
-        if !is_identifier(name) {
+        if !is_identifier(name) || self.is_call_full() {
             return breaks(Rule::Line);
         }
         if is_long_name(name) {
             return breaks(Rule::Size);
         }
-        self.part = part;
-        self.name = Text::from_str(alloc, name)?;
+        let name = Text::from_str(alloc, name)?;
+        if is_named_by(self.actions.as_slice(), &name) {
+            return breaks(Rule::Duplicate);
+        }
+        self.part = Part::Literal;
+        self.name = name;
         self.writes = Row::new(alloc);
+        Ok(())
+    }
+
+    // `delete NAME`.
+    #[tactic(auto, unfolding(crate::specs::Scripts::after_delete))]
+    fn take_delete(&mut self, alloc: Global, name: &str) -> Result<(), LineFault>
+        ensures takes { Takes (after_delete self.old name.now) self.new result }
+        ensures lawful { (decls : Decls) (most : ℕ) → AreSteps decls most self.old
+            → self.old.part ≡ Part.Call → OnOk result (AreSteps decls most self.new) }
+    {
+        if !is_identifier(name) || self.is_call_full() {
+            return breaks(Rule::Line);
+        }
+        if is_long_name(name) {
+            return breaks(Rule::Size);
+        }
+        let name = Text::from_str(alloc, name)?;
+        if is_named_by(self.actions.as_slice(), &name) {
+            return breaks(Rule::Duplicate);
+        }
+        self.actions.push(Action::Delete(name))?;
+        Ok(())
+    }
+
+    // `set ITEM`.
+    #[tactic(auto, unfolding(crate::specs::Scripts::after_set))]
+    fn take_set(&mut self, alloc: Global, declared: &Declared, rest: &str) -> Result<(), LineFault>
+        ensures takes { Takes (after_set declared.now self.old rest.now) self.new result }
+        ensures lawful { (most : ℕ) → AreSteps (decls_in declared.now) most self.old
+            → self.old.part ≡ Part.Call → OnOk result (AreSteps (decls_in declared.now) most self.new) }
+    {
+        if self.is_call_full() {
+            return breaks(Rule::Line);
+        }
+        let put = read_put(alloc, true, &declared.data_schema, false, rest)?;
+        self.actions.push(Action::Set(put))?;
+        Ok(())
+    }
+
+    // `unset PATH`.
+    #[tactic(auto, unfolding(crate::specs::Scripts::after_unset))]
+    fn take_unset(
+        &mut self,
+        alloc: Global,
+        declared: &Declared,
+        rest: &str,
+    ) -> Result<(), LineFault>
+        ensures takes { Takes (after_unset declared.now self.old rest.now) self.new result }
+        ensures lawful { (most : ℕ) → AreSteps (decls_in declared.now) most self.old
+            → self.old.part ≡ Part.Call → OnOk result (AreSteps (decls_in declared.now) most self.new) }
+    {
+        if self.is_call_full() || cut(rest).is_some() {
+            return breaks(Rule::Line);
+        }
+        let path = read_data_path(alloc, &declared.data_schema, rest)?;
+        self.actions.push(Action::Unset(path))?;
         Ok(())
     }
 
@@ -65,7 +130,7 @@ impl Script {
         let device = Text::from_str(alloc, name)?;
         let plain = Schema::plain(alloc);
         let schema = declared.schema_named(&device, &plain);
-        let put = read_put(alloc, schema, is_long_name(name), item)?;
+        let put = read_put(alloc, false, schema, is_long_name(name), item)?;
         if !declared.names.has(&device) {
             return breaks(Rule::Unknown);
         }
@@ -77,53 +142,44 @@ impl Script {
         Ok(())
     }
 
-    // `end` behind an action, followed or not.
-    #[tactic(auto, unfolding(crate::specs::Scripts::after_end))]
-    fn take_end(&mut self, alloc: Global, action: Action, followed: bool) -> Result<(), LineFault>
-        ensures takes { Takes (after_end self.old action followed) self.new result }
-        ensures lawful { (decls : Decls) (most : ℕ) → IsTrue (list_all (is_step decls) self.old.steps)
-            → IsTrue (has_caller self.old) → IsTrue (is_action decls action)
-            → OnOk result (AreSteps decls most self.new) }
-    {
-        if !followed {
-            return breaks(Rule::Line);
-        }
-        let mut actions = Row::new(alloc);
-        actions.push(action)?;
-        let caller = replace(&mut self.caller, Text::new(alloc));
-        self.steps.push(ScriptStep::Serve(Call {
-            caller,
-            number: self.number,
-            actions,
-        }))?;
-        self.part = Part::Steps;
-        self.name = Text::new(alloc);
-        self.writes = Row::new(alloc);
-        Ok(())
-    }
-
-    // The action of a call.
+    // An action of the open call.
     #[tactic(auto, unfolding(crate::specs::Scripts::an_action))]
     pub(crate) fn take_action(
         &mut self,
         alloc: Global,
+        declared: &Declared,
         word: Keyword,
         rest: &str,
     ) -> Result<(), LineFault>
-        ensures takes { Takes (an_action word self.old rest.now) self.new result }
-        ensures lawful { (decls : Decls) (most : ℕ) → AreSteps decls most self.old
-            → self.old.part ≡ Part.Call → OnOk result (AreSteps decls most self.new) }
+        ensures takes { Takes (an_action word declared.now self.old rest.now) self.new result }
+        ensures lawful { (most : ℕ) → AreSteps (decls_in declared.now) most self.old
+            → self.old.part ≡ Part.Call → OnOk result (AreSteps (decls_in declared.now) most self.new) }
     {
         match word {
-            Keyword::Literal => self.begin(alloc, Part::Literal, rest),
-            Keyword::Delete => self.begin(alloc, Part::Delete, rest),
+            Keyword::Literal => self.take_literal(alloc, rest),
+            Keyword::Delete => self.take_delete(alloc, rest),
+            Keyword::Set => self.take_set(alloc, declared, rest),
+            Keyword::Unset => self.take_unset(alloc, declared, rest),
             _ => breaks(Rule::Line),
         }
     }
 
-    // A line of more than one word of a literal.
-    #[tactic(auto, unfolding(crate::specs::Scripts::a_write))]
-    pub(crate) fn take_literal_words(
+    // The open literal gets its writes, and becomes an action of the call.
+    pub(crate) fn close_literal(&mut self, alloc: Global) -> Result<(), Memory>
+        ensures closed { OnOk result (self.new ≡ with_literal self.old) }
+        ensures lawful { (decls : Decls) (most : ℕ) → AreSteps decls most self.old
+            → self.old.part ≡ Part.Literal → most ≤ MOST_WRITES → OnOk result (AreSteps decls most self.new) }
+    {
+        let name = replace(&mut self.name, Text::new(alloc));
+        let writes = replace(&mut self.writes, Row::new(alloc));
+        self.actions.push(Action::Literal(name, writes))?;
+        self.part = Part::Call;
+        Ok(())
+    }
+
+    // A line of more than one word of a literal, or the action behind it.
+    #[tactic(auto, unfolding(crate::specs::Scripts::behind_literal))]
+    pub(crate) fn take_behind_literal(
         &mut self,
         alloc: Global,
         declared: &Declared,
@@ -131,57 +187,57 @@ impl Script {
         rest: &str,
     ) -> Result<(), LineFault>
         requires { AreDeclared declared.now }
-        ensures takes { Takes (a_write word declared.now self.old rest.now) self.new result }
+        ensures takes { Takes (behind_literal word declared.now self.old rest.now) self.new result }
         ensures lawful { (most : ℕ) → AreSteps (decls_in declared.now) most self.old → self.old.part ≡ Part.Literal
-            → OnOk result (AreSteps (decls_in declared.now) (most + 1) self.new) }
+            → most ≤ MOST_WRITES → OnOk result (AreSteps (decls_in declared.now) (most + 1) self.new) }
     {
         match word {
             Keyword::Write => self.take_write(alloc, declared, rest),
-            _ => breaks(Rule::Line),
+            _ => {
+                self.close_literal(alloc)?;
+                self.take_action(alloc, declared, word, rest)
+            }
         }
     }
 
-    // A line of one word behind a literal.
-    #[tactic(auto, unfolding(crate::specs::Scripts::behind_action, crate::specs::Scripts::after_end))]
-    pub(crate) fn end_literal(
+    // `end`, followed or not.
+    #[tactic(auto, unfolding(crate::specs::Scripts::after_end))]
+    fn take_end(&mut self, alloc: Global, followed: bool) -> Result<(), LineFault>
+        ensures takes { Takes (after_end self.old followed) self.new result }
+        ensures lawful { (decls : Decls) (most : ℕ) → AreSteps decls most self.old
+            → self.old.part ≡ Part.Call → OnOk result (AreSteps decls most self.new) }
+    {
+        if self.actions.len() == 0 {
+            return breaks(Rule::Line);
+        }
+        if !followed {
+            return breaks(Rule::Line);
+        }
+        let caller = replace(&mut self.caller, Text::new(alloc));
+        let actions = replace(&mut self.actions, Row::new(alloc));
+        self.steps.push(ScriptStep::Serve(Call {
+            caller,
+            number: self.number,
+            actions,
+        }))?;
+        self.part = Part::Steps;
+        Ok(())
+    }
+
+    // The line that ends the open call.
+    #[tactic(auto, unfolding(crate::specs::Scripts::call_end))]
+    pub(crate) fn take_call_end(
         &mut self,
         alloc: Global,
         word: Keyword,
         followed: bool,
     ) -> Result<(), LineFault>
-        ensures takes { Takes
-            (behind_action word self.old (Action.Literal self.old.name self.old.writes) followed)
-            self.new result }
+        ensures takes { Takes (call_end word self.old followed) self.new result }
         ensures lawful { (decls : Decls) (most : ℕ) → AreSteps decls most self.old
-            → self.old.part ≡ Part.Literal → most ≤ MOST_WRITES → OnOk result (AreSteps decls most self.new) }
+            → self.old.part ≡ Part.Call → OnOk result (AreSteps decls most self.new) }
     {
         match word {
-            Keyword::End => {
-                let name = replace(&mut self.name, Text::new(alloc));
-                let writes = replace(&mut self.writes, Row::new(alloc));
-                self.take_end(alloc, Action::Literal(name, writes), followed)
-            }
-            _ => breaks(Rule::Line),
-        }
-    }
-
-    // A line of one word behind a deletion.
-    #[tactic(auto, unfolding(crate::specs::Scripts::behind_action, crate::specs::Scripts::after_end))]
-    pub(crate) fn end_delete(
-        &mut self,
-        alloc: Global,
-        word: Keyword,
-        followed: bool,
-    ) -> Result<(), LineFault>
-        ensures takes { Takes (behind_action word self.old (Action.Delete self.old.name) followed) self.new result }
-        ensures lawful { (decls : Decls) (most : ℕ) → AreSteps decls most self.old
-            → self.old.part ≡ Part.Delete → OnOk result (AreSteps decls most self.new) }
-    {
-        match word {
-            Keyword::End => {
-                let name = replace(&mut self.name, Text::new(alloc));
-                self.take_end(alloc, Action::Delete(name), followed)
-            }
+            Keyword::End => self.take_end(alloc, followed),
             _ => breaks(Rule::Line),
         }
     }

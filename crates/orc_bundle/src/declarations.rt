@@ -2,23 +2,24 @@
 ghost use Rattle.std.specs.Prelude.{◌≡◌, ◌<◌, ◌≤◌, ◌+◌, ◌^◌, IfOk, OnOk, length};
 ghost use Rattle.orc_state.specs.States.{names_of};
 ghost use Rattle.orc_bundle.specs.Lines.{lines_of};
-ghost use Rattle.orc_bundle.specs.Words.{number_in};
-ghost use Rattle.orc_bundle.specs.Declarations.{nothing_declared, with_base, after_header, after_device, after_base, after_yang, after_script, block_size, taken_by, lines_taken, declaration, bare_declaration, after_text, declared_at};
+ghost use Rattle.orc_bundle.specs.Words.{cut_at, number_in};
+ghost use Rattle.orc_bundle.specs.Declarations.{nothing_declared, with_base, with_forbid, with_max, after_header, after_device, after_base, after_data, after_forbid, after_max, after_rule, rule_kind, after_yang, after_script, block_size, taken_by, lines_taken, declaration, bare_declaration, after_text, declared_at};
 ghost use Rattle.orc_bundle.specs.inside.Readers.{Takes};
 ghost use Rattle.orc_bundle.specs.inside.Costs.{bytes_of_first, declared_looks_at};
 ghost use Rattle.orc_bundle.specs.inside.Lawful.{AreDeclared};
 ghost use Rattle.orc_bundle.specs.declared.bundle.TheConstants.{LARGEST_BUNDLE};
 
 use crate::fault::{LineFault, breaks};
-use crate::items::read_put;
+use crate::items::{read_forbidden, read_list_path, read_put};
 use crate::keyword::{Keyword, keyword_of};
 use crate::lines::{block_of, is_large, is_skipped, line_text};
 use crate::module::module_of;
 use crate::names::Names;
+use crate::schemas::built_in_schema;
 use crate::words::{cut, number_of, read_text};
 use orc_call::Put;
 use orc_io::Steps;
-use orc_path::{is_identifier, is_long_name};
+use orc_path::{Path, is_identifier, is_long_name};
 use orc_schema::Schema;
 use orc_state::{Device, MOST_DEVICES, Rule};
 use orc_text::{Memory, Row, Text};
@@ -55,8 +56,11 @@ pub struct Declared {
     pub schemas: Row<Schema>,
     /// The names of the devices.
     pub names: Names,
-    /// The devices with their bases.
+    /// The devices with their bases and their rules.
     pub devices: Row<Device>,
+    /// The schema of the data, and the items of its lines.
+    pub data_schema: Schema,
+    pub data: Row<Put>,
 }
 
 // Adds an item to the base of the device of a number.
@@ -80,10 +84,63 @@ fn add_base(alloc: Global, devices: &mut Row<Device>, n: usize, put: Put) -> Res
     added
 }
 
+// Adds a list's path and the most entries that it may have to the device of a number.
+fn push_max(devices: &mut [Device], n: usize, limit: (Path, u64)) -> Result<(), Memory>
+    ensures { OnOk result (devices.new ≡ with_max n limit devices.old) }
+{
+    if n < devices.len() {
+        devices[n].max.push(limit)
+    } else {
+        Ok(())
+    }
+}
+
+// The same in a row.
+fn add_max(
+    alloc: Global,
+    devices: &mut Row<Device>,
+    n: usize,
+    limit: (Path, u64),
+) -> Result<(), Memory>
+    ensures { OnOk result (devices.new ≡ with_max n limit devices.old) }
+{
+    let mut items = replace(devices, Row::new(alloc)).into_vec();
+    let added = push_max(items.as_mut_slice(), n, limit);
+    *devices = Row::from_vec(items);
+    added
+}
+
+// Adds a leaf's path and a text that it may not have to the device of a number.
+fn push_forbid(devices: &mut [Device], n: usize, leaf: (Path, Text)) -> Result<(), Memory>
+    ensures { OnOk result (devices.new ≡ with_forbid n leaf devices.old) }
+{
+    if n < devices.len() {
+        devices[n].forbid.push(leaf)
+    } else {
+        Ok(())
+    }
+}
+
+// The same in a row.
+fn add_forbid(
+    alloc: Global,
+    devices: &mut Row<Device>,
+    n: usize,
+    leaf: (Path, Text),
+) -> Result<(), Memory>
+    ensures { OnOk result (devices.new ≡ with_forbid n leaf devices.old) }
+{
+    let mut items = replace(devices, Row::new(alloc)).into_vec();
+    let added = push_forbid(items.as_mut_slice(), n, leaf);
+    *devices = Row::from_vec(items);
+    added
+}
+
 impl Declared {
     /// Nothing is declared, and the header is due.
     pub(crate) fn new(alloc: Global) -> Result<Declared, Memory>
-        ensures { IfOk result (λ declared. declared ≡ nothing_declared) }
+        ensures nothing { IfOk result (λ declared. declared ≡ nothing_declared) }
+        ensures lawful { IfOk result AreDeclared }
     {
         let mut schemas = Row::new(alloc);
         schemas.push(Schema::plain(alloc))?;
@@ -97,6 +154,8 @@ impl Declared {
             schemas,
             names: Names::new(alloc),
             devices: Row::new(alloc),
+            data_schema: built_in_schema(alloc)?,
+            data: Row::new(alloc),
         })
     }
 
@@ -144,6 +203,8 @@ impl Declared {
             name,
             schema,
             base: Row::new(alloc),
+            max: Row::new(alloc),
+            forbid: Row::new(alloc),
         })?;
         Ok(())
     }
@@ -164,11 +225,99 @@ impl Declared {
         let is_long = is_long_name(name);
         let name = Text::from_str(alloc, name)?;
         let plain = Schema::plain(alloc);
-        let put = read_put(alloc, self.schema_named(&name, &plain), is_long, item)?;
+        let put = read_put(
+            alloc,
+            false,
+            self.schema_named(&name, &plain),
+            is_long,
+            item,
+        )?;
         let Some(n) = self.names.place(&name) else {
             return breaks(Rule::Unknown);
         };
         add_base(alloc, &mut self.devices, n, put)?;
+        Ok(())
+    }
+
+    // `rule D max LISTPATH N`, behind the word `max`.
+    #[tactic(auto, unfolding(crate::specs::Declarations::after_max))]
+    fn take_max(&mut self, alloc: Global, name: &str, rest: &str) -> Result<(), LineFault>
+        requires { self.old.names ≡ names_of self.old.devices }
+        ensures takes { Takes (after_max self.old name.now rest.now) self.new result }
+        ensures lawful { AreDeclared self.old → OnOk result (AreDeclared self.new) }
+    {
+        let Some((word, count)) = cut(rest) else {
+            return breaks(Rule::Line);
+        };
+        let Some(count) = number_of(count) else {
+            return breaks(Rule::Line);
+        };
+        let is_long = is_long_name(name);
+        let name = Text::from_str(alloc, name)?;
+        let plain = Schema::plain(alloc);
+        let path = read_list_path(alloc, self.schema_named(&name, &plain), is_long, word)?;
+        let Some(n) = self.names.place(&name) else {
+            return breaks(Rule::Unknown);
+        };
+        add_max(alloc, &mut self.devices, n, (path, count))?;
+        Ok(())
+    }
+
+    // `rule D forbid PATH = VALUE`, behind the word `forbid`.
+    #[tactic(auto, unfolding(crate::specs::Declarations::after_forbid))]
+    fn take_forbid(&mut self, alloc: Global, name: &str, rest: &str) -> Result<(), LineFault>
+        requires { self.old.names ≡ names_of self.old.devices }
+        ensures takes { Takes (after_forbid self.old name.now rest.now) self.new result }
+        ensures lawful { AreDeclared self.old → OnOk result (AreDeclared self.new) }
+    {
+        let is_long = is_long_name(name);
+        let name = Text::from_str(alloc, name)?;
+        let plain = Schema::plain(alloc);
+        let leaf = read_forbidden(alloc, self.schema_named(&name, &plain), is_long, rest)?;
+        let Some(n) = self.names.place(&name) else {
+            return breaks(Rule::Unknown);
+        };
+        add_forbid(alloc, &mut self.devices, n, leaf)?;
+        Ok(())
+    }
+
+    // A rule of the device of this name, by its kind.
+    fn take_rule_kind(&mut self, alloc: Global, name: &str, text: &str) -> Result<(), LineFault>
+        requires { self.old.names ≡ names_of self.old.devices }
+        ensures takes { Takes (rule_kind self.old name.now (cut_at 32 text.now)) self.new result }
+        ensures lawful { AreDeclared self.old → OnOk result (AreDeclared self.new) }
+    {
+        match cut(text) {
+            Some(("max", rest)) => self.take_max(alloc, name, rest),
+            Some(("forbid", rest)) => self.take_forbid(alloc, name, rest),
+            _ => breaks(Rule::Line),
+        }
+    }
+
+    // `rule D max ..` and `rule D forbid ..`.
+    #[tactic(auto, unfolding(crate::specs::Declarations::after_rule))]
+    fn take_rule(&mut self, alloc: Global, rest: &str) -> Result<(), LineFault>
+        requires { self.old.names ≡ names_of self.old.devices }
+        ensures takes { Takes (after_rule self.old rest.now) self.new result }
+        ensures lawful { AreDeclared self.old → OnOk result (AreDeclared self.new) }
+    {
+        let Some((name, text)) = cut(rest) else {
+            return breaks(Rule::Line);
+        };
+        if !is_identifier(name) {
+            return breaks(Rule::Line);
+        }
+        self.take_rule_kind(alloc, name, text)
+    }
+
+    // `data ITEM`.
+    #[tactic(auto, unfolding(crate::specs::Declarations::after_data))]
+    fn take_data(&mut self, alloc: Global, rest: &str) -> Result<(), LineFault>
+        ensures takes { Takes (after_data self.old rest.now) self.new result }
+        ensures lawful { AreDeclared self.old → OnOk result (AreDeclared self.new) }
+    {
+        let put = read_put(alloc, true, &self.data_schema, false, rest)?;
+        self.data.push(put)?;
         Ok(())
     }
 
@@ -232,7 +381,9 @@ impl Declared {
             Keyword::Device => self.take_device(alloc, rest),
             Keyword::Datamodel => self.take_datamodel(alloc, rest),
             Keyword::Devicetype => self.take_devicetype(alloc, rest),
+            Keyword::Rule => self.take_rule(alloc, rest),
             Keyword::Base => self.take_base(alloc, rest),
+            Keyword::Data => self.take_data(alloc, rest),
             Keyword::Yang => self.take_yang(alloc, rest, later, steps),
             _ => breaks(Rule::Line),
         }

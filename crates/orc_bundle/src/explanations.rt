@@ -225,6 +225,7 @@ fn duplicate_words(word: Keyword) -> &'static str
 {
     match word {
         Keyword::Datamodel => "The schema of the data is declared once.",
+        Keyword::Literal | Keyword::Delete => "A call names each service once.",
         _ => "A name is declared once, and the module `orc` is built in.",
     }
 }
@@ -245,15 +246,18 @@ fn rule_words(rule: Rule, word: Keyword) -> &'static str
         Rule::Path => {
             "A path is written as /if:port[ge-0/0/1]/mtu: in front of its first name stands the \
              module's, and keys stand in brackets; in a key a backslash is \\\\, a closing bracket \
-             \\], a space \\s, a tab \\t, a line feed \\n, a carriage return \\r. A path that ends in \
-             keys is an entry and has no ` = VALUE`; any other is a leaf and has one. On a device with \
-             a type the names are those of its modules, an entry has each key of its list, or a \
-             leaf-list's value, and a key has no line of its own."
+             \\], a space \\s, a tab \\t, a line feed \\n, a carriage return \\r. A path that ends \
+             in keys is an entry and has no ` = VALUE`; any other is a leaf and has one, but in \
+             `unset`, which has a path alone. On a device with a type, and in the data, the names are \
+             those of its modules, an entry has each key of its list, or a leaf-list's value, and a key \
+             has no line of its own. No line of the data (`data`, `set` and `unset`) names /orc:device, \
+             nor what stands below it. Behind `max` stands the path of a list or leaf-list, without \
+             keys at its end."
         }
         Rule::Value => {
             "In a value a backslash is \\\\, a tab \\t, a line feed \\n and a carriage return \\r. It \
-             has no other control character below U+0020, and no noncharacter. On a device with a type \
-             each key and value is one of its YANG type (RFC 7950 section 9)."
+             has no other control character below U+0020, and no noncharacter. On a device with a type, \
+             and in the data, each key and value is one of its YANG type (RFC 7950 section 9)."
         }
         Rule::Unknown => unknown_words(word),
         Rule::Duplicate => duplicate_words(word),
@@ -288,9 +292,18 @@ fn form_words(word: Keyword) -> &'static str
         Keyword::Devicetype => {
             "A type of devices is declared as `devicetype NAME MODULE ..`, before the line `script`."
         }
+        Keyword::Rule => {
+            "A rule of a device is `rule DEVICE max PATH N`, with a list's path without keys at its \
+             end, or `rule DEVICE forbid PATH = VALUE`, before the line `script`."
+        }
         Keyword::Base => {
             "An item of a device's base is `base DEVICE PATH` for an entry or `base DEVICE PATH = \
              VALUE` for a leaf, before the line `script`."
+        }
+        Keyword::Data => {
+            "An item of the opening data is `data PATH` for an entry or `data PATH = VALUE` for a \
+             leaf, before the line `script`; below that line the step `data` has nothing behind that \
+             word, and stands not within a call."
         }
         Keyword::Yang => {
             "A module is the line `yang N` and the N lines below it, before the line `script`."
@@ -301,23 +314,26 @@ fn form_words(word: Keyword) -> &'static str
         Keyword::Show => {
             "The step `show DEVICE` stands below the line `script`, and not within a call."
         }
-        Keyword::Json => "The step `json DEVICE` is not built yet.",
+        Keyword::Json =>
+            "The step `json DEVICE` stands below the line `script`, and not within a call.",
         Keyword::Call => {
             "A call begins with `call CALLER NUMBER`, below the line `script` and not within another \
              call."
         }
-        Keyword::Literal => {
-            "An action `literal NAME` is the only one of its call, and stands right below the line \
-             `call`."
-        }
+        Keyword::Literal =>
+            "An action `literal NAME` stands within a call, which has 64 actions at most.",
         Keyword::Write => {
             "A line `write DEVICE PATH` for an entry or `write DEVICE PATH = VALUE` for a leaf stands \
              below the line `literal NAME` of its call."
         }
-        Keyword::Delete => {
-            "An action `delete NAME` is the only one of its call, and stands right below the line \
-             `call`."
+        Keyword::Delete =>
+            "An action `delete NAME` stands within a call, which has 64 actions at most.",
+        Keyword::Set => {
+            "An action `set PATH` for an entry or `set PATH = VALUE` for a leaf stands within a \
+             call, which has 64 actions at most."
         }
+        Keyword::Unset =>
+            "An action `unset PATH` stands within a call, which has 64 actions at most.",
         Keyword::End => {
             "The line `end` ends a call that has an action, and `settle` is the next line."
         }
@@ -338,9 +354,10 @@ fn form_words(word: Keyword) -> &'static str
              not within a call."
         }
         Keyword::Other => {
-            "A line begins with `device`, `base`, `yang`, `datamodel`, `devicetype` or `script`; below \
-             `script` with `show`, `call`, `settle`, `stop`, `recover` or `history`; within a call \
-             with `literal`, `write`, `delete` or `end`."
+            "A line begins with `device`, `base`, `rule`, `data`, `yang`, `datamodel`, `devicetype` \
+             or `script`; below `script` with `show`, `json`, `data`, `call`, `settle`, `stop`, \
+             `recover` or `history`; within a call with `literal`, `write`, `delete`, `set`, `unset` \
+             or `end`."
         }
     }
 }

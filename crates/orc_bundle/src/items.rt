@@ -1,19 +1,22 @@
 //! Items and where they stand.
-ghost use Rattle.std.specs.Prelude.{IsTrue, ◌≡◌, [], IfOk, IfSome, MatchOption, None, Some};
+ghost use Rattle.std.specs.Prelude.{IsTrue, ◌≡◌, [], IfOk, IfSome, MatchOption, None, Some, false};
 ghost use Rattle.orc_path.specs.Alphabet.{is_value};
 ghost use Rattle.orc_path.specs.Reading.{path_of};
 ghost use Rattle.orc_path.specs.Values.{value_of};
-ghost use Rattle.orc_state.specs.Calls.{is_put};
+ghost use Rattle.orc_state.specs.Calls.{blank_item, is_data_path, is_forbid_rule, is_item_under, is_kept, is_list_path, is_put};
 ghost use Rattle.orc_bundle.specs.inside.Readers.{Reads};
-ghost use Rattle.orc_bundle.specs.Items.{is_past_path, is_past_value, is_long_item, can_carry, canonical_put, after_mark, entry_of, leaf_of, put_of};
+ghost use Rattle.orc_bundle.specs.Items.{is_past_path, is_past_value, is_long_item, is_barred, can_carry, canonical_put, after_mark, data_path_of, entry_of, forbidden_of, leaf_in, leaf_of, list_path_of, put_of, stored_data_path, stored_list_path};
+ghost use Rattle.orc_schema.specs.Schemas.{SchemaTable};
+ghost use Rattle.orc_typed.specs.Typed.{canonical_path};
 ghost use Rattle.orc_typed.specs.Laws.{has_plain_text};
 
 use crate::fault::{LineFault, breaks};
+use crate::lists::{is_list_path, names_list};
 use crate::words::cut;
 use orc_call::Put;
 use orc_path::{Item, Path, PathFault, is_long_value, read_value, values_are_read};
 use orc_schema::Schema;
-use orc_state::Rule;
+use orc_state::{Rule, is_data_path, is_kept};
 use orc_text::{Memory, Text};
 use orc_typed::{
     canonical_is_typed, canonical_item, canonical_keeps, canonical_path, is_in_schema,
@@ -92,6 +95,7 @@ fn canonical_put(alloc: Global, schema: &Schema, path: &Path, item: &Item) -> Re
     ensures reads { Reads (canonical_put schema.now path.now item.now) result }
     ensures lawful { IsTrue (can_carry schema.now path.now item.now) → IsTrue (has_plain_text item.now)
         → IfOk result (λ put. IsTrue (is_put schema.now put)) }
+    ensures kept { IfOk result (λ put. is_kept put.path ≡ is_kept path.now) }
 {
     canonical_is_typed();
     canonical_keeps();
@@ -110,10 +114,24 @@ fn canonical_put(alloc: Global, schema: &Schema, path: &Path, item: &Item) -> Re
     })
 }
 
-// An entry.
-fn read_entry(alloc: Global, schema: &Schema, is_long: bool, word: &str) -> Result<Put, LineFault>
-    ensures reads { Reads (entry_of schema.now is_long word.now) result }
+// Whether no line may name the path, where it is one of the data.
+fn is_barred(of_data: bool, path: &Path) -> bool
+    ensures { result ≡ is_barred of_data path.now }
+{
+    of_data && is_kept(path)
+}
+
+// An entry, of the data or of a device.
+fn read_entry(
+    alloc: Global,
+    of_data: bool,
+    schema: &Schema,
+    is_long: bool,
+    word: &str,
+) -> Result<Put, LineFault>
+    ensures reads { Reads (entry_of of_data schema.now is_long word.now) result }
     ensures lawful { IfOk result (λ put. IsTrue (is_put schema.now put)) }
+    ensures free { IfOk result (λ put. is_barred of_data put.path ≡ false) }
 {
     if word.is_empty() {
         return breaks(Rule::Line);
@@ -125,7 +143,7 @@ fn read_entry(alloc: Global, schema: &Schema, is_long: bool, word: &str) -> Resu
     let Some(path) = path else {
         return breaks(Rule::Path);
     };
-    if !can_carry(schema, &path, &Item::Entry) {
+    if is_barred(of_data, &path) || !can_carry(schema, &path, &Item::Entry) {
         return breaks(Rule::Path);
     }
     canonical_put(alloc, schema, &path, &Item::Entry)
@@ -134,13 +152,15 @@ fn read_entry(alloc: Global, schema: &Schema, is_long: bool, word: &str) -> Resu
 // A leaf and the text of its value.
 fn read_leaf(
     alloc: Global,
+    of_data: bool,
     schema: &Schema,
     is_long: bool,
     word: &str,
     text: &str,
 ) -> Result<Put, LineFault>
-    ensures reads { Reads (leaf_of schema.now is_long word.now text.now) result }
+    ensures reads { Reads (leaf_of of_data schema.now is_long word.now text.now) result }
     ensures lawful { IfOk result (λ put. IsTrue (is_put schema.now put)) }
+    ensures free { IfOk result (λ put. is_barred of_data put.path ≡ false) }
 {
     if word.is_empty() {
         return breaks(Rule::Line);
@@ -153,7 +173,7 @@ fn read_leaf(
     let Some(path) = path else {
         return breaks(Rule::Path);
     };
-    if !can_carry(schema, &path, &Item::Leaf(Text::new(alloc))) {
+    if is_barred(of_data, &path) || !can_carry(schema, &path, &Item::Leaf(Text::new(alloc))) {
         return breaks(Rule::Path);
     }
     let Some(value) = value else {
@@ -163,21 +183,144 @@ fn read_leaf(
 }
 
 /// An item line: a path, and behind it ` = ` and a value or nothing. It is stored in canonical form,
-/// as the schema has it. A name in front of it may be too long.
+/// as the schema has it. A name in front of it may be too long. Of the data, a line may not name what
+/// the orchestrator keeps itself.
 pub(crate) fn read_put(
     alloc: Global,
+    of_data: bool,
     schema: &Schema,
     is_long: bool,
     text: &str,
 ) -> Result<Put, LineFault>
-    ensures reads { Reads (put_of schema.now is_long text.now) result }
+    ensures reads { Reads (put_of of_data schema.now is_long text.now) result }
     ensures lawful { IfOk result (λ put. IsTrue (is_put schema.now put)) }
+    ensures free { IfOk result (λ put. is_barred of_data put.path ≡ false) }
 {
     let Some((word, rest)) = cut(text) else {
-        return read_entry(alloc, schema, is_long, text);
+        return read_entry(alloc, of_data, schema, is_long, text);
     };
     match after_mark(rest) {
-        Some(value) => read_leaf(alloc, schema, is_long, word, value),
+        Some(value) => read_leaf(alloc, of_data, schema, is_long, word, value),
         None => breaks(Rule::Line),
     }
+}
+
+// The item that the path can carry, but for a leaf's text.
+fn blank_item(alloc: Global, path: &Path) -> Item
+    ensures { result ≡ blank_item path.now }
+{
+    if path.ends_in_keys() {
+        return Item::Entry;
+    }
+    Item::Leaf(Text::new(alloc))
+}
+
+// A path of the data, in canonical form.
+fn stored_data_path(alloc: Global, schema: &Schema, path: &Path) -> Result<Path, LineFault>
+    ensures reads { Reads (stored_data_path schema.now (canonical_path schema.now path.now)) result }
+    ensures lawful { IfOk result (λ own. IsTrue (is_data_path schema.now own)) }
+{
+    let Some(own) = canonical_path(alloc, schema, path)? else {
+        return breaks(Rule::Value);
+    };
+    if !is_data_path(alloc, schema, &own) {
+        return breaks(Rule::Size);
+    }
+    Ok(own)
+}
+
+/// The path of a line `unset`: one of the data that can carry an item. It is stored in canonical form.
+pub(crate) fn read_data_path(alloc: Global, schema: &Schema, word: &str) -> Result<Path, LineFault>
+    ensures reads { Reads (data_path_of schema.now word.now) result }
+    ensures lawful { IfOk result (λ path. IsTrue (is_data_path schema.now path)) }
+{
+    if word.is_empty() {
+        return breaks(Rule::Line);
+    }
+    let path = read_path(alloc, word)?;
+    if is_past_path(&path) {
+        return breaks(Rule::Size);
+    }
+    let Some(path) = path else {
+        return breaks(Rule::Path);
+    };
+    if is_kept(&path) || !can_carry(schema, &path, &blank_item(alloc, &path)) {
+        return breaks(Rule::Path);
+    }
+    stored_data_path(alloc, schema, &path)
+}
+
+// The path of a list, in canonical form.
+fn stored_list_path(alloc: Global, schema: &Schema, path: &Path) -> Result<Path, LineFault>
+    ensures reads { Reads (stored_list_path schema.now (canonical_path schema.now path.now)) result }
+    ensures lawful { IfOk result (λ own. IsTrue (is_list_path schema.now own)) }
+{
+    let Some(own) = canonical_path(alloc, schema, path)? else {
+        return breaks(Rule::Value);
+    };
+    if !is_list_path(schema, &own) {
+        return breaks(Rule::Size);
+    }
+    Ok(own)
+}
+
+/// The path of a list or a leaf-list, in a line `rule D max`. It is stored in canonical form. A name
+/// in front of it may be too long.
+pub(crate) fn read_list_path(
+    alloc: Global,
+    schema: &Schema,
+    is_long: bool,
+    word: &str,
+) -> Result<Path, LineFault>
+    ensures reads { Reads (list_path_of schema.now is_long word.now) result }
+    ensures lawful { IfOk result (λ path. IsTrue (is_list_path schema.now path)) }
+{
+    if word.is_empty() {
+        return breaks(Rule::Line);
+    }
+    let path = read_path(alloc, word)?;
+    if is_long || is_past_path(&path) {
+        return breaks(Rule::Size);
+    }
+    let Some(path) = path else {
+        return breaks(Rule::Path);
+    };
+    if !names_list(schema, &path) {
+        return breaks(Rule::Path);
+    }
+    stored_list_path(alloc, schema, &path)
+}
+
+// The path of a leaf, and its text.
+fn leaf_in(path: Path, item: Item) -> Result<(Path, Text), LineFault>
+    ensures reads { Reads (leaf_in path item) result }
+    ensures lawful { (schema : SchemaTable) → IsTrue (is_item_under schema path item)
+        → IfOk result (λ leaf. IsTrue (is_forbid_rule schema leaf)) }
+{
+    match item {
+        Item::Entry => breaks(Rule::Line),
+        Item::Leaf(text) => Ok((path, text)),
+    }
+}
+
+/// The leaf of a line `rule D forbid`, and the text that it may not have. A name in front of it may
+/// be too long.
+#[tactic(auto, unfolding(crate::specs::Items::forbidden_of))]
+pub(crate) fn read_forbidden(
+    alloc: Global,
+    schema: &Schema,
+    is_long: bool,
+    text: &str,
+) -> Result<(Path, Text), LineFault>
+    ensures reads { Reads (forbidden_of schema.now is_long text.now) result }
+    ensures lawful { IfOk result (λ leaf. IsTrue (is_forbid_rule schema.now leaf)) }
+{
+    let Some((word, rest)) = cut(text) else {
+        return breaks(Rule::Line);
+    };
+    let Some(value) = after_mark(rest) else {
+        return breaks(Rule::Line);
+    };
+    let put = read_leaf(alloc, false, schema, is_long, word, value)?;
+    leaf_in(put.path, put.item)
 }

@@ -7,12 +7,12 @@ pub fn skipped_lines_change_nothing()
     ensures { SkippedLinesChangeNothing }
 {}
 
-/// The text of a bundle is read as that bundle.
+/// The text of a bundle that declares no modules is read as that bundle.
 pub fn written_is_read()
     ensures { WrittenIsRead }
 {}
 
-/// Each spelling of a bundle is read as that bundle.
+/// Each spelling of a bundle that declares no modules is read as that bundle.
 pub fn spelled_is_read()
     ensures { SpelledIsRead }
 {}

@@ -5,11 +5,11 @@ ghost use Rattle.orc_state.specs.States.{is_same_text};
 ghost use Rattle.orc_bundle.specs.Lines.{lines_of, seen};
 ghost use Rattle.orc_bundle.specs.Bundles.{IsBundle, bundle_in, bundle_of, declarations_of, header_rule, is_step, script_steps};
 ghost use Rattle.orc_bundle.specs.Answers.{Gives};
-ghost use Rattle.orc_bundle.specs.Declarations.{nothing_declared};
+ghost use Rattle.orc_bundle.specs.Declarations.{is_opening, nothing_declared};
 ghost use Rattle.orc_bundle.specs.Scripts.{no_steps};
 ghost use Rattle.orc_bundle.specs.inside.Costs.{bytes_to, is_kept};
 ghost use Rattle.orc_bundle.specs.inside.Lawful.{AreDeclared, IsWithin, decls_in, left_of};
-ghost use Rattle.orc_bundle.specs.inside.Readers.{Declares, in_line};
+ghost use Rattle.orc_bundle.specs.inside.Readers.{Declares, IsOpened, in_line};
 ghost use Rattle.orc_bundle.specs.declared.bundle.TheConstants.{LARGEST_BUNDLE};
 
 use crate::bundle::{Bundle, ScriptStep};
@@ -17,6 +17,7 @@ use crate::declarations::{Declared, Section};
 use crate::fault::LineFault;
 use crate::lines::{first_line, is_large, lacks_header, line_text, seen};
 use crate::names::Names;
+use crate::opening::is_opening;
 use crate::script::Script;
 use crate::words::read_text;
 use orc_io::Steps;
@@ -48,6 +49,21 @@ fn in_line(number: u64, fault: LineFault) -> BundleFault
     }
 }
 
+// That the opening data is valid and each device accepts its base, where the declarations end in the
+// line of this number.
+fn check_opening(alloc: Global, declared: &Declared, number: u64) -> Result<(), BundleFault>
+    requires { AreDeclared declared.now }
+    ensures { IsOpened declared.now number result }
+{
+    if is_opening(alloc, declared)? {
+        return Ok(());
+    }
+    Err(BundleFault::At {
+        line: number,
+        rule: Rule::Opening,
+    })
+}
+
 // Reads the declarations.
 fn read_declarations<'a, L: Ledger>(
     alloc: Global,
@@ -55,9 +71,11 @@ fn read_declarations<'a, L: Ledger>(
     declared: &mut Declared,
     steps: &mut Steps<L>,
 ) -> Result<Behind<'a>, BundleFault>
-    requires { declared.old ≡ nothing_declared }
+    requires nothing { declared.old ≡ nothing_declared }
+    requires lawful { AreDeclared declared.old }
     ensures answer { Declares (declarations_of declared.old 0 0 (lines_of bytes.now)) declared.new result }
     ensures lawful { OnOk result (AreDeclared declared.new) }
+    ensures opened { OnOk result (IsTrue (is_opening declared.new)) }
     ensures within { IfOk result (IsWithin bytes.now) }
     ensures cost { steps.new + bytes_to is_kept (lines_of bytes.now) + 2 * left_of result
         ≤ steps.old + 2 * length bytes.now }
@@ -76,6 +94,7 @@ fn read_declarations<'a, L: Ledger>(
         at += line.len() as u64;
         rest = later;
         if declared.section == Section::Script {
+            check_opening(alloc, declared, number)?;
             return Ok(Behind {
                 size: begin as usize,
                 at,
@@ -84,6 +103,7 @@ fn read_declarations<'a, L: Ledger>(
             });
         }
     }
+    check_opening(alloc, declared, number + 1)?;
     Ok(Behind {
         size: bytes.len(),
         at,
@@ -201,6 +221,8 @@ fn read_seen<L: Ledger>(
             names,
             schemas: declared.schemas,
             devices: declared.devices,
+            data_schema: declared.data_schema,
+            data: declared.data,
         },
         steps: script,
     })
@@ -239,7 +261,8 @@ pub fn read_bundle(alloc: Global, bytes: &[u8]) -> Result<Bundle, BundleFault>
 /// feed. What else is done with a line looks at that line alone, or at the block behind it where it
 /// is `yang N`, and isn't counted; names are looked up by their hashes, and the declarations' bytes
 /// are copied once. Nor is counted what the schema of modules costs, since groupings that use one
-/// another double its nodes with each statement, nor what a look-up in it costs.
+/// another double its nodes with each statement, nor what a look-up in it costs, nor where the
+/// declarations end whether the opening data and each base are valid.
 pub fn read_counted<L: Ledger>(
     alloc: Global,
     bytes: &[u8],

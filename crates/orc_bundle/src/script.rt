@@ -19,7 +19,7 @@ use crate::keyword::{Keyword, keyword_of};
 use crate::lines::{ends_later, is_large, is_settled, is_skipped, line_text};
 use crate::names::Names;
 use crate::words::{cut, first_word, number_of, read_text};
-use orc_call::DevicePut;
+use orc_call::{Action, DevicePut};
 use orc_io::Steps;
 use orc_path::{is_identifier, is_long_name};
 use orc_schema::Schema;
@@ -39,12 +39,10 @@ pub const MOST_STEPS: usize = 100_000;
 pub enum Part {
     /// Steps: no call is open.
     Steps,
-    /// The action of the open call.
+    /// An action of the open call, or behind one the line that ends the call.
     Call,
-    /// Writes of the open call's literal, or the line that ends the call.
+    /// A write of the open call's literal, or what may stand behind an action.
     Literal,
-    /// Behind the open call's deletion, the line that ends the call.
-    Delete,
 }
 
 /// The steps so far, with the callers that they name, and the parts of the open call.
@@ -55,7 +53,9 @@ pub struct Script {
     pub steps: Row<ScriptStep>,
     pub caller: Text,
     pub number: u64,
-    /// The service that the action names.
+    /// The actions of the open call so far, but for a literal whose writes may go on.
+    pub actions: Row<Action>,
+    /// That literal.
     pub name: Text,
     pub writes: Row<DevicePut>,
 }
@@ -84,6 +84,7 @@ impl Script {
             steps: Row::new(alloc),
             caller: Text::new(alloc),
             number: 0,
+            actions: Row::new(alloc),
             name: Text::new(alloc),
             writes: Row::new(alloc),
         }
@@ -131,7 +132,7 @@ impl Script {
         Ok(())
     }
 
-    // `json D`, which is not built yet.
+    // `json D`.
     #[tactic(auto, unfolding(crate::specs::Scripts::after_json))]
     fn take_json(&mut self, alloc: Global, declared: &Declared, rest: &str) -> Result<(), LineFault>
         requires { AreDeclared declared.now }
@@ -150,7 +151,11 @@ impl Script {
         if declared.schema_named(&name, &plain).is_plain() {
             return breaks(Rule::Unknown);
         }
-        breaks(Rule::Line)
+        let Some(n) = declared.names.place(&name) else {
+            return breaks(Rule::Unknown);
+        };
+        self.steps.push(ScriptStep::Json(n as u32))?;
+        Ok(())
     }
 
     // `stop K B`.
@@ -206,6 +211,7 @@ impl Script {
         self.part = Part::Call;
         self.caller = name;
         self.number = number;
+        self.actions = Row::new(alloc);
         Ok(())
     }
 
@@ -245,6 +251,7 @@ impl Script {
             Keyword::Stop => self.take_bare(ScriptStep::Stop),
             Keyword::Recover => self.take_bare(ScriptStep::Recover),
             Keyword::History => self.take_bare(ScriptStep::History),
+            Keyword::Data => self.take_bare(ScriptStep::Data),
             _ => breaks(Rule::Line),
         }
     }
@@ -263,14 +270,13 @@ impl Script {
         ensures takes { Takes
             (words_at self.old.part word declared.now self.old rest.now followed)
             self.new result }
-        ensures lawful { (most : ℕ) → AreSteps (decls_in declared.now) most self.old
+        ensures lawful { (most : ℕ) → AreSteps (decls_in declared.now) most self.old → most ≤ MOST_WRITES
             → OnOk result (AreSteps (decls_in declared.now) (most + 1) self.new) }
     {
         match self.part {
             Part::Steps => self.take_step(alloc, declared, word, rest, followed),
-            Part::Call => self.take_action(alloc, word, rest),
-            Part::Literal => self.take_literal_words(alloc, declared, word, rest),
-            Part::Delete => breaks(Rule::Line),
+            Part::Call => self.take_action(alloc, declared, word, rest),
+            Part::Literal => self.take_behind_literal(alloc, declared, word, rest),
         }
     }
 
@@ -283,9 +289,11 @@ impl Script {
     {
         match self.part {
             Part::Steps => self.take_bare_step(word),
-            Part::Call => breaks(Rule::Line),
-            Part::Literal => self.end_literal(alloc, word, followed),
-            Part::Delete => self.end_delete(alloc, word, followed),
+            Part::Call => self.take_call_end(alloc, word, followed),
+            Part::Literal => {
+                self.close_literal(alloc)?;
+                self.take_call_end(alloc, word, followed)
+            }
         }
     }
 

@@ -3,6 +3,7 @@ ghost use Rattle.std.specs.Prelude.{◌≡◌, ◌++◌, IfOk, OnOk, Some, false
 ghost use Rattle.std.specs.List.{list_all, list_any};
 ghost use Rattle.std.specs.Option.{option_copied};
 ghost use Rattle.orc_schema.specs.Schemas.{plain_table};
+ghost use Rattle.orc_schema.specs.Sound.{IsSound};
 ghost use Rattle.orc_path.specs.Alphabet.{is_identifier};
 ghost use Rattle.orc_path.specs.Limits.{is_long_name};
 ghost use Rattle.orc_state.specs.Calls.{schema_in, schema_named};
@@ -120,6 +121,7 @@ impl Declared {
     ) -> Result<Schema, LineFault>
         ensures reads { Reads (schema_words self.now words.now names.now is_double) result }
         ensures new { OnOk result (is_double ≡ false) }
+        ensures sound { IfOk result IsSound }
     {
         if !are_identifiers(words) {
             return breaks(Rule::Line);
@@ -149,8 +151,9 @@ impl Declared {
         let words = words(alloc, rest)?;
         let names = with_name(alloc, &words, "orc")?;
         let is_double = self.has_data;
-        self.schema_words(alloc, words.as_slice(), names.as_slice(), is_double)?;
+        self.data_schema = self.schema_words(alloc, words.as_slice(), names.as_slice(), is_double)?;
         self.has_data = true;
+        self.data = Row::new(alloc);
         Ok(())
     }
 

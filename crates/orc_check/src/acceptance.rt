@@ -1,15 +1,17 @@
 //! Which configurations a device accepts.
-ghost use Rattle.std.specs.Prelude.{◌≡◌, not};
+ghost use Rattle.std.specs.Prelude.{◌≡◌, not, IfOk};
 ghost use Rattle.std.specs.List.{list_all};
 ghost use Rattle.std.specs.Option.{option_copied};
 ghost use Rattle.orc_check.specs.Acceptance.{keeps_max, has_text, keeps_forbid, accepts};
 
 use crate::counting::has_more;
-use crate::validity::broken;
+use crate::fault::CheckFault;
+use crate::validity::{broken, valid};
 use orc_path::{Item, Path};
 use orc_schema::Schema;
-use orc_text::{Row, Text};
+use orc_text::{Memory, Row, Text};
 use orc_tree::Tree;
+use std::alloc::Global;
 
 /// What a device accepts: configurations that are valid under its schema, where none of the lists of
 /// `max` has more entries than its number, and no leaf of `forbid` has its text.
@@ -61,7 +63,26 @@ fn keep_forbid(tree: &Tree, rules: &[(Path, Text)]) -> bool
     rules.iter().all(|rule| keeps_forbid(tree, rule))
 }
 
-/// Whether a device accepts the configuration. It takes no memory.
+/// Whether a device of this schema and these rules accepts the configuration. It takes memory as `valid`
+/// does, and costs as much.
+pub fn accepts_under(
+    alloc: Global,
+    schema: &Schema,
+    max: &[(Path, u64)],
+    forbid: &[(Path, Text)],
+    tree: &Tree,
+) -> Result<bool, Memory>
+    ensures { IfOk result (λ answer. answer
+        ≡ accepts (record { schema = schema.now; max = max.now; forbid = forbid.now }) tree.now) }
+{
+    match valid(alloc, schema, tree) {
+        Ok(()) => Ok(keep_max(tree, max) && keep_forbid(tree, forbid)),
+        Err(CheckFault::Broken { .. }) => Ok(false),
+        Err(CheckFault::Memory) => Err(Memory),
+    }
+}
+
+/// Whether a device accepts the configuration. It takes no memory, and costs as `broken` does.
 pub fn accepts(accept: &Accept, tree: &Tree) -> bool
     ensures { result ≡ accepts accept.now tree.now }
 {

@@ -24,7 +24,7 @@ mod sought;
 mod spot;
 mod validity;
 
-pub use acceptance::{Accept, accepts};
+pub use acceptance::{Accept, accepts, accepts_under};
 pub use fault::CheckFault;
 pub use laws::{least_breach_is_least, valid_is_typed};
 pub use rules::{KEY, KIND, LEAFREF, MANDATORY, MAX_ELEMENTS, MIN_ELEMENTS};

@@ -9,25 +9,29 @@
 //! - `source fails N`, `sink fails N`: its source or sink fails at the N-th call
 //! - `disk fails KIND N`: its disk fails at the N-th `len`, `read`, `write` or `sync`
 //! - `disk holds NAME`, `disk room N`: its disk holds these bytes, or has this room
+//! - `disk is a file`: its disk is a real file, made for it in the folder that the program is started in
 //! - `run BUNDLE WORD .. -> PRINTED STATUS FAULT`: runs the bundle over a disk of its own; it must
 //!   print this text, or `nothing`, and end with this status and, where that isn't 0, this fault
-//! - `again BUNDLE ..`: the same over the disk that the run before left
+//! - `again BUNDLE ..`: the same over the disk that the run before left, where a file is opened anew
 //! - `says WORDS`: so the fault of the run before, which is one of its bundle, is explained
 //! - `refused TEXT`: each line of the text is a row `LINE RULE BUNDLE`, as `row` says
 //! - `taken TEXT`: each is a row `DEVICES STEPS BUNDLE`
 //! - `left NAME`: the disk of the run before now holds these bytes
 
 use crate::block::{bytes_of, filled, spelled, text_of};
+use crate::file::{journal_bytes, journal_made, journal_opened, remove_journal};
 use crate::row::{Rows, ending};
 use crate::run::{Ran, Streams, run};
 use crate::settings::Settings;
 use orc_bundle::explanation;
-use orc_disk::MemDisk;
+use orc_disk::{Disk, FileDisk, MemDisk};
 use orc_run::Stop;
 use orc_text::{Memory, Text};
 use std::alloc::{AllocError, Global};
+use std::fs::File;
 use std::io;
 use std::mem::replace;
+use std::rt::Files;
 
 // The choice of the image that each write outlives, which is what the disk holds.
 const CONTENT: u64 = 3;
@@ -37,9 +41,18 @@ const CONTENT: u64 = 3;
 pub(crate) struct Case<'a> {
     alloc: Global,
     text: &'a str,
-    disk: Option<MemDisk>,
+    left: Left,
+    has_file: bool,
     said: Option<Text>,
     runs: u64,
+}
+
+// What the run before left.
+#[derive(Drop)]
+enum Left {
+    Nothing,
+    Memory(MemDisk),
+    File,
 }
 
 // What a line came to.
@@ -59,7 +72,8 @@ impl<'a> Case<'a> {
         Case {
             alloc,
             text,
-            disk: None,
+            left: Left::Nothing,
+            has_file: false,
             said: None,
             runs: 0,
         }
@@ -71,82 +85,138 @@ impl<'a> Case<'a> {
     }
 
     /// Takes each line, prints those at which something else was so, and says whether there was none.
-    pub(crate) fn run_all<R: Print>(&mut self, rt: &R, name: &str) -> io::Result<bool> {
+    pub(crate) fn run_all<R: Files<File = File> + Print + AllocGlobal>(
+        &mut self,
+        rt: &R,
+        name: &str,
+    ) -> io::Result<bool> {
         let mut good = true;
         let mut number: u64 = 0;
         let mut settings = Settings::new(self.alloc)?;
         for line in self.text.lines() {
             number = number.saturating_add(1);
             if !is_of_a_block(line) {
-                let verdict = self.take(&mut settings, line)?;
+                let verdict = self.take(rt, &mut settings, line)?;
                 good = is_good(rt, name, number, &verdict)? && good;
             }
+        }
+        if self.has_file {
+            remove_journal(rt)?;
         }
         Ok(good)
     }
 
     // Takes a line that stands in no block.
-    fn take(&mut self, settings: &mut Settings, line: &str) -> io::Result<Verdict> {
+    fn take<R: Files<File = File> + AllocGlobal>(
+        &mut self,
+        rt: &R,
+        settings: &mut Settings,
+        line: &str,
+    ) -> io::Result<Verdict> {
         let (word, rest) = line.split_once(' ').unwrap_or((line, ""));
         match word {
             "run" => {
                 let set = replace(settings, Settings::new(self.alloc)?);
-                self.run_anew(set, rest)
+                self.run_anew(rt, set, rest)
             }
             "again" => {
                 let set = replace(settings, Settings::new(self.alloc)?);
-                self.run_again(set, rest)
+                self.run_again(rt, set, rest)
             }
             "says" => self.says(rest),
             "refused" => self.run_rows(rest, Rows::Refused),
             "taken" => self.run_rows(rest, Rows::Taken),
-            "left" => self.left(rest),
+            "left" => self.left(rt, rest),
             _ => read_if(settings.take(self.alloc, self.text, word, rest)?),
         }
     }
 
     // Runs a bundle over a disk of its own.
-    fn run_anew(&mut self, settings: Settings, line: &str) -> io::Result<Verdict> {
+    fn run_anew<R: Files<File = File> + AllocGlobal>(
+        &mut self,
+        rt: &R,
+        settings: Settings,
+        line: &str,
+    ) -> io::Result<Verdict> {
         let Settings { streams, disk } = settings;
+        if disk.is_file {
+            self.has_file = true;
+            let file = journal_made(rt, disk.holds.as_slice())?;
+            return self.run_in_file(file, streams, line);
+        }
         let disk = disk.disk(self.alloc)?;
-        self.run(line, streams, disk)
+        self.run_in_memory(disk, streams, line)
     }
 
     // Runs a bundle over the disk that the run before left.
-    fn run_again(&mut self, settings: Settings, line: &str) -> io::Result<Verdict> {
-        match self.disk.take() {
-            Some(disk) => self.run(line, settings.streams, disk),
-            None => Ok(Verdict::Unread),
+    fn run_again<R: Files<File = File> + AllocGlobal>(
+        &mut self,
+        rt: &R,
+        settings: Settings,
+        line: &str,
+    ) -> io::Result<Verdict> {
+        match replace(&mut self.left, Left::Nothing) {
+            Left::Memory(disk) => self.run_in_memory(disk, settings.streams, line),
+            Left::File => self.run_in_file(journal_opened(rt)?, settings.streams, line),
+            Left::Nothing => Ok(Verdict::Unread),
         }
     }
 
-    // Runs a bundle as a line says, `BUNDLE WORD .. -> PRINTED STATUS FAULT`.
-    fn run(&mut self, line: &str, streams: Streams, disk: MemDisk) -> io::Result<Verdict> {
+    // Runs a bundle over a disk in memory, and keeps the disk.
+    fn run_in_memory(
+        &mut self,
+        disk: MemDisk,
+        streams: Streams,
+        line: &str,
+    ) -> io::Result<Verdict> {
+        let (verdict, disk) = self.run(disk, streams, line)?;
+        if let Some(disk) = disk {
+            self.left = Left::Memory(disk);
+        }
+        Ok(verdict)
+    }
+
+    // Runs a bundle over a file, which is closed behind that.
+    fn run_in_file(&mut self, file: File, streams: Streams, line: &str) -> io::Result<Verdict> {
+        let (verdict, disk) = self.run(FileDisk::over(file), streams, line)?;
+        if disk.is_some() {
+            self.left = Left::File;
+        }
+        Ok(verdict)
+    }
+
+    // Runs a bundle as a line says, `BUNDLE WORD .. -> PRINTED STATUS FAULT`, and hands its disk back.
+    fn run<D: Disk>(
+        &mut self,
+        disk: D,
+        streams: Streams,
+        line: &str,
+    ) -> io::Result<(Verdict, Option<D>)> {
         let (before, behind) = line.split_once(" -> ").unwrap_or((line, ""));
         let (printed, ends) = behind.split_once(' ').unwrap_or((behind, ""));
         let Some(bundle) = self.bundle_in(before)? else {
-            return Ok(Verdict::Unread);
+            return Ok((Verdict::Unread, None));
         };
         let Some(printed) = self.text_in(before, printed)? else {
-            return Ok(Verdict::Unread);
+            return Ok((Verdict::Unread, None));
         };
         let ran = self.done(bundle, streams, disk)?;
-        self.judge(ran, printed.as_str(), ends)
+        let verdict = self.judge(&ran, printed.as_str(), ends)?;
+        Ok((verdict, Some(ran.disk)))
     }
 
     // Runs a bundle, and keeps how its fault is explained.
-    fn done(&mut self, bundle: Vec<u8>, streams: Streams, disk: MemDisk) -> io::Result<Ran> {
+    fn done<D: Disk>(&mut self, bundle: Vec<u8>, streams: Streams, disk: D) -> io::Result<Ran<D>> {
         let read = Vec::from_slice(self.alloc, bundle.as_slice())?;
         let ran = run(self.alloc, streams, read, disk)?;
         self.said = said_of(self.alloc, bundle.as_slice(), &ran)?;
         Ok(ran)
     }
 
-    // Compares what a run did with what it must do, and keeps its disk.
-    fn judge(&mut self, ran: Ran, printed: &str, ends: &str) -> io::Result<Verdict> {
+    // Compares what a run did with what it must do.
+    fn judge<D: Disk>(&mut self, ran: &Ran<D>, printed: &str, ends: &str) -> io::Result<Verdict> {
         let alloc = self.alloc;
         self.runs = self.runs.saturating_add(1);
-        self.disk = Some(ran.disk);
         let ended = ending(alloc, &ran.status)?;
         if ended.as_str() == ends && ran.printed.as_slice() == printed.as_bytes() {
             return Ok(Verdict::Good);
@@ -209,23 +279,30 @@ impl<'a> Case<'a> {
     }
 
     // Compares what the disk of the run before now holds with the bytes of a block.
-    fn left(&self, name: &str) -> io::Result<Verdict> {
-        match (&self.disk, self.bytes_in(name)?) {
-            (Some(disk), Some(wanted)) => compared(self.alloc, disk, wanted.as_slice()),
-            _ => Ok(Verdict::Unread),
+    fn left<R: Files<File = File> + AllocGlobal>(&self, rt: &R, name: &str) -> io::Result<Verdict> {
+        let Some(wanted) = self.bytes_in(name)? else {
+            return Ok(Verdict::Unread);
+        };
+        match &self.left {
+            Left::Memory(disk) => match disk.image(self.alloc, CONTENT) {
+                Ok(holds) => compared(self.alloc, holds.as_slice(), wanted.as_slice()),
+                Err(_) => Ok(Verdict::Unread),
+            },
+            Left::File => {
+                let holds = journal_bytes(rt)?;
+                compared(self.alloc, holds.as_slice(), wanted.as_slice())
+            }
+            Left::Nothing => Ok(Verdict::Unread),
         }
     }
 }
 
 // Compares what a disk holds with what it must.
-fn compared(alloc: Global, disk: &MemDisk, wanted: &[u8]) -> io::Result<Verdict> {
-    let Ok(holds) = disk.image(alloc, CONTENT) else {
-        return Ok(Verdict::Unread);
-    };
-    if holds.as_slice() == wanted {
+fn compared(alloc: Global, holds: &[u8], wanted: &[u8]) -> io::Result<Verdict> {
+    if holds == wanted {
         return Ok(Verdict::Good);
     }
-    Ok(Verdict::Differs(spelled(alloc, holds.as_slice())?))
+    Ok(Verdict::Differs(spelled(alloc, holds)?))
 }
 
 // Whether a line does what it must; prints what else was so.
@@ -268,7 +345,11 @@ fn first_word(line: &str) -> &str {
 }
 
 // How the fault of a run's bundle is explained, where it has one.
-fn said_of(alloc: Global, bundle: &[u8], ran: &Ran) -> Result<Option<Text>, AllocError> {
+fn said_of<D: Disk>(
+    alloc: Global,
+    bundle: &[u8],
+    ran: &Ran<D>,
+) -> Result<Option<Text>, AllocError> {
     let Err(Stop::Bundle { line, rule }) = &ran.status else {
         return Ok(None);
     };

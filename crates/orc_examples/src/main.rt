@@ -9,6 +9,7 @@
 mod block;
 mod case;
 mod faults;
+mod file;
 mod row;
 mod run;
 mod settings;
@@ -16,6 +17,7 @@ mod settings;
 use crate::case::Case;
 use crate::faults::faults;
 use crate::run::run_to_end;
+use std::fs::File;
 use std::process::ExitCode;
 use std::rt::{Env, Files};
 use std::{env, fs, io};
@@ -33,7 +35,9 @@ fn main(rt: HostRuntime) -> ExitCode {
 }
 
 // Prints a line for each example, in the order of their names.
-fn run_all<R: Files + Env + Print + AllocGlobal + Clone + Drop>(rt: &R) -> io::Result<bool> {
+fn run_all<R: Files<File = File> + Env + Print + AllocGlobal + Clone + Drop>(
+    rt: &R,
+) -> io::Result<bool> {
     let mut words = env::args(rt)?;
     let _program = words.next();
     let folder = match words.next() {
@@ -62,7 +66,7 @@ fn files<R: Files + AllocGlobal + Clone + Drop>(rt: &R, folder: &str) -> io::Res
 }
 
 // Whether the file, where it is part of an example, does what it must.
-fn is_as_it_must_be<R: Files + Print + AllocGlobal>(
+fn is_as_it_must_be<R: Files<File = File> + Print + AllocGlobal>(
     rt: &R,
     folder: &str,
     files: &[String],
@@ -100,7 +104,7 @@ fn is_bundle_as_it_must_be<R: Files + Print + AllocGlobal>(
 }
 
 // Whether each run of the case does what stands beside it.
-fn is_case_as_it_must_be<R: Files + Print + AllocGlobal>(
+fn is_case_as_it_must_be<R: Files<File = File> + Print + AllocGlobal>(
     rt: &R,
     folder: &str,
     name: &str,

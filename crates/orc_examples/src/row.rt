@@ -48,7 +48,7 @@ fn is_refused(alloc: Global, line: &str, rule: &str, bundle: Vec<u8>) -> Result<
 }
 
 // Whether a run ended so, printed nothing, and left its disk empty.
-fn is_refusal(alloc: Global, ran: &Ran, wanted: &str) -> Result<bool, AllocError> {
+fn is_refusal(alloc: Global, ran: &Ran<MemDisk>, wanted: &str) -> Result<bool, AllocError> {
     if !ran.printed.is_empty() || !is_empty(alloc, &ran.disk) {
         return Ok(false);
     }
@@ -71,7 +71,7 @@ fn is_taken(
 }
 
 // Whether a run ended well, printed this, and left its disk empty.
-fn is_checked(alloc: Global, ran: &Ran, wanted: &[u8]) -> bool {
+fn is_checked(alloc: Global, ran: &Ran<MemDisk>, wanted: &[u8]) -> bool {
     ran.status.is_ok() && ran.printed.as_slice() == wanted && is_empty(alloc, &ran.disk)
 }
 

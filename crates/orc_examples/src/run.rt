@@ -1,6 +1,6 @@
 //! Running a bundle over memory.
 
-use orc_disk::MemDisk;
+use orc_disk::{Disk, MemDisk};
 use orc_io::{MemSink, MemSource};
 use orc_run::{Done, Stop, orchestrate};
 use orc_text::Memory;
@@ -35,19 +35,19 @@ impl Streams {
 
 /// How a run ended, and what it printed.
 #[derive(Drop)]
-pub(crate) struct Ran {
-    pub disk: MemDisk,
+pub(crate) struct Ran<D> {
+    pub disk: D,
     pub printed: Vec<u8>,
     pub status: Result<Done, Stop>,
 }
 
 /// Runs a bundle over a source and a sink that fail at these calls, and over a disk.
-pub(crate) fn run(
+pub(crate) fn run<D: Disk>(
     alloc: Global,
     streams: Streams,
     bundle: Vec<u8>,
-    disk: MemDisk,
-) -> Result<Ran, AllocError> {
+    disk: D,
+) -> Result<Ran<D>, AllocError> {
     let Streams {
         words,
         source_fails,
@@ -72,13 +72,13 @@ fn sink_of(alloc: Global, fails: Vec<u64>) -> Result<MemSink, AllocError> {
 }
 
 // Runs what a source holds.
-fn run_over(
+fn run_over<D: Disk>(
     alloc: Global,
     words: &[String],
     mut source: MemSource,
     mut sink: MemSink,
-    disk: MemDisk,
-) -> Result<Ran, AllocError> {
+    disk: D,
+) -> Result<Ran<D>, AllocError> {
     let ended = orchestrate(alloc, words, &mut source, &mut sink, disk);
     let printed = Vec::from_slice(alloc, sink.bytes())?;
     Ok(Ran {
@@ -89,7 +89,11 @@ fn run_over(
 }
 
 /// Runs a bundle over an empty disk, as this command word says.
-pub(crate) fn run_alone(alloc: Global, word: &str, bundle: Vec<u8>) -> Result<Ran, AllocError> {
+pub(crate) fn run_alone(
+    alloc: Global,
+    word: &str,
+    bundle: Vec<u8>,
+) -> Result<Ran<MemDisk>, AllocError> {
     let disk = empty_disk(alloc)?;
     run(alloc, Streams::of(alloc, word)?, bundle, disk)
 }

@@ -13,10 +13,12 @@ pub(crate) struct Settings {
     pub disk: DiskSettings,
 }
 
-/// What the disk of a run holds before, its room for more, and the calls at which it fails.
+/// What the disk of a run holds before and whether it is a file; of one in memory its room for more,
+/// and the calls at which it fails.
 #[derive(Drop)]
 pub(crate) struct DiskSettings {
-    holds: Vec<u8>,
+    pub holds: Vec<u8>,
+    pub is_file: bool,
     room: u64,
     fails: Vec<(DiskOp, u64)>,
 }
@@ -62,12 +64,13 @@ impl DiskSettings {
     fn new(alloc: Global) -> DiskSettings {
         DiskSettings {
             holds: Vec::new(alloc),
+            is_file: false,
             room: JOURNAL_ROOM,
             fails: Vec::new(alloc),
         }
     }
 
-    /// The disk.
+    /// The disk in memory.
     pub(crate) fn disk(self, alloc: Global) -> Result<MemDisk, AllocError> {
         match MemDisk::new(alloc, self.holds, self.room, self.fails) {
             Ok(disk) => Ok(disk),
@@ -84,8 +87,15 @@ impl DiskSettings {
             "fails" => self.fail(rest),
             "holds" => self.fill(alloc, case, rest),
             "room" => Ok(self.make_room(rest)),
+            "is" => Ok(self.be_a_file(rest)),
             _ => Ok(false),
         }
+    }
+
+    // The disk is a file.
+    fn be_a_file(&mut self, words: &str) -> bool {
+        self.is_file = words == "a file";
+        self.is_file
     }
 
     // The disk has so much room.

@@ -1,5 +1,5 @@
 -- What a script prints.
-use Rattle.std.specs.Prelude.{ℕ, suc, nat_lt, Bool, true, false, List, [], ◌∷◌, ◌++◌, codes, length}
+use Rattle.std.specs.Prelude.{ℕ, suc, ◌≡◌, ◌==◌, ◌&&◌, nat_le, nat_lt, if◌then◌else◌, Bool, true, false, List, [], ◌∷◌, ◌++◌, codes, length}
 use Rattle.std.specs.Fmt.{decimal}
 use Rattle.std.specs.List.{flat_map}
 use Rattle.std.specs.FinMap.{entries}
@@ -10,7 +10,10 @@ use Rattle.orc_path.specs.Configurations.{Config}
 use Rattle.orc_path.specs.declared.item.Item.{Item}
 use Rattle.orc_call.specs.declared.call.Call.{Call}
 use Rattle.orc_call.specs.declared.answer.Answer.{Answer}
-use Rattle.orc_call.specs.declared.answer.Answer.TheVariants.{Committed, Exists, Missing, Clash, Reused, Down, JournalFault}
+use Rattle.orc_call.specs.declared.answer.Answer.TheVariants.{Committed, Exists, Missing, Invalid, Clash, Reused, Down, JournalFault}
+use Rattle.orc_schema.specs.Schemas.{SchemaTable}
+use Rattle.orc_check.specs.declared.rules.TheConstants.{KIND, KEY, MANDATORY, MIN_ELEMENTS, MAX_ELEMENTS, LEAFREF}
+use Rattle.orc_json.specs.Written.{IsJsonTextOf}
 use Rattle.orc_state.specs.States.{name_of}
 use Rattle.orc_state.specs.Texts.{action_lines}
 
@@ -20,16 +23,47 @@ use Rattle.orc_state.specs.Texts.{action_lines}
 abbrev pub item_line : List PathStep × Item → List ℕ
 item_line row = item_text row.0 row.1 ++ codes "\n"
 
--- the tree of a device, its items in path order
+-- the lines of all items, in path order
+abbrev pub item_lines : Config → List ℕ
+item_lines config = flat_map item_line (entries config)
+
+-- the tree of a device
 abbrev pub tree_text : List ℕ → Config → List ℕ
-tree_text name tree = codes "show " ++ name ++ codes "\n" ++ flat_map item_line (entries tree) ++ codes "end\n"
+tree_text name tree = codes "show " ++ name ++ codes "\n" ++ item_lines tree ++ codes "end\n"
+
+-- the data
+abbrev pub data_text : Config → List ℕ
+data_text config = codes "data\n" ++ item_lines config ++ codes "end\n"
+
+-- the line of a device with its JSON text
+abbrev pub json_line : List ℕ → List ℕ → List ℕ
+json_line name json = codes "json " ++ name ++ codes " " ++ json ++ codes "\n"
+
+-- the tree of a device under its schema, as the JSON text that RFC 7951 gives it
+abbrev pub IsJsonGroup : List ℕ → SchemaTable → Config → List ℕ → Type 0
+IsJsonGroup name schema tree text = (json : List ℕ) × IsJsonTextOf schema tree json × (text ≡ json_line name json)
 
 -- answers
+
+-- the word for a rule of validity: a type, a key, or a statement of RFC 7950
+abbrev pub validity_word : ℕ → List ℕ
+validity_word rule =
+    if rule == KIND then codes "kind"
+    else if rule == KEY then codes "key"
+    else if rule == MANDATORY then codes "mandatory"
+    else if rule == MIN_ELEMENTS then codes "min-elements"
+    else if rule == MAX_ELEMENTS then codes "max-elements"
+    else codes "leafref"
+
+-- the number is that of a rule of validity
+abbrev pub is_rule : ℕ → Bool
+is_rule rule = nat_le KIND rule && nat_le rule LEAFREF
 
 abbrev pub answer_words : List (List ℕ) → Answer → List ℕ
 answer_words names (Committed entry) = codes "Committed " ++ decimal entry
 answer_words names (Exists id) = codes "Exists " ++ id
 answer_words names (Missing id) = codes "Missing " ++ id
+answer_words names (Invalid path rule) = codes "Invalid " ++ path_text path ++ codes " " ++ validity_word rule
 answer_words names (Clash device path id) =
     codes "Clash " ++ name_of names device ++ codes " " ++ path_text path ++ codes " " ++ id
 answer_words names (Reused entry) = codes "Reused " ++ decimal entry
@@ -37,11 +71,13 @@ answer_words names Down = codes "Down"
 answer_words names JournalFault = codes "JournalFault"
 answer_words names other = []
 
--- an answer that calls get so far, the others are not built yet; where it names a device, the device is one of so many
+-- an answer that calls get so far, the others are not built yet; where it names a device, the device is one of so many,
+-- and where it names a rule, the rule is one of validity
 abbrev pub is_answer_among : ℕ → Answer → Bool
 is_answer_among devices (Committed entry) = true
 is_answer_among devices (Exists id) = true
 is_answer_among devices (Missing id) = true
+is_answer_among devices (Invalid path rule) = is_rule rule
 is_answer_among devices (Clash device path id) = nat_lt device devices
 is_answer_among devices (Reused entry) = true
 is_answer_among devices Down = true
@@ -55,7 +91,7 @@ answer_line names caller number answer =
 
 -- histories
 
--- a call of a history, with its number in it; each write of it is indented
+-- a call of a history, with its number in it; each write of a literal service is indented
 abbrev pub history_call : ℕ → Call → List ℕ
 history_call entry call =
     decimal entry ++ codes " " ++ call.caller ++ codes " " ++ decimal call.number ++ codes "\n"

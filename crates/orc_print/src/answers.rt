@@ -1,9 +1,10 @@
 //! The answers of calls.
 ghost use Rattle.std.specs.Prelude.{◌≡◌, length, IfOk, IsTrue};
 ghost use Rattle.orc_print.specs.inside.Adding.{Adds};
-ghost use Rattle.orc_print.specs.Printed.{answer_line, answer_words, is_answer_among};
+ghost use Rattle.orc_print.specs.Printed.{answer_line, answer_words, is_answer_among, is_rule, validity_word};
 
 use orc_call::Answer;
+use orc_check::{KEY, KIND, MANDATORY, MAX_ELEMENTS, MIN_ELEMENTS};
 use orc_state::device_name;
 use orc_text::{Memory, Text};
 use std::alloc::Global;
@@ -52,6 +53,12 @@ fn push_answer(
             out.push_str("Missing ")?;
             out.push_str(id.as_str())?;
         }
+        Answer::Invalid(path, rule) => {
+            out.push_str("Invalid ")?;
+            out.push_str(path.text(alloc)?.as_str())?;
+            out.push_str(" ")?;
+            out.push_str(validity_word(*rule))?;
+        }
         Answer::Clash(device, path, id) => {
             out.push_str("Clash ")?;
             out.push_str(device_name(names, *device).as_str())?;
@@ -70,4 +77,24 @@ fn push_answer(
         _ => {}
     }
     Ok(())
+}
+
+// The word for a rule of validity.
+fn validity_word(rule: u8) -> &'static str
+    requires { IsTrue (is_rule rule) }
+    ensures { result.now ≡ validity_word rule }
+{
+    if rule == KIND {
+        "kind"
+    } else if rule == KEY {
+        "key"
+    } else if rule == MANDATORY {
+        "mandatory"
+    } else if rule == MIN_ELEMENTS {
+        "min-elements"
+    } else if rule == MAX_ELEMENTS {
+        "max-elements"
+    } else {
+        "leafref"
+    }
 }

@@ -72,6 +72,16 @@ fn push_action(out: &mut String, alloc: Global, action: &Action) -> Result<(), M
             out.push_str(id.as_str())?;
             out.push_str("\n")?;
         }
+        Action::Set(put) => {
+            out.push_str("set ")?;
+            push_item(out, alloc, &put.path, &put.item)?;
+            out.push_str("\n")?;
+        }
+        Action::Unset(path) => {
+            out.push_str("unset ")?;
+            out.push_str(path.text(alloc)?.as_str())?;
+            out.push_str("\n")?;
+        }
         // The other kinds are not built yet.
         _ => {}
     }

@@ -4,9 +4,9 @@
 mod answers;
 mod histories;
 mod line;
-mod tree;
+mod trees;
 
 pub use answers::answer;
 pub use histories::history;
 pub use line::{down, recovered, stopped};
-pub use tree::show;
+pub use trees::{data, json, show};

@@ -7,10 +7,9 @@ use Rattle.std.proofs.lemmas.Option.{get_or_from_slice_get, slice_get_within}
 use Rattle.std.proofs.lemmas.List.Elements.{All-get_or}
 use Rattle.orc_text.specs.declared.memory.Memory.{Memory}
 use Rattle.orc_call.specs.declared.call.Call.{Call}
-use Rattle.orc_call.specs.declared.call.Action.{Action}
 use Rattle.orc_call.specs.declared.answer.Answer.{Answer}
 use Rattle.orc_call.specs.declared.answer.Answer.TheVariants.{Committed, Reused}
-use Rattle.orc_state.specs.States.{action_of, refusal}
+use Rattle.orc_state.specs.Next.{refusal}
 use Rattle.orc_state.specs.Legal as legal
 use Rattle.orc_state.specs.Legal.{AnswersAtOnce, IsDue, IsNew, IsSame}
 use Rattle.orc_run.specs.inside.Pasts.{IsBehind}
@@ -33,15 +32,13 @@ is_reused decls history call n entry read at is one other =
     legal.AnswersAtOnce.reused n entry at one (λ (e : entry ≡ call). other (sym (read_there history n entry read at is) ∙ e))
 
 -- the refusal of a new call
-pub is_refused : (decls : Decls) (past : Past) (call : Call) (names : List (List ℕ)) (action : Action) (result : Result (Option Answer) Memory)
-    → IsBehind decls past past.history → IsNew past.history call → names ≡ decls.names → action ≡ action_of call
-    → IfOk result (λ found. found ≡ refusal names past.state action) → IfOk result (λ found. IfSome found (AnswersAtOnce decls past.history call))
-is_refused decls past call names action (Err memory) behind new same one h = tt
-is_refused decls past call names action (Ok None) behind new same one h = tt
-is_refused decls past call names action (Ok (Some answer)) behind new same one h =
-    legal.AnswersAtOnce.refused answer new
-    (ap (λ (s : State). refusal decls.names s (action_of call)) (sym behind.state) ∙ ap (λ (ns : List (List ℕ)). refusal ns past.state (action_of call)) (sym same)
-    ∙ ap (λ (a : Action). refusal names past.state a) (sym one) ∙ sym h)
+pub is_refused : (decls : Decls) (past : Past) (call : Call) (result : Result (Option Answer) Memory)
+    → IsBehind decls past past.history → IsNew past.history call
+    → IfOk result (λ found. found ≡ refusal decls past.state call) → IfOk result (λ found. IfSome found (AnswersAtOnce decls past.history call))
+is_refused decls past call (Err memory) behind new h = tt
+is_refused decls past call (Ok None) behind new h = tt
+is_refused decls past call (Ok (Some answer)) behind new h =
+    legal.AnswersAtOnce.refused answer new (ap (λ (s : State). refusal decls s call) (sym behind.state) ∙ sym h)
 
 some_is : {X : Type 0} (x : X) → None ≡ Some x → ⊥
 some_is x e = cc

@@ -21,14 +21,14 @@ use Rattle.orc_append.specs.Views.{JournalView, journal_view, IsOpen}
 use Rattle.orc_append.specs.Appends.{Appends, LeavesOldOrNew}
 use Rattle.orc_append.specs.declared.outcome.Appended.{Appended}
 use Rattle.orc_append.specs.declared.outcome.Appended.TheVariants as appended
-use Rattle.orc_state.specs.States.{IsComplete, action_of}
+use Rattle.orc_state.specs.Next.{IsStateOf}
+use Rattle.orc_state.specs.Touched.{touched_devices}
 use Rattle.orc_state.specs.Calls.{is_call}
 use Rattle.orc_state.specs.Legal.{IsLegal, IsDue, state_of}
 use Rattle.orc_state.specs.declared.declarations.Decls.{Decls}
 use Rattle.orc_state.specs.declared.state.State.{State}
 use Rattle.orc_state.proofs.Legality.{legal_more}
 use Rattle.orc_bundle.specs.declared.bundle.ScriptStep.TheVariants.{Serve}
-use Rattle.orc_run.specs.Touched.{devices_of}
 use Rattle.orc_run.specs.Views.{View, Decodes, IsKept, Rests, Outlives}
 use Rattle.orc_run.specs.Commits.{AppendsUpTo, Commits, commit_end, commit_text, intent_of, is_named, is_up_behind, journal_at, known_by, known_then, pending_then}
 use Rattle.orc_run.specs.Steps.{Breaks, EndsBecause, Serves}
@@ -377,7 +377,7 @@ module _ {D : Type 0} (meaning : DiskMeaning D) (only_now : (d : D) (c : List �
         on true named = absurd (let taken = named_taken old.past.numbers t es is.up.numbers named in cc)
         on false named = named
 
-    module _ (touched : devices ≡ devices_of decls.names (state_of decls (take old.known old.past.history)) (action_of call)) (positive : 1 ≤ t)
+    module _ (touched : devices ≡ touched_devices decls.names (state_of decls (take old.known old.past.history)) call) (positive : 1 ≤ t)
         (least : (u : ℕ) → 1 ≤ u → u < t → is_taken old.past.numbers u ≡ true)
         (stage : Stage) (outcome : Appended) (j : OpenJournal (Stopping D))
         (so : AppendsUpTo meaning decls.text stage (journal_view old.journal es) intent t outcome (journal_view j (known_by stage outcome es intent t))) where
@@ -565,8 +565,7 @@ module _ {D : Type 0} (meaning : DiskMeaning D) (only_now : (d : D) (c : List �
                 within = within_at stage;
                 behind = record {
                   state = same ∙ is.behind.state ∙ ap (λ (l : List Call). state_of decls l) (sym known);
-                  complete = subst IsComplete (sym same) is.behind.complete;
-                  bases = ap (λ (s : State). length s.bases) same ∙ is.behind.bases;
+                  kept = subst (λ (s : State). IsStateOf decls s) (sym same) is.behind.kept;
                 };
                 legal = subst (λ (l : List Call). IsLegal decls l) (sym known) legal_new;
                 rests = rests_at;
@@ -582,8 +581,7 @@ module _ {D : Type 0} (meaning : DiskMeaning D) (only_now : (d : D) (c : List �
                 within = within_at stage;
                 behind = record {
                   state = has.state ∙ ap (λ (l : List Call). state_of decls l) (opened ∙ sym known);
-                  complete = has.complete;
-                  bases = has.bases;
+                  kept = has.kept;
                 };
                 legal = subst (λ (l : List Call). IsLegal decls l) (sym known) is.legal;
                 rests = rests_at;
@@ -608,7 +606,7 @@ module _ {D : Type 0} (meaning : DiskMeaning D) (only_now : (d : D) (c : List �
                 (λ done. absurd (unfinished meaning decls.text stage (journal_view old.journal es) (journal_view j (known_by stage outcome es intent t)) intent t outcome unsettled so done))
                 (λ stops. stops) (goes_behind outcome (subst (EndsBehind outcome) none comes.ends)) in
                 let has = comes.stopped_state unsettled stops none in
-                knows_stopped new.past.state unsettled stops (record { state = has.state; complete = has.complete; bases = has.bases })
+                knows_stopped new.past.state unsettled stops (record { state = has.state; kept = has.kept })
 
             on : (s : Stage) → stage ≡ s → end ≡ None → Knows meaning decls known_now (at new.past.state stage)
             on Intent e none = stopped_here none (λ h. let z : Intent ≡ Settled = sym e ∙ h in absurd cc)

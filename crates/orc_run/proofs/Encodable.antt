@@ -1,5 +1,5 @@
 -- A call that a call block gives has an encoding.
-use Rattle.std.proofs.Common.{◌≡◌, ℕ, ◌<◌, ◌≤◌, ◌^◌, Bool, true, false, ◌&&◌, ◌||◌, ◌==◌, not, nat_le, nat_lt, List, [], ◌∷◌, length, None, is_some, suc, refl, sym, subst, ◌∙◌, arith, tests, append-nil, ltb-true, ltb-false, eqb-true, ◌⊎◌, inl, inr}
+use Rattle.std.proofs.Common.{◌≡◌, ℕ, ◌<◌, ◌≤◌, ◌^◌, Bool, true, false, ◌&&◌, ◌||◌, not, nat_le, nat_lt, List, [], ◌∷◌, ◌++◌, length, None, is_some, refl, sym, subst, ◌∙◌, arith, tests, ltb-true, ltb-false, ◌⊎◌, inl, inr}
 use Rattle.std.specs.List.{list_all, list_any, flat_map}
 use Rattle.std.specs.Str.{IsUtf8}
 use Rattle.std.specs.Cmp.{first_so, second_so}
@@ -19,19 +19,22 @@ use Rattle.orc_path.specs.declared.item.Item.TheVariants.{Entry, Leaf}
 use Rattle.orc_path.specs.declared.limits.TheConstants.{PATH_STEPS, PATH_LEN}
 use Rattle.orc_path.proofs.Characters.{IsUtf8-path_text}
 use Rattle.orc_text.proofs.Plain.{plain_parts}
-use Rattle.orc_call.specs.Fields.{IsText, IsItem, IsPathAfter, AreLawful}
+use Rattle.orc_schema.specs.Schemas.{SchemaTable}
+use Rattle.orc_call.specs.Fields.{Field, a_path, an_item, IsText, IsItem, IsPathAfter, AreLawful}
 use Rattle.orc_call.specs.Encoding.{device_put_fields, action_fields, IsCall}
 use Rattle.orc_call.specs.declared.call.Call.{Call}
 use Rattle.orc_call.specs.declared.call.Action.{Action}
-use Rattle.orc_call.specs.declared.call.Action.TheVariants.{Literal, Delete}
+use Rattle.orc_call.specs.declared.call.Action.TheVariants.{Literal, Delete, Set, Unset}
 use Rattle.orc_call.specs.declared.call.DevicePut.{DevicePut}
-use Rattle.orc_state.specs.States.{action_of, first_action, is_same_text, names_of}
-use Rattle.orc_state.specs.Calls.{device_named, is_action, is_call, is_item_under, is_lawful_item, is_lawful_name, is_write, schema_named}
+use Rattle.orc_call.specs.declared.call.TheConstants.{MOST_ACTIONS}
+use Rattle.orc_state.specs.States.{is_same_text, names_of}
+use Rattle.orc_state.specs.Actions.{name_each_once}
+use Rattle.orc_state.specs.Calls.{blank_item, device_named, is_action, is_call, is_data_path, is_item_at, is_item_under, is_kept, is_lawful_item, is_lawful_name, is_path_under, is_write, schema_named}
 use Rattle.orc_state.specs.Declarations.{AreDecls}
 use Rattle.orc_state.specs.declared.declarations.Decls.{Decls}
 use Rattle.orc_state.specs.declared.lawful.TheConstants.{MOST_WRITES}
 use Rattle.orc_state.proofs.Declared.{declared-named, names-lawful}
-use Rattle.orc_state.proofs.Fits.{item-under, write-item}
+use Rattle.orc_state.proofs.Fits.{call-actions, data-item, item-under, write-item}
 
 either : (a b : Bool) → (a || b) ≡ true → (a ≡ true) ⊎ (b ≡ true)
 either true b h = inl refl
@@ -74,6 +77,24 @@ item_lawful (Leaf value) h =
     let short = ltb-false 4096 (length value) (not-true (is_long_value value) (second_so (is_value value) (not (is_long_value value)) h)) in
     (omega (arith, short), (plain_parts value (first_so (is_value value) (not (is_long_value value)) h)).0)
 
+-- an item where it may stand
+placed_lawful : (p : List PathStep) (i : Item) → is_item_at p i ≡ true → AreLawful (a_path None p ∷ an_item p i ∷ [])
+placed_lawful p i h =
+    let path = is_path p in
+    let short = not (is_long_path p) in
+    let lawful = is_lawful_item i in
+    let three = first_so (path && short && lawful) (fits p i) h in
+    let two = first_so (path && short) lawful three in (
+      path_lawful p (first_so path short two) (second_so path short two),
+      ((second_so (path && short && lawful) (fits p i) h, item_lawful i (second_so (path && short) lawful three)), tt),
+    )
+
+-- a path that can carry an item
+unset_lawful : (schema : SchemaTable) (p : List PathStep) → is_data_path schema p ≡ true → AreLawful (a_path None p ∷ [])
+unset_lawful schema p h =
+    let under = first_so (is_path_under schema p) (not (is_kept p)) h in
+    ((placed_lawful p (blank_item p) (first_so (is_item_at p (blank_item p)) _ under)).0, tt)
+
 -- writes
 
 -- what is one of lawful names is one
@@ -91,18 +112,7 @@ write_lawful decls w h k =
     let schema = schema_named decls.schemas decls.devices w.device in
     let declared = first_so (is_some (device_named decls.devices w.device)) (is_item_under schema w.path w.item) k in
     let device = known_name w.device (names_of decls.devices) h (sym (declared-named decls.devices w.device) ∙ declared) in
-    let item = item-under schema w.path w.item (write-item decls w k) in
-    let path = is_path w.path in
-    let short = not (is_long_path w.path) in
-    let lawful = is_lawful_item w.item in
-    let three = first_so (path && short && lawful) (fits w.path w.item) item in
-    let two = first_so (path && short) lawful three in (
-      name_text w.device device,
-      (
-        path_lawful w.path (first_so path short two) (second_so path short two),
-        ((second_so (path && short && lawful) (fits w.path w.item) item, item_lawful w.item (second_so (path && short) lawful three)), tt),
-      ),
-    )
+    (name_text w.device device, placed_lawful w.path w.item (item-under schema w.path w.item (write-item decls w k)))
 
 writes_lawful : (decls : Decls) (ws : List DevicePut) → list_all is_lawful_name (names_of decls.devices) ≡ true → list_all (is_write decls) ws ≡ true → AreLawful (flat_map device_put_fields ws)
 writes_lawful decls [] h k = tt
@@ -124,24 +134,39 @@ action_lawful decls (Literal id writes) h k =
       ),
     )
 action_lawful decls (Delete id) h k = ((omega arith, omega arith), (name_text id k, tt))
+action_lawful decls (Set put) h k =
+    ((omega arith, omega arith), placed_lawful put.path put.item (item-under decls.data_schema put.path put.item (data-item decls.data_schema put k)))
+action_lawful decls (Unset path) h k = ((omega arith, omega arith), unset_lawful decls.data_schema path k)
 action_lawful decls other h k = absurd (false≢true k)
 
-one_action : (actions : List Action) → (length actions == 1) ≡ true → first_action actions ∷ [] ≡ actions
-one_action [] e = absurd (false≢true e)
-one_action (a ∷ []) e = refl
-one_action (a ∷ b ∷ more) e = let one : suc (suc (length more)) ≡ 1 = eqb-true (suc (suc (length more))) 1 e in absurd (omega arith)
+-- fields behind fields
+lawful-append : (fs gs : List Field) → AreLawful fs → AreLawful gs → AreLawful (fs ++ gs)
+lawful-append [] gs h k = k
+lawful-append (f ∷ fs) gs h k = (h.0, lawful-append fs gs h.1 k)
+
+actions_lawful : (decls : Decls) (actions : List Action) → list_all is_lawful_name (names_of decls.devices) ≡ true → list_all (is_action decls) actions ≡ true → AreLawful (flat_map action_fields actions)
+actions_lawful decls [] h k = tt
+actions_lawful decls (a ∷ more) h k =
+    lawful-append (action_fields a) (flat_map action_fields more) (action_lawful decls a h (first_so (is_action decls a) (list_all (is_action decls) more) k))
+    (actions_lawful decls more h (second_so (is_action decls a) (list_all (is_action decls) more) k))
 
 call_lawful : (decls : Decls) (call : Call) → list_all is_lawful_name (names_of decls.devices) ≡ true → is_call decls call ≡ true → IsCall call
 call_lawful decls call h k =
     let caller = is_lawful_name call.caller in
     let numbered = nat_lt call.number (2 ^ 64) in
-    let single = length call.actions == 1 in
-    let three = first_so (caller && numbered && single) (is_action decls (action_of call)) k in
-    let two = first_so (caller && numbered) single three in
-    let fields = action_lawful decls (action_of call) h (second_so (caller && numbered && single) (is_action decls (action_of call)) k) in
-    subst (λ (actions : List Action). IsCall (record call { actions = actions })) (one_action call.actions (second_so (caller && numbered) single three)) (
+    let some = nat_le 1 (length call.actions) in
+    let few = nat_le (length call.actions) MOST_ACTIONS in
+    let three = first_so (caller && numbered && (some && few)) (list_all (is_action decls) call.actions && name_each_once call.actions) k in
+    let two = first_so (caller && numbered) (some && few) three in
+    let counted = second_so (caller && numbered) (some && few) three in (
       name_text call.caller (first_so caller numbered two),
-      (ltb-true call.number (2 ^ 64) (second_so caller numbered two), ((omega arith, omega arith), subst AreLawful (sym (append-nil (action_fields (action_of call)))) fields)),
+      (
+        ltb-true call.number (2 ^ 64) (second_so caller numbered two),
+        (
+          (leb-true 1 (length call.actions) (first_so some few counted), leb-true (length call.actions) MOST_ACTIONS (second_so some few counted)),
+          actions_lawful decls call.actions h (call-actions decls call k),
+        ),
+      ),
     )
 
 pub encodable : (decls : Decls) (call : Call) → AreDecls decls → is_call decls call ≡ true → IsCall call

@@ -107,6 +107,8 @@ module _ {D : Type 0} where
   adds_step : (meaning : DiskMeaning D) (decls : Decls) (first w new : View D) (calls : List Call) (s : ScriptStep) (text : List ℕ) → is_some (meaning.content w.disk) ≡ true
       → Adds first w calls → Does meaning decls w s text new → Adds first new (calls ++ calls_in (s ∷ []))
   adds_step meaning decls first w new calls (step.Show d) text told so does = adds_equal first w new calls so does.1
+  adds_step meaning decls first w new calls (step.Json d) text told so does = adds_equal first w new calls so does.1
+  adds_step meaning decls first w new calls step.Data text told so does = adds_equal first w new calls so does.1
   adds_step meaning decls first w new calls (step.Serve call) text told so does = adds_serve meaning decls first w new calls call text so does
   adds_step meaning decls first w new calls step.Settle text told so does = adds_equal first w new calls so does.1
   adds_step meaning decls first w new calls step.Stop text told so does = adds_same first w new calls [] so (ap (λ (x : View D). x.known) does.1) (ap (λ (x : View D). x.pending) does.1)

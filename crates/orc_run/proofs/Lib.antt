@@ -1,9 +1,11 @@
+mod Ruled
 mod Refusals
 mod Encodable
 mod Pasts
 mod Equality
 mod AtOnce
 mod Ranges
+mod JsonPrints
 mod Reasons
 mod Runs
 mod Keeps

@@ -1,7 +1,6 @@
 -- The past of entries, one entry more.
-use Rattle.std.proofs.Common.{◌⊎◌, ⊎_elim, Bool, ◌||◌, eqb, false, ◌≡◌, ℕ, ◌+◌, ◌<◌, true, List, [], ◌∷◌, ◌++◌, All, IsTrue, Some, length, take, get_or, refl, sym, ap, subst, ◌∙◌, append-nil}
-use Rattle.std.specs.FinMap.{empty}
-use Rattle.std.proofs.lemmas.List.{length-map, take_more}
+use Rattle.std.proofs.Common.{◌⊎◌, ⊎_elim, Bool, ◌||◌, eqb, false, ◌≡◌, ℕ, zero, suc, ◌+◌, ◌<◌, true, List, [], ◌∷◌, ◌++◌, All, IsTrue, None, Some, length, drop, take, get_or, refl, sym, ap, subst, ◌∙◌, append-nil, arith}
+use Rattle.std.proofs.lemmas.List.{take_more}
 use Rattle.std.proofs.lemmas.Option.{slice_get_read}
 use Rattle.std.proofs.lemmas.List.Elements.{All-head, All-tail, All-nil, All-cons, All-append, All-weaker}
 use Rattle.std.proofs.lemmas.List.Folds.{list_any-append}
@@ -13,21 +12,19 @@ use Rattle.orc_journal.specs.Entries.{number_of}
 use Rattle.orc_journal.specs.Committed.{commits, history_of}
 use Rattle.orc_journal.specs.declared.entry.Entry.{Entry}
 use Rattle.orc_journal.specs.declared.entry.Entry.TheVariants.{Intent, Decide, Abort, Settled}
-use Rattle.orc_call.specs.declared.call.Action.{Action}
-use Rattle.orc_state.specs.States.{action_of, after, opening, put_all, IsComplete}
+use Rattle.orc_state.specs.States.{opening}
+use Rattle.orc_state.specs.Next.{IsStateOf, after, refusal}
+use Rattle.orc_state.specs.Histories.{IsUnrefused}
 use Rattle.orc_state.specs.Calls.{is_call}
 use Rattle.orc_state.specs.Legal.{IsLegal, IsDue}
-use Rattle.orc_state.specs.Declarations.{AreDecls}
 use Rattle.orc_run.specs.inside.Pasts.{IsBehind, IsPast}
 use Rattle.orc_run.specs.Opening.{IsIllegalAt}
 use Rattle.orc_run.specs.inside.Transactions.{is_taken, AreNamed, IsFilled}
-use Rattle.orc_state.specs.declared.declarations.Device.{Device}
 use Rattle.orc_state.specs.declared.declarations.Decls.{Decls}
 use Rattle.orc_run.specs.declared.numbers.Numbers.{Numbers}
 use Rattle.orc_run.specs.declared.past.Past.{Past}
 use Rattle.orc_state.specs.declared.state.State.{State}
-use Rattle.orc_state.proofs.Traces.{fold_from-append}
-use Rattle.orc_state.proofs.Legality.{legal_none, legal_more, legal_last}
+use Rattle.orc_state.proofs.Legality.{fold_from-push, legal_none, legal_more, legal_last}
 use Rattle.orc_run.proofs.Fronts.{history_of-append}
 
 -- the numbers of entries are taken, with one more
@@ -81,7 +78,7 @@ past_same decls old numbers before entry past none taken others filled only =
       history = past.history ∙ e;
       legal = subst (λ (l : List Call). IsLegal decls l) e past.legal;
       behind = subst (λ (l : List Call). IsBehind decls (record { numbers = numbers; history = old.history; state = old.state }) l) e
-          (record { state = past.behind.state; complete = past.behind.complete; bases = past.behind.bases });
+          (record { state = past.behind.state; kept = past.behind.kept });
     }
 
 -- an entry that commits a call
@@ -124,33 +121,23 @@ decides before (Abort t) call e = absurd (cons_is call [] e)
 decides before (Settled t) call e = absurd (cons_is call [] e)
 
 -- the state behind a history, one call later
-pub behind_more : (decls : Decls) (old new : Past) (call : Call) (names : List (List ℕ)) (action : Action) → IsBehind decls old old.history → names ≡ decls.names
-    → action ≡ action_of call → new.state ≡ after names old.state action → IsComplete new.state → new.state.bases ≡ old.state.bases
-    → IsBehind decls new (old.history ++ call ∷ [])
-behind_more decls old new call names action behind same is done complete bases = record {
-  state =
-      done ∙ ap (λ (ns : List (List ℕ)). after ns old.state action) same ∙ ap (λ (a : Action). after decls.names old.state a) is
-      ∙ ap (λ (s : State). after decls.names s (action_of call)) behind.state ∙ sym (fold_from-append decls.names (opening decls.devices) old.history (call ∷ []));
-  complete = complete;
-  bases = ap length bases ∙ behind.bases;
+pub behind_more : (decls : Decls) (old new : Past) (call : Call) → IsBehind decls old old.history
+    → new.state ≡ after decls old.state call → IsStateOf decls new.state → IsBehind decls new (old.history ++ call ∷ [])
+behind_more decls old new call behind done kept = record {
+  state = done ∙ ap (λ (s : State). after decls s call) behind.state ∙ sym (fold_from-push decls (opening decls) old.history call);
+  kept = kept;
 }
 
 -- before any entry
-pub past_none : (decls : Decls) (past : Past) → AreDecls decls → IsFilled past.numbers → ((t : ℕ) → is_taken past.numbers t ≡ false) → past.history ≡ [] → past.state ≡ opening decls.devices → IsComplete past.state
+pub past_none : (decls : Decls) (past : Past) → IsFilled past.numbers → ((t : ℕ) → is_taken past.numbers t ≡ false) → past.history ≡ [] → past.state ≡ opening decls → IsStateOf decls past.state
     → IsPast decls past []
-past_none decls past are filled free none state complete = record {
+past_none decls past filled free none state kept = record {
   numbers = All-nil (λ e. is_taken past.numbers (number_of e) ≡ true);
   filled = filled;
   named = λ t taken. let f = free t in absurd cc;
   history = none;
   legal = legal_none decls;
-  behind = record {
-    state = state;
-    complete = complete;
-    bases =
-        ap (λ (s : State). length s.bases) state ∙ length-map decls.devices (λ (d : Device). put_all d.base empty)
-        ∙ sym (length-map decls.devices (λ (d : Device). d.name)) ∙ ap length (sym are.named);
-  };
+  behind = record { state = state; kept = kept };
 }
 
 -- the entries up to a place, and the one there
@@ -173,3 +160,10 @@ illegal_at decls past before entries place entry within is front so h = record {
       λ legal. h.1 (subst (λ (l : List Entry). IsLegal decls (history_of l))
       (sym (ap (λ (l : List Entry). l ++ entry ∷ []) front ∙ upto entries place entry within is)) legal);
 }
+
+-- none of the calls that are left is refused where it stands, so the first of them isn't
+pub unrefused_at : (decls : Decls) (state : State) (calls : List Call) (place : ℕ) (call : Call) → place < length calls → call ≡ get_or calls place call
+    → IsUnrefused decls state (drop place calls) → refusal decls state call ≡ None
+unrefused_at decls state [] place call within is h = absurd (omega (arith, within))
+unrefused_at decls state (first ∷ rest) zero call within is h = subst (λ (c : Call). refusal decls state c ≡ None) (sym is) h.0
+unrefused_at decls state (first ∷ rest) (suc place) call within is h = unrefused_at decls state rest place call (omega (arith, within)) is h

@@ -1,40 +1,21 @@
--- The numbers from 0 on that pass a test.
-use Rattle.std.proofs.Common.{◌≡◌, ℕ, zero, suc, ◌+◌, ◌<◌, ◌^◌, Bool, true, false, cond, List, [], ◌∷◌, ◌++◌, All, refl, sym, ap, ◌∙◌, append-nil, arith}
+-- The numbers from 0 on that pass a test, as those of the devices that a call touches.
+use Rattle.std.proofs.Common.{◌≡◌, ℕ, ◌+◌, ◌<◌, ◌^◌, Bool, List, All, length, sym, ap, subst, ◌∙◌, arith}
 use Rattle.std.specs.List.{filter, range_with_len}
 use Rattle.std.specs.List.Sorted.{IsStrictlyIncreasing}
 use Rattle.std.specs.Ordering.{nat_cmp}
-use Rattle.std.proofs.lemmas.List.Elements.{All-from_get_or, All-filter, filter-append}
+use Rattle.std.proofs.lemmas.List.{length-map}
+use Rattle.std.proofs.lemmas.List.Elements.{All-from_get_or, All-filter}
 use Rattle.std.proofs.lemmas.List.FromFn.{length-range_with_len, get_or-range_with_len}
 use Rattle.std.proofs.lemmas.List.Kept.{IsStrictlySortedBy-filter}
 use Rattle.std.proofs.lemmas.List.Sums.{length-filter, count_by-le-length}
 use Rattle.std.proofs.lemmas.Map.Keys.{sorted_from_strictly_increasing}
 use Rattle.orc_journal.specs.Entries.{AreDevices}
-
-range_more : (a n b : ℕ) → a + n ≡ b → range_with_len a (suc n) ≡ range_with_len a n ++ b ∷ []
-range_more a zero b e = let same : a ≡ b = omega arith in ap (λ x. x ∷ []) same
-range_more a (suc n) b e = ap (λ (l : List ℕ). a ∷ l) (range_more (a + 1) n b (omega arith))
-
-kept : (p : ℕ → Bool) (d : ℕ) → filter p (d ∷ []) ≡ cond (p d) (d ∷ []) []
-kept p d = refl
-
-filter-more : (p : ℕ → Bool) (d : ℕ) → filter p (range_with_len 0 (d + 1)) ≡ filter p (range_with_len 0 d) ++ cond (p d) (d ∷ []) []
-filter-more p d =
-    let on : d + 1 ≡ suc d = omega arith in
-    ap (λ n. filter p (range_with_len 0 n)) on ∙ ap (filter p) (range_more 0 d d (omega arith)) ∙ filter-append p (range_with_len 0 d) (d ∷ [])
-
--- one number more, which passes
-pub filter-more_yes : (p : ℕ → Bool) (d : ℕ) (test : Bool) (list new : List ℕ) → test ≡ p d → test ≡ true → list ≡ filter p (range_with_len 0 d)
-    → new ≡ list ++ d ∷ [] → new ≡ filter p (range_with_len 0 (d + 1))
-filter-more_yes p d test list new is passes so more =
-    more ∙ ap (λ (l : List ℕ). l ++ d ∷ []) so
-    ∙ ap (λ b. filter p (range_with_len 0 d) ++ cond b (d ∷ []) []) (sym passes ∙ is) ∙ sym (filter-more p d)
-
--- one number more, which does not
-pub filter-more_no : (p : ℕ → Bool) (d : ℕ) (test : Bool) (list : List ℕ) → test ≡ p d → test ≡ false → list ≡ filter p (range_with_len 0 d)
-    → list ≡ filter p (range_with_len 0 (d + 1))
-filter-more_no p d test list is fails so =
-    so ∙ sym (append-nil (filter p (range_with_len 0 d)))
-    ∙ ap (λ b. filter p (range_with_len 0 d) ++ cond b (d ∷ []) []) (sym fails ∙ is) ∙ sym (filter-more p d)
+use Rattle.orc_call.specs.declared.call.Call.{Call}
+use Rattle.orc_state.specs.Touched.{is_touched, touched_devices}
+use Rattle.orc_state.specs.Declarations.{AreDecls}
+use Rattle.orc_state.specs.declared.declarations.Decls.{Decls}
+use Rattle.orc_state.specs.declared.declarations.Device.{Device}
+use Rattle.orc_state.specs.declared.state.State.{State}
 
 below : (n : ℕ) → n < 2 ^ 16 → All (λ device. device < 2 ^ 16) (range_with_len 0 n)
 below n few =
@@ -53,3 +34,9 @@ are_devices p n few = record {
   numbers = All-filter p (λ device. device < 2 ^ 16) (range_with_len 0 n) (below n few);
   ascending = IsStrictlySortedBy-filter nat_cmp p (range_with_len 0 n) (sorted_from_strictly_increasing (range_with_len 0 n) (rises n));
 }
+
+-- the devices that a call touches are such numbers
+pub touched_are_devices : (decls : Decls) (state : State) (call : Call) (devices : List ℕ) → AreDecls decls → devices ≡ touched_devices decls.names state call → AreDevices devices
+touched_are_devices decls state call devices are is =
+    let count : length decls.names ≡ length decls.devices = ap length are.named ∙ length-map decls.devices (λ (d : Device). d.name) in
+    subst AreDevices (sym is) (are_devices (is_touched decls.names state call) (length decls.names) (omega (arith, count, are.few)))

@@ -1,54 +1,74 @@
--- The device that a refusal names.
-use Rattle.std.proofs.Common.{ℕ, suc, ◌+◌, ◌≤◌, ◌<◌, true, false, cond, List, [], ◌∷◌, length, map, None, Some, IsTrue, refl, arith}
-use Rattle.std.proofs.lemmas.List.{length-map}
-use Rattle.std.specs.Prelude.{nat_lt}
+-- What a refusal names: a device that is declared, a rule of validity.
+use Rattle.std.proofs.Common.{ℕ, suc, ◌+◌, ◌≤◌, ◌<◌, Bool, true, false, cond, List, [], ◌∷◌, length, None, Some, IsTrue, refl, arith}
+use Rattle.std.specs.Prelude.{nat_lt, option_map}
 use Rattle.std.specs.declared.option.Option.{Option}
-use Rattle.std.specs.Option.{option_map_or}
-use Rattle.std.specs.FinMap.{entries}
-use Rattle.orc_path.specs.Configurations.{Config}
+use Rattle.std.specs.Option.{option_or}
 use Rattle.orc_path.specs.Steps.{PathStep}
-use Rattle.orc_path.specs.declared.item.Item.{Item}
-use Rattle.orc_state.specs.States.{clash, clash_among, clash_on, expansion, least, lives, existence_refusal, others, refusal, rivals}
+use Rattle.orc_check.specs.Validity.{Breach, broken_of}
+use Rattle.orc_state.specs.States.{lives}
+use Rattle.orc_state.specs.Actions.{data_after, live_after, touched}
+use Rattle.orc_state.specs.Clashes.{clash_at, clash_from, unequal_on}
+use Rattle.orc_state.specs.Next.{clash, existence, existence_of, invalid, refusal}
 use Rattle.orc_print.specs.Printed.{is_answer_among}
 use Rattle.orc_call.specs.declared.call.Action.{Action}
 use Rattle.orc_call.specs.declared.call.Action.TheVariants.{Literal, Delete}
+use Rattle.orc_call.specs.declared.call.Call.{Call}
 use Rattle.orc_call.specs.declared.answer.Answer.{Answer}
-use Rattle.orc_call.specs.declared.answer.Answer.TheVariants.{Clash, Exists, Missing}
+use Rattle.orc_call.specs.declared.answer.Answer.TheVariants.{Clash, Exists, Invalid, Missing}
+use Rattle.orc_state.specs.declared.declarations.Decls.{Decls}
 use Rattle.orc_state.specs.declared.state.Service.{Service}
 use Rattle.orc_state.specs.declared.state.State.{State}
+use Rattle.orc_run.proofs.Ruled.{IsRuled, broken_ruled}
 
--- where there is an answer, it names a device among so many
+-- where there is an answer, it is one that calls get, and names a device among so many
 abbrev pub IsAmong : ℕ → Option Answer → Type 0
 IsAmong n None = Unit {0}
 IsAmong n (Some answer) = IsTrue (is_answer_among n answer)
 
-clash_among-device : (n : ℕ) (live : List Service) (d : ℕ) (es : List (List PathStep × Item)) → IsTrue (nat_lt d n) → IsAmong n (clash_among live d es)
-clash_among-device n live d [] h = tt
-clash_among-device n live d (e ∷ es) h =
-    elim (least (map (λ (s : Service). s.id) (rivals live d e))) as (λ o. IsAmong n (option_map_or (λ id. Some (Clash d e.0 id)) o (clash_among live d es))) [
-      | None ↦ clash_among-device n live d es h
-      | Some id ↦ h
-    ]
+first_among : (n : ℕ) (o c : Option Answer) → IsAmong n o → IsAmong n c → IsAmong n (option_or o c)
+first_among n None c h k = k
+first_among n (Some answer) c h k = h
+
+existence_of-among : (n : ℕ) (live : List Service) (action : Action) → IsAmong n (existence_of live action)
+existence_of-among n live (Literal id writes) = on (lives live id)
+  where
+    on : (t : Bool) → IsAmong n (cond t (Some (Exists id)) None)
+    on true = refl
+    on false = tt
+existence_of-among n live (Delete id) = on (lives live id)
+  where
+    on : (t : Bool) → IsAmong n (cond t None (Some (Missing id)))
+    on true = tt
+    on false = refl
+existence_of-among n live other = tt
+
+existence-among : (n : ℕ) (live : List Service) (actions : List Action) → IsAmong n (existence live actions)
+existence-among n live [] = tt
+existence-among n live (action ∷ actions) =
+    first_among n (existence_of live action) (existence live actions) (existence_of-among n live action) (existence-among n live actions)
+
+invalid-among : (n : ℕ) (found : Option Breach) → IsRuled found → IsAmong n (option_map (λ (b : Breach). Invalid b.path b.rule) found)
+invalid-among n None h = tt
+invalid-among n (Some b) h = h
 
 is_below : (d n : ℕ) → d < n → IsTrue (nat_lt d n)
 is_below d n h = grind arith
 
-placed : (n : ℕ) (o c : Option Answer) → IsAmong n o → IsAmong n c → IsAmong n (elim o [ None ↦ c | Some answer ↦ Some answer ])
-placed n None c h k = k
-placed n (Some answer) c h k = h
+clash_at-among : (n d : ℕ) (found : Option (List PathStep × List ℕ)) → d < n → IsAmong n (option_map (λ (at : List PathStep × List ℕ). Clash d at.0 at.1) found)
+clash_at-among n d None h = tt
+clash_at-among n d (Some at) h = is_below d n h
 
-clash_on-device : (n : ℕ) (live : List Service) (d : ℕ) (ms : List Config) → d + length ms ≤ n → IsAmong n (clash_on live d ms)
-clash_on-device n live d [] h = tt
-clash_on-device n live d (m ∷ ms) h =
-    placed n (clash_among live d (entries m)) (clash_on live (suc d) ms) (clash_among-device n live d (entries m) (is_below d n (omega arith)))
-    (clash_on-device n live (suc d) ms (omega arith))
+clash_from-among : (n : ℕ) (live services : List Service) (d : ℕ) (names : List (List ℕ)) → d + length names ≤ n → IsAmong n (clash_from live services d names)
+clash_from-among n live services d [] h = tt
+clash_from-among n live services d (name ∷ names) h =
+    first_among n (clash_at live services d) (clash_from live services (suc d) names) (clash_at-among n d (unequal_on live services d) (omega arith))
+    (clash_from-among n live services (suc d) names (omega arith))
 
-pub refusal-device : (names : List (List ℕ)) (s : State) (action : Action) → IsAmong (length names) (refusal names s action)
-refusal-device names s (Literal id writes) =
-    placed (length names) (existence_refusal s (Literal id writes)) (clash names s (Literal id writes))
-    (elim (lives s id) as (λ b. IsAmong (length names) (cond b (Some (Exists id)) None)) [ true ↦ refl | false ↦ tt ])
-    (clash_on-device (length names) (others s.live id) 0 (expansion names writes) (omega (arith, length-map {A = List ℕ} {B = Config})))
-refusal-device names s (Delete id) =
-    placed (length names) (existence_refusal s (Delete id)) None
-    (elim (lives s id) as (λ b. IsAmong (length names) (cond b None (Some (Missing id)))) [ true ↦ tt | false ↦ refl ]) tt
-refusal-device names s other = tt
+pub refusal-among : (decls : Decls) (s : State) (call : Call) → IsAmong (length decls.names) (refusal decls s call)
+refusal-among decls s call =
+    let n = length decls.names in
+    let items = data_after call.actions s.data in
+    let behind = live_after decls.names call.actions s.live in
+    first_among n (existence s.live call.actions) (option_or (invalid decls.data_schema items) (clash decls.names s.live call.actions)) (existence-among n s.live call.actions)
+    (first_among n (invalid decls.data_schema items) (clash decls.names s.live call.actions) (invalid-among n (broken_of decls.data_schema items) (broken_ruled decls.data_schema items))
+    (clash_from-among n behind (touched call.actions behind) 0 decls.names (omega arith)))

@@ -14,6 +14,7 @@ use Rattle.orc_run.specs.Steps.{EndsBecause}
 use Rattle.orc_run.specs.inside.Controllers.{known_of, pending_of, view_of, CanRun, IsSound, Opens}
 use Rattle.orc_run.specs.Opening.{IsRefused, MayBeOpening}
 use Rattle.orc_run.specs.inside.Inputs.{IsInputStop, IsRunStop}
+use Rattle.orc_run.specs.Checks.{EndsCheck}
 use Rattle.orc_run.specs.Ends.{Outside, GivesFault, Starts, Wrote, BundleRun, IsUnopened, EndsOver, WholeCheck, WholeHistory, WholeRun, EndsBy, asking_history}
 use Rattle.orc_words.specs.declared.words.Command.{Command}
 use Rattle.orc_words.specs.declared.words.Command.TheVariants.{Check, Run, History}
@@ -133,6 +134,7 @@ module _ {D : Type 0} (meaning : DiskMeaning D) where
       → CanRun meaning b.decls c steps
   can_run b lawful short c steps all sound = record {
     declared = lawful.decls;
+    schemas = lawful.sound;
     short = short;
     sound = sound;
     lawful = subst (λ (l : List ScriptStep). IsTrue (list_all (is_step b.decls) l)) (sym all) lawful.steps;
@@ -269,10 +271,15 @@ module _ {D : Type 0} (meaning : DiskMeaning D) where
 pub run_is : (status : Result Done Stop) (end : Stop) → IfErr status IsRunStop → status ≡ Err end → IsRunStop end
 run_is status end causes is = subst (λ (s : Result Done Stop). IfErr s IsRunStop) is causes
 
+-- so it is of a check
+pub check_is : (bundle : Bundle) (held now : Option (List ℕ)) (status : Result Done Stop) (end : Stop) → EndsCheck bundle held now status → status ≡ Err end → EndsCheck bundle held now (Err end)
+check_is bundle held now status end ends is = subst (λ (s : Result Done Stop). EndsCheck bundle held now s) is ends
+
 -- a bundle with `history` as its one step is a bundle
 pub asking_is_bundle : (bundle : Bundle) → IsBundle bundle → IsBundle (asking_history bundle)
 asking_is_bundle bundle lawful = record {
   decls = lawful.decls;
+  sound = lawful.sound;
   steps = refl;
   settled = refl;
   few = omega arith;

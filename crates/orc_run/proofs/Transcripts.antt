@@ -14,12 +14,12 @@ use Rattle.orc_disk.specs.Meanings.{DiskMeaning}
 use Rattle.orc_state.specs.States.{tree_due, name_of}
 use Rattle.orc_state.specs.Legal.{state_of, AnswersAtOnce, AreDistinct, IsDue}
 use Rattle.orc_state.specs.declared.declarations.Decls.{Decls}
-use Rattle.orc_print.specs.Printed.{answer_line, history_text, recovered_line, tree_text}
+use Rattle.orc_print.specs.Printed.{answer_line, data_text, history_text, recovered_line, tree_text}
 use Rattle.orc_bundle.specs.declared.bundle.ScriptStep.{ScriptStep}
 use Rattle.orc_bundle.specs.declared.bundle.ScriptStep.TheVariants as step
 use Rattle.orc_run.specs.Views.{View}
 use Rattle.orc_run.specs.Commits.{AppendsUpTo, Commits, commit_end, commit_text}
-use Rattle.orc_run.specs.Steps.{Breaks, Does, Recovers, Serves}
+use Rattle.orc_run.specs.Steps.{Breaks, Does, PrintsJson, Recovers, Serves}
 use Rattle.orc_run.specs.Runs.{StepsDone, EndsAtStep}
 use Rattle.orc_run.specs.Runs.StepsDone.{begun, one_more}
 use Rattle.orc_run.specs.Transcripts.{IsFrontOf, IsPlain, PrintTheSame, PrintsFront, arms_no_stop}
@@ -28,6 +28,7 @@ use Rattle.orc_run.specs.declared.commit.Stage.TheVariants.{Intent, Decide, Sett
 use Rattle.orc_run.specs.declared.stop.Stop.{Stop}
 use Rattle.orc_run.specs.declared.stop.Stop.TheVariants as ending
 use Rattle.orc_run.proofs.OneAnswer.{one_answer, not_due, distinct_push}
+use Rattle.orc_run.proofs.JsonPrints.{json_one}
 use Rattle.orc_run.proofs.Parts.{in_parts, none_is_some, one_done, same_parts}
 
 -- the line of the last of these calls as an entry
@@ -191,6 +192,18 @@ module _ {D E : Type 0} (one : DiskMeaning D) (other : DiskMeaning E) (decls : D
   does_one known up old new old' new' (step.Show d) text text' plain distinct is is' t t' p q =
       stay known up old new old' new' text text' distinct is is'
       (p.0 ∙ ap (λ (l : List Call). tree_text (name_of decls.names d) (tree_due (state_of decls l) d)) (is.known_is ∙ sym is'.known_is) ∙ sym q.0) p.1 q.1
+  does_one known up old new old' new' (step.Json d) text text' plain distinct is is' t t' p q =
+      stay known up old new old' new' text text' distinct is is'
+      (json_one decls (state_of decls old.known) d text text' p.0 (subst (λ (l : List Call). PrintsJson decls (state_of decls l) d text') (is'.known_is ∙ sym is.known_is) q.0)) p.1 q.1
+  does_one known up old new old' new' step.Data text text' plain distinct is is' t t' p q =
+      stay known up old new old' new' text text' distinct is is'
+      (p.0 ∙ printed old.up old'.up (is.up_is ∙ sym is'.up_is) ∙ sym q.0) p.1 q.1
+    where
+      printed : (a b : Bool) → a ≡ b → (if a then data_text (state_of decls old.known).data else codes "down\n") ≡ (if b then data_text (state_of decls old'.known).data else codes "down\n")
+      printed true true e = ap (λ (l : List Call). data_text (state_of decls l).data) (is.known_is ∙ sym is'.known_is)
+      printed false false e = refl
+      printed true false e = absurd cc
+      printed false true e = absurd cc
   does_one known up old new old' new' (step.Serve call) text text' plain distinct is is' t t' p q =
       serves_one known up old new old' new' call text text' distinct is is' t t' p q
   does_one known up old new old' new' step.Settle text text' plain distinct is is' t t' p q = stay known up old new old' new' text text' distinct is is' (p.0 ∙ sym q.0) p.1 q.1

@@ -15,12 +15,11 @@ use Rattle.orc_append.specs.Views.{JournalView}
 use Rattle.orc_append.specs.Appends.{Appends, known_behind}
 use Rattle.orc_append.specs.declared.outcome.Appended.{Appended}
 use Rattle.orc_append.specs.declared.outcome.Appended.TheVariants as appended
-use Rattle.orc_state.specs.States.{action_of}
 use Rattle.orc_state.specs.Legal.{state_of}
+use Rattle.orc_state.specs.Touched.{touched_devices}
 use Rattle.orc_state.specs.declared.declarations.Decls.{Decls}
 use Rattle.orc_print.specs.Printed.{answer_line}
 use Rattle.orc_disk.specs.Meanings.{DiskMeaning}
-use Rattle.orc_run.specs.Touched.{devices_of}
 use Rattle.orc_run.specs.Views.{View}
 use Rattle.orc_run.specs.declared.opening.TheConstants.{LARGEST_JOURNAL}
 use Rattle.orc_run.specs.declared.commit.Stage.{Stage}
@@ -73,10 +72,10 @@ module _ {D : Type 0} (meaning : DiskMeaning D) where
     pub free : is_named t view.entries ≡ false
     pub least : (u : ℕ) → 1 ≤ u → u < t → is_named u view.entries ≡ true
 
--- the intent of a call with this number: it names the devices that the call changes
+-- the intent of a call with this number: it names the devices that the call touches
 abbrev pub intent_of : {D : Type 0} → Decls → View D → Call → ℕ → Entry
 intent_of decls view call t =
-    entry.Intent t call (devices_of decls.names (state_of decls view.known) (action_of call))
+    entry.Intent t call (touched_devices decls.names (state_of decls view.known) call)
 
 -- What is known behind a commit that came to this stage, and what is pending: the journal may have a call as its next
 -- entry only from the append of its decision on.

@@ -232,9 +232,10 @@ module _ {D : Type 0} (meaning : DiskMeaning D) where
   EndsAs Run before after status = WholeRun before after status
   EndsAs History before after status = WholeHistory before after status
 
-  -- How the program ended, by the command and the status. It ends with Usage exactly where the words have no command,
-  -- and with Bundle exactly where the first bytes of the source are none, whatever the command; where it ends with
-  -- ReadFault or Memory these may not all have been read, and no others were.
+  -- How the program ended, by the command and the status. Where the words have no command it ends with Usage, or with
+  -- Memory, and nowhere else with Usage. Where the first bytes of the source are no bundle it ends with Bundle,
+  -- whatever the command, or with ReadFault or Memory, and nowhere else with Bundle. Behind these two the bytes may not
+  -- all have been read, and no others were.
   abbrev pub EndsBy : Option Command → Outside D → Outside D → Result Done Stop → Type 0
   EndsBy None before after (Err ending.Memory) = after ≡ before
   EndsBy None before after status = status ≡ Err ending.Usage

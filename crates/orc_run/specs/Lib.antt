@@ -1,4 +1,3 @@
-pub mod Touched
 pub mod Views
 pub mod Opening
 pub mod Commits

@@ -2,12 +2,15 @@
 use Rattle.std.specs.declared.option.Option.TheVariants.{None, Some}
 use Rattle.std.specs.Prelude.{◌≡◌, ◌≢◌, ◌⊎◌, ℕ, true, false, List, [], ◌++◌, codes, length, IfSome, is_some, if◌then◌else◌}
 use Rattle.orc_io.specs.Counts.{Rose}
+use Rattle.orc_schema.specs.Schemas.{SchemaTable}
+use Rattle.orc_json.specs.Written.{HasJson}
 use Rattle.orc_call.specs.declared.call.Call.{Call}
 use Rattle.orc_call.specs.declared.answer.Answer.{Answer}
 use Rattle.orc_call.specs.declared.answer.Answer.TheVariants.{Down}
 use Rattle.orc_state.specs.States.{tree_due, name_of}
+use Rattle.orc_state.specs.Calls.{schema_named}
 use Rattle.orc_state.specs.Legal.{state_of, AnswersAtOnce, IsDue, IsLegal}
-use Rattle.orc_print.specs.Printed.{tree_text, answer_line, history_text, recovered_line}
+use Rattle.orc_print.specs.Printed.{IsJsonGroup, tree_text, data_text, answer_line, history_text, recovered_line}
 use Rattle.orc_disk.specs.Meanings.{DiskMeaning}
 use Rattle.orc_run.specs.Opening.{IsOpenedAs, IsRefused}
 use Rattle.orc_run.specs.Commits.{Commits, commit_text, commit_end}
@@ -17,6 +20,7 @@ use Rattle.orc_append.specs.declared.outcome.Appended.{Appended}
 use Rattle.orc_append.specs.declared.outcome.Appended.TheVariants.{Stopped}
 use Rattle.orc_run.specs.Views.{View, HasHistory, IsUntold}
 use Rattle.orc_state.specs.declared.declarations.Decls.{Decls}
+use Rattle.orc_state.specs.declared.state.State.{State}
 use Rattle.orc_bundle.specs.declared.bundle.ScriptStep.{ScriptStep}
 use Rattle.orc_bundle.specs.declared.bundle.ScriptStep.TheVariants as step
 use Rattle.orc_run.specs.declared.stop.Stop.{Stop}
@@ -61,10 +65,23 @@ pub record FailsToRecover {D : Type 0} (meaning : DiskMeaning D) (decls : Decls)
   pub refused : IsRefused meaning decls old.disk new.disk end
   pub same : meaning.content new.disk ≡ meaning.content old.disk
 
--- a step that is done
+-- the schema of the device of a number
+abbrev pub device_schema : Decls → ℕ → SchemaTable
+device_schema decls device = schema_named decls.schemas decls.devices (name_of decls.names device)
+
+-- The tree that is due on a device has a JSON value under the device's schema, and this is printed of it.
+abbrev pub PrintsJson : Decls → State → ℕ → List ℕ → Type 0
+PrintsJson decls state device text = HasJson (device_schema decls device) (tree_due state device)
+    × IsJsonGroup (name_of decls.names device) (device_schema decls device) (tree_due state device) text
+
+-- A step that is done. Trees of devices are printed whether the controller is up or not.
 abbrev pub Does : {D : Type 0} → DiskMeaning D → Decls → View D → ScriptStep → List ℕ → View D → Type 0
 Does meaning decls old (step.Show device) text new =
     (text ≡ tree_text (name_of decls.names device) (tree_due (state_of decls old.known) device)) × (new ≡ old)
+Does meaning decls old (step.Json device) text new =
+    PrintsJson decls (state_of decls old.known) device text × (new ≡ old)
+Does meaning decls old step.Data text new =
+    (text ≡ (if old.up then data_text (state_of decls old.known).data else codes "down\n")) × (new ≡ old)
 Does meaning decls old (step.Serve call) text new = Serves meaning decls old call text new
 Does meaning decls old step.Settle text new = (text ≡ []) × (new ≡ old)
 Does meaning decls old step.Stop text new = (text ≡ codes "stopped\n") × (new ≡ record old { up = false })

@@ -1,8 +1,8 @@
 //! The intent of a call that is to be committed, and the state behind what was decided.
-ghost use Rattle.std.specs.Prelude.{◌≡◌, ◌⊎◌, ◌≤◌, ◌<◌, ◌++◌, ◌∷◌, [], ℕ, true, false, None, length, IfOk, OnOk, OnErr, IsTrue};
+ghost use Rattle.std.specs.Prelude.{◌≡◌, ◌⊎◌, ◌≤◌, ◌<◌, ◌++◌, ◌∷◌, [], ℕ, true, false, None, IfOk, OnOk, OnErr, IsTrue};
 ghost use Rattle.orc_call.specs.Encoding.{IsCall};
 ghost use Rattle.orc_journal.specs.Entries.{AreDevices};
-ghost use Rattle.orc_state.specs.States.{IsComplete, action_of, after, refusal};
+ghost use Rattle.orc_state.specs.Next.{IsStateOf, after, refusal};
 ghost use Rattle.orc_state.specs.Calls.{is_call};
 ghost use Rattle.orc_state.specs.Legal.{IsLegal, state_of};
 ghost use Rattle.orc_state.specs.Declarations.{AreDecls};
@@ -12,11 +12,11 @@ ghost use Rattle.orc_run.specs.inside.Deciding.{IsIntentOf};
 use crate::past::Past;
 use orc_call::Call;
 use orc_journal::Entry;
-use orc_state::{Decls, State, action_of};
+use orc_state::{Decls, State};
 use orc_text::{Memory, Row};
 use std::alloc::Global;
 
-/// Gives a call a number and makes its intent, with the devices that the call changes. The call
+/// Gives a call a number and makes its intent, with the devices that the call touches. The call
 /// stands open behind the history.
 pub(crate) fn begin(
     alloc: Global,
@@ -55,27 +55,24 @@ pub(crate) fn state_behind(alloc: Global, decls: &Decls, history: &[Call]) -> Re
     requires decls { AreDecls decls.now }
     requires legal { IsLegal decls.now history.now }
     ensures state { IfOk result (λ state. state ≡ state_of decls.now history.now) }
-    ensures complete { IfOk result IsComplete }
-    ensures bases { IfOk result (λ state. length state.bases ≡ length decls.now.names) }
+    ensures kept { IfOk result (IsStateOf decls.now) }
 {
-    let mut state = State::open(alloc, decls.devices.as_slice())?;
+    let mut state = State::open(alloc, decls)?;
     for call in history {
         redo(alloc, decls, &mut state, call)?;
     }
     Ok(state)
 }
 
-// The state does the action of a call, which is not refused.
+// The state does a call, which is not refused.
 fn redo(alloc: Global, decls: &Decls, state: &mut State, call: &Call) -> Result<(), Memory>
     requires decls { AreDecls decls.now }
     requires call { IsTrue (is_call decls.now call.now) }
-    requires unrefused { refusal decls.now.names state.old (action_of call.now) ≡ None }
-    requires complete { IsComplete state.old }
-    requires bases { length state.old.bases ≡ length decls.now.names }
-    ensures done { OnOk result (state.new ≡ after decls.now.names state.old (action_of call.now)) }
-    ensures complete { IsComplete state.new }
-    ensures bases { length state.new.bases ≡ length decls.now.names }
+    requires unrefused { refusal decls.now state.old call.now ≡ None }
+    requires kept { IsStateOf decls.now state.old }
+    ensures done { OnOk result (state.new ≡ after decls.now state.old call.now) }
+    ensures kept { IsStateOf decls.now state.new }
 {
-    state.apply(alloc, decls.names.as_slice(), action_of(call))?;
+    state.next(alloc, decls, call)?;
     Ok(())
 }

@@ -6,7 +6,6 @@ mod checking;
 mod commit;
 mod controller;
 mod decision;
-mod devices;
 mod history;
 mod laws;
 mod numbers;

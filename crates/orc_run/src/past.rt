@@ -14,7 +14,7 @@ use crate::history::place_of;
 use crate::numbers::Numbers;
 use orc_call::{Answer, Call};
 use orc_journal::{Entry, committed_by};
-use orc_state::{Decls, State, action_of, is_call};
+use orc_state::{Decls, State, is_call};
 use orc_text::{Memory, Row};
 use std::alloc::Global;
 use std::mem;
@@ -59,7 +59,7 @@ impl Past {
         let mut past = Past {
             numbers: Numbers::new(alloc),
             history: Row::new(alloc),
-            state: State::open(alloc, decls.devices.as_slice())?,
+            state: State::open(alloc, decls)?,
         };
         for (place, entry) in entries.iter().enumerate() {
             if !past.take(alloc, decls, &entries[..place], entry)? {
@@ -111,7 +111,7 @@ impl Past {
             → IsDue decls.now self.old.history call.now → ⊥ }
         ensures numbers { self.new.numbers ≡ self.old.numbers }
     {
-        if !is_call(decls, call) {
+        if !is_call(alloc, decls, call) {
             return Ok(false);
         }
         if self.answer_or_apply(alloc, decls, call)?.is_some() {
@@ -122,7 +122,7 @@ impl Past {
     }
 
     /// The answer that a call gets at once behind the history. Where there is none, the state does
-    /// its action.
+    /// the call.
     pub(crate) fn answer_or_apply(
         &mut self,
         alloc: Global,
@@ -141,8 +141,7 @@ impl Past {
         if let Some(answer) = self.repeated(call) {
             return Ok(Some(answer));
         }
-        self.state
-            .apply(alloc, decls.names.as_slice(), action_of(call))
+        self.state.next(alloc, decls, call)
     }
 
     // The answer to a call whose caller and number the history has.

@@ -2,12 +2,11 @@
 ghost use Rattle.std.specs.Prelude.{◌≡◌, ◌≤◌, true, None, List, length, take, IfOk, IsTrue};
 ghost use Rattle.orc_append.specs.declared.outcome.Appended.{Appended};
 ghost use Rattle.orc_journal.specs.Entries.{AreDevices};
-ghost use Rattle.orc_state.specs.States.{action_of};
+ghost use Rattle.orc_state.specs.Touched.{touched_devices};
 ghost use Rattle.orc_state.specs.Calls.{is_call};
 ghost use Rattle.orc_state.specs.Legal.{IsLegal, state_of};
 ghost use Rattle.orc_state.specs.Declarations.{AreDecls};
 ghost use Rattle.orc_run.specs.Commits.{commit_end};
-ghost use Rattle.orc_run.specs.Touched.{devices_of};
 ghost use Rattle.orc_run.specs.inside.Pasts.{IsBehind};
 ghost use Rattle.orc_run.specs.inside.Serving.{up_behind, ComesBehind, EndsBehind};
 ghost use Rattle.orc_run.specs.inside.Controllers.{known_of, view_of, IsCommitting, IsSound, LeadsTo};
@@ -17,12 +16,11 @@ use crate::Stop;
 use crate::commit::{Reached, Stage, append_commit};
 use crate::controller::Controller;
 use crate::decision::{begin, state_behind};
-use crate::devices::devices_of;
 use crate::printing::{CommitLines, answered};
 use orc_append::Appended;
 use orc_call::{Answer, Call};
 use orc_disk::Disk;
-use orc_state::{Decls, action_of};
+use orc_state::{Decls, touched_devices};
 use orc_text::{Memory, Row};
 use std::alloc::Global;
 
@@ -51,20 +49,15 @@ impl<D: Disk> Controller<D> {
             return answered(alloc, decls.names.as_slice(), call, &Answer::Down);
         }
         // What a deletion touches is told by the state before it.
-        let devices = devices_of(
-            alloc,
-            decls.names.as_slice(),
-            &self.past.state,
-            action_of(call),
-        )?;
+        let devices = touched_devices(alloc, decls.names.as_slice(), &self.past.state, call)?;
         match self.past.answer_or_apply(alloc, decls, call)? {
             Some(answer) => answered(alloc, decls.names.as_slice(), call, &answer),
             None => self.commit(alloc, decls, call, devices),
         }
     }
 
-    // Commits a call whose action the state has done: it appends the intent, with the devices that
-    // the call changes, the decision, and that it is settled. Memory is wanted before that.
+    // Commits a call that the state has done: it appends the intent, with the devices that the call
+    // touches, the decision, and that it is settled. Memory is wanted before that.
     fn commit(
         &mut self,
         alloc: Global,
@@ -76,8 +69,8 @@ impl<D: Disk> Controller<D> {
         requires committing { (entries : List Entry) × IsCommitting D.disk decls.now call.now entries self.old }
         requires call { IsTrue (is_call decls.now call.now) }
         requires devices { AreDevices devices }
-        requires touched { devices ≡ devices_of decls.now.names
-            (state_of decls.now (known_of self.old)) (action_of call.now) }
+        requires touched { devices
+            ≡ touched_devices decls.now.names (state_of decls.now (known_of self.old)) call.now }
         ensures { (entries : List Entry) → IsCommitting D.disk decls.now call.now entries self.old
             → LeadsTo D.disk decls.now (view_of self.old entries) call.now result self.new }
     {

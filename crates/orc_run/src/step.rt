@@ -1,11 +1,13 @@
 //! The steps of a script, as the controller does them.
-ghost use Rattle.std.specs.Prelude.{[], Ok, ◌≡◌, ◌<◌, ◌^◌, length, codes, IfOk, IsTrue, MatchResult, if◌then◌else◌};
+ghost use Rattle.std.specs.Prelude.{[], Ok, ◌≡◌, ◌<◌, ◌^◌, false, length, codes, All, IfOk, IsTrue, MatchResult, if◌then◌else◌};
+ghost use Rattle.orc_schema.specs.Sound as schema;
 ghost use Rattle.orc_state.specs.States.{tree_due, name_of};
 ghost use Rattle.orc_state.specs.Calls.{is_call};
 ghost use Rattle.orc_bundle.specs.Bundles.{is_step};
 ghost use Rattle.orc_state.specs.Legal.{state_of};
 ghost use Rattle.orc_state.specs.Declarations.{AreDecls};
-ghost use Rattle.orc_print.specs.Printed.{history_text, tree_text};
+ghost use Rattle.orc_print.specs.Printed.{data_text, history_text, tree_text};
+ghost use Rattle.orc_run.specs.Steps.{PrintsJson, device_schema};
 ghost use Rattle.orc_run.specs.inside.Controllers.{known_of, view_of, CanDo, GoesOn, IsSound, StepsTo, Wants};
 ghost use Rattle.orc_bundle.specs.declared.bundle.ScriptStep.{ScriptStep};
 
@@ -16,8 +18,10 @@ use crate::serving::Served;
 use orc_bundle::ScriptStep;
 use orc_call::Call;
 use orc_disk::Disk;
-use orc_print::{down, history, show, stopped};
-use orc_state::{Decls, device_name};
+use orc_json::typed_has_json;
+use orc_print::{data, down, history, json, show, stopped};
+use orc_schema::Schema;
+use orc_state::{Decls, device_name, tree_is_typed};
 use orc_text::{Memory, Row};
 use std::alloc::Global;
 
@@ -35,6 +39,8 @@ impl<D: Disk> Controller<D> {
     {
         match step {
             ScriptStep::Show(device) => self.show(alloc, decls, *device),
+            ScriptStep::Json(device) => self.json(alloc, decls, *device),
+            ScriptStep::Data => self.data(alloc, decls),
             ScriptStep::Serve(call) => self.answer(alloc, decls, call),
             ScriptStep::Settle => self.settled(alloc, decls),
             ScriptStep::Stop => self.stop(alloc, decls),
@@ -69,6 +75,64 @@ impl<D: Disk> Controller<D> {
         let tree = self.past.state.tree_due(alloc, device)?;
         let name = device_name(decls.names.as_slice(), device);
         Ok(Row::from_vec(show(alloc, name, &tree)?))
+    }
+
+    // Prints the tree of a device with a type, as JSON.
+    fn json(
+        self,
+        alloc: Global,
+        decls: &Decls,
+        device: u32,
+    ) -> Result<(Controller<D>, Row<u8>), LastStep<D>>
+        requires decls { AreDecls decls.now }
+        requires schemas { All schema.IsSound decls.now.schemas }
+        requires sound { IsSound D.disk decls.now self }
+        requires device { device < length decls.now.names }
+        requires typed { (device_schema decls.now device).plain ≡ false }
+        ensures { (sound : IsSound D.disk decls.now self)
+            → StepsTo D.disk decls.now (view_of self sound.0) (ScriptStep.Json device) result }
+    {
+        let text = self.json_text(alloc, decls, device);
+        self.printing(alloc, text)
+    }
+
+    // The line of that tree.
+    fn json_text(&self, alloc: Global, decls: &Decls, device: u32) -> Result<Row<u8>, Memory>
+        requires decls { AreDecls decls.now }
+        requires schemas { All schema.IsSound decls.now.schemas }
+        requires sound { IsSound D.disk decls.now self.now }
+        requires device { device < length decls.now.names }
+        requires typed { (device_schema decls.now device).plain ≡ false }
+        ensures { IfOk result (PrintsJson decls.now (state_of decls.now (known_of self.now)) device) }
+    {
+        tree_is_typed();
+        typed_has_json();
+        let tree = self.past.state.tree_due(alloc, device)?;
+        let name = device_name(decls.names.as_slice(), device);
+        let schema = schema_of(decls, device);
+        Ok(Row::from_vec(json(alloc, name, schema, &tree)?))
+    }
+
+    // Prints the data.
+    fn data(self, alloc: Global, decls: &Decls) -> Result<(Controller<D>, Row<u8>), LastStep<D>>
+        requires sound { IsSound D.disk decls.now self }
+        ensures { (sound : IsSound D.disk decls.now self)
+            → StepsTo D.disk decls.now (view_of self sound.0) ScriptStep.Data result }
+    {
+        let text = self.data_text(alloc, decls);
+        self.printing(alloc, text)
+    }
+
+    // The group of the data, or that the controller is down.
+    fn data_text(&self, alloc: Global, decls: &Decls) -> Result<Row<u8>, Memory>
+        requires sound { IsSound D.disk decls.now self.now }
+        ensures { IfOk result (λ text. text ≡ (if self.now.up then data_text
+            (state_of decls.now (known_of self.now)).data else codes "down\n")) }
+    {
+        if self.up {
+            return Ok(Row::from_vec(data(alloc, self.past.state.data())?));
+        }
+        Ok(Row::from_vec(down(alloc)?))
     }
 
     // Prints the history.
@@ -215,4 +279,14 @@ impl<D: Disk> Controller<D> {
             stop: Stop::Memory,
         }
     }
+}
+
+// The schema of a declared device.
+fn schema_of(decls: &Decls, device: u32) -> &Schema
+    requires decls { AreDecls decls.now }
+    requires device { device < length decls.now.names }
+    ensures { result.now ≡ device_schema decls.now device }
+{
+    let place = decls.devices.as_slice()[device as usize].schema;
+    &decls.schemas.as_slice()[place as usize]
 }

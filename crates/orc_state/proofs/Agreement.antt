@@ -1,30 +1,37 @@
 -- Services that live together agree.
-use Rattle.std.proofs.Common.{◌≡◌, ℕ, zero, suc, ◌+◌, Bool, true, false, cond, not, List, [], ◌∷◌, inl, inr, map, All, None, Some, refl, sym, ap, subst, ◌∙◌, arith}
+use Rattle.std.proofs.Common.{◌≡◌, ℕ, zero, suc, ◌+◌, ◌<◌, ◌≤◌, Bool, true, false, cond, not, ◌||◌, List, [], ◌∷◌, ◌++◌, ◌⊎◌, inl, inr, map, length, All, None, Some, refl, sym, ap, subst, ◌∙◌, arith}
 use Rattle.std.specs.declared.option.Option.{Option}
 use Rattle.std.specs.declared.cmp.Ordering.{Ordering}
 use Rattle.std.specs.declared.cmp.Ordering.TheVariants.{Less, Equal, Greater}
-use Rattle.std.specs.Ordering.{is_eq}
-use Rattle.std.specs.Option.{option_map_or}
-use Rattle.std.specs.List.{filter, Contains}
+use Rattle.std.specs.Prelude.{option_map}
+use Rattle.std.specs.Ordering.{is_eq, is_lt}
+use Rattle.std.specs.Option.{option_map_or, option_or}
+use Rattle.std.specs.List.{filter, flat_map, fold, list_any, Contains}
 use Rattle.std.specs.Cmp.Lexicographic.{bytes_decides}
-use Rattle.std.specs.FinMap.{find, get, entries, get-entries, get-empty}
-use Rattle.std.proofs.lemmas.List.Elements.{All-contains, All-contains_itself, All-filter, All-nil, All-cons, Contains-append_cases, Contains-push_cases}
+use Rattle.std.specs.FinMap.{find, get, empty, entries, get-entries, get-empty}
+use Rattle.std.proofs.lemmas.Bool.{cases_lt}
+use Rattle.std.proofs.lemmas.List.Elements.{All-contains, All-head, All-tail, All-nil, All-cons, Contains-append_cases, Contains-append_left, Contains-append_right, Contains-push, Contains-push_cases}
 use Rattle.orc_path.specs.Steps.{PathStep}
 use Rattle.orc_path.specs.Order.{path_cmp}
 use Rattle.orc_path.proofs.PathOrder.{path_cmp_exact}
 use Rattle.orc_path.specs.Configurations.{Config}
 use Rattle.orc_path.specs.declared.item.Item.{Item}
 use Rattle.orc_path.specs.declared.item.Item.TheVariants.{Entry, Leaf}
-use Rattle.orc_state.specs.States.{action_of, is_same_text, config_of, part, has_id, opening, others, after, expansion, differs, rivals, least, clash_among, clash_on, clash, existence_refusal, refusal}
+use Rattle.orc_state.specs.States.{config_of, expansion, has_id, is_same_text, opening, others, part}
+use Rattle.orc_state.specs.Actions.{is_named_by, live_after, live_step, new_services, names, touched}
+use Rattle.orc_state.specs.Clashes.{clash_at, clash_from, differs, least, lesser_unequal, rivals, unequal_among, unequal_of, unequal_on}
+use Rattle.orc_state.specs.Next.{after, clash, existence, invalid, refusal}
 use Rattle.orc_state.specs.Histories.{fold_from, IsUnrefused}
 use Rattle.orc_state.specs.Laws.{Agree, AllAgree, ServicesAgree}
-use Rattle.orc_call.specs.declared.answer.Answer.{Answer}
 use Rattle.orc_call.specs.declared.answer.Answer.TheVariants.{Clash}
 use Rattle.orc_call.specs.declared.call.Call.{Call}
 use Rattle.orc_call.specs.declared.call.Action.{Action}
-use Rattle.orc_call.specs.declared.call.Action.TheVariants.{Literal, Delete}
+use Rattle.orc_call.specs.declared.call.Action.TheVariants.{Literal}
+use Rattle.orc_state.specs.declared.declarations.Decls.{Decls}
 use Rattle.orc_state.specs.declared.state.Service.{Service}
 use Rattle.orc_state.specs.declared.state.State.{State}
+use Rattle.orc_state.proofs.Lists.{not_true, filter_from, filter_nil, passes, true_not_false}
+use Rattle.orc_state.proofs.Named.{made_named}
 
 -- items that don't differ are equal
 pub same_items : (x y : Item) → differs x (Some y) ≡ false → x ≡ y
@@ -45,23 +52,25 @@ pub map_nil : {A B : Type 0} (f : A → B) (xs : List A) → map f xs ≡ [] →
 map_nil f [] h = refl
 map_nil f (x ∷ xs) h = cc
 
-filter_nil : {A : Type 0} (p : A → Bool) (xs : List A) → filter p xs ≡ [] → All (λ x. p x ≡ false) xs
-filter_nil p [] h = All-nil (λ x. p x ≡ false)
-filter_nil p (x ∷ xs) h = here (filter_nil p xs) (p x) refl
-  where
-    here : (filter p xs ≡ [] → All (λ x. p x ≡ false) xs) → (t : Bool) → p x ≡ t → All (λ x. p x ≡ false) (x ∷ xs)
-    here rest true e = let kept : x ∷ filter p xs ≡ [] = sym (ap (λ t. cond t (x ∷ filter p xs) (filter p xs)) e) ∙ h in cc
-    here rest false e = All-cons (λ x. p x ≡ false) x xs e (rest (sym (ap (λ t. cond t (x ∷ filter p xs) (filter p xs)) e) ∙ h))
-
 some : {A : Type 0} {a b : A} → Some a ≡ Some b → a ≡ b
 some q = cc
 
--- where no clash is found among items, none of them differs from what a living service writes
-pub no_clash_among : (live : List Service) (d : ℕ) (es : List (List PathStep × Item)) (p : List PathStep) (x : Item) (s : Service)
-    → clash_among live d es ≡ None → find path_cmp p es ≡ Some x → Contains live s → differs x (get (part s d) p) ≡ false
-no_clash_among live d [] p x s h f c = cc
-no_clash_among live d (e ∷ es) p x s h f c =
-    by_least (λ (none : clash_among live d es ≡ None) (later : find path_cmp p es ≡ Some x). no_clash_among live d es p x s none later c)
+-- options
+
+pub or_none : {A : Type 0} (a b : Option A) → option_or a b ≡ None → (a ≡ None) × (b ≡ None)
+or_none None b h = (refl, h)
+or_none (Some x) b h = cc
+
+pub map_none : {A B : Type 0} (f : A → B) (o : Option A) → option_map f o ≡ None → o ≡ None
+map_none f None h = refl
+map_none f (Some x) h = cc
+
+-- where nothing unequal is found among items, none of them differs from what a living service writes
+pub no_unequal_among : (live : List Service) (d : ℕ) (es : List (List PathStep × Item)) (p : List PathStep) (x : Item) (s : Service)
+    → unequal_among live d es ≡ None → find path_cmp p es ≡ Some x → Contains live s → differs x (get (part s d) p) ≡ false
+no_unequal_among live d [] p x s h f c = cc
+no_unequal_among live d (e ∷ es) p x s h f c =
+    by_least (λ (none : unequal_among live d es ≡ None) (later : find path_cmp p es ≡ Some x). no_unequal_among live d es p x s none later c)
     (least (map (λ (service : Service). service.id) (rivals live d e))) refl
   where
     here : rivals live d e ≡ [] → path_cmp p e.0 ≡ Equal → differs x (get (part s d) p) ≡ false
@@ -75,63 +84,70 @@ no_clash_among live d (e ∷ es) p x s h f c =
     passed : (o : Ordering) → path_cmp p e.0 ≡ o → is_eq o ≡ false → find path_cmp p es ≡ Some x
     passed o is other = sym (ap (λ t. cond t (Some e.1) (find path_cmp p es)) (ap is_eq is ∙ other)) ∙ f
 
-    by_order : (clash_among live d es ≡ None → find path_cmp p es ≡ Some x → differs x (get (part s d) p) ≡ false)
-        → (o : Ordering) → path_cmp p e.0 ≡ o → rivals live d e ≡ [] → clash_among live d es ≡ None → differs x (get (part s d) p) ≡ false
+    by_order : (unequal_among live d es ≡ None → find path_cmp p es ≡ Some x → differs x (get (part s d) p) ≡ false)
+        → (o : Ordering) → path_cmp p e.0 ≡ o → rivals live d e ≡ [] → unequal_among live d es ≡ None → differs x (get (part s d) p) ≡ false
     by_order later Less is none rest = later rest (passed Less is refl)
     by_order later Equal is none rest = here none is
     by_order later Greater is none rest = later rest (passed Greater is refl)
 
-    by_least : (clash_among live d es ≡ None → find path_cmp p es ≡ Some x → differs x (get (part s d) p) ≡ false)
+    by_least : (unequal_among live d es ≡ None → find path_cmp p es ≡ Some x → differs x (get (part s d) p) ≡ false)
         → (o : Option (List ℕ)) → least (map (λ (service : Service). service.id) (rivals live d e)) ≡ o → differs x (get (part s d) p) ≡ false
     by_least later None is =
         by_order later (path_cmp p e.0) refl (map_nil _ _ (least_none _ is))
-        (sym (ap (λ o. option_map_or (λ id. Some (Clash d e.0 id)) o (clash_among live d es)) is) ∙ h)
+        (sym (ap (λ o. option_map_or (λ id. Some (e.0, id)) o (unequal_among live d es)) is) ∙ h)
     by_least later (Some id) is =
-        let found : Some (Clash d e.0 id) ≡ None = sym (ap (λ o. option_map_or (λ id. Some (Clash d e.0 id)) o (clash_among live d es)) is) ∙ h in cc
+        let found : Some (e.0, id) ≡ None = sym (ap (λ o. option_map_or (λ id. Some (e.0, id)) o (unequal_among live d es)) is) ∙ h in cc
 
--- the same for the items of a device
-pub no_clash_on : (live : List Service) (k : ℕ) (ms : List Config) (d : ℕ) (p : List PathStep) (x : Item) (s : Service)
-    → clash_on live k ms ≡ None → get (config_of ms d) p ≡ Some x → Contains live s → differs x (get (part s (k + d)) p) ≡ false
-no_clash_on live k [] d p x s h f c = let none : None ≡ Some x = sym (get-empty path_cmp p) ∙ f in cc
-no_clash_on live k (m ∷ ms) d p x s h f c = on (λ e later g. no_clash_on live (suc k) ms e p x s later g c) (clash_among live k (entries m)) refl d f
+-- a search for the lesser that finds none found none anywhere
+lesser_none : (a b : Option (List PathStep × List ℕ)) → lesser_unequal a b ≡ None → (a ≡ None) × (b ≡ None)
+lesser_none None b h = (refl, h)
+lesser_none (Some one) None h = cc
+lesser_none (Some one) (Some other) h = on (is_lt (path_cmp other.0 one.0)) h
   where
-    on : ((e : ℕ) → clash_on live (suc k) ms ≡ None → get (config_of ms e) p ≡ Some x → differs x (get (part s (suc k + e)) p) ≡ false)
-        → (o : Option Answer) → clash_among live k (entries m) ≡ o
-        → (d : ℕ) → get (config_of (m ∷ ms) d) p ≡ Some x → differs x (get (part s (k + d)) p) ≡ false
-    on later None is zero g =
-        subst (λ (n : ℕ). differs x (get (part s n) p) ≡ false) (omega arith)
-        (no_clash_among live k (entries m) p x s is (sym (get-entries m p) ∙ g) c)
-    on later None is (suc e) g =
-        let rest : clash_on live (suc k) ms ≡ None = sym (ap (λ (o : Option Answer). elim o [ None ↦ clash_on live (suc k) ms | Some answer ↦ Some answer ]) is) ∙ h in
-        subst (λ (n : ℕ). differs x (get (part s n) p) ≡ false) (omega arith) (later e rest g)
-    on later (Some answer) is d g =
-        let found : Some answer ≡ None = sym (ap (λ (o : Option Answer). elim o [ None ↦ clash_on live (suc k) ms | Some answer ↦ Some answer ]) is) ∙ h in cc
+    on : (t : Bool) → cond t (Some other) (Some one) ≡ None → (Some one ≡ None) × (Some other ≡ None)
+    on true e = cc
+    on false e = cc
 
-Agree-sym : (a b : Service) → Agree a b → Agree b a
-Agree-sym a b h d p x y f g = sym (h d p y x g f)
+fold_none : (g : Service → Option (List PathStep × List ℕ)) (found : Option (List PathStep × List ℕ)) (services : List Service)
+    → fold (λ a service. lesser_unequal a (g service)) found services ≡ None → (found ≡ None) × All (λ service. g service ≡ None) services
+fold_none g found [] h = (h, All-nil (λ service. g service ≡ None))
+fold_none g found (s ∷ services) h =
+    let rest = fold_none g (lesser_unequal found (g s)) services h in
+    let both = lesser_none found (g s) rest.0 in
+    (both.0, All-cons (λ service. g service ≡ None) s services both.1 rest.1)
 
-Agree-refl : (a : Service) → Agree a a
-Agree-refl a d p x y f g = some (sym f ∙ g)
+pub none_on : (live services : List Service) (d : ℕ) → unequal_on live services d ≡ None → All (λ service. unequal_of live d service ≡ None) services
+none_on live services d h = (fold_none (unequal_of live d) None services h).1
 
--- a service that is made without a clash agrees with the other living ones
-made_agrees : (names : List (List ℕ)) (s : State) (id : List ℕ) (writes : _) (a : Service) → clash names s (Literal id writes) ≡ None
-    → Contains (others s.live id) a → Agree (record { id = id; parts = expansion names writes }) a
-made_agrees names s id writes a h c d p x y f g =
-    same_items x y
-    (subst (λ (o : Option Item). differs x o ≡ false) (subst (λ (n : ℕ). get (part a n) p ≡ Some y) (omega arith) g)
-    (no_clash_on (others s.live id) 0 (expansion names writes) d p x a h f c))
+-- the other way round
+none_fold : (g : Service → Option (List PathStep × List ℕ)) (services : List Service) → All (λ service. g service ≡ None) services
+    → fold (λ a service. lesser_unequal a (g service)) None services ≡ None
+none_fold g [] h = refl
+none_fold g (s ∷ services) h =
+    ap (λ o. fold (λ a service. lesser_unequal a (g service)) o services) (All-head (λ service. g service ≡ None) s services h)
+    ∙ none_fold g services (All-tail (λ service. g service ≡ None) s services h)
 
-others_live : (live : List Service) (id : List ℕ) (a : Service) → Contains (others live id) a → Contains live a
-others_live live id a c =
-    All-contains (Contains live) (others live id) a (All-filter (λ x. not (has_id id x)) (Contains live) live (All-contains_itself live)) c
+pub on_none : (live services : List Service) (d : ℕ) → All (λ service. unequal_of live d service ≡ None) services → unequal_on live services d ≡ None
+on_none live services d h = none_fold (unequal_of live d) services h
 
-unrefused_clash : (names : List (List ℕ)) (s : State) (action : Action) → refusal names s action ≡ None → clash names s action ≡ None
-unrefused_clash names s action h = on (existence_refusal s action) refl
+-- where there is no clash, nothing is unequal on any of the devices
+pub no_clash_from : (live services : List Service) (k : ℕ) (names : List (List ℕ)) → clash_from live services k names ≡ None
+    → (d : ℕ) → d < length names → unequal_on live services (k + d) ≡ None
+no_clash_from live services k [] h d within = absurd (omega (arith, within))
+no_clash_from live services k (name ∷ names) h d within =
+    on (no_clash_from live services (suc k) names) d within
+    (or_none (clash_at live services k) (clash_from live services (suc k) names) h)
   where
-    on : (o : Option Answer) → existence_refusal s action ≡ o → clash names s action ≡ None
-    on None is = sym (ap (λ (o : Option Answer). elim o [ None ↦ clash names s action | Some answer ↦ Some answer ]) is) ∙ h
-    on (Some answer) is =
-        let found : Some answer ≡ None = sym (ap (λ (o : Option Answer). elim o [ None ↦ clash names s action | Some answer ↦ Some answer ]) is) ∙ h in cc
+    on : (clash_from live services (suc k) names ≡ None → (e : ℕ) → e < length names → unequal_on live services (suc k + e) ≡ None)
+        → (e : ℕ) → e < suc (length names) → (clash_at live services k ≡ None) × (clash_from live services (suc k) names ≡ None)
+        → unequal_on live services (k + e) ≡ None
+    on later zero lt both =
+        subst (λ (n : ℕ). unequal_on live services n ≡ None) (omega arith)
+        (map_none (λ at. Clash k at.0 at.1) (unequal_on live services k) both.0)
+    on later (suc e) lt both =
+        subst (λ (n : ℕ). unequal_on live services n ≡ None) (omega arith) (later both.1 e (omega (arith, lt)))
+
+-- lists
 
 pub none_in_nil : {X : Type 0} (a : X) → Contains [] a → ⊥
 none_in_nil a c = omega (arith, c.1)
@@ -139,31 +155,202 @@ none_in_nil a c = omega (arith, c.1)
 pub only : {X : Type 0} (s a : X) → Contains (s ∷ []) a → s ≡ a
 only s a c = elim (Contains-push_cases [] s a c) [ inl none ↦ absurd (none_in_nil a none) | inr is ↦ is ]
 
--- an action that is not refused leaves services that agree
-after_agree : (names : List (List ℕ)) (s : State) (action : Action) → refusal names s action ≡ None → AllAgree s.live → AllAgree (after names s action).live
-after_agree names s (Delete id) h all a b c e = all a b (others_live s.live id a c) (others_live s.live id b e)
-after_agree names s (Literal id writes) h all a b c e =
-    elim (Contains-append_cases (others s.live id) (new ∷ []) a c) [
-      | inl old ↦ elim (Contains-append_cases (others s.live id) (new ∷ []) b e) [
-        | inl other ↦ all a b (others_live s.live id a old) (others_live s.live id b other)
-        | inr last ↦ subst (Agree a) (only new b last) (Agree-sym new a (made_agrees names s id writes a none old))
-      ]
-      | inr first ↦ subst (λ (z : Service). Agree z b) (only new a first) (elim (Contains-append_cases (others s.live id) (new ∷ []) b e) [
-        | inl other ↦ made_agrees names s id writes b none other
-        | inr last ↦ subst (Agree new) (only new b last) (Agree-refl new)
-      ])
-    ]
+pub first_in : {X : Type 0} (a : X) (rest : List X) → Contains (a ∷ rest) a
+first_in a rest = Contains-append_left (a ∷ []) rest a (Contains-push [] a)
+
+pub later_in : {X : Type 0} (a b : X) (rest : List X) → Contains rest b → Contains (a ∷ rest) b
+later_in a b rest c = Contains-append_right (a ∷ []) rest b c
+
+pub in_cases : {X : Type 0} (a b : X) (rest : List X) → Contains (a ∷ rest) b → (a ≡ b) ⊎ Contains rest b
+in_cases a b rest c = elim (Contains-append_cases (a ∷ []) rest b c) [ inl one ↦ inl (only a b one) | inr later ↦ inr later ]
+
+-- what passes a test is among those that do
+pub in_filter : {X : Type 0} (p : X → Bool) (xs : List X) (x : X) → Contains xs x → p x ≡ true → Contains (filter p xs) x
+in_filter p [] x c h = absurd (none_in_nil x c)
+in_filter p (y ∷ ys) x c h = on (in_filter p ys x) (p y) refl (in_cases y x ys c)
   where
-    new : Service
-    new = record { id = id; parts = expansion names writes }
+    on : (Contains ys x → p x ≡ true → Contains (filter p ys) x) → (t : Bool) → p y ≡ t → (y ≡ x) ⊎ Contains ys x
+        → Contains (cond t (y ∷ filter p ys) (filter p ys)) x
+    on rest true is (inl one) = subst (λ z. Contains (y ∷ filter p ys) z) one (first_in y (filter p ys))
+    on rest true is (inr later) = later_in y x (filter p ys) (rest later h)
+    on rest false is (inl one) = absurd (true_not_false (sym h ∙ sym (ap p one) ∙ is))
+    on rest false is (inr later) = rest later h
 
-    none : clash names s (Literal id writes) ≡ None
-    none = unrefused_clash names s (Literal id writes) h
-after_agree names s other h all a b c e = all a b c e
+pub in_flat_map : {X Y : Type 0} (f : X → List Y) (xs : List X) (x : X) (y : Y) → Contains xs x → Contains (f x) y → Contains (flat_map f xs) y
+in_flat_map f [] x y c d = absurd (none_in_nil x c)
+in_flat_map f (z ∷ zs) x y c d = on (in_flat_map f zs x y) (in_cases z x zs c)
+  where
+    on : (Contains zs x → Contains (f x) y → Contains (flat_map f zs) y) → (z ≡ x) ⊎ Contains zs x → Contains (f z ++ flat_map f zs) y
+    on rest (inl one) = Contains-append_left (f z) (flat_map f zs) y (subst (λ w. Contains (f w) y) (sym one) d)
+    on rest (inr later) = Contains-append_right (f z) (flat_map f zs) y (rest later d)
 
-fold_agree : (names : List (List ℕ)) (s : State) (calls : List Call) → IsUnrefused names s calls → AllAgree s.live → AllAgree (fold_from names s calls).live
-fold_agree names s [] h all = all
-fold_agree names s (call ∷ calls) h all = fold_agree names (after names s (action_of call)) calls h.1 (after_agree names s (action_of call) h.0 all)
+-- what lives behind actions: it lived before and none names it, or one of them makes it
+
+-- the service is an expansion on these devices
+abbrev pub IsMade : List (List ℕ) → Service → Type 0
+IsMade devices service = (writes : _) × (service.parts ≡ expansion devices writes)
+
+pub made_is_made : (devices : List (List ℕ)) (action : Action) → All (IsMade devices) (new_services devices action)
+made_is_made devices (Literal id writes) = All-cons (IsMade devices) (record { id = id; parts = expansion devices writes }) [] (writes, refl) (All-nil (IsMade devices))
+made_is_made devices other = All-nil (IsMade devices)
+
+abbrev pub Origin : List (List ℕ) → List Action → List Service → Service → Type 0
+Origin devices actions live s =
+    (Contains live s × (is_named_by actions s.id ≡ false)) ⊎ ((is_named_by actions s.id ≡ true) × IsMade devices s)
+
+pub origin : (devices : List (List ℕ)) (actions : List Action) (live : List Service) (s : Service)
+    → Contains (live_after devices actions live) s → Origin devices actions live s
+origin devices [] live s c = inl (c, refl)
+origin devices (action ∷ actions) live s c = on (origin devices actions (live_step devices live action) s c)
+  where
+    left : Service → Bool
+    left x = not (names action x.id)
+
+    by_step : (is_named_by actions s.id ≡ false)
+        → Contains (filter left live) s ⊎ Contains (new_services devices action) s → Origin devices (action ∷ actions) live s
+    by_step un (inl old) =
+        inl (
+          filter_from left live s old,
+          ap (λ t. t || is_named_by actions s.id) (not_true (names action s.id) (passes left live s old)) ∙ un,
+        )
+    by_step un (inr made) =
+        inr (
+          ap (λ t. t || is_named_by actions s.id) (All-contains (λ (x : Service). names action x.id ≡ true) (new_services devices action) s (made_named devices action) made),
+          All-contains (IsMade devices) (new_services devices action) s (made_is_made devices action) made,
+        )
+
+    named_too : (a b : Bool) → b ≡ true → (a || b) ≡ true
+    named_too true b e = refl
+    named_too false b e = e
+
+    on : Origin devices actions (live_step devices live action) s → Origin devices (action ∷ actions) live s
+    on (inl old) = by_step old.1 (Contains-append_cases (filter left live) (new_services devices action) s old.0)
+    on (inr made) = inr (named_too (names action s.id) (is_named_by actions s.id) made.0, made.1)
+
+-- what is named and lives is touched
+any_some : {X : Type 0} (p : X → Bool) (xs : List X) → list_any p xs ≡ true → (x : X) × Contains xs x × (p x ≡ true)
+any_some p [] h = cc
+any_some p (x ∷ xs) h = on (any_some p xs) (p x) refl h
+  where
+    on : (list_any p xs ≡ true → (y : _) × Contains xs y × (p y ≡ true)) → (t : Bool) → p x ≡ t → (t || list_any p xs) ≡ true
+        → (y : _) × Contains (x ∷ xs) y × (p y ≡ true)
+    on rest true is e = (x, first_in x xs, is)
+    on rest false is e = let found = rest e in (found.0, later_in x found.0 xs found.1, found.2)
+
+pub named_touched : (actions : List Action) (live : List Service) (s : Service) → Contains live s → is_named_by actions s.id ≡ true
+    → Contains (touched actions live) s
+named_touched actions live s c h =
+    let naming = any_some (λ (action : Action). names action s.id) actions h in
+    in_flat_map (λ (action : Action). filter (λ (x : Service). names action x.id) live) actions naming.0 s naming.1
+    (in_filter (λ (x : Service). names naming.0 x.id) live s c naming.2)
+
+-- no two services of one name
+
+abbrev pub AreUnique : List Service → Type 0
+AreUnique live = (a b : Service) → Contains live a → Contains live b → a.id ≡ b.id → a ≡ b
+
+made_unique : (devices : List (List ℕ)) (action : Action) → AreUnique (new_services devices action)
+made_unique devices (Literal id writes) a b c d same = sym (only _ a c) ∙ only _ b d
+made_unique devices other a b c d same = absurd (none_in_nil a c)
+
+step_unique : (devices : List (List ℕ)) (live : List Service) (action : Action) → AreUnique live → AreUnique (live_step devices live action)
+step_unique devices live action h a b c d same =
+    on (Contains-append_cases (filter left live) made a c) (Contains-append_cases (filter left live) made b d)
+  where
+    left : Service → Bool
+    left x = not (names action x.id)
+
+    made : List Service
+    made = new_services devices action
+
+    -- one that is left has no name of what is made
+    apart : (x y : Service) → Contains (filter left live) x → Contains made y → x.id ≡ y.id → ⊥
+    apart x y old new is =
+        true_not_false (sym (All-contains (λ (z : Service). names action z.id ≡ true) made y (made_named devices action) new)
+        ∙ sym (ap (names action) is) ∙ not_true (names action x.id) (passes left live x old))
+
+    on : Contains (filter left live) a ⊎ Contains made a → Contains (filter left live) b ⊎ Contains made b → a ≡ b
+    on (inl x) (inl y) = h a b (filter_from left live a x) (filter_from left live b y) same
+    on (inl x) (inr y) = absurd (apart a b x y same)
+    on (inr x) (inl y) = absurd (apart b a y x (sym same))
+    on (inr x) (inr y) = made_unique devices action a b x y same
+
+after_unique : (devices : List (List ℕ)) (actions : List Action) (live : List Service) → AreUnique live → AreUnique (live_after devices actions live)
+after_unique devices [] live h = h
+after_unique devices (action ∷ actions) live h = after_unique devices actions (live_step devices live action) (step_unique devices live action h)
+
+-- where there is no clash, what is touched agrees with all that lives
+
+Agree-sym : (a b : Service) → Agree a b → Agree b a
+Agree-sym a b h d p x y f g = sym (h d p y x g f)
+
+Agree-refl : (a : Service) → Agree a a
+Agree-refl a d p x y f g = some (sym f ∙ g)
+
+-- past the last of the devices an expansion has nothing
+pub config_past : (names : List (List ℕ)) (f : List ℕ → Config) (d : ℕ) → length names ≤ d → config_of (map f names) d ≡ empty
+config_past [] f d le = refl
+config_past (name ∷ names) f zero le = absurd (omega (arith, le))
+config_past (name ∷ names) f (suc d) le = config_past names f d (omega (arith, le))
+
+-- what is made writes on the devices alone
+pub made_within : (devices : List (List ℕ)) (s : Service) → IsMade devices s → (d : ℕ) (p : List PathStep) (x : Item)
+    → get (part s d) p ≡ Some x → d < length devices
+made_within devices s made d p x h =
+    elim (cases_lt d (length devices)) [
+      | inl lt ↦ lt
+      | inr le ↦
+          let past : part s d ≡ empty = ap (λ (parts : List Config). config_of parts d) made.1 ∙ config_past devices _ d le in
+          let none : None ≡ Some x = sym (get-empty path_cmp p) ∙ sym (ap (λ (m : Config). get m p) past) ∙ h in cc
+    ]
+
+touched_agrees : (devices : List (List ℕ)) (live services : List Service) (a b : Service) → clash_from live services 0 devices ≡ None
+    → Contains services a → IsMade devices a → Contains live b → has_id a.id b ≡ false → Agree a b
+touched_agrees devices live services a b h t made c another d p x y f g =
+    let within = made_within devices a made d p x f in
+    let none : unequal_on live services d ≡ None =
+    subst (λ (n : ℕ). unequal_on live services n ≡ None) (omega arith) (no_clash_from live services 0 devices h d within) in
+    let mine : unequal_of live d a ≡ None = All-contains (λ (s : Service). unequal_of live d s ≡ None) services a (none_on live services d none) t in
+    let beside : Contains (others live a.id) b = in_filter (λ (s : Service). not (has_id a.id s)) live b c (ap not another) in
+    same_items x y
+    (subst (λ (o : Option Item). differs x o ≡ false) g
+    (no_unequal_among (others live a.id) d (entries (part a d)) p x b mine (sym (get-entries (part a d) p) ∙ f) beside))
+
+-- services that agree, behind actions without a clash
+after_agree : (devices : List (List ℕ)) (actions : List Action) (live : List Service) → clash devices live actions ≡ None
+    → AreUnique live → AllAgree live → AllAgree (live_after devices actions live)
+after_agree devices actions live h unique all a b c e = on (origin devices actions live a c) (origin devices actions live b e)
+  where
+    behind : List Service
+    behind = live_after devices actions live
+
+    with_touched : (x y : Service) → Contains behind x → (is_named_by actions x.id ≡ true) × IsMade devices x → Contains behind y → Agree x y
+    with_touched x y cx new cy = by (has_id x.id y) refl
+      where
+        by : (t : Bool) → has_id x.id y ≡ t → Agree x y
+        by false is = touched_agrees devices behind (touched actions behind) x y h (named_touched actions behind x cx new.0) new.1 cy is
+        by true is = subst (Agree x) (after_unique devices actions live unique x y cx cy (sym ((bytes_decides y.id x.id).0 is))) (Agree-refl x)
+
+    on : Origin devices actions live a → Origin devices actions live b → Agree a b
+    on (inl old) (inl other) = all a b old.0 other.0
+    on (inr new) other = with_touched a b c new e
+    on (inl old) (inr new) = Agree-sym b a (with_touched b a e new c)
+
+-- refusals
+
+pub unrefused_parts : (decls : Decls) (s : State) (call : Call) → refusal decls s call ≡ None
+    → (existence s.live call.actions ≡ None) × (clash decls.names s.live call.actions ≡ None)
+unrefused_parts decls s call h =
+    let first = or_none (existence s.live call.actions) _ h in
+    (first.0, (or_none (invalid decls.data_schema _) (clash decls.names s.live call.actions) first.1).1)
+
+fold_agree : (decls : Decls) (s : State) (calls : List Call) → IsUnrefused decls s calls → AreUnique s.live → AllAgree s.live
+    → AllAgree (fold_from decls s calls).live
+fold_agree decls s [] h unique all = all
+fold_agree decls s (call ∷ calls) h unique all =
+    fold_agree decls (after decls s call) calls h.1 (after_unique decls.names call.actions s.live unique)
+    (after_agree decls.names call.actions s.live (unrefused_parts decls s call h.0).1 unique all)
 
 pub living_agree : ServicesAgree
-living_agree names devices history h = fold_agree names (opening devices) history h (λ a b c e. absurd (none_in_nil a c))
+living_agree decls history h =
+    fold_agree decls (opening decls) history h (λ a b c e same. absurd (none_in_nil a c)) (λ a b c e. absurd (none_in_nil a c))

@@ -1,5 +1,5 @@
 -- Tests of all elements of a list, and what the tests of a bundle say.
-use Rattle.std.proofs.Common.{◌≡◌, ℕ, ◌<◌, Bool, true, ◌&&◌, nat_lt, List, length, get_or, IsTrue, sym, subst, refl}
+use Rattle.std.proofs.Common.{◌≡◌, ℕ, ◌<◌, Bool, true, not, ◌&&◌, nat_lt, List, length, get_or, All, IsTrue, sym, subst, refl}
 use Rattle.std.specs.List.{list_all}
 use Rattle.std.specs.Cmp.{first_so, second_so}
 use Rattle.std.proofs.lemmas.List.Elements.{All-get_or, All-weaker}
@@ -7,15 +7,18 @@ use Rattle.std.proofs.lemmas.List.Sums.{AllPass-from_list_all, list_all-from_All
 use Rattle.orc_path.specs.Items.{fits}
 use Rattle.orc_path.specs.Steps.{PathStep}
 use Rattle.orc_path.specs.declared.item.Item.{Item}
-use Rattle.orc_state.specs.States.{action_of, fits_action, fits_puts, fits_devices}
 use Rattle.orc_schema.specs.Schemas.{SchemaTable}
 use Rattle.orc_typed.specs.Typed.{is_typed}
-use Rattle.orc_state.specs.Calls.{is_item_at, is_item_under, is_lawful_name, is_put, is_device, is_write, is_action, is_call, schema_in, schema_named}
+use Rattle.orc_state.specs.States.{fits_puts}
+use Rattle.orc_state.specs.Actions.{name_each_once}
+use Rattle.orc_state.specs.Calls.{is_action, is_call, is_data_item, is_device, is_device_under, is_forbid_rule, is_item_at, is_item_under, is_kept, is_lawful_name, is_max_rule, is_put, is_write, schema_in, schema_named}
+use Rattle.orc_state.specs.inside.Fitting.{fits_action, FitActions}
 use Rattle.orc_state.specs.declared.declarations.Decls.{Decls}
 use Rattle.orc_state.specs.declared.declarations.Device.{Device}
+use Rattle.orc_call.specs.declared.call.Put.{Put}
 use Rattle.orc_call.specs.declared.call.Call.{Call}
 use Rattle.orc_call.specs.declared.call.Action.{Action}
-use Rattle.orc_call.specs.declared.call.Action.TheVariants.{Literal}
+use Rattle.orc_call.specs.declared.call.Action.TheVariants.{Literal, Set}
 use Rattle.orc_call.specs.declared.call.DevicePut.{DevicePut}
 
 -- what all elements pass, one passes
@@ -38,29 +41,64 @@ item-fits s p item h = second_so _ (fits p item) (item-under s p item h)
 pub device-name : (schemas : List SchemaTable) (device : Device) → IsTrue (is_device schemas device) → IsTrue (is_lawful_name device.name)
 device-name schemas device h =
     let placed = nat_lt device.schema (length schemas) in
-    first_so (is_lawful_name device.name) placed (first_so (is_lawful_name device.name && placed) (list_all (is_put (schema_in schemas device.schema)) device.base) h)
+    first_so (is_lawful_name device.name) placed (first_so (is_lawful_name device.name && placed) (is_device_under (schema_in schemas device.schema) device) h)
 
 -- the items of the base of a declared device
 pub base-items : (schemas : List SchemaTable) (device : Device) → IsTrue (is_device schemas device) → IsTrue (list_all (is_put (schema_in schemas device.schema)) device.base)
-base-items schemas device h = second_so _ (list_all (is_put (schema_in schemas device.schema)) device.base) h
+base-items schemas device h =
+    let schema = schema_in schemas device.schema in
+    let base = list_all (is_put schema) device.base in
+    let most = list_all (is_max_rule schema) device.max in
+    let never = list_all (is_forbid_rule schema) device.forbid in
+    first_so base most (first_so (base && most) never (second_so _ (is_device_under schema device) h))
 
 -- a write's item may stand there under the schema of its device
 pub write-item : (decls : Decls) (w : DevicePut) → IsTrue (is_write decls w) → IsTrue (is_item_under (schema_named decls.schemas decls.devices w.device) w.path w.item)
 write-item decls w h = second_so _ (is_item_under (schema_named decls.schemas decls.devices w.device) w.path w.item) h
 
--- the items of a declared device fit their paths
-pub devices-fit : (schemas : List SchemaTable) (devices : List Device) → IsTrue (list_all (is_device schemas) devices) → IsTrue (fits_devices devices)
-devices-fit schemas =
-    list_all_weaker (is_device schemas) (λ device. fits_puts device.base)
-    (λ device h. list_all_weaker (is_put (schema_in schemas device.schema)) (λ p. fits p.path p.item) (λ p q. item-fits (schema_in schemas device.schema) p.path p.item q) device.base (base-items schemas device h))
+-- an item of the data may stand there under the data schema
+pub data-item : (schema : SchemaTable) (put : Put) → IsTrue (is_data_item schema put) → IsTrue (is_item_under schema put.path put.item)
+data-item schema put h = first_so (is_put schema put) (not (is_kept put.path)) h
+
+-- the items of the base of a declared device fit their paths
+base-fits : (schemas : List SchemaTable) (device : Device) → IsTrue (is_device schemas device) → IsTrue (fits_puts device.base)
+base-fits schemas device h =
+    list_all_weaker (is_put (schema_in schemas device.schema)) (λ p. fits p.path p.item)
+    (λ p q. item-fits (schema_in schemas device.schema) p.path p.item q) device.base (base-items schemas device h)
+
+pub devices-fit : (schemas : List SchemaTable) (devices : List Device) → IsTrue (list_all (is_device schemas) devices) → All (λ device. IsTrue (fits_puts device.base)) devices
+devices-fit schemas devices h =
+    All-weaker (λ device. is_device schemas device ≡ true) (λ device. IsTrue (fits_puts device.base)) (base-fits schemas) devices
+    (AllPass-from_list_all (is_device schemas) devices h)
+
+-- so do those of the data
+pub data-fits : (schema : SchemaTable) (puts : List Put) → IsTrue (list_all (is_data_item schema) puts) → IsTrue (fits_puts puts)
+data-fits schema puts h =
+    list_all_weaker (is_data_item schema) (λ p. fits p.path p.item) (λ p q. item-fits schema p.path p.item (data-item schema p q)) puts h
 
 -- the items that an action of a bundle writes fit their paths
 pub action-fits : (decls : Decls) (action : Action) → IsTrue (is_action decls action) → IsTrue (fits_action action)
 action-fits decls (Literal id writes) h =
     list_all_weaker (is_write decls) (λ w. fits w.path w.item)
     (λ w q. item-fits (schema_named decls.schemas decls.devices w.device) w.path w.item (write-item decls w q)) writes (second_so _ (list_all (is_write decls) writes) h)
+action-fits decls (Set put) h = item-fits decls.data_schema put.path put.item (data-item decls.data_schema put h)
 action-fits decls other h = refl
 
--- the action of a call that a call block gives is one that it can give
-pub call-action : (decls : Decls) (call : Call) → IsTrue (is_call decls call) → IsTrue (is_action decls (action_of call))
-call-action decls call h = second_so _ (is_action decls (action_of call)) h
+-- the actions of a call that a call block gives are ones that it can give
+pub call-actions : (decls : Decls) (call : Call) → IsTrue (is_call decls call) → IsTrue (list_all (is_action decls) call.actions)
+call-actions decls call h =
+    let actions = list_all (is_action decls) call.actions in
+    let once = name_each_once call.actions in
+    first_so actions once (second_so _ (actions && once) h)
+
+pub call-fits : (decls : Decls) (call : Call) → IsTrue (is_call decls call) → FitActions call.actions
+call-fits decls call h =
+    All-weaker (λ action. is_action decls action ≡ true) (λ action. IsTrue (fits_action action)) (action-fits decls) call.actions
+    (AllPass-from_list_all (is_action decls) call.actions (call-actions decls call h))
+
+-- and name each service at most once
+pub call-once : (decls : Decls) (call : Call) → IsTrue (is_call decls call) → IsTrue (name_each_once call.actions)
+call-once decls call h =
+    let actions = list_all (is_action decls) call.actions in
+    let once = name_each_once call.actions in
+    second_so actions once (second_so _ (actions && once) h)

@@ -1,32 +1,35 @@
 -- The clash that is found is the least one.
-use Rattle.std.proofs.Common.{◌≡◌, ℕ, zero, suc, ◌+◌, ◌<◌, ◌≤◌, Bool, true, false, cond, not, T, List, [], ◌∷◌, ◌⊎◌, inl, inr, map, All, None, Some, MatchOption, refl, sym, ap, subst, ◌∙◌, arith}
+use Rattle.std.proofs.Common.{◌≡◌, ℕ, zero, suc, ◌+◌, ◌<◌, ◌≤◌, Bool, true, false, cond, not, ◌||◌, T, List, [], ◌∷◌, ◌⊎◌, inl, inr, map, All, None, Some, MatchOption, slice_get, refl, sym, ap, subst, ◌∙◌, arith}
 use Rattle.std.specs.declared.option.Option.{Option}
 use Rattle.std.specs.declared.cmp.Ordering.{Ordering}
 use Rattle.std.specs.declared.cmp.Ordering.TheVariants.{Less, Equal, Greater}
+use Rattle.std.specs.Prelude.{option_map}
 use Rattle.std.specs.Ordering.{is_lt, is_eq, ordering_reverse}
-use Rattle.std.specs.Option.{option_map_or}
-use Rattle.std.specs.List.{filter, fold, Contains}
+use Rattle.std.specs.Option.{option_map_or, option_or}
+use Rattle.std.specs.List.{filter, flat_map, fold, list_any, Contains}
 use Rattle.std.specs.Cmp.{tied_itself}
 use Rattle.std.specs.Cmp.Lexicographic.{bytes_decides, nat_list_cmp_total}
 use Rattle.std.specs.FinMap.{find, get, entries, is_sorted, get-entries, entries_sorted}
 use Rattle.std.specs.FinMap.Entries.{below_all}
 use Rattle.std.proofs.lemmas.Bool.{cases_lt}
-use Rattle.std.proofs.lemmas.List.Elements.{All-contains, All-contains_itself, All-filter, All-nil, All-cons, All-tail}
+use Rattle.std.proofs.lemmas.List.Elements.{All-contains, All-nil, All-cons, All-tail, Contains-append_cases}
 use Rattle.orc_path.specs.Steps.{PathStep}
 use Rattle.orc_path.specs.Order.{path_cmp, text_cmp}
 use Rattle.orc_path.proofs.PathOrder.{path_cmp_exact, path_cmp_total}
 use Rattle.orc_path.proofs.Bools.{first_of_both, second_of_both}
-use Rattle.orc_path.specs.Configurations.{Config}
 use Rattle.orc_path.specs.declared.item.Item.{Item}
 use Rattle.orc_path.specs.declared.item.Item.TheVariants.{Entry, Leaf}
-use Rattle.orc_state.specs.States.{clash, clash_among, clash_on, config_of, differs, expansion, is_same_text, least, lesser, others, part, rivals}
+use Rattle.orc_state.specs.States.{has_id, is_same_text, others, part}
+use Rattle.orc_state.specs.Actions.{is_named_by, live_after, names, touched}
+use Rattle.orc_state.specs.Clashes.{clash_from, differs, least, lesser, lesser_unequal, rivals, unequal_among, unequal_of, unequal_on}
+use Rattle.orc_state.specs.Next.{clash}
 use Rattle.orc_state.specs.Laws.{ClashIsLeast, IsClash, IsLeastClash}
 use Rattle.orc_call.specs.declared.answer.Answer.{Answer}
 use Rattle.orc_call.specs.declared.answer.Answer.TheVariants.{Clash}
-use Rattle.orc_call.specs.declared.call.Action.TheVariants.{Literal}
+use Rattle.orc_call.specs.declared.call.Action.{Action}
 use Rattle.orc_state.specs.declared.state.Service.{Service}
-use Rattle.orc_state.proofs.Agreement.{no_clash_among, no_clash_on, same_items, none_in_nil}
-use Rattle.orc_state.proofs.Overlays.{first_in, later_in, in_cases}
+use Rattle.orc_state.proofs.Lists.{filter_from, passes, not_true, true_not_false}
+use Rattle.orc_state.proofs.Agreement.{no_unequal_among, no_clash_from, none_on, same_items, none_in_nil, first_in, later_in, in_cases, in_filter, origin, made_within, IsMade}
 
 -- the least of names
 
@@ -109,8 +112,6 @@ least_of (a ∷ ids) id h =
     let same : fold lesser a ids ≡ id = cc in
     subst (IsLeastOf (a ∷ ids)) same (fold_least a ids)
 
--- lists
-
 all_map : {X Y : Type 0} (P : Y → Type 0) (f : X → Y) (xs : List X) → All P (map f xs) → All (λ x. P (f x)) xs
 all_map P f [] h = All-nil (λ x. P (f x))
 all_map P f (x ∷ xs) h =
@@ -125,34 +126,6 @@ in_map f (x ∷ xs) y c =
         → (z : _) × Contains (x ∷ xs) z × (f z ≡ y)
     on rest (inl here) = (x, first_in x xs, here)
     on rest (inr later) = let found = rest later in (found.0, later_in x found.0 xs found.1, found.2)
-
-true_not_false : true ≡ false → ⊥
-true_not_false e = cc
-
--- what all that pass have, each has that passes
-all_filter : {X : Type 0} (P : X → Type 0) (p : X → Bool) (xs : List X) → All P (filter p xs) → All (λ x. p x ≡ true → P x) xs
-all_filter P p [] h = All-nil (λ x. p x ≡ true → P x)
-all_filter P p (x ∷ xs) h = on (all_filter P p xs) (p x) refl
-  where
-    on : (All P (filter p xs) → All (λ y. p y ≡ true → P y) xs) → (t : Bool) → p x ≡ t → All (λ y. p y ≡ true → P y) (x ∷ xs)
-    on rest true is =
-        let kept : All P (x ∷ filter p xs) = subst (All P) (ap (λ t. cond t (x ∷ filter p xs) (filter p xs)) is) h in
-        All-cons (λ y. p y ≡ true → P y) x xs (λ _. kept 0 x (omega arith)) (rest (All-tail P x (filter p xs) kept))
-    on rest false is =
-        let kept : All P (filter p xs) = subst (All P) (ap (λ t. cond t (x ∷ filter p xs) (filter p xs)) is) h in
-        All-cons (λ y. p y ≡ true → P y) x xs (λ passes. absurd (true_not_false (sym passes ∙ is))) (rest kept)
-
-filter_passes : {X : Type 0} (p : X → Bool) (xs : List X) → All (λ x. p x ≡ true) (filter p xs)
-filter_passes p [] = All-nil (λ x. p x ≡ true)
-filter_passes p (x ∷ xs) = on (filter_passes p xs) (p x) refl
-  where
-    on : All (λ y. p y ≡ true) (filter p xs) → (t : Bool) → p x ≡ t → All (λ y. p y ≡ true) (filter p (x ∷ xs))
-    on rest true is =
-        subst (All (λ y. p y ≡ true)) (sym (ap (λ t. cond t (x ∷ filter p xs) (filter p xs)) is)) (All-cons (λ y. p y ≡ true) x (filter p xs) is rest)
-    on rest false is = subst (All (λ y. p y ≡ true)) (sym (ap (λ t. cond t (x ∷ filter p xs) (filter p xs)) is)) rest
-
-filter_from : {X : Type 0} (p : X → Bool) (xs : List X) (x : X) → Contains (filter p xs) x → Contains xs x
-filter_from p xs x c = All-contains (Contains xs) (filter p xs) x (All-filter p (Contains xs) xs (All-contains_itself xs)) c
 
 -- items
 
@@ -223,12 +196,12 @@ some_is q = cc
 none_some : {A : Type 0} {a : A} → None ≡ Some a → ⊥
 none_some q = cc
 
-found_among : (live : List Service) (d : ℕ) (rows : List (List PathStep × Item)) (answer : Answer) → T (is_sorted path_cmp rows)
-    → clash_among live d rows ≡ Some answer
-    → (path : List PathStep) × (id : List ℕ) × (answer ≡ Clash d path id) × Found live d rows path id
-found_among live d [] answer sorted h = absurd (none_some h)
-found_among live d (row ∷ rows) answer sorted h =
-    by_least (λ (later : clash_among live d rows ≡ Some answer). found_among live d rows answer (second_of_both _ _ sorted) later)
+found_among : (live : List Service) (d : ℕ) (rows : List (List PathStep × Item)) (at : List PathStep × List ℕ) → T (is_sorted path_cmp rows)
+    → unequal_among live d rows ≡ Some at
+    → Found live d rows at.0 at.1
+found_among live d [] at sorted h = absurd (none_some h)
+found_among live d (row ∷ rows) at sorted h =
+    by_least (λ (later : unequal_among live d rows ≡ Some at). found_among live d rows at (second_of_both _ _ sorted) later)
     (least (map (λ (service : Service). service.id) (rivals live d row))) refl
   where
     below : T (below_all path_cmp row.0 rows)
@@ -265,72 +238,220 @@ found_among live d (row ∷ rows) answer sorted h =
         on : (o : Ordering) → path_cmp p row.0 ≡ o → differs x (get (part s d) p) ≡ false
         on Less is = rest p x s (sym (passed p Less is refl) ∙ f) lt c
         on Equal is =
-            no_clash_among live d (row ∷ []) p x s
-            (ap (λ o. option_map_or (λ id. Some (Clash d row.0 id)) o (clash_among live d [])) none)
+            no_unequal_among live d (row ∷ []) p x s
+            (ap (λ o. option_map_or (λ id. Some (row.0, id)) o (unequal_among live d [])) none)
             (ap (λ o. cond (is_eq o) (Some row.1) (find path_cmp p [])) is ∙ sym (at_head p is) ∙ f) c
         on Greater is = rest p x s (sym (passed p Greater is refl) ∙ f) lt c
 
-    by_least : (clash_among live d rows ≡ Some answer
-        → (path : List PathStep) × (id : List ℕ) × (answer ≡ Clash d path id) × Found live d rows path id)
+    by_least : (unequal_among live d rows ≡ Some at → Found live d rows at.0 at.1)
         → (o : Option (List ℕ)) → least (map (λ (service : Service). service.id) (rivals live d row)) ≡ o
-        → (path : List PathStep) × (id : List ℕ) × (answer ≡ Clash d path id) × Found live d (row ∷ rows) path id
+        → Found live d (row ∷ rows) at.0 at.1
     by_least later (Some id) is =
-        let found : Some (Clash d row.0 id) ≡ Some answer =
-        sym (ap (λ o. option_map_or (λ id. Some (Clash d row.0 id)) o (clash_among live d rows)) is) ∙ h in (
-          row.0,
-          id,
-          sym (some_is found),
-          record {
-            item = row.1;
-            here = at_head row.0 (tied_itself path_cmp_total row.0);
-            name = is;
-            before = λ p x s f lt c. head_first p x s f lt c;
-          },
-        )
+        let found : Some (row.0, id) ≡ Some at =
+        sym (ap (λ o. option_map_or (λ id. Some (row.0, id)) o (unequal_among live d rows)) is) ∙ h in
+        subst (λ (a : List PathStep × List ℕ). Found live d (row ∷ rows) a.0 a.1) (some_is found) (record {
+          item = row.1;
+          here = at_head row.0 (tied_itself path_cmp_total row.0);
+          name = is;
+          before = λ p x s f lt c. head_first p x s f lt c;
+        })
     by_least later None is =
-        let rest = later (sym (ap (λ o. option_map_or (λ id. Some (Clash d row.0 id)) o (clash_among live d rows)) is) ∙ h) in (
-          rest.0,
-          rest.1,
-          rest.2,
-          record {
-            item = rest.3.item;
-            here = later_here rest.0 rest.3.item rest.3.here;
-            name = rest.3.name;
-            before = later_before rest.0 is rest.3.before;
-          },
+        let rest = later (sym (ap (λ o. option_map_or (λ id. Some (row.0, id)) o (unequal_among live d rows)) is) ∙ h) in
+        record {
+          item = rest.item;
+          here = later_here at.0 rest.item rest.here;
+          name = rest.name;
+          before = later_before at.0 is rest.before;
+        }
+
+-- among services
+
+-- the order of paths
+less_not_itself : (p : List PathStep) → path_cmp p p ≡ Less → ⊥
+less_not_itself p h = less_not_greater (sym h ∙ path_cmp_total.antisymm p p ∙ ap ordering_reverse h)
+
+-- what comes neither before another nor at it comes behind it
+behind_other : (p q : List PathStep) → (path_cmp p q ≡ Less → ⊥) → (p ≡ q → ⊥) → path_cmp q p ≡ Less
+behind_other p q nl ne = on (path_cmp p q) refl
+  where
+    on : (o : Ordering) → path_cmp p q ≡ o → path_cmp q p ≡ Less
+    on Less is = absurd (nl is)
+    on Equal is = absurd (ne (path_cmp_exact p q is))
+    on Greater is = path_cmp_total.antisymm q p ∙ ap ordering_reverse is
+
+is_less : (o : Ordering) → is_lt o ≡ true → o ≡ Less
+is_less Less h = refl
+is_less Equal h = cc
+is_less Greater h = cc
+
+is_not_less : (o : Ordering) → is_lt o ≡ false → o ≡ Less → ⊥
+is_not_less Less h e = cc
+is_not_less Equal h e = cc
+is_not_less Greater h e = cc
+
+at_place : {X : Type 0} (xs : List X) (k : ℕ) (x : X) → slice_get xs k ≡ Some x → Contains xs x
+at_place [] k x h = absurd (none_some h)
+at_place (y ∷ ys) zero x h = subst (Contains (y ∷ ys)) (some_is h) (first_in y ys)
+at_place (y ∷ ys) (suc k) x h = later_in y x ys (at_place ys k x h)
+
+abbrev At : Type 0
+At = List PathStep × List ℕ
+
+-- none of the services has something at a lesser path
+abbrev NoneLess : (Service → Option At) → List Service → List PathStep → Type 0
+NoneLess g services path = (s : Service) (at : At) → Contains services s → g s ≡ Some at → path_cmp at.0 path ≡ Less → ⊥
+
+-- the first of the services that have something at the least path
+record Best (g : Service → Option At) (services : List Service) (at : At) : Type 0 where
+  place : ℕ
+  service : Service
+  there : slice_get services place ≡ Some service
+  has : g service ≡ Some at
+  least : NoneLess g services at.0
+  first : (k : ℕ) (s : Service) (other : At) → slice_get services k ≡ Some s → g s ≡ Some other → other.0 ≡ at.0 → place ≤ k
+
+-- what was there before is still the least, or one of the services has something at a lesser path
+abbrev Comes : (Service → Option At) → Option At → List Service → At → Type 0
+Comes g found services at =
+    ((found ≡ Some at) × NoneLess g services at.0)
+    ⊎ (Best g services at × ((f : At) → found ≡ Some f → path_cmp at.0 f.0 ≡ Less))
+
+-- one more in front, that has nothing at a lesser path
+none_less_more : (g : Service → Option At) (s : Service) (services : List Service) (path : List PathStep)
+    → ((o : At) → g s ≡ Some o → path_cmp o.0 path ≡ Less → ⊥) → NoneLess g services path → NoneLess g (s ∷ services) path
+none_less_more g s services path here rest x at c is lt = on (in_cases s x services c)
+  where
+    on : (s ≡ x) ⊎ Contains services x → ⊥
+    on (inl one) = here at (ap g one ∙ is) lt
+    on (inr later) = rest x at later is lt
+
+-- it is the first
+best_here : (g : Service → Option At) (s : Service) (services : List Service) (at : At) → g s ≡ Some at → NoneLess g services at.0 → Best g (s ∷ services) at
+best_here g s services at is rest = record {
+  place = 0;
+  service = s;
+  there = refl;
+  has = is;
+  least = none_less_more g s services at.0 (λ o e lt. less_not_itself at.0 (subst (λ (p : At). path_cmp p.0 at.0 ≡ Less) (some_is (sym e ∙ is)) lt)) rest;
+  first = λ k x other t e same. omega arith;
+}
+
+-- it has something at no path up to that of the best of the rest
+best_later : (g : Service → Option At) (s : Service) (services : List Service) (at : At)
+    → ((o : At) → g s ≡ Some o → path_cmp at.0 o.0 ≡ Less) → Best g services at → Best g (s ∷ services) at
+best_later g s services at behind best = record {
+  place = suc best.place;
+  service = best.service;
+  there = best.there;
+  has = best.has;
+  least = none_less_more g s services at.0 (λ o e lt. less_not_itself at.0 (path_cmp_total.trans at.0 o.0 at.0 (behind o e) lt)) best.least;
+  first = λ k x other t e same. first_later k x other t e same;
+}
+  where
+    first_later : (k : ℕ) (x : Service) (other : At) → slice_get (s ∷ services) k ≡ Some x → g x ≡ Some other → other.0 ≡ at.0 → suc best.place ≤ k
+    first_later zero x other t e same =
+        let mine : g s ≡ Some other = ap g (some_is t) ∙ e in
+        absurd (less_not_itself at.0 (subst (λ (p : List PathStep). path_cmp at.0 p ≡ Less) same (behind other mine)))
+    first_later (suc k) x other t e same = omega (arith, best.first k x other t e same)
+
+-- a search for the lesser
+fold_best : (g : Service → Option At) (found : Option At) (services : List Service) (at : At)
+    → fold (λ a s. lesser_unequal a (g s)) found services ≡ Some at → Comes g found services at
+fold_best g found [] at h = inl (h, λ s o c. absurd (none_in_nil s c))
+fold_best g found (s ∷ services) at h = on found (g s) refl (fold_best g (lesser_unequal found (g s)) services at h)
+  where
+    alone : (o : Option At) → g s ≡ o → Comes g o services at → Comes g None (s ∷ services) at
+    alone o is (inl here) = inr (best_here g s services at (is ∙ here.0) here.1, λ f e. absurd (none_some e))
+    alone o is (inr best) = inr (best_later g s services at (λ p e. best.1 p (sym is ∙ e)) best.0, λ f e. absurd (none_some e))
+
+    both : (f o : At) → g s ≡ Some o → (t : Bool) → is_lt (path_cmp o.0 f.0) ≡ t → Comes g (cond t (Some o) (Some f)) services at
+        → Comes g (Some f) (s ∷ services) at
+    both f o is true lt (inl here) =
+        let mine : o ≡ at = some_is here.0 in
+        inr (
+          best_here g s services at (is ∙ here.0) here.1,
+          λ e same. subst (λ (p : At). path_cmp p.0 e.0 ≡ Less) mine (subst (λ (q : At). path_cmp o.0 q.0 ≡ Less) (some_is same) (is_less (path_cmp o.0 f.0) lt)),
         )
+    both f o is true lt (inr best) =
+        inr (
+          best_later g s services at (λ p e. best.1 p (sym is ∙ e)) best.0,
+          λ e same. path_cmp_total.trans at.0 o.0 e.0 (best.1 o refl) (subst (λ (q : At). path_cmp o.0 q.0 ≡ Less) (some_is same) (is_less (path_cmp o.0 f.0) lt)),
+        )
+    both f o is false ge (inl here) =
+        let mine : f ≡ at = some_is here.0 in
+        inl (
+          here.0,
+          none_less_more g s services at.0
+              (λ p e lt. is_not_less (path_cmp o.0 f.0) ge
+              (subst (λ (q : At). path_cmp q.0 f.0 ≡ Less) (some_is (sym e ∙ is)) (subst (λ (q : At). path_cmp p.0 q.0 ≡ Less) (sym mine) lt))) here.1,
+        )
+    both f o is false ge (inr best) =
+        let front : path_cmp at.0 f.0 ≡ Less = best.1 f refl in
+        let later : path_cmp at.0 o.0 ≡ Less = upto (path_cmp o.0 f.0) refl front in
+        inr (
+          best_later g s services at (λ p e. subst (λ (q : At). path_cmp at.0 q.0 ≡ Less) (some_is (sym is ∙ e)) later) best.0,
+          λ e same. subst (λ (q : At). path_cmp at.0 q.0 ≡ Less) (some_is same) front,
+        )
+      where
+        upto : (r : Ordering) → path_cmp o.0 f.0 ≡ r → path_cmp at.0 f.0 ≡ Less → path_cmp at.0 o.0 ≡ Less
+        upto Less e lt = absurd (is_not_less (path_cmp o.0 f.0) ge e)
+        upto Equal e lt = subst (λ (p : List PathStep). path_cmp at.0 p ≡ Less) (sym (path_cmp_exact o.0 f.0 e)) lt
+        upto Greater e lt = path_cmp_total.trans at.0 f.0 o.0 lt (path_cmp_total.antisymm f.0 o.0 ∙ ap ordering_reverse e)
+
+    on : (a o : Option At) → g s ≡ o → Comes g (lesser_unequal a (g s)) services at → Comes g a (s ∷ services) at
+    on None o is c = alone (g s) refl c
+    on (Some f) None is (inl here) =
+        let before : Some f ≡ Some at = sym (ap (lesser_unequal (Some f)) is) ∙ here.0 in
+        inl (before, none_less_more g s services at.0 (λ p e lt. absurd (none_some (sym is ∙ e))) here.1)
+    on (Some f) None is (inr best) =
+        inr (
+          best_later g s services at (λ p e. absurd (none_some (sym is ∙ e))) best.0,
+          λ e same. best.1 e (ap (lesser_unequal (Some f)) is ∙ same),
+        )
+    on (Some f) (Some o) is c =
+        both f o is (is_lt (path_cmp o.0 f.0)) refl (subst (λ (z : Option At). Comes g z services at) (ap (lesser_unequal (Some f)) is) c)
+
+best_on : (live services : List Service) (d : ℕ) (at : At) → unequal_on live services d ≡ Some at → Best (unequal_of live d) services at
+best_on live services d at h = on (fold_best (unequal_of live d) None services at h)
+  where
+    on : Comes (unequal_of live d) None services at → Best (unequal_of live d) services at
+    on (inl here) = absurd (none_some here.0)
+    on (inr best) = best.0
 
 -- on all devices
 
--- the clash is on this device, and on those before it there is none
-pub record FoundOn (live : List Service) (k : ℕ) (parts : List Config) (device : ℕ) (path : List PathStep) (id : List ℕ) : Type 0 where
-  pub here : Found live (k + device) (entries (config_of parts device)) path id
-  pub earlier : (j : ℕ) → j < device → clash_among live (k + j) (entries (config_of parts j)) ≡ None
+-- something is unequal on this device, and nothing on those before it
+record FoundOn (live services : List Service) (k device : ℕ) (at : At) : Type 0 where
+  here : unequal_on live services (k + device) ≡ Some at
+  earlier : (j : ℕ) → j < device → unequal_on live services (k + j) ≡ None
 
-found_on : (live : List Service) (k : ℕ) (parts : List Config) (answer : Answer) → clash_on live k parts ≡ Some answer
-    → (device : ℕ) × (path : List PathStep) × (id : List ℕ) × (answer ≡ Clash (k + device) path id) × FoundOn live k parts device path id
-found_on live k [] answer h = absurd (none_some h)
-found_on live k (part ∷ parts) answer h = on (λ later. found_on live (suc k) parts answer later) (clash_among live k (entries part)) refl
+found_from : (live services : List Service) (k : ℕ) (devices : List (List ℕ)) (answer : Answer) → clash_from live services k devices ≡ Some answer
+    → (device : ℕ) × (at : At) × (answer ≡ Clash (k + device) at.0 at.1) × FoundOn live services k device at
+found_from live services k [] answer h = absurd (none_some h)
+found_from live services k (name ∷ devices) answer h =
+    on (λ later. found_from live services (suc k) devices answer later) (unequal_on live services k) refl
   where
-    chosen : (o : Option Answer) → clash_among live k (entries part) ≡ o
-        → elim o [ None ↦ clash_on live (suc k) parts | Some found ↦ Some found ] ≡ Some answer
-    chosen o is = sym (ap (λ (z : Option Answer). elim z [ None ↦ clash_on live (suc k) parts | Some found ↦ Some found ]) is) ∙ h
+    chosen : (o : Option At) → unequal_on live services k ≡ o
+        → option_or (option_map (λ at. Clash k at.0 at.1) o) (clash_from live services (suc k) devices) ≡ Some answer
+    chosen o is = sym (ap (λ z. option_or (option_map (λ at. Clash k at.0 at.1) z) (clash_from live services (suc k) devices)) is) ∙ h
 
-    on : (clash_on live (suc k) parts ≡ Some answer
-        → (device : ℕ) × (path : List PathStep) × (id : List ℕ) × (answer ≡ Clash (suc k + device) path id) × FoundOn live (suc k) parts device path id)
-        → (o : Option Answer) → clash_among live k (entries part) ≡ o
-        → (device : ℕ) × (path : List PathStep) × (id : List ℕ) × (answer ≡ Clash (k + device) path id) × FoundOn live k (part ∷ parts) device path id
-    on later (Some found) is =
-        let same : found ≡ answer = some_is (chosen (Some found) is) in
-        let among = found_among live k (entries part) answer (entries_sorted part) (is ∙ ap Some same) in
+    none_before : (device : ℕ) → unequal_on live services k ≡ None → ((j : ℕ) → j < device → unequal_on live services (suc k + j) ≡ None)
+        → (j : ℕ) → j < suc device → unequal_on live services (k + j) ≡ None
+    none_before device is earlier zero lt = subst (λ n. unequal_on live services n ≡ None) (omega arith) is
+    none_before device is earlier (suc j) lt = subst (λ n. unequal_on live services n ≡ None) (omega arith) (earlier j (omega (arith, lt)))
+
+    on : (clash_from live services (suc k) devices ≡ Some answer
+        → (device : ℕ) × (at : At) × (answer ≡ Clash (suc k + device) at.0 at.1) × FoundOn live services (suc k) device at)
+        → (o : Option At) → unequal_on live services k ≡ o
+        → (device : ℕ) × (at : At) × (answer ≡ Clash (k + device) at.0 at.1) × FoundOn live services k device at
+    on later (Some at) is =
         let zero_more : k ≡ k + 0 = omega arith in (
           0,
-          among.0,
-          among.1,
-          among.2 ∙ ap (λ n. Clash n among.0 among.1) zero_more,
+          at,
+          sym (some_is (chosen (Some at) is)) ∙ ap (λ n. Clash n at.0 at.1) zero_more,
           record {
-            here = subst (λ n. Found live n (entries part) among.0 among.1) zero_more among.3;
-            earlier = λ j lt. absurd (omega arith);
+            here = subst (λ n. unequal_on live services n ≡ Some at) zero_more is;
+            earlier = λ j lt. absurd (omega (arith, lt));
           },
         )
     on later None is =
@@ -338,109 +459,176 @@ found_on live k (part ∷ parts) answer h = on (λ later. found_on live (suc k) 
         let one_more : suc k + rest.0 ≡ k + suc rest.0 = omega arith in (
           suc rest.0,
           rest.1,
-          rest.2,
-          rest.3 ∙ ap (λ n. Clash n rest.1 rest.2) one_more,
+          rest.2 ∙ ap (λ n. Clash n rest.1.0 rest.1.1) one_more,
           record {
-            here = subst (λ n. Found live n (entries (config_of parts rest.0)) rest.1 rest.2) one_more rest.4.here;
-            earlier = λ j lt. none_before rest.0 rest.4.earlier j lt;
+            here = subst (λ n. unequal_on live services n ≡ Some rest.1) one_more rest.3.here;
+            earlier = none_before rest.0 is rest.3.earlier;
           },
         )
-      where
-        none_before : (device : ℕ) → ((j : ℕ) → j < device → clash_among live (suc k + j) (entries (config_of parts j)) ≡ None)
-            → (j : ℕ) → j < suc device → clash_among live (k + j) (entries (config_of (part ∷ parts) j)) ≡ None
-        none_before device earlier zero lt =
-            let zero_more : k ≡ k + 0 = omega arith in
-            subst (λ n. clash_among live n (entries part) ≡ None) zero_more is
-        none_before device earlier (suc j) lt =
-            let one_more : suc k + j ≡ k + suc j = omega arith in
-            subst (λ n. clash_among live n (entries (config_of parts j)) ≡ None) one_more (earlier j (omega arith))
 
 -- the law
 
-no_clash : (live : List Service) (parts : List Config) → clash_on live 0 parts ≡ None
-    → (device : ℕ) (path : List PathStep) (id : List ℕ) → IsClash parts live device path id → ⊥
-no_clash live parts none device path id c =
-    let zero_less : 0 + device ≡ device = omega arith in
-    let same : differs c.item (get (part c.rival device) path) ≡ false =
-    subst (λ n. differs c.item (get (part c.rival n) path) ≡ false) zero_less
-    (no_clash_on live 0 parts device path c.item c.rival none c.written c.living) in
-    unequal_differs c.item c.other c.unequal (sym (ap (differs c.item) c.holds) ∙ same)
+-- where nothing is unequal of a service, it has no clash
+none_of : (live : List Service) (d : ℕ) (path : List PathStep) (s rival : Service) → unequal_of live d s ≡ None → IsClash live d path s rival → ⊥
+none_of live d path s rival none c =
+    let beside : Contains (others live s.id) rival = in_filter (λ (x : Service). not (has_id s.id x)) live rival c.living (ap not c.another) in
+    unequal_differs c.item c.other c.unequal
+    (sym (ap (differs c.item) c.holds)
+    ∙ no_unequal_among (others live s.id) d (entries (part s d)) path c.item rival none (sym (get-entries (part s d) path) ∙ c.written) beside)
 
-found_least : (live : List Service) (parts : List Config) (device : ℕ) (path : List PathStep) (id : List ℕ)
-    → Found live device (entries (config_of parts device)) path id
-    → ((j : ℕ) → j < device → clash_among live j (entries (config_of parts j)) ≡ None)
-    → IsLeastClash parts live device path id
-found_least live parts device path id found earlier =
-    let differs_here : Service → Bool = λ service. differs found.item (get (part service device) path) in
-    let names = least_of _ id found.name in
-    let rival = in_map (λ (service : Service). service.id) (filter differs_here live) id names.among in
-    let against = differs_from found.item (get (part rival.0 device) path)
-    (All-contains (λ s. differs_here s ≡ true) (filter differs_here live) rival.0 (filter_passes differs_here live) rival.1) in
-    let written : get (config_of parts device) path ≡ Some found.item = get-entries (config_of parts device) path ∙ found.here in
+-- a clash of a service comes no earlier than what is unequal of it
+clash_has : (live : List Service) (d : ℕ) (path : List PathStep) (s rival : Service) → IsClash live d path s rival
+    → (at : At) × (unequal_of live d s ≡ Some at) × (path_cmp path at.0 ≡ Less → ⊥)
+clash_has live d path s rival c = on (unequal_of live d s) refl
+  where
+    beside : Contains (others live s.id) rival
+    beside = in_filter (λ (x : Service). not (has_id s.id x)) live rival c.living (ap not c.another)
+
+    on : (o : Option At) → unequal_of live d s ≡ o → (at : At) × (unequal_of live d s ≡ Some at) × (path_cmp path at.0 ≡ Less → ⊥)
+    on None is = absurd (none_of live d path s rival is c)
+    on (Some at) is =
+        let found = found_among (others live s.id) d (entries (part s d)) at (entries_sorted (part s d)) is in (
+          at,
+          is,
+          λ lt. unequal_differs c.item c.other c.unequal
+              (sym (ap (differs c.item) c.holds) ∙ found.before path c.item rival (sym (get-entries (part s d) path) ∙ c.written) lt beside),
+        )
+
+found_least : (live services : List Service) (device : ℕ) (at : At) → Best (unequal_of live device) services at
+    → ((j : ℕ) → j < device → unequal_on live services j ≡ None) → IsLeastClash services live device at.0 at.1
+found_least live services device at best earlier =
+    let s = best.service in
+    let found = found_among (others live s.id) device (entries (part s device)) at (entries_sorted (part s device)) best.has in
+    let differs_here : Service → Bool = λ x. differs found.item (get (part x device) at.0) in
+    let names = least_of _ at.1 found.name in
+    let rival = in_map (λ (x : Service). x.id) (filter differs_here (others live s.id)) at.1 names.among in
+    let against = differs_from found.item (get (part rival.0 device) at.0) (passes differs_here (others live s.id) rival.0 rival.1) in
+    let beside : Contains (others live s.id) rival.0 = filter_from differs_here (others live s.id) rival.0 rival.1 in
+    let written : get (part s device) at.0 ≡ Some found.item = get-entries (part s device) at.0 ∙ found.here in
     record {
+      place = best.place;
+      service = s;
+      there = best.there;
+      rival = rival.0;
+      named = rival.2;
       clash = record {
+        living = filter_from (λ (x : Service). not (has_id s.id x)) live rival.0 beside;
+        another = not_true (has_id s.id rival.0) (passes (λ (x : Service). not (has_id s.id x)) live rival.0 beside);
         item = found.item;
         written = written;
-        rival = rival.0;
-        living = filter_from differs_here live rival.0 rival.1;
-        named = rival.2;
         other = against.0;
         holds = against.1;
         unequal = against.2;
       };
-      least_device = λ device' path' id' c. no_earlier device' path' id' c;
-      least_path = λ path' id' c lt.
-          unequal_differs c.item c.other c.unequal
-          (sym (ap (differs c.item) c.holds) ∙ found.before path' c.item c.rival (sym (get-entries (config_of parts device) path') ∙ c.written) lt c.living);
-      least_name = λ id' c lt. name_least found.item written names.least id' c lt;
+      least_device = λ device' path' s' r' c clash. no_earlier device' path' s' r' c clash;
+      least_path = λ path' s' r' c clash lt. no_lesser path' s' r' c clash lt;
+      first = λ k s' r' t clash. no_sooner k s' r' t clash;
+      least_name = λ r' clash lt. name_least found.item written names.least r' clash lt;
     }
   where
-    no_earlier : (device' : ℕ) (path' : List PathStep) (id' : List ℕ) → IsClash parts live device' path' id' → device ≤ device'
-    no_earlier device' path' id' c =
+    no_earlier : (device' : ℕ) (path' : List PathStep) (s' r' : Service) → Contains services s' → IsClash live device' path' s' r' → device ≤ device'
+    no_earlier device' path' s' r' c clash =
         elim (cases_lt device' device) [
-          | inl lt ↦ absurd (unequal_differs c.item c.other c.unequal
-              (sym (ap (differs c.item) c.holds)
-              ∙ no_clash_among live device' (entries (config_of parts device')) path' c.item c.rival (earlier device' lt)
-              (sym (get-entries (config_of parts device') path') ∙ c.written) c.living))
+          | inl lt ↦ absurd (none_of live device' path' s' r'
+              (All-contains (λ (x : Service). unequal_of live device' x ≡ None) services s' (none_on live services device' (earlier device' lt)) c) clash)
           | inr le ↦ le
         ]
 
+    no_lesser : (path' : List PathStep) (s' r' : Service) → Contains services s' → IsClash live device path' s' r' → path_cmp path' at.0 ≡ Less → ⊥
+    no_lesser path' s' r' c clash lt =
+        let has = clash_has live device path' s' r' clash in
+        on has.0 has.1 has.2 (path_cmp has.0.0 path') refl
+      where
+        on : (o : At) → unequal_of live device s' ≡ Some o → (path_cmp path' o.0 ≡ Less → ⊥) → (r : Ordering) → path_cmp o.0 path' ≡ r → ⊥
+        on o is upto Less e = best.least s' o c is (path_cmp_total.trans o.0 path' at.0 e lt)
+        on o is upto Equal e = best.least s' o c is (subst (λ (p : List PathStep). path_cmp p at.0 ≡ Less) (sym (path_cmp_exact o.0 path' e)) lt)
+        on o is upto Greater e = upto (path_cmp_total.antisymm path' o.0 ∙ ap ordering_reverse e)
+
+    no_sooner : (k : ℕ) (s' r' : Service) → slice_get services k ≡ Some s' → IsClash live device at.0 s' r' → best.place ≤ k
+    no_sooner k s' r' t clash =
+        let has = clash_has live device at.0 s' r' clash in
+        on has.0 has.1 has.2 (path_cmp has.0.0 at.0) refl
+      where
+        on : (o : At) → unequal_of live device s' ≡ Some o → (path_cmp at.0 o.0 ≡ Less → ⊥) → (r : Ordering) → path_cmp o.0 at.0 ≡ r → best.place ≤ k
+        on o is upto Less e = absurd (best.least s' o (at_place services k s' t) is e)
+        on o is upto Equal e = best.first k s' o t is (path_cmp_exact o.0 at.0 e)
+        on o is upto Greater e = absurd (upto (path_cmp_total.antisymm at.0 o.0 ∙ ap ordering_reverse e))
+
     -- what the clash writes is what was found, so its rival is among those whose names were compared
-    name_least : (item : Item) → get (config_of parts device) path ≡ Some item
-        → All (IsUpTo id) (map (λ (service : Service). service.id) (filter (λ (service : Service). differs item (get (part service device) path)) live))
-        → (id' : List ℕ) (c : IsClash parts live device path id') → text_cmp id' id ≡ Less → ⊥
-    name_least item written all id' c lt =
-        let here : Service → Bool = λ service. differs item (get (part service device) path) in
-        let each = all_filter (λ (service : Service). IsUpTo id service.id) here live (all_map (IsUpTo id) (λ (service : Service). service.id) (filter here live) all) in
+    name_least : (item : Item) → get (part best.service device) at.0 ≡ Some item
+        → All (IsUpTo at.1) (map (λ (x : Service). x.id) (filter (λ (x : Service). differs item (get (part x device) at.0)) (others live best.service.id)))
+        → (r' : Service) (c : IsClash live device at.0 best.service r') → text_cmp r'.id at.1 ≡ Less → ⊥
+    name_least item written all r' c lt =
+        let here : Service → Bool = λ x. differs item (get (part x device) at.0) in
+        let each = all_map (IsUpTo at.1) (λ (x : Service). x.id) (filter here (others live best.service.id)) all in
         let same : c.item ≡ item = some_is (sym c.written ∙ written) in
-        let rival_differs : here c.rival ≡ true =
-        differing item (get (part c.rival device) path) c.other c.holds (λ e. c.unequal (same ∙ e)) in
-        subst (IsUpTo id) c.named (All-contains (λ (service : Service). here service ≡ true → IsUpTo id service.id) live c.rival each c.living rival_differs) lt
+        let rival_differs : here r' ≡ true = differing item (get (part r' device) at.0) c.other c.holds (λ e. c.unequal (same ∙ e)) in
+        let beside : Contains (others live best.service.id) r' = in_filter (λ (x : Service). not (has_id best.service.id x)) live r' c.living (ap not c.another) in
+        All-contains (λ (x : Service). IsUpTo at.1 x.id) (filter here (others live best.service.id)) r' each
+        (in_filter here (others live best.service.id) r' beside rival_differs) lt
+
+-- what is touched is made
+flat_map_cases : {X Y : Type 0} (f : X → List Y) (xs : List X) (y : Y) → Contains (flat_map f xs) y → (x : X) × Contains xs x × Contains (f x) y
+flat_map_cases f [] y c = absurd (none_in_nil y c)
+flat_map_cases f (x ∷ xs) y c = on (λ later. flat_map_cases f xs y later) (Contains-append_cases (f x) (flat_map f xs) y c)
+  where
+    on : (Contains (flat_map f xs) y → (z : _) × Contains xs z × Contains (f z) y) → Contains (f x) y ⊎ Contains (flat_map f xs) y
+        → (z : _) × Contains (x ∷ xs) z × Contains (f z) y
+    on rest (inl here) = (x, first_in x xs, here)
+    on rest (inr later) = let found = rest later in (found.0, later_in x found.0 xs found.1, found.2)
+
+any_of : {X : Type 0} (p : X → Bool) (xs : List X) (x : X) → Contains xs x → p x ≡ true → list_any p xs ≡ true
+any_of p [] x c h = absurd (none_in_nil x c)
+any_of p (y ∷ ys) x c h = on (any_of p ys x) (in_cases y x ys c)
+  where
+    or_true : (b : Bool) → (b || true) ≡ true
+    or_true true = refl
+    or_true false = refl
+
+    on : (Contains ys x → p x ≡ true → list_any p ys ≡ true) → (y ≡ x) ⊎ Contains ys x → (p y || list_any p ys) ≡ true
+    on rest (inl one) = ap (λ t. t || list_any p ys) (ap p one ∙ h)
+    on rest (inr later) = ap (λ t. p y || t) (rest later h) ∙ or_true (p y)
+
+touched_made : (devices : List (List ℕ)) (actions : List Action) (before : List Service) (s : Service)
+    → Contains (touched actions (live_after devices actions before)) s → IsMade devices s
+touched_made devices actions before s c =
+    let behind = live_after devices actions before in
+    let by = flat_map_cases (λ (action : Action). filter (λ (x : Service). names action x.id) behind) actions s c in
+    let living : Contains behind s = filter_from (λ (x : Service). names by.0 x.id) behind s by.2 in
+    let named : is_named_by actions s.id ≡ true = any_of (λ (action : Action). names action s.id) actions by.0 by.1 (passes (λ (x : Service). names by.0 x.id) behind s by.2) in
+    elim (origin devices actions before s living) [
+      | inl old ↦ absurd (true_not_false (sym named ∙ old.1))
+      | inr made ↦ made.1
+    ]
 
 pub clash_least : ClashIsLeast
-clash_least names state id writes = on (clash names state (Literal id writes)) refl
+clash_least devices before actions = on (clash devices before actions) refl
   where
     live : List Service
-    live = others state.live id
+    live = live_after devices actions before
 
-    parts : List Config
-    parts = expansion names writes
+    services : List Service
+    services = touched actions live
 
-    on : (o : Option Answer) → clash names state (Literal id writes) ≡ o
-        → MatchOption o ((device : ℕ) (path : List PathStep) (rival : List ℕ) → IsClash parts live device path rival → ⊥)
-        (λ answer. (device : ℕ) × (path : List PathStep) × (rival : List ℕ) × (answer ≡ Clash device path rival) × IsLeastClash parts live device path rival)
-    on None is = no_clash live parts is
+    on : (o : Option Answer) → clash devices before actions ≡ o
+        → MatchOption o ((device : ℕ) (path : List PathStep) (service rival : Service) → Contains services service → IsClash live device path service rival → ⊥)
+        (λ answer. (device : ℕ) × (path : List PathStep) × (id : List ℕ) × (answer ≡ Clash device path id) × IsLeastClash services live device path id)
+    on None is = λ device path s rival c clash.
+        let within = made_within devices s (touched_made devices actions before s c) device path clash.item clash.written in
+        let none : unequal_on live services device ≡ None =
+        subst (λ (n : ℕ). unequal_on live services n ≡ None) (omega arith) (no_clash_from live services 0 devices is device within) in
+        none_of live device path s rival (All-contains (λ (x : Service). unequal_of live device x ≡ None) services s (none_on live services device none) c) clash
     on (Some answer) is =
-        let found = found_on live 0 parts answer is in
+        let found = found_from live services 0 devices answer is in
         let device = found.0 in
         let zero_less : 0 + device ≡ device = omega arith in (
           device,
-          found.1,
-          found.2,
-          found.3 ∙ ap (λ n. Clash n found.1 found.2) zero_less,
-          found_least live parts device found.1 found.2
-              (subst (λ n. Found live n (entries (config_of parts device)) found.1 found.2) zero_less found.4.here)
+          found.1.0,
+          found.1.1,
+          found.2 ∙ ap (λ n. Clash n found.1.0 found.1.1) zero_less,
+          found_least live services device found.1
+              (best_on live services device found.1 (subst (λ n. unequal_on live services n ≡ Some found.1) zero_less found.3.here))
               (λ j lt.
               let zero_less' : 0 + j ≡ j = omega arith in
-              subst (λ n. clash_among live n (entries (config_of parts j)) ≡ None) zero_less' (found.4.earlier j lt)),
+              subst (λ n. unequal_on live services n ≡ None) zero_less' (found.3.earlier j lt)),
         )

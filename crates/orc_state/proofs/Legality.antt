@@ -1,9 +1,10 @@
 -- Legal histories, one call more.
-use Rattle.std.proofs.Common.{◌≡◌, ℕ, List, [], ◌∷◌, ◌++◌, length, All, IsTrue, None, sym, subst, arith}
+use Rattle.std.proofs.Common.{◌≡◌, List, [], ◌∷◌, ◌++◌, length, All, IsTrue, None, sym, subst, arith}
 use Rattle.std.proofs.lemmas.List.Elements.{All-nil, All-cons, All-append, All-tail, All-take, All-contains, Contains-push}
 use Rattle.std.proofs.Math.Seq.{take-append_seam}
 use Rattle.orc_call.specs.declared.call.Call.{Call}
-use Rattle.orc_state.specs.States.{action_of, after, opening, refusal}
+use Rattle.orc_state.specs.States.{opening}
+use Rattle.orc_state.specs.Next.{after, refusal}
 use Rattle.orc_state.specs.Histories.{fold_from, IsUnrefused}
 use Rattle.orc_state.specs.Calls.{is_call}
 use Rattle.orc_state.specs.Legal.{IsSame, IsNew, AreDistinct, IsLegal, IsDue}
@@ -12,19 +13,19 @@ use Rattle.orc_state.specs.declared.state.State.{State}
 use Rattle.orc_state.proofs.Traces.{fold_from-append}
 
 -- the state behind a history, one call more
-pub fold_from-push : (names : List (List ℕ)) (state : State) (calls : List Call) (call : Call)
-    → fold_from names state (calls ++ call ∷ []) ≡ after names (fold_from names state calls) (action_of call)
-fold_from-push names state calls call = fold_from-append names state calls (call ∷ [])
+pub fold_from-push : (decls : Decls) (state : State) (calls : List Call) (call : Call)
+    → fold_from decls state (calls ++ call ∷ []) ≡ after decls (fold_from decls state calls) call
+fold_from-push decls state calls call = fold_from-append decls state calls (call ∷ [])
 
-unrefused_more : (names : List (List ℕ)) (s : State) (history : List Call) (call : Call) → IsUnrefused names s history
-    → refusal names (fold_from names s history) (action_of call) ≡ None → IsUnrefused names s (history ++ call ∷ [])
-unrefused_more names s [] call h none = (none, tt)
-unrefused_more names s (first ∷ rest) call h none = (h.0, unrefused_more names (after names s (action_of first)) rest call h.1 none)
+unrefused_more : (decls : Decls) (s : State) (history : List Call) (call : Call) → IsUnrefused decls s history
+    → refusal decls (fold_from decls s history) call ≡ None → IsUnrefused decls s (history ++ call ∷ [])
+unrefused_more decls s [] call h none = (none, tt)
+unrefused_more decls s (first ∷ rest) call h none = (h.0, unrefused_more decls (after decls s first) rest call h.1 none)
 
-pub unrefused_last : (names : List (List ℕ)) (s : State) (history : List Call) (call : Call) → IsUnrefused names s (history ++ call ∷ [])
-    → refusal names (fold_from names s history) (action_of call) ≡ None
-unrefused_last names s [] call h = h.0
-unrefused_last names s (first ∷ rest) call h = unrefused_last names (after names s (action_of first)) rest call h.1
+pub unrefused_last : (decls : Decls) (s : State) (history : List Call) (call : Call) → IsUnrefused decls s (history ++ call ∷ [])
+    → refusal decls (fold_from decls s history) call ≡ None
+unrefused_last decls s [] call h = h.0
+unrefused_last decls s (first ∷ rest) call h = unrefused_last decls (after decls s first) rest call h.1
 
 -- two calls of one caller and number, the other way round
 IsSame-sym : (call other : Call) → IsSame call other → IsSame other call
@@ -54,7 +55,7 @@ pub legal_more : (decls : Decls) (history : List Call) (call : Call) → IsLegal
     → IsLegal decls (history ++ call ∷ [])
 legal_more decls history call legal lawful due = record {
   lawful = All-append (λ c. IsTrue (is_call decls c)) history (call ∷ []) legal.lawful (All-cons (λ c. IsTrue (is_call decls c)) call [] lawful (All-nil (λ c. IsTrue (is_call decls c))));
-  unrefused = unrefused_more decls.names (opening decls.devices) history call legal.unrefused due.unrefused;
+  unrefused = unrefused_more decls (opening decls) history call legal.unrefused due.unrefused;
   distinct = distinct_more history call legal.distinct due.new;
 }
 
@@ -63,13 +64,13 @@ legal_last decls history call legal = (
   All-contains (λ c. IsTrue (is_call decls c)) (history ++ call ∷ []) call legal.lawful (Contains-push history call),
   record {
     new = distinct_last history call legal.distinct;
-    unrefused = unrefused_last decls.names (opening decls.devices) history call legal.unrefused;
+    unrefused = unrefused_last decls (opening decls) history call legal.unrefused;
   },
 )
 
-pub unrefused_front : (names : List (List ℕ)) (s : State) (a b : List Call) → IsUnrefused names s (a ++ b) → IsUnrefused names s a
-unrefused_front names s [] b h = tt
-unrefused_front names s (call ∷ a) b h = (h.0, unrefused_front names (after names s (action_of call)) a b h.1)
+pub unrefused_front : (decls : Decls) (s : State) (a b : List Call) → IsUnrefused decls s (a ++ b) → IsUnrefused decls s a
+unrefused_front decls s [] b h = tt
+unrefused_front decls s (call ∷ a) b h = (h.0, unrefused_front decls (after decls s call) a b h.1)
 
 -- a fact of each element is one of each element of a front
 pub All-front : {X : Type 0} (P : X → Type 0) (a b : List X) → All P (a ++ b) → All P a
@@ -83,6 +84,6 @@ distinct_front (call ∷ a) b h = (All-front (λ entry. IsSame entry call → �
 pub legal_front : (decls : Decls) (a b : List Call) → IsLegal decls (a ++ b) → IsLegal decls a
 legal_front decls a b legal = record {
   lawful = All-front (λ call. IsTrue (is_call decls call)) a b legal.lawful;
-  unrefused = unrefused_front decls.names (opening decls.devices) a b legal.unrefused;
+  unrefused = unrefused_front decls (opening decls) a b legal.unrefused;
   distinct = distinct_front a b legal.distinct;
 }

@@ -4,28 +4,20 @@ use Rattle.std.specs.declared.option.Option.{Option}
 use Rattle.std.specs.Option.{option_or}
 use Rattle.std.specs.List.{Contains}
 use Rattle.std.specs.FinMap.{get}
-use Rattle.std.proofs.lemmas.List.Elements.{Contains-append_left, Contains-append_right, Contains-append_cases, Contains-push}
 use Rattle.orc_path.specs.Steps.{PathStep}
 use Rattle.orc_path.specs.Configurations.{Config, overlay}
 use Rattle.orc_path.proofs.ConfigurationLaws.{same_config, get-overlay}
 use Rattle.orc_path.specs.declared.item.Item.{Item}
-use Rattle.orc_state.specs.States.{action_of, part, tree_due, opening, overlay_all, config_of, after}
+use Rattle.orc_state.specs.States.{part, tree_due, opening, overlay_all, config_of}
+use Rattle.orc_state.specs.Next.{after}
+use Rattle.orc_state.specs.Legal.{state_of}
 use Rattle.orc_state.specs.Histories.{fold_from}
 use Rattle.orc_state.specs.Laws.{AllAgree, IsOverlay, OverlayIsOne, OrderOfCreationIsFree}
 use Rattle.orc_call.specs.declared.call.Call.{Call}
 use Rattle.orc_state.specs.declared.state.Service.{Service}
 use Rattle.orc_state.specs.declared.state.State.{State}
-use Rattle.orc_state.proofs.Agreement.{living_agree, only, none_in_nil}
-use Rattle.orc_state.proofs.Services.{after-bases}
-
-pub first_in : {X : Type 0} (a : X) (rest : List X) → Contains (a ∷ rest) a
-first_in a rest = Contains-append_left (a ∷ []) rest a (Contains-push [] a)
-
-pub later_in : {X : Type 0} (a b : X) (rest : List X) → Contains rest b → Contains (a ∷ rest) b
-later_in a b rest c = Contains-append_right (a ∷ []) rest b c
-
-pub in_cases : {X : Type 0} (a b : X) (rest : List X) → Contains (a ∷ rest) b → (a ≡ b) ⊎ Contains rest b
-in_cases a b rest c = elim (Contains-append_cases (a ∷ []) rest b c) [ inl one ↦ inl (only a b one) | inr later ↦ inr later ]
+use Rattle.orc_state.specs.declared.declarations.Decls.{Decls}
+use Rattle.orc_state.proofs.Agreement.{living_agree, none_in_nil, first_in, later_in, in_cases}
 
 -- the overlay of services, one after the other, on a base
 abbrev laid : List Service → ℕ → Config → Config
@@ -96,23 +88,23 @@ overlay_unique live d base tree other one two = same_config tree other (λ p. at
     at p (inr none) = one.others p none ∙ sym (two.others p none)
 
 pub overlay_one : OverlayIsOne
-overlay_one names devices history d h =
-    let s = fold_from names (opening devices) history in
-    let is = laid_is_overlay s.live d (config_of s.bases d) (living_agree names devices history h) in
+overlay_one decls history d h =
+    let s = state_of decls history in
+    let is = laid_is_overlay s.live d (config_of s.bases d) (living_agree decls history h) in
     (is, λ tree other. overlay_unique s.live d (config_of s.bases d) tree (tree_due s d) other is)
 
-bases_stay : (names : List (List ℕ)) (s : State) (calls : List Call) → (fold_from names s calls).bases ≡ s.bases
-bases_stay names s [] = refl
-bases_stay names s (call ∷ calls) = bases_stay names (after names s (action_of call)) calls ∙ after-bases names s (action_of call)
+pub bases_stay : (decls : Decls) (s : State) (calls : List Call) → (fold_from decls s calls).bases ≡ s.bases
+bases_stay decls s [] = refl
+bases_stay decls s (call ∷ calls) = bases_stay decls (after decls s call) calls
 
 pub order_free : OrderOfCreationIsFree
-order_free names devices one other d h g there back =
-    let s = fold_from names (opening devices) one in
-    let t = fold_from names (opening devices) other in
-    let bases : t.bases ≡ s.bases = bases_stay names (opening devices) other ∙ sym (bases_stay names (opening devices) one) in
-    let is = laid_is_overlay s.live d (config_of s.bases d) (living_agree names devices one h) in
+order_free decls one other d h g there back =
+    let s = state_of decls one in
+    let t = state_of decls other in
+    let bases : t.bases ≡ s.bases = bases_stay decls (opening decls) other ∙ sym (bases_stay decls (opening decls) one) in
+    let is = laid_is_overlay s.live d (config_of s.bases d) (living_agree decls one h) in
     let is' = subst (λ (b : List Config). IsOverlay t.live d (config_of b d) (laid t.live d (config_of b d))) bases
-    (laid_is_overlay t.live d (config_of t.bases d) (living_agree names devices other g)) in
+    (laid_is_overlay t.live d (config_of t.bases d) (living_agree decls other g)) in
     overlay_unique s.live d (config_of s.bases d) (tree_due s d) (tree_due t d) is
     (subst (λ (b : List Config). IsOverlay s.live d (config_of s.bases d) (laid t.live d (config_of b d))) (sym bases)
     (record { written = λ a p x c. is'.written a p x (there a c); others = λ p none. is'.others p (λ a c. none a (back a c)) }))

@@ -1,73 +1,75 @@
 -- A history without the creation and the deletion of a service is unrefused and legal.
-use Rattle.std.proofs.Common.{◌≡◌, ℕ, suc, Bool, true, false, cond, not, ◌||◌, List, [], ◌∷◌, ◌++◌, map, length, All, IsTrue, None, Some, refl, sym, ap, subst, ◌∙◌, arith, append_assoc}
+use Rattle.std.proofs.Common.{◌≡◌, ℕ, suc, Bool, true, false, cond, not, ◌||◌, List, [], ◌∷◌, ◌++◌, map, length, All, IsTrue, None, Some, refl, sym, ap, subst, ◌∙◌, append_assoc}
 use Rattle.std.specs.declared.option.Option.{Option}
-use Rattle.std.specs.Option.{option_map_or}
+use Rattle.std.specs.Prelude.{option_map}
+use Rattle.std.specs.Option.{option_map_or, option_or}
 use Rattle.std.specs.List.{filter, list_any}
 use Rattle.std.specs.FinMap.{get, entries}
-use Rattle.std.proofs.lemmas.List.Elements.{All-append, All-tail, All-drop}
+use Rattle.std.proofs.lemmas.List.Elements.{All-append, All-head, All-tail, All-drop, All-weaker}
 use Rattle.std.proofs.Math.Seq.{drop-append_seam}
 use Rattle.std.specs.Cmp.Lexicographic.{bytes_decides}
 use Rattle.orc_path.specs.Steps.{PathStep}
-use Rattle.orc_path.specs.Configurations.{Config}
 use Rattle.orc_path.specs.declared.item.Item.{Item}
-use Rattle.orc_call.specs.declared.answer.Answer.{Answer}
 use Rattle.orc_call.specs.declared.answer.Answer.TheVariants.{Clash, Exists, Missing}
 use Rattle.orc_call.specs.declared.call.Call.{Call}
 use Rattle.orc_call.specs.declared.call.Action.{Action}
 use Rattle.orc_call.specs.declared.call.Action.TheVariants.{Literal, Delete}
 use Rattle.orc_call.specs.declared.call.DevicePut.{DevicePut}
-use Rattle.orc_state.specs.States.{action_of, is_same_text, part, has_id, lives, named, opening, others, after, expansion, differs, rivals, least, clash_among, clash_on, clash, refusal}
+use Rattle.orc_state.specs.States.{has_id, is_same_text, lives, opening, others, part}
+use Rattle.orc_state.specs.Actions.{data_after, is_named_by, live_after, named, names, touched}
+use Rattle.orc_state.specs.Clashes.{clash_at, clash_from, differs, least, rivals, unequal_among, unequal_of, unequal_on}
+use Rattle.orc_state.specs.Next.{after, clash, existence, existence_of, invalid, refusal}
 use Rattle.orc_state.specs.Histories.{fold_from, IsUnrefused}
 use Rattle.orc_state.specs.Calls.{is_call}
 use Rattle.orc_state.specs.Legal.{IsSame, AreDistinct}
-use Rattle.orc_state.specs.Laws.{NamesOther, UnrefusedWithoutTrace, LegalWithoutTrace}
+use Rattle.orc_state.specs.Laws.{Creates, Deletes, NamesOther, UnrefusedWithoutTrace, LegalWithoutTrace}
+use Rattle.orc_state.specs.declared.declarations.Decls.{Decls}
 use Rattle.orc_state.specs.declared.state.Service.{Service}
 use Rattle.orc_state.specs.declared.state.State.{State}
-use Rattle.orc_state.proofs.Agreement.{least_none, map_nil}
-use Rattle.orc_state.proofs.Traces.{without, filter-filter, gone_again, fold_from-append, after-without, deleted_leaves_no_trace}
-use Rattle.orc_state.proofs.Services.{literal-refusal}
+use Rattle.orc_state.proofs.Lists.{filter-filter, or_first, or_second}
+use Rattle.orc_state.proofs.Named.{created_is_new, other_way}
+use Rattle.orc_state.proofs.Agreement.{least_none, map_nil, map_none, or_none, none_on, on_none, unrefused_parts}
+use Rattle.orc_state.proofs.Traces.{without, behind-without, gone_again, fold_from-append, after-without, deleted_leaves_no_trace}
 use Rattle.orc_state.proofs.Legality.{unrefused_front, unrefused_last, All-front}
 
--- where no clash is found, none is found among fewer living services
+-- where nothing unequal is found, none is found among fewer living services
 
 fewer_among : (p : Service → Bool) (live : List Service) (d : ℕ) (es : List (List PathStep × Item))
-    → clash_among live d es ≡ None → clash_among (filter p live) d es ≡ None
+    → unequal_among live d es ≡ None → unequal_among (filter p live) d es ≡ None
 fewer_among p live d [] h = refl
 fewer_among p live d (e ∷ es) h =
     by_least (fewer_among p live d es) (least (map (λ (service : Service). service.id) (rivals live d e))) refl
   where
-    by_least : (clash_among live d es ≡ None → clash_among (filter p live) d es ≡ None)
+    by_least : (unequal_among live d es ≡ None → unequal_among (filter p live) d es ≡ None)
         → (o : Option (List ℕ)) → least (map (λ (service : Service). service.id) (rivals live d e)) ≡ o
-        → clash_among (filter p live) d (e ∷ es) ≡ None
+        → unequal_among (filter p live) d (e ∷ es) ≡ None
     by_least later None is =
         let none : rivals live d e ≡ [] = map_nil _ _ (least_none _ is) in
         let fewer : rivals (filter p live) d e ≡ [] = filter-filter (λ (s : Service). differs e.1 (get (part s d) e.0)) p live ∙ ap (filter p) none in
-        ap (λ (l : List Service). option_map_or (λ id. Some (Clash d e.0 id)) (least (map (λ (s : Service). s.id) l)) (clash_among (filter p live) d es)) fewer
-        ∙ later (sym (ap (λ o. option_map_or (λ id. Some (Clash d e.0 id)) o (clash_among live d es)) is) ∙ h)
+        ap (λ (l : List Service). option_map_or (λ id. Some (e.0, id)) (least (map (λ (s : Service). s.id) l)) (unequal_among (filter p live) d es)) fewer
+        ∙ later (sym (ap (λ o. option_map_or (λ id. Some (e.0, id)) o (unequal_among live d es)) is) ∙ h)
     by_least later (Some id) is =
-        let found : Some (Clash d e.0 id) ≡ None = sym (ap (λ o. option_map_or (λ id. Some (Clash d e.0 id)) o (clash_among live d es)) is) ∙ h in cc
+        let found : Some (e.0, id) ≡ None = sym (ap (λ o. option_map_or (λ id. Some (e.0, id)) o (unequal_among live d es)) is) ∙ h in cc
 
-fewer_on : (p : Service → Bool) (live : List Service) (k : ℕ) (ms : List Config)
-    → clash_on live k ms ≡ None → clash_on (filter p live) k ms ≡ None
-fewer_on p live k [] h = refl
-fewer_on p live k (m ∷ ms) h = on (fewer_on p live (suc k) ms) (clash_among live k (entries m)) refl
-  where
-    on : (clash_on live (suc k) ms ≡ None → clash_on (filter p live) (suc k) ms ≡ None)
-        → (o : Option Answer) → clash_among live k (entries m) ≡ o → clash_on (filter p live) k (m ∷ ms) ≡ None
-    on later None is =
-        ap (λ (o : Option Answer). elim o [ None ↦ clash_on (filter p live) (suc k) ms | Some answer ↦ Some answer ]) (fewer_among p live k (entries m) is)
-        ∙ later (sym (ap (λ (o : Option Answer). elim o [ None ↦ clash_on live (suc k) ms | Some answer ↦ Some answer ]) is) ∙ h)
-    on later (Some answer) is =
-        let found : Some answer ≡ None = sym (ap (λ (o : Option Answer). elim o [ None ↦ clash_on live (suc k) ms | Some answer ↦ Some answer ]) is) ∙ h in cc
+fewer_of : (p : Service → Bool) (live : List Service) (d : ℕ) (s : Service) → unequal_of live d s ≡ None → unequal_of (filter p live) d s ≡ None
+fewer_of p live d s h =
+    ap (λ (l : List Service). unequal_among l d (entries (part s d))) (filter-filter (λ (x : Service). not (has_id s.id x)) p live)
+    ∙ fewer_among p (others live s.id) d (entries (part s d)) h
+
+fewer_from : (p : Service → Bool) (live services : List Service) (k : ℕ) (devices : List (List ℕ))
+    → clash_from live services k devices ≡ None → clash_from (filter p live) services k devices ≡ None
+fewer_from p live services k [] h = refl
+fewer_from p live services k (name ∷ devices) h =
+    let both = or_none (clash_at live services k) (clash_from live services (suc k) devices) h in
+    let none : unequal_on live services k ≡ None = map_none (λ at. Clash k at.0 at.1) (unequal_on live services k) both.0 in
+    let fewer : unequal_on (filter p live) services k ≡ None =
+    on_none (filter p live) services k
+    (All-weaker (λ s. unequal_of live k s ≡ None) (λ s. unequal_of (filter p live) k s ≡ None) (λ s e. fewer_of p live k s e) services
+    (none_on live services k none)) in
+    ap (λ o. option_or (option_map (λ at. Clash k at.0 at.1) o) (clash_from (filter p live) services (suc k) devices)) fewer
+    ∙ fewer_from p live services (suc k) devices both.1
 
 -- whether a service lives doesn't depend on another one
-
-other_way : (own id : List ℕ) → is_same_text own id ≡ false → is_same_text id own ≡ false
-other_way own id h = on (is_same_text id own) refl
-  where
-    on : (t : Bool) → is_same_text id own ≡ t → t ≡ false
-    on false is = refl
-    on true is = let same : is_same_text own id ≡ true = (bytes_decides own id).1 (sym ((bytes_decides id own).0 is)) in sym same ∙ h
 
 living_without : (live : List Service) (own id : List ℕ) → is_same_text own id ≡ false
     → list_any (has_id own) (others live id) ≡ list_any (has_id own) live
@@ -81,82 +83,122 @@ living_without (x ∷ xs) own id h = on (living_without xs own id h) (has_id id 
         rest ∙ sym (ap (λ t. t || list_any (has_id own) xs) another)
     on rest false is = ap (λ t. has_id own x || t) rest
 
--- what is created didn't live
-created_is_new : (names : List (List ℕ)) (s : State) (id : List ℕ) (writes : List DevicePut) → refusal names s (Literal id writes) ≡ None → lives s id ≡ false
-created_is_new names s id writes h = on (lives s id) refl
+-- what actions that don't name a service touch doesn't depend on it
+
+touched_one : (live : List Service) (id : List ℕ) (own : Option (List ℕ)) → option_map_or (λ o. is_same_text id o) own false ≡ false
+    → filter (λ s. option_map_or (λ o. is_same_text s.id o) own false) (others live id)
+    ≡ filter (λ s. option_map_or (λ o. is_same_text s.id o) own false) live
+touched_one [] id own h = refl
+touched_one (x ∷ xs) id own h = on (touched_one xs id own h) (has_id id x) refl
   where
-    on : (t : Bool) → lives s id ≡ t → t ≡ false
-    on false is = refl
-    on true is =
-        let found : Some (Exists id) ≡ None =
-        sym (ap (λ t. elim (cond t (Some (Exists id)) None) [ None ↦ clash names s (Literal id writes) | Some answer ↦ Some answer ]) is) ∙ h in cc
+    mine : Service → Bool
+    mine s = option_map_or (λ o. is_same_text s.id o) own false
 
--- an action that isn't refused isn't refused without another service
-refusal_without : (names : List (List ℕ)) (s : State) (action : Action) (id : List ℕ) → is_same_text (named action) id ≡ false
-    → refusal names s action ≡ None → refusal names (without id s) action ≡ None
-refusal_without names s (Literal own writes) id other h =
-    let absent = created_is_new names s own writes h in
-    literal-refusal names (without id s) own writes (living_without s.live own id other ∙ absent)
-    ∙ fewer_on (λ service. not (has_id id service)) s.live 0 (expansion names writes) (sym (literal-refusal names s own writes absent) ∙ h)
-refusal_without names s (Delete own) id other h =
-    ap (λ t. elim (cond t None (Some (Missing own))) [ None ↦ None | Some answer ↦ Some answer ]) (living_without s.live own id other) ∙ h
-refusal_without names s action id other h = refl
+    on : filter mine (others xs id) ≡ filter mine xs → (t : Bool) → has_id id x ≡ t
+        → filter mine (cond (not t) (x ∷ others xs id) (others xs id)) ≡ filter mine (x ∷ xs)
+    on rest true is =
+        let another : mine x ≡ false = ap (λ (name : List ℕ). option_map_or (λ o. is_same_text name o) own false) ((bytes_decides x.id id).0 is) ∙ h in
+        rest ∙ sym (ap (λ t. cond t (x ∷ filter mine xs) (filter mine xs)) another)
+    on rest false is = ap (λ l. cond (mine x) (x ∷ l) l) rest
 
-calls_without : (names : List (List ℕ)) (s : State) (calls : List Call) (id : List ℕ) → All (NamesOther id) calls
-    → IsUnrefused names s calls → IsUnrefused names (without id s) calls
-calls_without names s [] id other h = tt
-calls_without names s (call ∷ calls) id other h =
-    let here : NamesOther id call = other 0 call (omega arith) in (
-      refusal_without names s (action_of call) id here h.0,
-      subst (λ (z : State). IsUnrefused names z calls) (after-without names s (action_of call) id here)
-          (calls_without names (after names s (action_of call)) calls id (All-tail (NamesOther id) call calls other) h.1),
+touched_without : (actions : List Action) (live : List Service) (id : List ℕ) → is_named_by actions id ≡ false
+    → touched actions (others live id) ≡ touched actions live
+touched_without [] live id h = refl
+touched_without (action ∷ actions) live id h =
+    ap (λ (l : List Service). l ++ touched actions (others live id)) (touched_one live id (named action) (or_first (names action id) (is_named_by actions id) h))
+    ∙ ap (λ (l : List Service). filter (λ s. names action s.id) live ++ l) (touched_without actions live id (or_second (names action id) (is_named_by actions id) h))
+
+-- a call that isn't refused isn't refused without a service that it doesn't name
+
+existence_one : (live : List Service) (action : Action) (id : List ℕ) → names action id ≡ false
+    → existence_of (others live id) action ≡ existence_of live action
+existence_one live (Literal own writes) id h = ap (λ t. cond t (Some (Exists own)) None) (living_without live own id (other_way id own h))
+existence_one live (Delete own) id h = ap (λ t. cond t None (Some (Missing own))) (living_without live own id (other_way id own h))
+existence_one live other id h = refl
+
+existence_without : (live : List Service) (actions : List Action) (id : List ℕ) → is_named_by actions id ≡ false
+    → existence (others live id) actions ≡ existence live actions
+existence_without live [] id h = refl
+existence_without live (action ∷ actions) id h =
+    ap (λ o. option_or o (existence (others live id) actions)) (existence_one live action id (or_first (names action id) (is_named_by actions id) h))
+    ∙ ap (option_or (existence_of live action)) (existence_without live actions id (or_second (names action id) (is_named_by actions id) h))
+
+clash_without : (devices : List (List ℕ)) (live : List Service) (actions : List Action) (id : List ℕ) → is_named_by actions id ≡ false
+    → clash devices live actions ≡ None → clash devices (others live id) actions ≡ None
+clash_without devices live actions id other h =
+    let behind = live_after devices actions live in
+    ap (λ (l : List Service). clash_from l (touched actions l) 0 devices) (sym (behind-without devices actions live id other))
+    ∙ ap (λ (l : List Service). clash_from (others behind id) l 0 devices) (touched_without actions behind id other)
+    ∙ fewer_from (λ s. not (has_id id s)) behind (touched actions behind) 0 devices h
+
+refusal_without : (decls : Decls) (s : State) (call : Call) (id : List ℕ) → NamesOther id call
+    → refusal decls s call ≡ None → refusal decls (without id s) call ≡ None
+refusal_without decls s call id other h =
+    let exist = existence s.live call.actions in
+    let broken = invalid decls.data_schema (data_after call.actions s.data) in
+    let clashes = clash decls.names s.live call.actions in
+    let first = or_none exist (option_or broken clashes) h in
+    let second = or_none broken clashes first.1 in
+    ap (λ o. option_or o (option_or broken (clash decls.names (others s.live id) call.actions))) (existence_without s.live call.actions id other ∙ first.0)
+    ∙ ap (λ o. option_or o (clash decls.names (others s.live id) call.actions)) second.0
+    ∙ clash_without decls.names s.live call.actions id other second.1
+
+calls_without : (decls : Decls) (s : State) (calls : List Call) (id : List ℕ) → All (NamesOther id) calls
+    → IsUnrefused decls s calls → IsUnrefused decls (without id s) calls
+calls_without decls s [] id other h = tt
+calls_without decls s (call ∷ calls) id other h =
+    let here : NamesOther id call = All-head (NamesOther id) call calls other in (
+      refusal_without decls s call id here h.0,
+      subst (λ (z : State). IsUnrefused decls z calls) (after-without decls s call id here)
+          (calls_without decls (after decls s call) calls id (All-tail (NamesOther id) call calls other) h.1),
     )
 
 -- histories one behind the other
 
-unrefused_back : (names : List (List ℕ)) (s : State) (a b : List Call) → IsUnrefused names s (a ++ b) → IsUnrefused names (fold_from names s a) b
-unrefused_back names s [] b h = h
-unrefused_back names s (call ∷ a) b h = unrefused_back names (after names s (action_of call)) a b h.1
+unrefused_back : (decls : Decls) (s : State) (a b : List Call) → IsUnrefused decls s (a ++ b) → IsUnrefused decls (fold_from decls s a) b
+unrefused_back decls s [] b h = h
+unrefused_back decls s (call ∷ a) b h = unrefused_back decls (after decls s call) a b h.1
 
-unrefused_joined : (names : List (List ℕ)) (s : State) (a b : List Call) → IsUnrefused names s a → IsUnrefused names (fold_from names s a) b → IsUnrefused names s (a ++ b)
-unrefused_joined names s [] b h k = k
-unrefused_joined names s (call ∷ a) b h k = (h.0, unrefused_joined names (after names s (action_of call)) a b h.1 k)
+unrefused_joined : (decls : Decls) (s : State) (a b : List Call) → IsUnrefused decls s a → IsUnrefused decls (fold_from decls s a) b → IsUnrefused decls s (a ++ b)
+unrefused_joined decls s [] b h k = k
+unrefused_joined decls s (call ∷ a) b h k = (h.0, unrefused_joined decls (after decls s call) a b h.1 k)
 
 -- the state behind the two calls, and what comes later
-same_behind : (names : List (List ℕ)) (s : State) (before between later : List Call) (create delete : Call) (id : List ℕ) (writes : List DevicePut)
-    → action_of create ≡ Literal id writes → action_of delete ≡ Delete id → lives (fold_from names s before) id ≡ false → All (NamesOther id) between
-    → fold_from names s (before ++ create ∷ [] ++ between ++ delete ∷ [] ++ later) ≡ fold_from names s (before ++ between ++ later)
-same_behind names s before between later create delete id writes makes goes absent other =
-    fold_from-append names s (before ++ create ∷ [] ++ between ++ delete ∷ []) later
-    ∙ ap (λ (z : State). fold_from names z later) (deleted_leaves_no_trace names s before between create delete id writes makes goes absent other)
-    ∙ sym (fold_from-append names s (before ++ between) later)
+same_behind : (decls : Decls) (s : State) (before between later : List Call) (create delete : Call) (id : List ℕ) (writes : List DevicePut)
+    → Creates create id writes → Deletes delete id → lives (fold_from decls s before).live id ≡ false → All (NamesOther id) between
+    → fold_from decls s (before ++ create ∷ [] ++ between ++ delete ∷ [] ++ later) ≡ fold_from decls s (before ++ between ++ later)
+same_behind decls s before between later create delete id writes makes goes absent other =
+    fold_from-append decls s (before ++ create ∷ [] ++ between ++ delete ∷ []) later
+    ∙ ap (λ (z : State). fold_from decls z later) (deleted_leaves_no_trace decls s before between create delete id writes makes goes absent other)
+    ∙ sym (fold_from-append decls s (before ++ between) later)
 
 -- the service didn't live before
-absent_before : (names : List (List ℕ)) (s : State) (before rest : List Call) (create : Call) (id : List ℕ) (writes : List DevicePut)
-    → action_of create ≡ Literal id writes → IsUnrefused names s (before ++ create ∷ [] ++ rest) → lives (fold_from names s before) id ≡ false
-absent_before names s before rest create id writes makes h =
-    let at = fold_from names s before in
-    created_is_new names at id writes
-    (subst (λ (a : Action). refusal names at a ≡ None) makes (unrefused_last names s before create (unrefused_front names s (before ++ create ∷ []) rest h)))
+absent_before : (decls : Decls) (s : State) (before rest : List Call) (create : Call) (id : List ℕ) (writes : List DevicePut)
+    → Creates create id writes → IsUnrefused decls s (before ++ create ∷ [] ++ rest) → lives (fold_from decls s before).live id ≡ false
+absent_before decls s before rest create id writes makes h =
+    let at = fold_from decls s before in
+    let exist : existence at.live create.actions ≡ None =
+    (unrefused_parts decls at create (unrefused_last decls s before create (unrefused_front decls s (before ++ create ∷ []) rest h))).0 in
+    created_is_new at.live id writes
+    (or_none (existence_of at.live (Literal id writes)) None (sym (ap (existence at.live) makes) ∙ exist)).0
 
 pub unrefused_without : UnrefusedWithoutTrace
-unrefused_without names s before between later create delete id writes makes goes other h =
-    let at = fold_from names s before in
-    let upto = unrefused_front names s (before ++ create ∷ [] ++ between ++ delete ∷ []) later h in
-    let made = unrefused_front names s (before ++ create ∷ [] ++ between) (delete ∷ []) upto in
-    let absent = absent_before names s before between create id writes makes made in
-    let created : fold_from names s (before ++ create ∷ []) ≡ after names at (Literal id writes) =
-    fold_from-append names s before (create ∷ []) ∙ ap (after names at) makes in
-    let middle : IsUnrefused names (after names at (Literal id writes)) between =
-    subst (λ (z : State). IsUnrefused names z between) created (unrefused_back names s (before ++ create ∷ []) between made) in
-    let first : IsUnrefused names s before =
-    unrefused_front names s before (create ∷ []) (unrefused_front names s (before ++ create ∷ []) between made) in
-    let second : IsUnrefused names at between =
-    subst (λ (z : State). IsUnrefused names z between) (gone_again names at id writes absent) (calls_without names (after names at (Literal id writes)) between id other middle) in
-    let third : IsUnrefused names (fold_from names s (before ++ between)) later =
-    subst (λ (z : State). IsUnrefused names z later) (deleted_leaves_no_trace names s before between create delete id writes makes goes absent other)
-    (unrefused_back names s (before ++ create ∷ [] ++ between ++ delete ∷ []) later h) in
-    unrefused_joined names s (before ++ between) later (unrefused_joined names s before between first second) third
+unrefused_without decls s before between later create delete id writes makes goes other h =
+    let at = fold_from decls s before in
+    let upto = unrefused_front decls s (before ++ create ∷ [] ++ between ++ delete ∷ []) later h in
+    let made = unrefused_front decls s (before ++ create ∷ [] ++ between) (delete ∷ []) upto in
+    let absent = absent_before decls s before between create id writes makes made in
+    let created : fold_from decls s (before ++ create ∷ []) ≡ after decls at create = fold_from-append decls s before (create ∷ []) in
+    let middle : IsUnrefused decls (after decls at create) between =
+    subst (λ (z : State). IsUnrefused decls z between) created (unrefused_back decls s (before ++ create ∷ []) between made) in
+    let first : IsUnrefused decls s before =
+    unrefused_front decls s before (create ∷ []) (unrefused_front decls s (before ++ create ∷ []) between made) in
+    let second : IsUnrefused decls at between =
+    subst (λ (z : State). IsUnrefused decls z between) (gone_again decls at create id writes makes absent) (calls_without decls (after decls at create) between id other middle) in
+    let third : IsUnrefused decls (fold_from decls s (before ++ between)) later =
+    subst (λ (z : State). IsUnrefused decls z later) (deleted_leaves_no_trace decls s before between create delete id writes makes goes absent other)
+    (unrefused_back decls s (before ++ create ∷ [] ++ between ++ delete ∷ []) later h) in
+    unrefused_joined decls s (before ++ between) later (unrefused_joined decls s before between first second) third
 
 -- a list with one element less
 
@@ -180,16 +222,15 @@ two_less P less before between later create delete h =
 
 pub legal_without : LegalWithoutTrace
 legal_without decls before between later create delete id writes makes goes other legal =
-    let names = decls.names in
-    let s = opening decls.devices in
-    let made = unrefused_front names s (before ++ create ∷ [] ++ between) (delete ∷ [])
-    (unrefused_front names s (before ++ create ∷ [] ++ between ++ delete ∷ []) later legal.unrefused) in
-    let absent = absent_before names s before between create id writes makes made in (
+    let s = opening decls in
+    let made = unrefused_front decls s (before ++ create ∷ [] ++ between) (delete ∷ [])
+    (unrefused_front decls s (before ++ create ∷ [] ++ between ++ delete ∷ []) later legal.unrefused) in
+    let absent = absent_before decls s before between create id writes makes made in (
       record {
         lawful = two_less (All (λ call. IsTrue (is_call decls call))) (All-less (λ call. IsTrue (is_call decls call)))
             before between later create delete legal.lawful;
-        unrefused = unrefused_without names s before between later create delete id writes makes goes other legal.unrefused;
+        unrefused = unrefused_without decls s before between later create delete id writes makes goes other legal.unrefused;
         distinct = two_less AreDistinct distinct_less before between later create delete legal.distinct;
       },
-      same_behind names s before between later create delete id writes makes goes absent other,
+      same_behind decls s before between later create delete id writes makes goes absent other,
     )

@@ -1,36 +1,37 @@
 -- The trees of devices are configurations.
-use Rattle.std.proofs.Common.{◌≡◌, ℕ, zero, suc, Bool, true, false, List, [], ◌∷◌, map, All, refl, sym, subst, arith}
+use Rattle.std.proofs.Common.{◌≡◌, ℕ, zero, suc, Bool, true, false, List, [], ◌∷◌, map, All, refl, arith}
 use Rattle.std.specs.Prelude.{if◌then◌else◌}
 use Rattle.std.specs.List.{list_all}
 use Rattle.std.specs.Cmp.{first_so, second_so}
 use Rattle.std.specs.FinMap.{empty}
 use Rattle.std.proofs.lemmas.Bool.{and_from}
-use Rattle.std.proofs.lemmas.List.Elements.{All-nil, All-cons, All-tail, All-append, All-filter}
+use Rattle.std.proofs.lemmas.List.Elements.{All-nil, All-cons, All-head, All-tail, All-append, All-filter}
 use Rattle.orc_path.specs.Configurations.{Config, IsConfig, put_item}
 use Rattle.orc_path.proofs.ConfigurationLaws.{IsConfig-empty, IsConfig-put_item, IsConfig-overlay}
-use Rattle.orc_state.specs.States.{action_of, is_same_text, config_of, part, put_all, puts_on, expansion, opening, overlay_all, after}
+use Rattle.orc_state.specs.States.{is_same_text, declared_base, config_of, part, put_all, puts_on, expansion, opening, overlay_all}
+use Rattle.orc_state.specs.Actions.{live_after, live_step, new_services, names}
+use Rattle.orc_state.specs.Next.{after}
 use Rattle.orc_state.specs.Histories.{fold_from}
 use Rattle.orc_schema.specs.Schemas.{SchemaTable}
 use Rattle.orc_state.specs.Calls.{is_item_at, is_put, is_write, is_device, is_action, schema_in, schema_named}
 use Rattle.orc_state.specs.declared.declarations.Decls.{Decls}
 use Rattle.orc_state.specs.Legal.{state_of}
-use Rattle.orc_state.specs.Laws.{TreeIsConfiguration}
-use Rattle.orc_state.proofs.Services.{after-bases}
+use Rattle.orc_state.specs.Laws.{AreActions, TreeIsConfiguration}
 use Rattle.orc_state.proofs.Fits.{base-items, item-under, list_all_weaker, write-item}
 use Rattle.orc_call.specs.declared.call.Put.{Put}
 use Rattle.orc_state.specs.declared.declarations.Device.{Device}
 use Rattle.orc_call.specs.declared.call.Call.{Call}
 use Rattle.orc_call.specs.declared.call.Action.{Action}
-use Rattle.orc_call.specs.declared.call.Action.TheVariants.{Literal, Delete}
+use Rattle.orc_call.specs.declared.call.Action.TheVariants.{Literal}
 use Rattle.orc_call.specs.declared.call.DevicePut.{DevicePut}
 use Rattle.orc_state.specs.declared.state.Service.{Service}
 use Rattle.orc_state.specs.declared.state.State.{State}
 
 -- an item that may stand somewhere, whatever the schema
-abbrev is_put_somewhere : Put → Bool
+abbrev pub is_put_somewhere : Put → Bool
 is_put_somewhere put = is_item_at put.path put.item
 
-IsConfig-put_all : (puts : List Put) (m : Config) → list_all is_put_somewhere puts ≡ true → IsConfig m → IsConfig (put_all puts m)
+pub IsConfig-put_all : (puts : List Put) (m : Config) → list_all is_put_somewhere puts ≡ true → IsConfig m → IsConfig (put_all puts m)
 IsConfig-put_all [] m h c = c
 IsConfig-put_all (p ∷ ps) m h c =
     let item = first_so _ _ h in
@@ -63,7 +64,7 @@ are_puts_of_base schemas device h =
     let schema = schema_in schemas device.schema in
     list_all_weaker (is_put schema) is_put_somewhere (λ p q. item-under schema p.path p.item q) device.base (base-items schemas device h)
 
-opening_configs : (schemas : List SchemaTable) (devices : List Device) → All (λ device. is_device schemas device ≡ true) devices → All IsConfig (opening devices).bases
+opening_configs : (schemas : List SchemaTable) (devices : List Device) → All (λ device. is_device schemas device ≡ true) devices → All IsConfig (map declared_base devices)
 opening_configs schemas [] h = All-nil IsConfig
 opening_configs schemas (device ∷ devices) h =
     All-cons IsConfig _ _ (IsConfig-put_all device.base empty (are_puts_of_base schemas device (h 0 device (omega arith))) IsConfig-empty)
@@ -80,26 +81,32 @@ overlaid_config (a ∷ rest) d base h c =
     overlaid_config rest d _ (All-tail WritesConfigs a rest h)
     (IsConfig-overlay (part a d) base (IsConfig-config_of a.parts d (h 0 a (omega arith))) c)
 
-after_configs : (decls : Decls) (s : State) (action : Action) → is_action decls action ≡ true → All WritesConfigs s.live → All WritesConfigs (after decls.names s action).live
-after_configs decls s (Literal id writes) h live =
-    let service : Service = record { id = id; parts = expansion decls.names writes } in
-    All-append WritesConfigs _ _ (All-filter (λ x. _) WritesConfigs s.live live)
-    (All-cons WritesConfigs service [] (expansion_configs decls decls.names writes (second_so _ (list_all (is_write decls) writes) h)) (All-nil WritesConfigs))
-after_configs decls s (Delete id) h live = All-filter (λ x. _) WritesConfigs s.live live
-after_configs decls s other h live = live
+made_configs : (decls : Decls) (action : Action) → is_action decls action ≡ true → All WritesConfigs (new_services decls.names action)
+made_configs decls (Literal id writes) h =
+    All-cons WritesConfigs (record { id = id; parts = expansion decls.names writes }) []
+    (expansion_configs decls decls.names writes (second_so _ (list_all (is_write decls) writes) h)) (All-nil WritesConfigs)
+made_configs decls other h = All-nil WritesConfigs
 
-fold_configs : (decls : Decls) (s : State) (calls : List Call) → All (λ call. is_action decls (action_of call) ≡ true) calls
+behind_configs : (decls : Decls) (actions : List Action) (live : List Service) → All (λ action. is_action decls action ≡ true) actions
+    → All WritesConfigs live → All WritesConfigs (live_after decls.names actions live)
+behind_configs decls [] live h c = c
+behind_configs decls (action ∷ actions) live h c =
+    behind_configs decls actions (live_step decls.names live action) (All-tail (λ (a : Action). is_action decls a ≡ true) action actions h)
+    (All-append WritesConfigs _ _ (All-filter (λ x. _) WritesConfigs live c)
+    (made_configs decls action (All-head (λ (a : Action). is_action decls a ≡ true) action actions h)))
+
+fold_configs : (decls : Decls) (s : State) (calls : List Call) → AreActions decls calls
     → All WritesConfigs s.live → All IsConfig s.bases
-    → All WritesConfigs (fold_from decls.names s calls).live × All IsConfig (fold_from decls.names s calls).bases
+    → All WritesConfigs (fold_from decls s calls).live × All IsConfig (fold_from decls s calls).bases
 fold_configs decls s [] h live bases = (live, bases)
 fold_configs decls s (call ∷ calls) h live bases =
-    fold_configs decls (after decls.names s (action_of call)) calls (All-tail (λ (c : Call). is_action decls (action_of c) ≡ true) call calls h)
-    (after_configs decls s (action_of call) (h 0 call (omega arith)) live)
-    (subst (All IsConfig) (sym (after-bases decls.names s (action_of call))) bases)
+    let lawful : Call → Type 0 = λ c. All (λ action. is_action decls action ≡ true) c.actions in
+    fold_configs decls (after decls s call) calls (All-tail lawful call calls h)
+    (behind_configs decls call.actions s.live (All-head lawful call calls h) live) bases
 
 pub trees_are_configs : TreeIsConfiguration
 trees_are_configs decls history d devices_are calls_are =
     let s = state_of decls history in
     let both =
-    fold_configs decls (opening decls.devices) history calls_are (All-nil WritesConfigs) (opening_configs decls.schemas decls.devices devices_are) in
+    fold_configs decls (opening decls) history calls_are (All-nil WritesConfigs) (opening_configs decls.schemas decls.devices devices_are) in
     overlaid_config s.live d (config_of s.bases d) both.0 (IsConfig-config_of s.bases d both.1)

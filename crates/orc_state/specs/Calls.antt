@@ -1,24 +1,28 @@
--- Which calls a call block can give, and which devices can be declared.
-use Rattle.std.specs.Prelude.{ℕ, ◌^◌, Bool, true, false, ◌&&◌, ◌==◌, not, nat_le, nat_lt, List, length, is_some, slice_get}
-use Rattle.std.specs.declared.option.Option.{Option}
+-- Which calls a call block can give, and which devices and data can be declared.
+use Rattle.std.specs.Prelude.{ℕ, ◌-◌, ◌^◌, Bool, true, false, ◌&&◌, ◌||◌, not, nat_le, nat_lt, List, [], ◌∷◌, length, take, Option, is_some, slice_get, if◌then◌else◌}
+use Rattle.std.specs.declared.option.Option.TheVariants.{Some}
 use Rattle.std.specs.List.{find, list_all}
 use Rattle.std.specs.Option.{option_map_or}
 use Rattle.orc_path.specs.Alphabet.{is_identifier, is_value}
 use Rattle.orc_path.specs.Limits.{is_long_name, is_long_path, is_long_value}
-use Rattle.orc_path.specs.Steps.{PathStep, is_path}
+use Rattle.orc_path.specs.Steps.{PathStep, ends_in_keys, is_path}
 use Rattle.orc_path.specs.Items.{fits}
 use Rattle.orc_path.specs.declared.item.Item.{Item}
 use Rattle.orc_path.specs.declared.item.Item.TheVariants.{Entry, Leaf}
-use Rattle.orc_schema.specs.Schemas.{SchemaTable, plain_table}
-use Rattle.orc_typed.specs.Typed.{is_typed}
-use Rattle.orc_state.specs.States.{action_of, is_same_text}
+use Rattle.orc_schema.specs.Schemas.{SchemaTable, node_at, path_names, plain_table}
+use Rattle.orc_schema.specs.declared.line.Node.{Node}
+use Rattle.orc_schema.specs.declared.line.Node.TheVariants as node
+use Rattle.orc_typed.specs.Typed.{are_canonical_steps, is_in_schema, is_typed, stand}
+use Rattle.orc_state.specs.States.{device_list_path, is_same_text}
+use Rattle.orc_state.specs.Actions.{name_each_once}
 use Rattle.orc_state.specs.declared.declarations.Decls.{Decls}
 use Rattle.orc_state.specs.declared.declarations.Device.{Device}
 use Rattle.orc_state.specs.declared.lawful.TheConstants.{MOST_WRITES}
+use Rattle.orc_call.specs.declared.call.TheConstants.{MOST_ACTIONS}
 use Rattle.orc_call.specs.declared.call.Put.{Put}
 use Rattle.orc_call.specs.declared.call.Call.{Call}
 use Rattle.orc_call.specs.declared.call.Action.{Action}
-use Rattle.orc_call.specs.declared.call.Action.TheVariants.{Literal, Delete}
+use Rattle.orc_call.specs.declared.call.Action.TheVariants.{Literal, Delete, Set, Unset}
 use Rattle.orc_call.specs.declared.call.DevicePut.{DevicePut}
 
 -- what a caller, a device and a literal service can be called: an identifier that keeps the limit
@@ -34,6 +38,21 @@ is_lawful_item (Leaf text) = is_value text && not (is_long_value text)
 abbrev pub is_item_at : List PathStep → Item → Bool
 is_item_at path item = is_path path && not (is_long_path path) && is_lawful_item item && fits path item
 
+-- the item may stand there, and the schema has it there in its canonical form
+abbrev pub is_item_under : SchemaTable → List PathStep → Item → Bool
+is_item_under schema path item = is_item_at path item && is_typed schema path item
+
+-- the item that a path can carry, but for a leaf's text
+abbrev pub blank_item : List PathStep → Item
+blank_item path = if ends_in_keys path then Entry else Leaf []
+
+-- the path can carry an item, and the schema has it there, with its keys in their canonical form
+abbrev pub is_path_under : SchemaTable → List PathStep → Bool
+is_path_under schema path = is_item_at path (blank_item path)
+    && (is_in_schema schema path (blank_item path) && (schema.plain || are_canonical_steps schema [] path))
+
+-- devices
+
 -- the schema of a place; the plain one where there is none
 abbrev pub schema_in : List SchemaTable → ℕ → SchemaTable
 schema_in schemas place = option_map_or (λ schema. schema) (slice_get schemas place) plain_table
@@ -47,19 +66,63 @@ abbrev pub schema_named : List SchemaTable → List Device → List ℕ → Sche
 schema_named schemas devices name =
     option_map_or (λ device. schema_in schemas device.schema) (device_named devices name) plain_table
 
--- the item may stand there, and the schema has it there in its canonical form
-abbrev pub is_item_under : SchemaTable → List PathStep → Item → Bool
-is_item_under schema path item = is_item_at path item && is_typed schema path item
-
 -- an item of the base of a device with this schema
 abbrev pub is_put : SchemaTable → Put → Bool
 is_put schema put = is_item_under schema put.path put.item
 
+-- the node has entries: it is a list or a leaf-list
+abbrev pub has_entries : Option Node → Bool
+has_entries (Some (node.List list)) = true
+has_entries (Some (node.LeafList list)) = true
+has_entries other = false
+
+-- The path is that of a list or a leaf-list: it has no keys in its last step, and the steps above it stand in the
+-- schema with their keys in canonical form. Under a plain schema each path without keys in its last step is one.
+abbrev pub is_list_path : SchemaTable → List PathStep → Bool
+is_list_path schema path = is_path path && not (is_long_path path) && nat_lt 0 (length path) && not (ends_in_keys path)
+    && (schema.plain || (stand schema [] (take (length path - 1) path)
+    && (are_canonical_steps schema [] path && has_entries (node_at schema (path_names path)))))
+
+-- a list of a device with this schema, and the most entries that it may have
+abbrev pub is_max_rule : SchemaTable → List PathStep × ℕ → Bool
+is_max_rule schema rule = is_list_path schema rule.0 && nat_lt rule.1 (2 ^ 64)
+
+-- a leaf of one, and a text that it may not have
+abbrev pub is_forbid_rule : SchemaTable → List PathStep × List ℕ → Bool
+is_forbid_rule schema rule = is_item_under schema rule.0 (Leaf rule.1)
+
+-- what is declared of a device with this schema
+abbrev pub is_device_under : SchemaTable → Device → Bool
+is_device_under schema device = list_all (is_put schema) device.base && list_all (is_max_rule schema) device.max
+    && list_all (is_forbid_rule schema) device.forbid
+
 -- a device that can be declared where these schemas are
 abbrev pub is_device : List SchemaTable → Device → Bool
-is_device schemas device =
-    is_lawful_name device.name && nat_lt device.schema (length schemas)
-    && list_all (is_put (schema_in schemas device.schema)) device.base
+is_device schemas device = is_lawful_name device.name && nat_lt device.schema (length schemas)
+    && is_device_under (schema_in schemas device.schema) device
+
+-- data
+
+-- a path is at, under or above a list, whatever the keys: the names of one begin with those of the other
+abbrev pub meets : List PathStep → List PathStep → Bool
+meets [] path = true
+meets (step ∷ later) [] = true
+meets (step ∷ later) (own ∷ below) = is_same_text own.node step.node && meets later below
+
+-- The path is at, under or above a list of the data that the orchestrator keeps itself, so that no line may name it:
+-- that of the devices.
+abbrev pub is_kept : List PathStep → Bool
+is_kept path = meets device_list_path path
+
+-- an item of the data that a line may name
+abbrev pub is_data_item : SchemaTable → Put → Bool
+is_data_item schema put = is_put schema put && not (is_kept put.path)
+
+-- a path of the data that a line may name and that can carry an item
+abbrev pub is_data_path : SchemaTable → List PathStep → Bool
+is_data_path schema path = is_path_under schema path && not (is_kept path)
+
+-- calls
 
 -- a write on a declared device
 abbrev pub is_write : Decls → DevicePut → Bool
@@ -72,10 +135,13 @@ abbrev pub is_action : Decls → Action → Bool
 is_action decls (Literal id writes) =
     is_lawful_name id && nat_le (length writes) MOST_WRITES && list_all (is_write decls) writes
 is_action decls (Delete id) = is_lawful_name id
+is_action decls (Set put) = is_data_item decls.data_schema put
+is_action decls (Unset path) = is_data_path decls.data_schema path
 is_action decls other = false
 
--- a call that a call block gives: it has one action
+-- a call that a call block gives: it has 1 to 64 actions, and names each service at most once
 abbrev pub is_call : Decls → Call → Bool
 is_call decls call =
-    is_lawful_name call.caller && nat_lt call.number (2 ^ 64) && (length call.actions == 1)
-    && is_action decls (action_of call)
+    is_lawful_name call.caller && nat_lt call.number (2 ^ 64)
+    && (nat_le 1 (length call.actions) && nat_le (length call.actions) MOST_ACTIONS)
+    && (list_all (is_action decls) call.actions && name_each_once call.actions)

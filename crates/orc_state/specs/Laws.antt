@@ -1,5 +1,5 @@
 -- What users rely on, over whole histories.
-use Rattle.std.specs.Prelude.{◌≡◌, ℕ, ◌≤◌, false, List, [], ◌∷◌, ◌++◌, All, Contains, IsTrue, MatchOption}
+use Rattle.std.specs.Prelude.{◌≡◌, ℕ, ◌≤◌, true, false, List, [], ◌∷◌, ◌++◌, All, Contains, IsTrue, MatchOption, slice_get}
 use Rattle.std.specs.declared.option.Option.TheVariants.{None, Some}
 use Rattle.std.specs.FinMap.{get}
 use Rattle.std.specs.declared.cmp.Ordering.TheVariants.{Less}
@@ -7,26 +7,73 @@ use Rattle.orc_path.specs.Steps.{PathStep}
 use Rattle.orc_path.specs.Order.{path_cmp, text_cmp}
 use Rattle.orc_path.specs.Configurations.{Config, IsConfig}
 use Rattle.orc_path.specs.declared.item.Item.{Item}
-use Rattle.orc_state.specs.States.{action_of, clash, config_of, expansion, is_same_text, lives, named, opening, others, part, tree_due}
+use Rattle.orc_check.specs.Validity.{broken_of}
+use Rattle.orc_state.specs.States.{config_of, has_id, lives, name_of, opening, opening_data, part, tree_due}
+use Rattle.orc_state.specs.Actions.{is_named_by, live_after, touched}
+use Rattle.orc_state.specs.Next.{after, clash, refusal}
 use Rattle.orc_state.specs.Histories.{fold_from, IsUnrefused}
-use Rattle.orc_state.specs.Calls.{is_action, is_device}
+use Rattle.orc_typed.specs.Typed.{is_typed}
+use Rattle.orc_state.specs.Touched.{is_touched}
+use Rattle.orc_state.specs.Declarations.{AreDecls}
+use Rattle.orc_state.specs.Calls.{is_action, is_data_item, is_device, is_kept, is_lawful_name, schema_named}
 use Rattle.orc_state.specs.Legal.{IsLegal, state_of}
 use Rattle.orc_state.specs.declared.declarations.Decls.{Decls}
-use Rattle.orc_state.specs.declared.declarations.Device.{Device}
 use Rattle.orc_call.specs.declared.answer.Answer.TheVariants.{Clash}
-use Rattle.orc_call.specs.declared.call.Call.{Call}
+use Rattle.orc_call.specs.declared.call.Action.{Action}
 use Rattle.orc_call.specs.declared.call.Action.TheVariants.{Literal, Delete}
+use Rattle.orc_call.specs.declared.call.Call.{Call}
 use Rattle.orc_call.specs.declared.call.DevicePut.{DevicePut}
 use Rattle.orc_state.specs.declared.state.Service.{Service}
 use Rattle.orc_state.specs.declared.state.State.{State}
 
--- Where the calls of a history are ones that call blocks can give, the tree of each device is a configuration.
+-- each action of the calls of a history is one that call blocks can give
+abbrev pub AreActions : Decls → List Call → Type 0
+AreActions decls history = All (λ call. All (λ action. IsTrue (is_action decls action)) call.actions) history
+
+-- Where the actions of a history are ones that call blocks can give, the tree of each device is a configuration.
 abbrev pub TreeIsConfiguration : Type 0
 TreeIsConfiguration =
     (decls : Decls) (history : List Call) (device : ℕ)
-    → All (λ declared. IsTrue (is_device decls.schemas declared)) decls.devices
-    → All (λ call. IsTrue (is_action decls (action_of call))) history
+    → All (λ declared. IsTrue (is_device decls.schemas declared)) decls.devices → AreActions decls history
     → IsConfig (tree_due (state_of decls history) device)
+
+-- Each item of it may stand there under the device's schema.
+abbrev pub TreeIsTyped : Type 0
+TreeIsTyped =
+    (decls : Decls) (history : List Call) (device : ℕ) → AreDecls decls → AreActions decls history
+    → (path : List PathStep) (item : Item) → get (tree_due (state_of decls history) device) path ≡ Some item
+    → IsTrue (is_typed (schema_named decls.schemas decls.devices (name_of decls.names device)) path item)
+
+-- A call that isn't refused changes no tree but those of the devices that it touches.
+abbrev pub UntouchedStay : Type 0
+UntouchedStay =
+    (decls : Decls) (state : State) (call : Call) (device : ℕ)
+    → refusal decls state call ≡ None → is_touched decls.names state call device ≡ false
+    → tree_due (after decls state call) device ≡ tree_due state device
+
+-- The data of a history of such actions is a configuration too.
+abbrev pub DataIsConfiguration : Type 0
+DataIsConfiguration =
+    (decls : Decls) (history : List Call)
+    → All (λ put. IsTrue (is_data_item decls.data_schema put)) decls.data
+    → All (λ name. IsTrue (is_lawful_name name)) decls.names
+    → AreActions decls history → IsConfig (state_of decls history).data
+
+-- Where the opening data is valid and no call of a history is refused, the data behind it is valid.
+abbrev pub DataIsValid : Type 0
+DataIsValid =
+    (decls : Decls) (history : List Call)
+    → broken_of decls.data_schema (opening_data decls.names decls.data) ≡ None
+    → IsUnrefused decls (opening decls) history
+    → broken_of decls.data_schema (state_of decls history).data ≡ None
+
+-- No call changes what stands in the list of the devices: the data keeps the entries of the declared devices, and gets
+-- no other ones.
+abbrev pub DevicesStay : Type 0
+DevicesStay =
+    (decls : Decls) (history : List Call) (path : List PathStep)
+    → AreActions decls history → is_kept path ≡ true
+    → get (state_of decls history).data path ≡ get (opening_data decls.names decls.data) path
 
 -- two services write no unequal items at one path of a device
 abbrev pub Agree : Service → Service → Type 0
@@ -41,8 +88,8 @@ AllAgree live = (one other : Service) → Contains live one → Contains live ot
 -- Where no call of a history is refused, the services that it leaves alive agree.
 abbrev pub ServicesAgree : Type 0
 ServicesAgree =
-    (names : List (List ℕ)) (devices : List Device) (history : List Call) → IsUnrefused names (opening devices) history
-    → AllAgree (fold_from names (opening devices) history).live
+    (decls : Decls) (history : List Call) → IsUnrefused decls (opening decls) history
+    → AllAgree (state_of decls history).live
 
 -- at each path the item that some living service writes there, else the base's
 pub record IsOverlay (live : List Service) (device : ℕ) (base tree : Config) : Type 0 where
@@ -57,42 +104,49 @@ pub record IsOverlay (live : List Service) (device : ℕ) (base tree : Config) :
 -- base, and no other one is.
 abbrev pub OverlayIsOne : Type 0
 OverlayIsOne =
-    (names : List (List ℕ)) (devices : List Device) (history : List Call) (device : ℕ)
-    → IsUnrefused names (opening devices) history
-    → let state = fold_from names (opening devices) history in
+    (decls : Decls) (history : List Call) (device : ℕ) → IsUnrefused decls (opening decls) history
+    → let state = state_of decls history in
     IsOverlay state.live device (config_of state.bases device) (tree_due state device)
     × ((tree : Config) → IsOverlay state.live device (config_of state.bases device) tree → tree ≡ tree_due state device)
 
--- the call names another service
+-- none of the call's actions names this service
 abbrev pub NamesOther : List ℕ → Call → Type 0
-NamesOther id call = is_same_text (named (action_of call)) id ≡ false
+NamesOther id call = is_named_by call.actions id ≡ false
 
--- Deleting a service leaves the state, and so each device's tree, as if it had never been created: whatever calls on
--- other services came between.
+-- the call makes a literal service, and does nothing else
+abbrev pub Creates : Call → List ℕ → List DevicePut → Type 0
+Creates call id writes = call.actions ≡ Literal id writes ∷ []
+
+-- the call deletes a service, and does nothing else
+abbrev pub Deletes : Call → List ℕ → Type 0
+Deletes call id = call.actions ≡ Delete id ∷ []
+
+-- Deleting a service leaves the state, and so each device's tree, as if it had never been created: whatever calls that
+-- don't name it came between.
 abbrev pub DeletedWithoutTrace : Type 0
 DeletedWithoutTrace =
-    (names : List (List ℕ)) (state : State) (before between : List Call) (create delete : Call)
+    (decls : Decls) (state : State) (before between : List Call) (create delete : Call)
     (id : List ℕ) (writes : List DevicePut)
-    → action_of create ≡ Literal id writes → action_of delete ≡ Delete id
-    → lives (fold_from names state before) id ≡ false → All (NamesOther id) between
-    → fold_from names state (before ++ create ∷ [] ++ between ++ delete ∷ [])
-    ≡ fold_from names state (before ++ between)
+    → Creates create id writes → Deletes delete id
+    → lives (fold_from decls state before).live id ≡ false → All (NamesOther id) between
+    → fold_from decls state (before ++ create ∷ [] ++ between ++ delete ∷ [])
+    ≡ fold_from decls state (before ++ between)
 
 -- Nor is a call refused for want of it: where no call of a history is refused, none is without the two, whatever calls
 -- come later.
 abbrev pub UnrefusedWithoutTrace : Type 0
 UnrefusedWithoutTrace =
-    (names : List (List ℕ)) (state : State) (before between later : List Call) (create delete : Call)
+    (decls : Decls) (state : State) (before between later : List Call) (create delete : Call)
     (id : List ℕ) (writes : List DevicePut)
-    → action_of create ≡ Literal id writes → action_of delete ≡ Delete id → All (NamesOther id) between
-    → IsUnrefused names state (before ++ create ∷ [] ++ between ++ delete ∷ [] ++ later)
-    → IsUnrefused names state (before ++ between ++ later)
+    → Creates create id writes → Deletes delete id → All (NamesOther id) between
+    → IsUnrefused decls state (before ++ create ∷ [] ++ between ++ delete ∷ [] ++ later)
+    → IsUnrefused decls state (before ++ between ++ later)
 
 -- So a legal history is legal without the two, and leaves the same state.
 abbrev pub LegalWithoutTrace : Type 0
 LegalWithoutTrace =
     (decls : Decls) (before between later : List Call) (create delete : Call) (id : List ℕ) (writes : List DevicePut)
-    → action_of create ≡ Literal id writes → action_of delete ≡ Delete id → All (NamesOther id) between
+    → Creates create id writes → Deletes delete id → All (NamesOther id) between
     → let whole = before ++ create ∷ [] ++ between ++ delete ∷ [] ++ later in
     let without = before ++ between ++ later in
     IsLegal decls whole → IsLegal decls without × (state_of decls whole ≡ state_of decls without)
@@ -105,44 +159,53 @@ LivesIn one other = (service : Service) → Contains one.live service → Contai
 -- leave the same services alive leave the same trees.
 abbrev pub OrderOfCreationIsFree : Type 0
 OrderOfCreationIsFree =
-    (names : List (List ℕ)) (devices : List Device) (one other : List Call) (device : ℕ)
-    → let state = fold_from names (opening devices) one in
-    let state' = fold_from names (opening devices) other in
-    IsUnrefused names (opening devices) one → IsUnrefused names (opening devices) other
+    (decls : Decls) (one other : List Call) (device : ℕ)
+    → let state = state_of decls one in
+    let state' = state_of decls other in
+    IsUnrefused decls (opening decls) one → IsUnrefused decls (opening decls) other
     → LivesIn state state' → LivesIn state' state → tree_due state device ≡ tree_due state' device
 
--- a service that would write these configurations, one a device, and a living one of this name write unequal items
--- there
-pub record IsClash (parts : List Config) (live : List Service) (device : ℕ) (path : List PathStep) (id : List ℕ)
-    : Type 0 where
-  pub item : Item
-  pub written : get (config_of parts device) path ≡ Some item
-  pub rival : Service
+-- one of these services and a living one of another name write unequal items there
+pub record IsClash (live : List Service) (device : ℕ) (path : List PathStep) (service rival : Service) : Type 0 where
   pub living : Contains live rival
-  pub named : rival.id ≡ id
+  pub another : has_id service.id rival ≡ false
+  pub item : Item
+  pub written : get (part service device) path ≡ Some item
   pub other : Item
   pub holds : get (part rival device) path ≡ Some other
   pub unequal : item ≡ other → ⊥
 
--- and there is none on a lesser device, nor at a lesser path of that device, nor with a lesser name there
-pub record IsLeastClash (parts : List Config) (live : List Service) (device : ℕ) (path : List PathStep) (id : List ℕ)
-    : Type 0 where
-  pub clash : IsClash parts live device path id
+-- There is a clash of the service at a place among these, and there is none of them on a lesser device, nor at a lesser
+-- path of that device, nor of one before it there, nor of it with a lesser name there.
+pub record IsLeastClash (services live : List Service) (device : ℕ) (path : List PathStep) (id : List ℕ) : Type 0 where
+  pub place : ℕ
+  pub service : Service
+  pub there : slice_get services place ≡ Some service
+  pub rival : Service
+  pub named : rival.id ≡ id
+  pub clash : IsClash live device path service rival
   pub least_device :
-      (device' : ℕ) (path' : List PathStep) (id' : List ℕ) → IsClash parts live device' path' id' → device ≤ device'
+      (device' : ℕ) (path' : List PathStep) (service' rival' : Service)
+      → Contains services service' → IsClash live device' path' service' rival' → device ≤ device'
   pub least_path :
-      (path' : List PathStep) (id' : List ℕ) → IsClash parts live device path' id' → path_cmp path' path ≡ Less → ⊥
-  pub least_name : (id' : List ℕ) → IsClash parts live device path id' → text_cmp id' id ≡ Less → ⊥
+      (path' : List PathStep) (service' rival' : Service)
+      → Contains services service' → IsClash live device path' service' rival' → path_cmp path' path ≡ Less → ⊥
+  pub first :
+      (place' : ℕ) (service' rival' : Service)
+      → slice_get services place' ≡ Some service' → IsClash live device path service' rival' → place ≤ place'
+  pub least_name :
+      (rival' : Service) → IsClash live device path service rival' → text_cmp rival'.id id ≡ Less → ⊥
 
--- The clash that refuses a new service is the least one with the other living services, and there is none where no
--- clash refuses it.
+-- The clash that refuses a call is the least one between the services that it names and the others that live behind it,
+-- and where no clash refuses it there is none.
 abbrev pub ClashIsLeast : Type 0
 ClashIsLeast =
-    (names : List (List ℕ)) (state : State) (id : List ℕ) (writes : List DevicePut)
-    → let parts = expansion names writes in
-    let live = others state.live id in
-    MatchOption (clash names state (Literal id writes))
-    ((device : ℕ) (path : List PathStep) (rival : List ℕ) → IsClash parts live device path rival → ⊥)
+    (names : List (List ℕ)) (before : List Service) (actions : List Action)
+    → let live = live_after names actions before in
+    let services = touched actions live in
+    MatchOption (clash names before actions)
+    ((device : ℕ) (path : List PathStep) (service rival : Service)
+    → Contains services service → IsClash live device path service rival → ⊥)
     (λ answer.
-    (device : ℕ) × (path : List PathStep) × (rival : List ℕ)
-    × (answer ≡ Clash device path rival) × IsLeastClash parts live device path rival)
+    (device : ℕ) × (path : List PathStep) × (id : List ℕ)
+    × (answer ≡ Clash device path id) × IsLeastClash services live device path id)

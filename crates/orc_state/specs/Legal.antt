@@ -4,7 +4,8 @@ use Rattle.std.specs.declared.option.Option.TheVariants.{None, Some}
 use Rattle.orc_call.specs.declared.call.Call.{Call}
 use Rattle.orc_call.specs.declared.answer.Answer.{Answer}
 use Rattle.orc_call.specs.declared.answer.Answer.TheVariants.{Committed, Reused}
-use Rattle.orc_state.specs.States.{action_of, opening, refusal}
+use Rattle.orc_state.specs.States.{opening}
+use Rattle.orc_state.specs.Next.{refusal}
 use Rattle.orc_state.specs.Histories.{fold_from, IsUnrefused}
 use Rattle.orc_state.specs.Calls.{is_call}
 use Rattle.orc_state.specs.declared.declarations.Decls.{Decls}
@@ -27,16 +28,16 @@ AreDistinct (call ∷ calls) = IsNew calls call × AreDistinct calls
 -- number stand twice.
 pub record IsLegal (decls : Decls) (history : List Call) : Type 0 where
   pub lawful : All (λ call. IsTrue (is_call decls call)) history
-  pub unrefused : IsUnrefused decls.names (opening decls.devices) history
+  pub unrefused : IsUnrefused decls (opening decls) history
   pub distinct : AreDistinct history
 
 -- the state behind a history
 abbrev pub state_of : Decls → List Call → State
-state_of decls history = fold_from decls.names (opening decls.devices) history
+state_of decls history = fold_from decls (opening decls) history
 
--- why the action of a call is refused behind a history, if it is
+-- why a call is refused behind a history, if it is
 abbrev pub refusal_of : Decls → List Call → Call → Option Answer
-refusal_of decls history call = refusal decls.names (state_of decls history) (action_of call)
+refusal_of decls history call = refusal decls (state_of decls history) call
 
 -- The answer that a call gets behind a history without a change. A call whose caller and number the history has: its
 -- entry again where the actions are equal, else that the number is taken. A new call: its refusal.

@@ -1,4 +1,8 @@
 pub mod States
+pub mod Actions
+pub mod Clashes
+pub mod Next
+pub mod Touched
 pub mod Histories
 pub mod Calls
 pub mod Declarations

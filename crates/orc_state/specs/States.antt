@@ -1,40 +1,23 @@
--- The state and what an action does to it.
-use Rattle.std.specs.Prelude.{ℕ, suc, Bool, true, false, not, nat_eq, ◌≡◌, List, [], ◌∷◌, ◌++◌, length, map, filter, All, Option, if◌then◌else◌}
-use Rattle.std.specs.declared.option.Option.TheVariants.{None, Some}
-use Rattle.std.specs.Ordering.{is_lt}
-use Rattle.std.specs.List.{list_all, list_any, slice_get, fold}
+-- The state: the data, the bases of the devices, and the living services with what they write.
+use Rattle.std.specs.Prelude.{ℕ, Bool, not, nat_eq, ◌≡◌, List, [], ◌∷◌, codes, length, map, filter, All, if◌then◌else◌}
+use Rattle.std.specs.List.{list_all, list_any, slice_get}
 use Rattle.std.specs.Option.{option_map_or}
 use Rattle.std.specs.Cmp.Lexicographic.{pointwise}
-use Rattle.std.specs.FinMap.{empty, entries, get}
+use Rattle.std.specs.FinMap.{empty}
 use Rattle.orc_path.specs.Steps.{PathStep}
-use Rattle.orc_path.specs.Order.{text_cmp}
 use Rattle.orc_path.specs.Items.{fits}
 use Rattle.orc_path.specs.Configurations.{Config, put_item, overlay}
-use Rattle.orc_path.specs.declared.item.Item.{Item}
-use Rattle.orc_path.specs.declared.item.Item.TheVariants.{Entry, Leaf}
+use Rattle.orc_path.specs.declared.item.Item.TheVariants.{Entry}
 use Rattle.orc_call.specs.declared.call.Put.{Put}
-use Rattle.orc_state.specs.declared.declarations.Device.{Device}
 use Rattle.orc_call.specs.declared.call.DevicePut.{DevicePut}
-use Rattle.orc_call.specs.declared.call.Call.{Call}
-use Rattle.orc_call.specs.declared.call.Action.{Action}
-use Rattle.orc_call.specs.declared.call.Action.TheVariants.{Literal, Delete, Redeploy}
-use Rattle.orc_call.specs.declared.answer.Answer.{Answer}
-use Rattle.orc_call.specs.declared.answer.Answer.TheVariants.{Exists, Missing, Clash}
+use Rattle.orc_state.specs.declared.declarations.Decls.{Decls}
+use Rattle.orc_state.specs.declared.declarations.Device.{Device}
 use Rattle.orc_state.specs.declared.state.Service.{Service}
 use Rattle.orc_state.specs.declared.state.State.{State}
 
 -- whether two texts are equal
 abbrev pub is_same_text : List ℕ → List ℕ → Bool
 is_same_text = pointwise nat_eq
-
--- a call without an action counts as one that does nothing: it is never refused, and the state stays
-abbrev pub first_action : List Action → Action
-first_action [] = Redeploy []
-first_action (action ∷ actions) = action
-
--- the one action of a call: a call of a bundle has no other
-abbrev pub action_of : Call → Action
-action_of call = first_action call.actions
 
 -- devices
 
@@ -77,21 +60,38 @@ expansion names writes = map (λ name. put_all (puts_on name writes) empty) name
 abbrev pub fits_puts : List Put → Bool
 fits_puts puts = list_all (λ put. fits put.path put.item) puts
 
-abbrev pub fits_devices : List Device → Bool
-fits_devices devices = list_all (λ device. fits_puts device.base) devices
-
 abbrev pub fits_writes : List DevicePut → Bool
 fits_writes writes = list_all (λ write. fits write.path write.item) writes
 
-abbrev pub fits_action : Action → Bool
-fits_action (Literal id writes) = fits_writes writes
-fits_action other = true
-
 -- the state
 
--- the declared bases and no service
-abbrev pub opening : List Device → State
-opening devices = record { bases = map (λ device. put_all device.base empty) devices; live = [] }
+-- the list of the devices in the data, and the entry of the device of a name
+abbrev pub device_list_path : List PathStep
+device_list_path = record { node = codes "orc:device"; keys = [] } ∷ []
+
+abbrev pub device_entry : List ℕ → List PathStep
+device_entry name = record { node = codes "orc:device"; keys = name ∷ [] } ∷ []
+
+-- with an entry for each of the devices of these names
+abbrev pub enter_devices : List (List ℕ) → Config → Config
+enter_devices [] config = config
+enter_devices (name ∷ names) config = enter_devices names (put_item config (device_entry name) Entry)
+
+-- the declared data: these items, and an entry for each of the devices of these names
+abbrev pub opening_data : List (List ℕ) → List Put → Config
+opening_data names puts = enter_devices names (put_all puts empty)
+
+-- the declared base of a device
+abbrev pub declared_base : Device → Config
+declared_base device = put_all device.base empty
+
+-- the declared data and bases, and no service
+abbrev pub opening : Decls → State
+opening decls = record {
+  «data» = opening_data decls.names decls.data;
+  bases = map declared_base decls.devices;
+  live = [];
+}
 
 -- each living service has a part on each device that has a base
 abbrev pub IsComplete : State → Type 0
@@ -106,83 +106,16 @@ overlay_all (top ∷ tops) base = overlay_all tops (overlay top base)
 abbrev pub tree_due : State → ℕ → Config
 tree_due state device = overlay_all (map (λ service. part service device) state.live) (config_of state.bases device)
 
+-- services by their names
+
 -- the service has this name
 abbrev pub has_id : List ℕ → Service → Bool
 has_id id service = is_same_text service.id id
 
--- a service of this name lives
-abbrev pub lives : State → List ℕ → Bool
-lives state id = list_any (has_id id) state.live
+-- one of the living services has this name
+abbrev pub lives : List Service → List ℕ → Bool
+lives live id = list_any (has_id id) live
 
 -- the living services but that of this name
 abbrev pub others : List Service → List ℕ → List Service
 others live id = filter (λ service. not (has_id id service)) live
-
--- the service that an action names
-abbrev pub named : Action → List ℕ
-named (Literal id writes) = id
-named (Delete id) = id
-named other = []
-
--- The state after an action that is not refused: the service that it names goes, and the one that it makes comes. The
--- other kinds are not built yet: they leave the state.
-abbrev pub after : List (List ℕ) → State → Action → State
-after names state (Literal id writes) =
-    record state { live = others state.live id ++ record { id = id; parts = expansion names writes } ∷ [] }
-after names state (Delete id) = record state { live = others state.live id }
-after names state other = state
-
--- refusals
-
--- whether two items that stand at one path differ
-abbrev pub differs : Item → Option Item → Bool
-differs item None = false
-differs Entry (Some Entry) = false
-differs Entry (Some (Leaf text)) = true
-differs (Leaf text) (Some Entry) = true
-differs (Leaf text) (Some (Leaf other)) = not (is_same_text text other)
-
--- the services that write another item at this path of a device
-abbrev pub rivals : List Service → ℕ → List PathStep × Item → List Service
-rivals live device row = filter (λ service. differs row.1 (get (part service device) row.0)) live
-
--- the lesser of two names by their bytes
-abbrev pub lesser : List ℕ → List ℕ → List ℕ
-lesser id other = if is_lt (text_cmp other id) then other else id
-
--- the least name
-abbrev pub least : List (List ℕ) → Option (List ℕ)
-least [] = None
-least (id ∷ ids) = Some (fold lesser id ids)
-
--- the least path of a device at which one of these items and a living service's differ, and the least such service
-abbrev pub clash_among : List Service → ℕ → List (List PathStep × Item) → Option Answer
-clash_among live device [] = None
-clash_among live device (row ∷ rows) =
-    option_map_or (λ id. Some (Clash device row.0 id))
-    (least (map (λ service. service.id) (rivals live device row))) (clash_among live device rows)
-
--- the same on the devices from a number on, the least first
-abbrev pub clash_on : List Service → ℕ → List Config → Option Answer
-clash_on live device [] = None
-clash_on live device (config ∷ configs) =
-    elim (clash_among live device (entries config)) [
-      | None ↦ clash_on live (suc device) configs
-      | Some answer ↦ Some answer
-    ]
-
--- the clash of the services that an action makes with the other living ones
-abbrev pub clash : List (List ℕ) → State → Action → Option Answer
-clash names state (Literal id writes) = clash_on (others state.live id) 0 (expansion names writes)
-clash names state other = None
-
--- whether the action creates what lives, or deletes what does not
-abbrev pub existence_refusal : State → Action → Option Answer
-existence_refusal state (Literal id writes) = if lives state id then Some (Exists id) else None
-existence_refusal state (Delete id) = if lives state id then None else Some (Missing id)
-existence_refusal state other = None
-
--- why an action is refused, if it is; the other kinds are not built yet, and are never refused
-abbrev pub refusal : List (List ℕ) → State → Action → Option Answer
-refusal names state action =
-    elim (existence_refusal state action) [ None ↦ clash names state action | Some answer ↦ Some answer ]

@@ -1,9 +1,10 @@
 -- Texts that a bundle and a printed history share: those of writes and of actions.
 use Rattle.std.specs.Prelude.{ℕ, List, [], ◌++◌, codes}
 use Rattle.std.specs.List.{flat_map}
+use Rattle.orc_path.specs.Texts.{path_text}
 use Rattle.orc_path.specs.Items.{item_text}
 use Rattle.orc_call.specs.declared.call.Action.{Action}
-use Rattle.orc_call.specs.declared.call.Action.TheVariants.{Literal, Delete}
+use Rattle.orc_call.specs.declared.call.Action.TheVariants.{Literal, Delete, Set, Unset}
 use Rattle.orc_call.specs.declared.call.DevicePut.{DevicePut}
 
 -- the line of a write behind a word: the device's name, the item and where it stands
@@ -14,4 +15,6 @@ write_line word write = word ++ write.device ++ codes " " ++ item_text write.pat
 abbrev pub action_lines : List ℕ → Action → List ℕ
 action_lines word (Literal id writes) = codes "literal " ++ id ++ codes "\n" ++ flat_map (write_line word) writes
 action_lines word (Delete id) = codes "delete " ++ id ++ codes "\n"
+action_lines word (Set put) = codes "set " ++ item_text put.path put.item ++ codes "\n"
+action_lines word (Unset path) = codes "unset " ++ path_text path ++ codes "\n"
 action_lines word other = []

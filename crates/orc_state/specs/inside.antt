@@ -1,2 +1,5 @@
-pub mod Clashes
+pub mod Fitting
+pub mod Behind
+pub mod Deleted
+pub mod Rivals
 pub mod Orders

@@ -1,13 +1,14 @@
-//! The tree of a device's base.
+//! The tree of items that were declared, as those of a device's base.
 //!
 //! It is made in the order of the paths. To search a large tree in no order is to wait for memory at
 //! each step, so the items are put in order first: in pieces that a processor's cache holds, each of
 //! which is copied in its order, and then all by a sort that takes the pieces as runs.
 ghost use Rattle.std.specs.Prelude.{◌≡◌, ◌++◌, map, IfOk, OnOk, IsTrue};
 ghost use Rattle.std.specs.FinMap.{empty};
-ghost use Rattle.orc_state.specs.States.{fits_puts, put_all};
+ghost use Rattle.orc_state.specs.States.{declared_base, fits_puts, put_all};
 ghost use Rattle.orc_state.specs.inside.Orders.{KeepsOrder};
 
+use crate::Device;
 use orc_call::Put;
 use orc_text::Memory;
 use orc_tree::Tree;
@@ -64,4 +65,12 @@ pub(crate) fn tree_of(alloc: Global, puts: &[Put]) -> Result<Tree, Memory>
         tree.set(put.path, put.item)?;
     }
     Ok(tree)
+}
+
+/// The declared base of a device.
+pub fn declared_base(alloc: Global, device: &Device) -> Result<Tree, Memory>
+    requires { IsTrue (fits_puts device.now.base) }
+    ensures { IfOk result (λ tree. tree ≡ declared_base device.now) }
+{
+    tree_of(alloc, device.base.as_slice())
 }

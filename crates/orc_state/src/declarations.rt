@@ -3,30 +3,37 @@ ghost use Rattle.std.specs.Prelude.{◌≡◌, ◌<◌, length};
 ghost use Rattle.orc_state.specs.States.{name_of};
 
 use orc_call::Put;
+use orc_path::Path;
 use orc_schema::Schema;
 use orc_text::{Row, Text};
 
 /// The most devices of a bundle.
 pub const MOST_DEVICES: usize = 256;
 
-/// A declared device: its name, the place of its schema among those declared, and the items of its
-/// base in the order of their lines.
-#[derive(Debug, Drop)]
+/// A declared device: its name, the place of its schema among those declared, and, each in the order
+/// of its lines, the items of its base, the lists that may have so many entries at most, and the
+/// leaves that may not have a text.
+#[derive(Drop)]
 pub struct Device {
     pub name: Text,
     pub schema: u32,
     pub base: Row<Put>,
+    pub max: Row<(Path, u64)>,
+    pub forbid: Row<(Path, Text)>,
 }
 
 /// The declarations: their text as the journal stores it, which is the bytes of the bundle before its
-/// line `script`; the schemas, first the plain one and then one for each type of devices; and the
-/// devices with their names, all in the order of declaration.
+/// line `script`; the schemas of devices, first the plain one and then one for each type of devices;
+/// the devices with their names; and the schema of the data with the items of the `data` lines; all
+/// in the order of declaration.
 #[derive(Drop)]
 pub struct Decls {
     pub text: Row<u8>,
     pub names: Row<Text>,
     pub schemas: Row<Schema>,
     pub devices: Row<Device>,
+    pub data_schema: Schema,
+    pub data: Row<Put>,
 }
 
 /// The name of the device of a number.

@@ -1,22 +1,24 @@
 //! Which calls a call block can give.
-ghost use Rattle.std.specs.Prelude.{◌≡◌};
-ghost use Rattle.std.specs.Prelude.{option_map};
+ghost use Rattle.std.specs.Prelude.{◌≡◌, [], false, option_map};
+ghost use Rattle.std.specs.Option.{option_copied, option_map_or};
 ghost use Rattle.std.specs.List.{list_all};
-ghost use Rattle.orc_typed.specs.Typed.{is_typed};
-ghost use Rattle.orc_state.specs.Calls.{device_named, is_action, is_call, is_item_at, is_lawful_item, is_lawful_name, is_write, schema_in};
+ghost use Rattle.orc_typed.specs.Typed.{are_canonical_steps, is_typed};
+ghost use Rattle.orc_state.specs.Actions.{is_named_by, name_each_once, named, names};
+ghost use Rattle.orc_state.specs.Calls.{blank_item, device_named, is_action, is_call, is_data_item, is_data_path, is_item_at, is_kept, is_lawful_item, is_lawful_name, is_path_under, is_write, schema_in};
 
 use crate::{Decls, Device};
-use orc_call::{Action, Call, DevicePut};
-use orc_path::{Item, Path, is_identifier, is_long_name, is_long_value, is_value};
+use orc_call::{Action, Call, DevicePut, MOST_ACTIONS, Put};
+use orc_path::{Item, Path, Step, is_identifier, is_long_name, is_long_value, is_value};
 use orc_schema::Schema;
 use orc_text::Text;
-use orc_typed::is_typed;
+use orc_typed::{has_canonical_keys, is_in_schema, is_typed};
+use std::alloc::Global;
 
 /// The most writes of a literal service.
 pub const MOST_WRITES: usize = 16_777_216;
 
 /// Whether a call block under these declarations can give the call.
-pub fn is_call(decls: &Decls, call: &Call) -> bool
+pub fn is_call(alloc: Global, decls: &Decls, call: &Call) -> bool
     ensures { result ≡ is_call decls.now call.now }
 {
     // Read, so that its range is known to the proof.
@@ -24,14 +26,70 @@ pub fn is_call(decls: &Decls, call: &Call) -> bool
     if !is_lawful_name(call.caller.as_str()) {
         return false;
     }
-    match call.actions.as_slice() {
-        [action] => is_action(decls, action),
-        _ => false,
+    let count = call.actions.len();
+    if count < 1 || count > MOST_ACTIONS {
+        return false;
+    }
+    are_actions(alloc, decls, call.actions.as_slice()) && name_each_once(call.actions.as_slice())
+}
+
+// Whether a call block can give each of the actions.
+fn are_actions(alloc: Global, decls: &Decls, actions: &[Action]) -> bool
+    ensures { result ≡ list_all (is_action decls.now) actions.now }
+{
+    actions.iter().all(|action| is_action(alloc, decls, action))
+}
+
+// Whether the actions name each service at most once.
+fn name_each_once(actions: &[Action]) -> bool
+    ensures { result ≡ name_each_once actions.now }
+{
+    match actions {
+        [] => true,
+        [action, later @ ..] => !names_again(action, later) && name_each_once(later),
+    }
+}
+
+// Whether later actions name the service that the action names.
+fn names_again(action: &Action, later: &[Action]) -> bool
+    ensures { result ≡ option_map_or (is_named_by later.now) (named action.now) false }
+{
+    match named(action) {
+        Some(id) => is_named_by(later, id),
+        None => false,
+    }
+}
+
+/// Whether one of the actions names the service of this name.
+pub fn is_named_by(actions: &[Action], id: &Text) -> bool
+    ensures { result ≡ is_named_by actions.now id.now }
+{
+    actions.iter().any(|action| names(action, id))
+}
+
+// The service that an action names.
+fn named(action: &Action) -> Option<&Text>
+    ensures { option_copied result ≡ named action.now }
+{
+    match action {
+        Action::Literal(id, _) => Some(id),
+        Action::Delete(id) => Some(id),
+        _ => None,
+    }
+}
+
+// Whether the action names the service of this name.
+fn names(action: &Action, id: &Text) -> bool
+    ensures { result ≡ names action.now id.now }
+{
+    match named(action) {
+        Some(own) => *id == *own,
+        None => false,
     }
 }
 
 // Whether a call block can give the action.
-fn is_action(decls: &Decls, action: &Action) -> bool
+fn is_action(alloc: Global, decls: &Decls, action: &Action) -> bool
     ensures { result ≡ is_action decls.now action.now }
 {
     match action {
@@ -41,7 +99,35 @@ fn is_action(decls: &Decls, action: &Action) -> bool
                 && are_writes(decls, writes.as_slice())
         }
         Action::Delete(id) => is_lawful_name(id.as_str()),
+        Action::Set(put) => is_data_item(&decls.data_schema, put),
+        Action::Unset(path) => is_data_path(alloc, &decls.data_schema, path),
         _ => false,
+    }
+}
+
+// Whether a line may name the item of the data.
+fn is_data_item(schema: &Schema, put: &Put) -> bool
+    ensures { result ≡ is_data_item schema.now put.now }
+{
+    is_item_at(&put.path, &put.item)
+        && is_typed(schema, &put.path, &put.item)
+        && !is_kept(&put.path)
+}
+
+/// Whether a line may name the path of the data, and it can carry an item there.
+pub fn is_data_path(alloc: Global, schema: &Schema, path: &Path) -> bool
+    ensures { result ≡ is_data_path schema.now path.now }
+{
+    is_path_under(alloc, schema, path) && !is_kept(path)
+}
+
+/// Whether the path is at, under or above the list of the devices, which no line may name.
+pub fn is_kept(path: &Path) -> bool
+    ensures { result ≡ is_kept path.now }
+{
+    match path.steps.as_slice() {
+        [] => true,
+        [first, ..] => first.node.as_str() == "orc:device",
     }
 }
 
@@ -78,6 +164,38 @@ fn is_typed_in(schemas: &[Schema], place: u32, write: &DevicePut) -> bool
 {
     match schemas.get(place as usize) {
         Some(schema) => is_typed(schema, &write.path, &write.item),
+        None => true,
+    }
+}
+
+// Whether the path can carry an item, and the schema has it there, with its keys in canonical form.
+fn is_path_under(alloc: Global, schema: &Schema, path: &Path) -> bool
+    ensures { result ≡ is_path_under schema.now path.now }
+{
+    let item = blank_item(alloc, path);
+    is_item_at(path, &item)
+        && (is_in_schema(schema, path, &item)
+            && (schema.is_plain() || are_canonical_steps(schema, path.steps.as_slice())))
+}
+
+// The item that the path can carry, but for a leaf's text.
+fn blank_item(alloc: Global, path: &Path) -> Item
+    ensures { result ≡ blank_item path.now }
+{
+    if path.ends_in_keys() {
+        return Item::Entry;
+    }
+    Item::Leaf(Text::new(alloc))
+}
+
+// Whether the keys of each step are in canonical form.
+fn are_canonical_steps(schema: &Schema, steps: &[Step]) -> bool
+    ensures { result ≡ are_canonical_steps schema.now [] steps.now }
+{
+    match steps.split_last() {
+        Some((last, front)) => {
+            are_canonical_steps(schema, front) && has_canonical_keys(schema, steps, last)
+        }
         None => true,
     }
 }

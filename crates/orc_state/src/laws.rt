@@ -1,5 +1,5 @@
 //! What users rely on, over whole histories. Each function does nothing: its contract is the law.
-ghost use Rattle.orc_state.specs.Laws.{TreeIsConfiguration, ServicesAgree, OverlayIsOne, DeletedWithoutTrace, UnrefusedWithoutTrace, LegalWithoutTrace, OrderOfCreationIsFree, ClashIsLeast};
+ghost use Rattle.orc_state.specs.Laws.{TreeIsConfiguration, TreeIsTyped, UntouchedStay, DataIsConfiguration, DataIsValid, DevicesStay, ServicesAgree, OverlayIsOne, DeletedWithoutTrace, UnrefusedWithoutTrace, LegalWithoutTrace, OrderOfCreationIsFree, ClashIsLeast};
 
 /// The services that a history of calls, none of them refused, leaves alive write no unequal items
 /// at one path of a device.
@@ -13,14 +13,14 @@ pub fn overlay_is_one()
     ensures { OverlayIsOne }
 {}
 
-/// Deleting a service leaves each device's tree as if the service had never been created, whatever
-/// calls on other services came between.
+/// Deleting a service leaves the state as if the service had never been created, whatever calls that
+/// don't name it came between.
 pub fn deleted_without_trace()
     ensures { DeletedWithoutTrace }
 {}
 
 /// Where no call of a history is refused, none is refused in the history without the creation and
-/// the deletion of a service, where the calls between the two name other services.
+/// the deletion of a service, where the calls between the two don't name it.
 pub fn unrefused_without_trace()
     ensures { UnrefusedWithoutTrace }
 {}
@@ -40,9 +40,35 @@ pub fn tree_is_configuration()
     ensures { TreeIsConfiguration }
 {}
 
-/// The clash for which a new service is refused is the least: there it and a living service would
-/// write unequal items, and no two do so on a lesser device, at a lesser path of that device, or
-/// with a living service of a lesser name there. Where no clash refuses it there is none.
+/// Each item of it may stand there under the device's schema.
+pub fn tree_is_typed()
+    ensures { TreeIsTyped }
+{}
+
+/// A call that isn't refused changes no tree but those of the devices that it touches.
+pub fn untouched_stay()
+    ensures { UntouchedStay }
+{}
+
+/// The data of a history of such actions is a configuration too.
+pub fn data_is_configuration()
+    ensures { DataIsConfiguration }
+{}
+
+/// Where the opening data is valid, the data behind each history of calls, none of them refused, is.
+pub fn data_is_valid()
+    ensures { DataIsValid }
+{}
+
+/// No call changes what stands in the data's list of the devices.
+pub fn devices_stay()
+    ensures { DevicesStay }
+{}
+
+/// The clash for which a call is refused is the least: there a service that the call names and another
+/// one that lives behind it would write unequal items, and no two do so on a lesser device, at a
+/// lesser path of that device, by a service that the call names earlier, or with another one of a
+/// lesser name there. Where no clash refuses the call there is none.
 pub fn clash_is_least()
     ensures { ClashIsLeast }
 {}

@@ -1,26 +1,33 @@
-//! The state of the orchestrator: the bases of the devices and the services that live on them. A
-//! history of calls makes it; what each call does, why it is refused, and which histories are legal
-//! is defined here, and the laws that users rely on are proved over whole histories.
+//! The state of the orchestrator: the data, the bases of the devices and the services that live on
+//! them. A history of calls makes it; what each call does, why it is refused, and which histories are
+//! legal is defined here, and the laws that users rely on are proved over whole histories.
 #![tactic(auto)]
 
 mod base;
-mod call;
 mod clash;
+mod data;
 mod declarations;
 mod expansion;
 mod fault;
 mod lawful;
 mod laws;
 mod rule;
+mod services;
 mod state;
+mod touched;
 
-pub use call::action_of;
+pub use base::declared_base;
+pub use data::opening_data;
 pub use declarations::{Decls, Device, MOST_DEVICES, device_name};
 pub use fault::BundleFault;
-pub use lawful::{MOST_WRITES, is_call, is_item_at, is_lawful_name};
+pub use lawful::{
+    MOST_WRITES, is_call, is_data_path, is_item_at, is_kept, is_lawful_name, is_named_by,
+};
 pub use laws::{
-    clash_is_least, deleted_without_trace, legal_without_trace, order_of_creation_is_free,
-    overlay_is_one, services_agree, tree_is_configuration, unrefused_without_trace,
+    clash_is_least, data_is_configuration, data_is_valid, deleted_without_trace, devices_stay,
+    legal_without_trace, order_of_creation_is_free, overlay_is_one, services_agree,
+    tree_is_configuration, tree_is_typed, unrefused_without_trace, untouched_stay,
 };
 pub use rule::Rule;
 pub use state::{Service, State};
+pub use touched::touched_devices;

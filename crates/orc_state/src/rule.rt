@@ -13,13 +13,13 @@ pub enum Rule {
     Header,
     /// The line has no form that may stand there, or what its form needs behind it is missing.
     Line,
-    /// A path is not in the grammar, or one that the line may not name.
+    /// A path is not in the grammar, not in its schema, or one that the line may not name.
     Path,
-    /// A value is not in the grammar.
+    /// A value or a key is not in the grammar, or not of the type that its schema gives it.
     Value,
-    /// A name is not declared.
+    /// A name is not declared, or `json` names a device without a type.
     Unknown,
-    /// A name is declared twice.
+    /// A name is declared twice, a second `datamodel` line stands, or a call names a service twice.
     Duplicate,
     /// A block is no YANG module.
     Yang,
@@ -29,7 +29,7 @@ pub enum Rule {
     Template,
     /// A service's body is not one of its template's list.
     Json,
-    /// The opening data are not valid, or a device doesn't accept its base.
+    /// The opening data is not valid, or a device doesn't accept its base.
     Opening,
 }
 

@@ -1,12 +1,21 @@
-//! The state of the orchestrator.
-ghost use Rattle.std.specs.Prelude.{◌≡◌, ◌≢◌, ◌<◌, ◌^◌, false, IfOk, IsTrue, Ok, None, length};
-ghost use Rattle.orc_state.specs.States.{IsComplete, after, fits_action, fits_devices, fits_writes, lives, opening, others, part, refusal, tree_due};
+//! The state of the orchestrator, and what a call does to it.
+ghost use Rattle.std.specs.Prelude.{◌≡◌, ◌≢◌, ◌<◌, ◌^◌, ◌++◌, not, IfOk, IsTrue, Ok, None, OnOk, OnErr, All, filter, length, map, take};
+ghost use Rattle.orc_check.specs.Validity.{broken_of};
+ghost use Rattle.orc_state.specs.States.{IsComplete, declared_base, fits_puts, opening, part, tree_due};
+ghost use Rattle.orc_state.specs.Actions.{name_each_once};
+ghost use Rattle.orc_state.specs.Calls.{is_call};
+ghost use Rattle.orc_state.specs.Declarations.{AreDecls};
+ghost use Rattle.orc_state.specs.Next.{IsStateOf, after, refusal};
+ghost use Rattle.orc_state.specs.inside.Behind.{IsDataBehind};
+ghost use Rattle.orc_state.specs.inside.Deleted.{is_deleted_by};
+ghost use Rattle.orc_state.specs.inside.Fitting.{FitActions};
 
-use crate::Device;
-use crate::base::tree_of;
+use crate::base::declared_base;
 use crate::clash::clash;
-use crate::expansion::expansion;
-use orc_call::{Action, Answer, DevicePut};
+use crate::data::{data_after, invalid_behind, opening_data};
+use crate::services::{existence, is_deleted_by, made};
+use crate::{Decls, Device};
+use orc_call::{Action, Answer, Call};
 use orc_text::{Memory, Row, Text};
 use orc_tree::Tree;
 use std::alloc::Global;
@@ -19,10 +28,11 @@ pub struct Service {
     pub parts: Row<Tree>,
 }
 
-/// The base of each device, which no service wrote, and the living services in the order in which
-/// they were made.
+/// The data; the base of each device, which no service wrote; and the living services in the order in
+/// which they were made.
 #[derive(Drop)]
 pub struct State {
+    pub data: Tree,
     pub bases: Row<Tree>,
     pub live: Row<Service>,
 }
@@ -38,17 +48,23 @@ impl Service {
 }
 
 impl State {
-    /// The declared bases and no service.
-    pub fn open(alloc: Global, devices: &[Device]) -> Result<State, Memory>
-        requires { IsTrue (fits_devices devices.now) }
-        ensures opening { IfOk result (λ state. state ≡ opening devices.now) }
-        ensures complete { IfOk result IsComplete }
+    /// The data.
+    pub fn data(&self) -> &Tree
+        ensures { result.now ≡ self.now.data }
     {
-        let mut bases = Row::new(alloc);
-        for device in devices {
-            bases.push(tree_of(alloc, device.base.as_slice())?)?;
-        }
+        &self.data
+    }
+
+    /// The declared data and bases, and no service.
+    pub fn open(alloc: Global, decls: &Decls) -> Result<State, Memory>
+        requires { AreDecls decls.now }
+        ensures opening { IfOk result (λ state. state ≡ opening decls.now) }
+        ensures kept { IfOk result (IsStateOf decls.now) }
+    {
+        let data = opening_data(alloc, decls.names.as_slice(), decls.data.as_slice())?;
+        let bases = bases(alloc, decls.devices.as_slice())?;
         Ok(State {
+            data,
             bases,
             live: Row::new(alloc),
         })
@@ -67,95 +83,136 @@ impl State {
         Ok(tree)
     }
 
-    /// Does an action, or answers why it is refused; then, and after want of memory, the state is as
-    /// it was.
-    pub fn apply(
+    /// Does a call, or answers why it is refused; then, and after want of memory, the state is as it
+    /// was.
+    pub fn next(
         &mut self,
         alloc: Global,
-        names: &[Text],
-        action: &Action,
+        decls: &Decls,
+        call: &Call,
     ) -> Result<Option<Answer>, Memory>
-        requires fit { IsTrue (fits_action action.now) }
-        requires complete { IsComplete self.old }
-        requires devices { length names.now ≡ length self.old.bases }
-        requires few { length names.now < 2 ^ 32 }
-        ensures refusal { IfOk result (λ refused. refused ≡ refusal names.now self.old action.now) }
-        ensures done { result ≡ Ok None → self.new ≡ after names.now self.old action.now }
-        ensures kept { result ≢ Ok None → self.new ≡ self.old }
-        ensures complete { IsComplete self.new }
-        ensures bases { self.new.bases ≡ self.old.bases }
+        requires decls { AreDecls decls.now }
+        requires call { IsTrue (is_call decls.now call.now) }
+        requires state { IsStateOf decls.now self.old }
+        ensures refusal { IfOk result (λ refused. refused ≡ refusal decls.now self.old call.now) }
+        ensures done { result ≡ Ok None → self.new ≡ after decls.now self.old call.now }
+        ensures refused { result ≢ Ok None → self.new ≡ self.old }
+        ensures kept { IsStateOf decls.now self.new }
     {
-        match action {
-            Action::Literal(id, writes) => {
-                if self.lives(id) {
-                    return Ok(Some(Answer::Exists(id.copy(alloc)?)));
-                }
-                self.create(alloc, names, id, writes.as_slice())
-            }
-            Action::Delete(id) => {
-                if !self.lives(id) {
-                    return Ok(Some(Answer::Missing(id.copy(alloc)?)));
-                }
-                self.delete(alloc, id);
-                Ok(None)
-            }
-            // The other kinds are not built yet: they leave the state as it is.
-            _ => Ok(None),
+        match self.data_behind(alloc, decls, call)? {
+            Ok(data) => self.change(alloc, decls, call, data),
+            Err(found) => Ok(Some(found)),
         }
     }
 
-    // Whether a service of this name lives.
-    fn lives(&self, id: &Text) -> bool
-        ensures { result ≡ lives self.now id.now }
+    // The data behind a call, or why it is refused before services are looked at.
+    fn data_behind(
+        &self,
+        alloc: Global,
+        decls: &Decls,
+        call: &Call,
+    ) -> Result<Result<Tree, Answer>, Memory>
+        requires fit { FitActions call.now.actions }
+        requires valid { broken_of decls.now.data_schema self.now.data ≡ None }
+        ensures { IfOk result (λ found. IsDataBehind decls.now self.now call.now found) }
     {
-        self.live.as_slice().iter().any(|service| service.id == *id)
+        let actions = call.actions.as_slice();
+        if let Some(found) = existence(alloc, self.live.as_slice(), actions)? {
+            return Ok(Err(found));
+        }
+        let data = data_after(alloc, &self.data, actions)?;
+        match invalid_behind(alloc, &decls.data_schema, actions, &self.data, &data)? {
+            Some(found) => Ok(Err(found)),
+            None => Ok(Ok(data)),
+        }
     }
 
-    // Creates a literal service that does not live, or answers with which living one it clashes.
-    fn create(
+    // Changes the living services and takes the new data, or answers with which service a new one
+    // clashes.
+    fn change(
         &mut self,
         alloc: Global,
-        names: &[Text],
-        id: &Text,
-        writes: &[DevicePut],
+        decls: &Decls,
+        call: &Call,
+        data: Tree,
     ) -> Result<Option<Answer>, Memory>
-        requires fit { IsTrue (fits_writes writes.now) }
-        requires new { lives self.old id.now ≡ false }
-        requires complete { IsComplete self.old }
-        requires devices { length names.now ≡ length self.old.bases }
-        requires few { length names.now < 2 ^ 32 }
-        ensures clash { IfOk result (λ found. found ≡ refusal names.now self.old (Action.Literal id.now writes.now)) }
-        ensures done { result ≡ Ok None → self.new ≡ after names.now self.old (Action.Literal id.now writes.now) }
-        ensures kept { result ≢ Ok None → self.new ≡ self.old }
-        ensures complete { IsComplete self.new }
+        requires fit { FitActions call.now.actions }
+        requires once { IsTrue (name_each_once call.now.actions) }
+        requires state { IsStateOf decls.now self.old }
+        requires few { length decls.now.names < 2 ^ 32 }
+        requires behind { IsDataBehind decls.now self.old call.now (Ok «data») }
+        ensures refusal { IfOk result (λ refused. refused ≡ refusal decls.now self.old call.now) }
+        ensures done { result ≡ Ok None → self.new ≡ after decls.now self.old call.now }
+        ensures refused { result ≢ Ok None → self.new ≡ self.old }
     {
-        let parts = expansion(alloc, names, writes)?;
-        match clash(alloc, self.live.as_slice(), parts.as_slice())? {
-            Some(found) => Ok(Some(found)),
-            None => {
-                let id = id.copy(alloc)?;
-                self.live.push(Service { id, parts })?;
+        let actions = call.actions.as_slice();
+        let names = decls.names.as_slice();
+        let made = made(alloc, names, actions)?;
+        let first = self.live.len();
+        self.add(alloc, made)?;
+        let services = self.live.as_slice();
+        match clash(alloc, names, services, &services[first..], actions) {
+            Ok(None) => {
+                self.drop_deleted(alloc, actions);
+                self.data = data;
                 Ok(None)
+            }
+            Ok(Some(found)) => {
+                self.drop_behind(alloc, first);
+                Ok(Some(found))
+            }
+            Err(Memory) => {
+                self.drop_behind(alloc, first);
+                Err(Memory)
             }
         }
     }
 
-    // Takes the service of this name away.
-    fn delete(&mut self, alloc: Global, id: &Text)
-        requires { IsComplete self.old }
-        ensures done { self.new ≡ record self.old { live = others self.old.live id.now } }
-        ensures complete { IsComplete self.new }
+    // Adds services at the end.
+    fn add(&mut self, alloc: Global, made: Row<Service>) -> Result<(), Memory>
+        ensures ok { OnOk result (self.new ≡ record self.old { live = self.old.live ++ made }) }
+        ensures err { OnErr result (self.new ≡ self.old) }
     {
-        let live = mem::replace(&mut self.live, Row::new(alloc));
-        self.live = others(live, id);
+        let mut live = mem::replace(&mut self.live, Row::new(alloc)).into_vec();
+        let mut made = made.into_vec();
+        let added = live.append(&mut made);
+        self.live = Row::from_vec(live);
+        match added {
+            Ok(()) => Ok(()),
+            Err(_) => Err(Memory),
+        }
+    }
+
+    // Takes the services behind the first ones away.
+    fn drop_behind(&mut self, alloc: Global, first: usize)
+        ensures { self.new ≡ record self.old { live = take first self.old.live } }
+    {
+        let mut live = mem::replace(&mut self.live, Row::new(alloc)).into_vec();
+        live.truncate(first);
+        self.live = Row::from_vec(live);
+    }
+
+    // Takes the services away that actions delete.
+    fn drop_deleted(&mut self, alloc: Global, actions: &[Action])
+        ensures { self.new ≡ record self.old {
+          live =
+              filter (λ service. not (is_deleted_by actions.now service.id)) self.old.live;
+        } }
+    {
+        let mut live = mem::replace(&mut self.live, Row::new(alloc)).into_vec();
+        live.retain(|service| !is_deleted_by(actions, &service.id));
+        self.live = Row::from_vec(live);
     }
 }
 
-// The services but that of this name.
-fn others(live: Row<Service>, id: &Text) -> Row<Service>
-    ensures { result ≡ others live id.now }
+// The declared bases of devices.
+fn bases(alloc: Global, devices: &[Device]) -> Result<Row<Tree>, Memory>
+    requires { All (λ device. IsTrue (fits_puts device.base)) devices.now }
+    ensures { IfOk result (λ bases. bases ≡ map declared_base devices.now) }
 {
-    let mut live = live.into_vec();
-    live.retain(|service| service.id != *id);
-    Row::from_vec(live)
+    let mut bases = Row::new(alloc);
+    for device in devices {
+        bases.push(declared_base(alloc, device)?)?;
+    }
+    Ok(bases)
 }

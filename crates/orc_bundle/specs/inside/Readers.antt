@@ -1,5 +1,5 @@
 -- What the readers of a line answer.
-use Rattle.std.specs.Prelude.{◌≡◌, ℕ, Result}
+use Rattle.std.specs.Prelude.{◌≡◌, ℕ, true, false, Result}
 use Rattle.std.specs.declared.result.Result.TheVariants.{Ok, Err}
 use Rattle.orc_state.specs.declared.rule.Rule.{Rule}
 use Rattle.orc_state.specs.declared.rule.Rule.TheVariants as rule
@@ -12,6 +12,7 @@ use Rattle.orc_schema.specs.declared.fault.SchemaFault.TheVariants as schema
 use Rattle.orc_bundle.specs.declared.fault.LineFault.{LineFault}
 use Rattle.orc_bundle.specs.declared.fault.LineFault.TheVariants.{Breaks, Memory}
 use Rattle.orc_bundle.specs.Bundles.{Front}
+use Rattle.orc_bundle.specs.Declarations.{is_opening}
 use Rattle.orc_bundle.specs.Lines.{lines_of}
 use Rattle.orc_bundle.specs.declared.declarations.Declared.{Declared}
 use Rattle.orc_bundle.specs.declared.read.Behind.{Behind}
@@ -37,6 +38,12 @@ front_of d behind = record {
   number = behind.number;
   later = lines_of behind.later.now;
 }
+
+-- what is answered where the declarations end in the line of this number
+abbrev pub IsOpened : {T : Type 0} → Declared → ℕ → Result T BundleFault → Type 0
+IsOpened d number (Ok _) = is_opening d ≡ true
+IsOpened d number (Err (bundle.At line broken)) = (is_opening d ≡ false) × (line ≡ number) × (broken ≡ rule.Opening)
+IsOpened d number (Err bundle.Memory) = Unit {0}
 
 -- what the reader of all declarations answers
 abbrev pub Declares : Result Front (ℕ × Rule) → Declared → Result Behind BundleFault → Type 0

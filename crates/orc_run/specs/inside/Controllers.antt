@@ -12,6 +12,7 @@ use Rattle.orc_journal.specs.Orders.{is_ordered}
 use Rattle.orc_journal.specs.Committed.{history_of}
 use Rattle.orc_journal.specs.Opened.{Holds}
 use Rattle.orc_journal.specs.declared.entry.Entry.{Entry}
+use Rattle.orc_schema.specs.Sound as schema
 use Rattle.orc_state.specs.Legal.{IsLegal, IsDue}
 use Rattle.orc_run.specs.inside.Pasts.{IsBehind}
 use Rattle.orc_run.specs.inside.Transactions.{is_taken, AreNamed, IsFilled}
@@ -79,7 +80,7 @@ module _ {D : Type 0} (meaning : DiskMeaning D) where
     pub limit : c.journal.limit ≡ LARGEST_JOURNAL
     pub all : c.known ≡ length c.past.history
 
-  -- it is up, and the state has done the action of a call that is to be committed
+  -- it is up, and the state has done the actions of a call that is to be committed
   pub record IsCommitting (decls : Decls) (call : Call) (entries : List Entry) (c : Controller D) : Type 0 where
     pub running : c.up ≡ true
     pub up : IsUp decls entries c
@@ -102,6 +103,7 @@ module _ {D : Type 0} (meaning : DiskMeaning D) where
   -- a step of a script under the declarations can be done
   pub record CanDo (decls : Decls) (c : Controller D) (step : ScriptStep) : Type 0 where
     pub declared : AreDecls decls
+    pub schemas : All schema.IsSound decls.schemas
     pub short : length decls.text < 2 ^ 32
     pub sound : IsSound decls c
     pub lawful : IsTrue (is_step decls step)
@@ -109,6 +111,7 @@ module _ {D : Type 0} (meaning : DiskMeaning D) where
   -- the steps of a script under the declarations can be done
   pub record CanRun (decls : Decls) (c : Controller D) (steps : List ScriptStep) : Type 0 where
     pub declared : AreDecls decls
+    pub schemas : All schema.IsSound decls.schemas
     pub short : length decls.text < 2 ^ 32
     pub sound : IsSound decls c
     pub lawful : IsTrue (list_all (is_step decls) steps)

@@ -1,10 +1,10 @@
 -- The past that the entries of a journal tell.
-use Rattle.std.specs.Prelude.{◌≡◌, true, List, length, All}
+use Rattle.std.specs.Prelude.{◌≡◌, true, List, All}
 use Rattle.orc_call.specs.declared.call.Call.{Call}
 use Rattle.orc_journal.specs.Entries.{number_of}
 use Rattle.orc_journal.specs.Committed.{history_of}
 use Rattle.orc_journal.specs.declared.entry.Entry.{Entry}
-use Rattle.orc_state.specs.States.{IsComplete}
+use Rattle.orc_state.specs.Next.{IsStateOf}
 use Rattle.orc_state.specs.Legal.{IsLegal, state_of}
 use Rattle.orc_run.specs.inside.Transactions.{is_taken, AreNamed, IsFilled}
 use Rattle.orc_state.specs.declared.declarations.Decls.{Decls}
@@ -13,8 +13,7 @@ use Rattle.orc_run.specs.declared.past.Past.{Past}
 -- a state behind some history
 pub record IsBehind (decls : Decls) (past : Past) (history : List Call) : Type 0 where
   pub state : past.state ≡ state_of decls history
-  pub complete : IsComplete past.state
-  pub bases : length past.state.bases ≡ length decls.names
+  pub kept : IsStateOf decls past.state
 
 -- the past of these entries
 pub record IsPast (decls : Decls) (past : Past) (entries : List Entry) : Type 0 where

@@ -1,5 +1,6 @@
 use Rattle.std.proofs.Common.{◌≡◌, Some, sym, ◌∙◌}
 use Rattle.orc_bundle.proofs.CanonicalItems.{carries_same, value_known}
+use Rattle.orc_bundle.proofs.KeptPaths.{still_open}
 use Rattle.orc_bundle.proofs.items.read_leaf.Goals as goal
 
 pub returns-clause-lawful : goal.returns-clause-lawful
@@ -9,3 +10,6 @@ returns-clause-lawful c =
     c.canonical_put.ensures.lawful
     (carries_same c.args.schema.now c.in-Some.path value _ ∙ sym c.if-not-can_carry.ensures)
     (value_known c.in_ok-value.value value c.in_ok-value.ensures.lawful found)
+
+pub returns-clause-free : goal.returns-clause-free
+returns-clause-free c = still_open c.canonical_put.result c.args.of_data c.in-Some.path c.canonical_put.ensures.kept (sym c.if-is_barred.ensures)

@@ -1,7 +1,5 @@
-use Rattle.std.proofs.Common.{◌≡◌, ◌≤◌, ℕ, List, [], length, true, arith, ap, sym, subst, ◌∙◌}
-use Rattle.std.specs.List.{IsDistinct, list_all}
-use Rattle.orc_state.specs.States.{is_same_text, names_of}
-use Rattle.orc_state.specs.declared.declarations.TheConstants.{MOST_DEVICES}
+use Rattle.std.proofs.Common.{◌≡◌, ℕ, List, [], true, arith, ap, sym, subst, ◌∙◌}
+use Rattle.std.specs.List.{list_all}
 use Rattle.orc_bundle.specs.Bundles.{declarations_of, decls_with, is_step}
 use Rattle.orc_bundle.specs.Lines.{lines_of}
 use Rattle.orc_bundle.specs.declared.declarations.Declared.{Declared}
@@ -9,9 +7,9 @@ use Rattle.orc_bundle.specs.inside.Costs.{is_kept}
 use Rattle.orc_bundle.specs.inside.Readers.{front_of}
 use Rattle.orc_bundle.proofs.Costs.{to_bytes}
 use Rattle.orc_bundle.proofs.Grown.{settled_script}
+use Rattle.orc_bundle.proofs.Opened.{lawful_decls}
 use Rattle.orc_bundle.proofs.ScriptFaults.{script_fault}
 use Rattle.orc_bundle.proofs.StepsLawful.{steps_same}
-use Rattle.orc_bundle.proofs.WrittenDevices.{names_size}
 use Rattle.orc_bundle.proofs.read.read_seen.Goals as goal
 
 pub returns-then-lacks_header-clause-cost : goal.returns-then-lacks_header-clause-cost
@@ -29,22 +27,14 @@ returns-clause-lawful g c =
     let known = c.in_ok-behind.ensures.lawful in
     let same = sym c.in_ok-names.ensures.row in
     record {
-      decls = record {
-        named = c.in_ok-names.ensures.row ∙ known.named;
-        plain = known.plain;
-        distinct = subst (λ (names : List (List ℕ)). IsDistinct is_same_text names) same c.in_ok-names.ensures.distinct;
-        devices = known.devices;
-        few = few_of known.named known.few;
-      };
+      decls = lawful_decls declared text c.in_ok-names.names known c.in_ok-behind.ensures.opened c.in_ok-names.ensures.row c.in_ok-names.ensures.distinct;
+      sound = known.sound;
       steps = subst (λ (names : List (List ℕ)). list_all (is_step (record (decls_with text declared) { names = names })) c.in_ok-script.script ≡ true) same
           (sym (steps_same [] text declared c.in_ok-script.script) ∙ c.in_ok-script.ensures.lawful);
       settled = script.0;
       few = script.1;
       callers = script.2;
-    } where
-      few_of : c.read_declarations.new.declared.names ≡ names_of c.read_declarations.new.declared.devices → length c.read_declarations.new.declared.names ≤ MOST_DEVICES
-          → length c.read_declarations.new.declared.devices ≤ MOST_DEVICES
-      few_of named few = let one = ap length named in let two = names_size c.read_declarations.new.declared.devices in omega arith
+    }
 
 pub returns-clause-counts : goal.returns-clause-counts
 returns-clause-counts g c =
@@ -62,4 +52,4 @@ returns-in_err-script-clause-gives g c =
     let lines = lines_of c.args.bytes.now in
     script_fault c.args.bytes.now lines (front_of c.read_declarations.new.declared c.in_ok-behind.behind) _ c.in_err-script.field-0.0
     c.from_residual-in_err-script.ensures.1 (sym c.if-lacks_header.ensures.lacks)
-    (ap (λ (d : Declared). declarations_of d 0 0 lines) (sym c.in_ok-declared.ensures) ∙ c.in_ok-behind.ensures.answer) c.in_err-script.ensures.answer
+    (ap (λ (d : Declared). declarations_of d 0 0 lines) (sym c.in_ok-declared.ensures.nothing) ∙ c.in_ok-behind.ensures.answer) c.in_err-script.ensures.answer

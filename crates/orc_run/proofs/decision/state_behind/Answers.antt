@@ -1,9 +1,7 @@
--- The declared bases fit, and each call is lawful and not refused where it stands.
-use Rattle.std.proofs.Common.{IsTrue, List, sym, subst}
-use Rattle.orc_state.specs.States.{fits_devices}
-use Rattle.orc_state.specs.declared.declarations.Device.{Device}
-use Rattle.orc_state.proofs.Fits.{devices-fit}
+-- Each call is not refused where it stands.
+use Rattle.orc_run.proofs.Pasts.{unrefused_at}
 use Rattle.orc_run.proofs.decision.state_behind.Goals as goal
 
-pub open-requires : goal.open-requires
-open-requires c = subst (λ (ds : List Device). IsTrue (fits_devices ds)) (sym c.as_slice.ensures) (devices-fit c.args.decls.now.schemas c.args.decls.now.devices c.requires.decls.devices)
+pub redo-requires-clause-unrefused : goal.redo-requires-clause-unrefused
+redo-requires-clause-unrefused c =
+    unrefused_at c.args.decls.now c.loop-call.state c.args.history.now c.loop-call.call-index c.call-item.result c.loop-call-test.true c.call-item.is c.loop-call.invariant.unrefused

@@ -15,6 +15,7 @@ run_step-requires g c =
     record {
       can = record {
         declared = can.declared;
+        schemas = can.schemas;
         short = can.short;
         sound = c.loop-step.invariant.sound;
         lawful = list_all-read (is_step c.args.decls.now) c.args.steps.now c.loop-step.step-index c.step-item.result c.loop-step-test.true c.step-item.is can.lawful;

@@ -1,5 +1,5 @@
 -- The words name a command, the bundle is read, and it is checked or its script run, or the history is printed.
-use Rattle.std.proofs.Common.{Some, Err, List, ℕ, map, refl, sym, subst, ap, ◌∙◌}
+use Rattle.std.proofs.Common.{Some, Err, List, map, refl, sym, subst, ap, ◌∙◌}
 use Rattle.std.specs.String.{string_bytes}
 use Rattle.std.specs.declared.option.Option.{Option}
 use Rattle.orc_bundle.specs.Bundles.{IsBundle}
@@ -9,7 +9,7 @@ use Rattle.orc_run.specs.declared.stop.Ended.{Ended}
 use Rattle.orc_run.specs.declared.stop.Stop.TheVariants as ending
 use Rattle.orc_words.specs.Words.{command_of}
 use Rattle.orc_words.specs.declared.words.Command.{Command}
-use Rattle.orc_run.proofs.Tops.{asking_is_bundle, by_check, by_history, by_input, by_run, by_words, ends_over_slice, gives_none, run_is}
+use Rattle.orc_run.proofs.Tops.{asking_is_bundle, by_check, by_history, by_input, by_run, by_words, check_is, ends_over_slice, gives_none, run_is}
 use Rattle.orc_run.proofs.top.orchestrate.Goals as goal
 
 pub run_over-requires : goal.run_over-requires
@@ -79,3 +79,29 @@ returns-clause-usage_keeps g c is = absurd (run_is c.run_over-in-History.result.
 
 pub returns-clause-read_keeps : goal.returns-clause-read_keeps
 returns-clause-read_keeps g c is = absurd (run_is c.run_over-in-History.result.status ending.ReadFault c.run_over-in-History.ensures.causes is)
+
+pub returns-in-Run-clause-read : goal.returns-in-Run-clause-read
+returns-in-Run-clause-read g c is = absurd (run_is c.run_over.result.status ending.ReadFault c.run_over.ensures.causes is)
+
+pub returns-clause-read : goal.returns-clause-read
+returns-clause-read g c is = absurd (run_is c.run_over-in-History.result.status ending.ReadFault c.run_over-in-History.ensures.causes is)
+
+pub returns-in-Check-clause-usage_keeps : goal.returns-in-Check-clause-usage_keeps
+returns-in-Check-clause-usage_keeps g c is =
+    let held = g.K.Sink.sink.held in
+    absurd (check_is c.in-Ok-read_input.bundle (held c.args.sink.now) (held c.check_bundle.new.sink) c.check_bundle.result ending.Usage c.check_bundle.ensures.ends is)
+
+pub returns-in-Check-clause-read : goal.returns-in-Check-clause-read
+returns-in-Check-clause-read g c is =
+    let held = g.K.Sink.sink.held in
+    absurd (check_is c.in-Ok-read_input.bundle (held c.args.sink.now) (held c.check_bundle.new.sink) c.check_bundle.result ending.ReadFault c.check_bundle.ensures.ends is)
+
+pub returns-in-Check-clause-read_keeps : goal.returns-in-Check-clause-read_keeps
+returns-in-Check-clause-read_keeps g c is =
+    let held = g.K.Sink.sink.held in
+    absurd (check_is c.in-Ok-read_input.bundle (held c.args.sink.now) (held c.check_bundle.new.sink) c.check_bundle.result ending.ReadFault c.check_bundle.ensures.ends is)
+
+pub returns-in-Check-clause-journal : goal.returns-in-Check-clause-journal
+returns-in-Check-clause-journal g c is =
+    let held = g.K.Sink.sink.held in
+    absurd (check_is c.in-Ok-read_input.bundle (held c.args.sink.now) (held c.check_bundle.new.sink) c.check_bundle.result ending.JournalFault c.check_bundle.ensures.ends is)

@@ -1,7 +1,7 @@
 use Rattle.std.proofs.Common.{◌≡◌}
 use Rattle.std.specs.List.{list_any}
 use Rattle.std.specs.FinMap.{entries, get}
-use Rattle.orc_state.specs.States.{differs}
+use Rattle.orc_state.specs.Clashes.{differs}
 use Rattle.orc_state.proofs.clash.differs_among.Given as goal
 
 -- one is among the rows that are left, if there is one

@@ -16,4 +16,4 @@ returns-clause-lawful c = λ declared.
     schema_placed d.schemas d.devices name (Some n) (ap (λ (ns : List (List ℕ)). place_of ns name) (sym declared.named) ∙ sym c.in-Some-place.ensures.place) in
     let lawful : is_put (schema_named d.schemas d.devices name) put ≡ true =
     subst (λ (s : SchemaTable). is_put s put ≡ true) c.schema_named.ensures c.in_ok-put.ensures.lawful in
-    based d n put c.add_base.new.devices declared (subst (λ (s : SchemaTable). is_put s put ≡ true) placed lawful) c.in_ok-add_base.ensures
+    based d n c.add_base.new.devices declared put (subst (λ (s : SchemaTable). is_put s put ≡ true) placed lawful) c.in_ok-add_base.ensures

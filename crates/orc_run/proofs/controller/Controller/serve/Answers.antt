@@ -2,12 +2,10 @@
 use Rattle.std.proofs.Common.{ℕ, List, length, Ok, IsTrue, IfSome, refl, sym, ap, subst, ◌∙◌}
 use Rattle.std.specs.declared.option.Option.{Option}
 use Rattle.std.proofs.lemmas.Result.{err_from_is_err_and}
-use Rattle.orc_call.specs.declared.call.Action.{Action}
 use Rattle.orc_call.specs.declared.answer.Answer.{Answer}
 use Rattle.orc_call.specs.declared.answer.Answer.TheVariants.{Down}
 use Rattle.orc_print.specs.Printed.{is_answer_among}
-use Rattle.orc_state.specs.States.{action_of}
-use Rattle.orc_run.specs.Touched.{devices_of}
+use Rattle.orc_state.specs.Touched.{touched_devices}
 use Rattle.orc_run.specs.Steps.{Serves}
 use Rattle.orc_run.specs.Views.{View}
 use Rattle.orc_run.specs.inside.Controllers.{LeadsTo}
@@ -15,6 +13,7 @@ use Rattle.orc_state.specs.Legal.{AnswersAtOnce, state_of}
 use Rattle.orc_state.specs.declared.state.State.{State}
 use Rattle.orc_run.proofs.Answering.{at_once, is_committing, same_view, says, wanting}
 use Rattle.orc_run.proofs.Outcomes.{AreLaws}
+use Rattle.orc_run.proofs.Ranges.{touched_are_devices}
 use Rattle.orc_run.proofs.Servings.{at_once_among}
 use Rattle.orc_run.proofs.controller.Controller.serve.Goals as goal
 
@@ -72,11 +71,17 @@ commit-requires-clause-touched g c =
     let sound = c.requires.sound in
     let same = same_view disk decls sound.0 old sound.1 c.if-not-self.false call c.answer_or_apply.new.self c.answer_or_apply.ensures.rest
     (c.in_ok-answer.ensures.due (ap (λ (o : Option Answer). Ok o) c.in-None.is)) in
-    c.in_ok-devices.ensures.devices
-    ∙ ap (λ (l : List (List ℕ)). devices_of l old.past.state c.action_of.result.now) c.as_slice-2.ensures
-    ∙ ap (λ (a : Action). devices_of decls.names old.past.state a) c.action_of.ensures
-    ∙ ap (λ (s : State). devices_of decls.names s (action_of call)) sound.1.behind.state
-    ∙ ap (λ (w : View g.row.D.Denot). devices_of decls.names (state_of decls w.known) (action_of call)) (sym same)
+    c.in_ok-devices.ensures
+    ∙ ap (λ (l : List (List ℕ)). touched_devices l old.past.state call) c.as_slice-2.ensures
+    ∙ ap (λ (s : State). touched_devices decls.names s call) sound.1.behind.state
+    ∙ ap (λ (w : View g.row.D.Denot). touched_devices decls.names (state_of decls w.known) call) (sym same)
+
+pub commit-requires-clause-devices : goal.commit-requires-clause-devices
+commit-requires-clause-devices g c =
+    let old = c.args.self.now in
+    let call = c.args.call.now in
+    touched_are_devices c.args.decls.now old.past.state call c.in_ok-devices.devices c.requires.decls
+    (c.in_ok-devices.ensures ∙ ap (λ (l : List (List ℕ)). touched_devices l old.past.state call) c.as_slice-2.ensures)
 
 pub returns-in-None : goal.returns-in-None
 returns-in-None g c sound =

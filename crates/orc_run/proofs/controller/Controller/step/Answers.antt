@@ -1,5 +1,9 @@
 -- Each step by its own function.
-use Rattle.std.proofs.Common.{sym, subst}
+use Rattle.std.proofs.Common.{not, nat_lt, length, IsTrue, sym, subst, ltb-true}
+use Rattle.std.specs.Cmp.{first_so, second_so}
+use Rattle.std.proofs.lemmas.Bool.{not-true}
+use Rattle.orc_bundle.specs.Bundles.{is_step}
+use Rattle.orc_run.specs.Steps.{device_schema}
 use Rattle.orc_bundle.specs.declared.bundle.ScriptStep.{ScriptStep}
 use Rattle.orc_run.specs.inside.Controllers.{view_of, StepsTo}
 use Rattle.orc_run.proofs.controller.Controller.step.Goals as goal
@@ -7,6 +11,29 @@ use Rattle.orc_run.proofs.controller.Controller.step.Goals as goal
 pub returns-in-Show : goal.returns-in-Show
 returns-in-Show g c sound =
     subst (λ (s : ScriptStep). StepsTo g.D.Disk.disk c.args.decls.now (view_of c.args.self sound.0) s c.show.result) (sym c.in-Show.is) (c.show.ensures sound)
+
+pub json-requires-clause-device : goal.json-requires-clause-device
+json-requires-clause-device g c =
+    let decls = c.args.decls.now in
+    let within = nat_lt c.in-Json.device (length decls.names) in
+    let typed = not (device_schema decls c.in-Json.device).plain in
+    ltb-true c.in-Json.device (length decls.names)
+    (first_so within typed (subst (λ (s : ScriptStep). IsTrue (is_step decls s)) c.in-Json.is c.requires.can.lawful))
+
+pub json-requires-clause-typed : goal.json-requires-clause-typed
+json-requires-clause-typed g c =
+    let decls = c.args.decls.now in
+    let within = nat_lt c.in-Json.device (length decls.names) in
+    let plain = (device_schema decls c.in-Json.device).plain in
+    not-true plain (second_so within (not plain) (subst (λ (s : ScriptStep). IsTrue (is_step decls s)) c.in-Json.is c.requires.can.lawful))
+
+pub returns-in-Json : goal.returns-in-Json
+returns-in-Json g c sound =
+    subst (λ (s : ScriptStep). StepsTo g.D.Disk.disk c.args.decls.now (view_of c.args.self sound.0) s c.json.result) (sym c.in-Json.is) (c.json.ensures sound)
+
+pub returns-in-Data : goal.returns-in-Data
+returns-in-Data g c sound =
+    subst (λ (s : ScriptStep). StepsTo g.D.Disk.disk c.args.decls.now (view_of c.args.self sound.0) s c.data.result) (sym c.in-Data.is) (c.data.ensures sound)
 
 pub returns-in-Serve : goal.returns-in-Serve
 returns-in-Serve g c sound =

@@ -1,14 +1,8 @@
-use Rattle.std.proofs.Common.{◌≡◌, IsTrue, List, Ok, take, refl, sym, ap, subst, ◌∙◌}
-use Rattle.orc_state.specs.States.{fits_devices, opening}
+use Rattle.std.proofs.Common.{◌≡◌, Ok, take, refl, ap, subst}
 use Rattle.orc_run.specs.Opening.{IsIllegalAt}
-use Rattle.orc_state.specs.declared.declarations.Device.{Device}
 use Rattle.orc_run.specs.declared.past.Past.{Past}
-use Rattle.orc_state.proofs.Fits.{devices-fit}
 use Rattle.orc_run.proofs.Pasts.{past_none, past_upto, illegal_at}
 use Rattle.orc_run.proofs.past.Past.read.Goals as goal
-
-pub open-requires : goal.open-requires
-open-requires c = subst (λ (ds : List Device). IsTrue (fits_devices ds)) (sym c.as_slice.ensures) (devices-fit c.args.decls.now.schemas c.args.decls.now.devices c.requires.decls.devices)
 
 pub returns-then-not-branch-clause-illegal : goal.returns-then-not-branch-clause-illegal
 returns-then-not-branch-clause-illegal c = λ place e.
@@ -22,8 +16,7 @@ returns-then-not-branch-clause-illegal c = λ place e.
 pub loop-place-init : goal.loop-place-init
 loop-place-init c =
     let past : Past = record { numbers = c.new.result; history = c.new-2.result; state = c.in_ok-open.field-0 } in
-    past_none c.args.decls.now past c.requires.decls c.new.ensures.filled c.new.ensures.none c.new-2.ensures
-    (c.in_ok-open.ensures.opening ∙ ap opening c.as_slice.ensures) c.in_ok-open.ensures.complete
+    past_none c.args.decls.now past c.new.ensures.filled c.new.ensures.none c.new-2.ensures c.in_ok-open.ensures.opening c.in_ok-open.ensures.kept
 
 pub loop-place-preserved : goal.loop-place-preserved
 loop-place-preserved c =

@@ -1,0 +1,282 @@
+-- What stands in the trees of devices is typed.
+use Rattle.std.proofs.Common.{◌≡◌, ℕ, zero, suc, Bool, true, false, ◌&&◌, ◌||◌, nat_eq, nat_lt, List, [], ◌∷◌, ◌++◌, inl, inr, length, take, map, All, is_some, None, Some, refl, sym, ap, subst, ◌∙◌, arith, append_assoc}
+use Rattle.std.specs.Prelude.{Option, option_map, slice_get, if◌then◌else◌}
+use Rattle.std.specs.Option.{option_map_or, option_or}
+use Rattle.std.specs.List.{list_all, AllByRecursion, IsDistinct}
+use Rattle.std.specs.Cmp.{first_so, second_so}
+use Rattle.std.specs.Cmp.Lexicographic.{bytes_decides}
+use Rattle.std.specs.FinMap.{empty, get, get-empty}
+use Rattle.std.proofs.lemmas.Bool.{and_from, eqb-true, false≢true}
+use Rattle.std.proofs.lemmas.List.Elements.{All-nil, All-cons, All-head, All-tail, All-append, All-filter}
+use Rattle.orc_path.specs.Steps.{PathStep, ends_in_keys, has_keys}
+use Rattle.orc_path.specs.Order.{path_cmp}
+use Rattle.orc_path.specs.Configurations.{Config, IsWay, overlay, put_item}
+use Rattle.orc_path.specs.declared.item.Item.{Item}
+use Rattle.orc_path.specs.declared.item.Item.TheVariants.{Entry}
+use Rattle.orc_path.proofs.ConfigurationLaws.{get-overlay, put_item_cases}
+use Rattle.orc_schema.specs.Schemas.{SchemaTable, kind_at_path, node_at, path_names, plain_table}
+use Rattle.orc_schema.specs.declared.line.Node.{Node}
+use Rattle.orc_schema.specs.declared.line.Node.TheVariants.{Container, List as ListOf, Leaf, LeafList}
+use Rattle.orc_typed.specs.Typed.{are_canonical_steps, carries, each_step, has_canonical_keys, is_canonical_value, is_carried, is_typed, stand, stands_at, step_kinds}
+use Rattle.orc_call.specs.declared.call.Put.{Put}
+use Rattle.orc_call.specs.declared.call.Call.{Call}
+use Rattle.orc_call.specs.declared.call.Action.{Action}
+use Rattle.orc_call.specs.declared.call.Action.TheVariants.{Literal}
+use Rattle.orc_call.specs.declared.call.DevicePut.{DevicePut}
+use Rattle.orc_state.specs.States.{config_of, declared_base, expansion, is_same_text, name_of, names_of, opening, overlay_all, part, put_all, puts_on}
+use Rattle.orc_state.specs.Actions.{live_after, live_step, new_services}
+use Rattle.orc_state.specs.Next.{after}
+use Rattle.orc_state.specs.Histories.{fold_from}
+use Rattle.orc_state.specs.Legal.{state_of}
+use Rattle.orc_state.specs.Calls.{device_named, is_action, is_device, is_put, is_write, schema_in, schema_named}
+use Rattle.orc_state.specs.Declarations.{AreDecls}
+use Rattle.orc_state.specs.Laws.{AreActions, TreeIsTyped}
+use Rattle.orc_state.specs.declared.declarations.Decls.{Decls}
+use Rattle.orc_state.specs.declared.declarations.Device.{Device}
+use Rattle.orc_state.specs.declared.state.Service.{Service}
+use Rattle.orc_state.specs.declared.state.State.{State}
+use Rattle.orc_state.proofs.Fits.{base-items, list_all_weaker, write-item}
+use Rattle.orc_state.proofs.Named.{other_way}
+use Rattle.std.proofs.lemmas.Option.{slice_get-map}
+
+-- ---- the entries on the way to what is typed
+
+-- what is so of each step of a path is so of each step of a front
+front_steps : (test : List (List ℕ) → PathStep → Bool) (above : List (List ℕ)) (n : ℕ) (steps : List PathStep)
+    → each_step test above steps ≡ true → each_step test above (take n steps) ≡ true
+front_steps test above zero steps h = refl
+front_steps test above (suc n) [] h = refl
+front_steps test above (suc n) (step ∷ later) h =
+    let names = above ++ step.node ∷ [] in
+    and_from (test names step) (each_step test names (take n later)) (first_so (test names step) (each_step test names later) h)
+    (front_steps test names n later (second_so (test names step) (each_step test names later) h))
+
+no_keys : (keys : List (List ℕ)) → nat_eq (length keys) 0 ≡ true → nat_lt 0 (length keys) ≡ true → ⊥
+no_keys [] none some = false≢true some
+no_keys (key ∷ keys) none some = let nothing : length (key ∷ keys) ≡ 0 = eqb-true _ _ none in absurd (omega (arith, nothing))
+
+module _ (s : SchemaTable) where
+  -- a node of which a step has keys carries an entry
+  keyed_carries : (names : List (List ℕ)) (step : PathStep) (o : Option Node)
+      → (is_some o && nat_eq (length step.keys) (length (option_map_or (step_kinds s names) o []))) ≡ true → has_keys step ≡ true
+      → option_map_or (λ (node : Node). carries node Entry) o false ≡ true
+  keyed_carries names step None h keyed = absurd (false≢true h)
+  keyed_carries names step (Some Container) h keyed = absurd (no_keys step.keys h keyed)
+  keyed_carries names step (Some (ListOf l)) h keyed = refl
+  keyed_carries names step (Some (Leaf l)) h keyed = absurd (no_keys step.keys h keyed)
+  keyed_carries names step (Some (LeafList l)) h keyed = refl
+
+  carried_below : (above : List (List ℕ)) (steps : List PathStep) → stand s above steps ≡ true → ends_in_keys steps ≡ true
+      → option_map_or (λ (node : Node). carries node Entry) (node_at s (above ++ path_names steps)) false ≡ true
+  carried_below above [] h keyed = absurd (false≢true keyed)
+  carried_below above (step ∷ []) h keyed =
+      let names = above ++ step.node ∷ [] in
+      keyed_carries names step (node_at s names) (first_so (stands_at s names step) true h) keyed
+  carried_below above (step ∷ next ∷ later) h keyed =
+      let names = above ++ step.node ∷ [] in
+      subst (λ (ns : List (List ℕ)). option_map_or (λ (node : Node). carries node Entry) (node_at s ns) false ≡ true)
+      (append_assoc above (step.node ∷ []) (path_names (next ∷ later)))
+      (carried_below names (next ∷ later) (second_so (stands_at s names step) (stand s names (next ∷ later)) h) keyed)
+
+  entry_carried : (way : List PathStep) → stand s [] way ≡ true → ends_in_keys way ≡ true → is_carried s way Entry ≡ true
+  entry_carried [] h keyed = absurd (false≢true keyed)
+  entry_carried (step ∷ later) h keyed = carried_below [] (step ∷ later) h keyed
+
+  way_typed : (p : List PathStep) (item : Item) (w : List PathStep) → is_typed s p item ≡ true → IsWay w p → is_typed s w Entry ≡ true
+  way_typed p item w h way = on s.plain h
+    where
+      value : Bool
+      value = is_canonical_value (kind_at_path s p) item
+
+      on : (t : Bool) → (t || ((t || (stand s [] p && is_carried s p item)) && (are_canonical_steps s [] p && value))) ≡ true
+          → (t || ((t || (stand s [] w && is_carried s w Entry)) && (are_canonical_steps s [] w && true))) ≡ true
+      on true h = refl
+      on false h =
+          let inside = stand s [] p && is_carried s p item in
+          let canonical = are_canonical_steps s [] p && value in
+          let stands : stand s [] w ≡ true = subst (λ (q : List PathStep). stand s [] q ≡ true) (sym way.begins)
+          (front_steps (stands_at s) [] (length w) p (first_so (stand s [] p) (is_carried s p item) (first_so inside canonical h))) in
+          let keys : are_canonical_steps s [] w ≡ true = subst (λ (q : List PathStep). are_canonical_steps s [] q ≡ true) (sym way.begins)
+          (front_steps (has_canonical_keys s) [] (length w) p (first_so (are_canonical_steps s [] p) value (second_so inside canonical h))) in
+          and_from (stand s [] w && is_carried s w Entry) (are_canonical_steps s [] w && true)
+          (and_from (stand s [] w) (is_carried s w Entry) stands (entry_carried w stands way.keyed))
+          (and_from (are_canonical_steps s [] w) true keys refl)
+
+-- ---- configurations of what is typed
+
+abbrev IsTypedUnder : SchemaTable → Config → Type 0
+IsTypedUnder s c = (path : List PathStep) (item : Item) → get c path ≡ Some item → is_typed s path item ≡ true
+
+same_item : (x y : Item) → Some x ≡ Some y → x ≡ y
+same_item x y e = cc
+
+typed-empty : (s : SchemaTable) → IsTypedUnder s empty
+typed-empty s path item e = let not_so : None ≡ Some item = sym (get-empty path_cmp path) ∙ e in absurd cc
+
+typed-put_item : (s : SchemaTable) (m : Config) (p : List PathStep) (put : Item) → IsTypedUnder s m → is_typed s p put ≡ true → IsTypedUnder s (put_item m p put)
+typed-put_item s m p put typed here path item e = elim (put_item_cases m p put path) [
+  | inl at ↦ subst (λ (q : List PathStep). is_typed s q item ≡ true) (sym at.0) (subst (λ (x : Item). is_typed s p x ≡ true) (same_item put item (sym at.1 ∙ e)) here)
+  | inr away ↦ elim away [
+    | inl way ↦ subst (λ (x : Item). is_typed s path x ≡ true) (same_item Entry item (sym way.1 ∙ e)) (way_typed s p put path here way.0)
+    | inr same ↦ typed path item (sym same ∙ e)
+  ]
+]
+
+abbrev is_typed_put : SchemaTable → Put → Bool
+is_typed_put s put = is_typed s put.path put.item
+
+typed-put_all : (s : SchemaTable) (puts : List Put) (m : Config) → list_all (is_typed_put s) puts ≡ true → IsTypedUnder s m → IsTypedUnder s (put_all puts m)
+typed-put_all s [] m h typed = typed
+typed-put_all s (p ∷ ps) m h typed =
+    typed-put_all s ps (put_item m p.path p.item) (second_so (is_typed_put s p) (list_all (is_typed_put s) ps) h)
+    (typed-put_item s m p.path p.item typed (first_so (is_typed_put s p) (list_all (is_typed_put s) ps) h))
+
+typed-overlay : (s : SchemaTable) (top base : Config) → IsTypedUnder s top → IsTypedUnder s base → IsTypedUnder s (overlay top base)
+typed-overlay s top base above below path item e = on (get top path) refl (sym (get-overlay top base path) ∙ e)
+  where
+    on : (o : Option Item) → get top path ≡ o → option_or (get top path) (get base path) ≡ Some item → is_typed s path item ≡ true
+    on (Some x) is h = above path item (is ∙ sym (ap (λ (o : Option Item). option_or o (get base path)) is) ∙ h)
+    on None is h = below path item (sym (ap (λ (o : Option Item). option_or o (get base path)) is) ∙ h)
+
+-- ---- the devices of declarations
+
+module _ (decls : Decls) where
+  -- the schema of the device of a number
+  abbrev own : ℕ → SchemaTable
+  own d = schema_named decls.schemas decls.devices (name_of decls.names d)
+
+  -- ---- services
+
+  writes_on : (name : List ℕ) (writes : List DevicePut) → list_all (is_write decls) writes ≡ true
+      → list_all (is_typed_put (schema_named decls.schemas decls.devices name)) (puts_on name writes) ≡ true
+  writes_on name [] h = refl
+  writes_on name (w ∷ ws) h = on (is_same_text w.device name) refl (writes_on name ws (second_so (is_write decls w) (list_all (is_write decls) ws) h))
+    where
+      s : SchemaTable
+      s = schema_named decls.schemas decls.devices name
+
+      own_schema : SchemaTable
+      own_schema = schema_named decls.schemas decls.devices w.device
+
+      here : is_typed own_schema w.path w.item ≡ true
+      here = second_so _ (is_typed own_schema w.path w.item) (write-item decls w (first_so (is_write decls w) (list_all (is_write decls) ws) h))
+
+      on : (t : Bool) → is_same_text w.device name ≡ t → list_all (is_typed_put s) (puts_on name ws) ≡ true
+          → list_all (is_typed_put s) (if t then record { path = w.path; item = w.item } ∷ puts_on name ws else puts_on name ws) ≡ true
+      on true is rest =
+          and_from (is_typed s w.path w.item) (list_all (is_typed_put s) (puts_on name ws))
+          (subst (λ (n : List ℕ). is_typed (schema_named decls.schemas decls.devices n) w.path w.item ≡ true) ((bytes_decides w.device name).0 is) here) rest
+      on false is rest = rest
+
+  expansion_typed : (names : List (List ℕ)) (writes : List DevicePut) → list_all (is_write decls) writes ≡ true → (d : ℕ)
+      → IsTypedUnder (schema_named decls.schemas decls.devices (name_of names d)) (config_of (expansion names writes) d)
+  expansion_typed [] writes h d = typed-empty _
+  expansion_typed (name ∷ names) writes h zero = typed-put_all _ (puts_on name writes) empty (writes_on name writes h) (typed-empty _)
+  expansion_typed (name ∷ names) writes h (suc d) = expansion_typed names writes h d
+
+  abbrev WritesTyped : Service → Type 0
+  WritesTyped service = (d : ℕ) → IsTypedUnder (own d) (part service d)
+
+  made_typed : (action : Action) → is_action decls action ≡ true → All WritesTyped (new_services decls.names action)
+  made_typed (Literal id writes) h =
+      All-cons WritesTyped (record { id = id; parts = expansion decls.names writes }) []
+      (expansion_typed decls.names writes (second_so _ (list_all (is_write decls) writes) h)) (All-nil WritesTyped)
+  made_typed other h = All-nil WritesTyped
+
+  abbrev IsAction : Action → Type 0
+  IsAction action = is_action decls action ≡ true
+
+  behind_typed : (actions : List Action) (live : List Service) → All IsAction actions → All WritesTyped live → All WritesTyped (live_after decls.names actions live)
+  behind_typed [] live h typed = typed
+  behind_typed (action ∷ actions) live h typed =
+      behind_typed actions (live_step decls.names live action) (All-tail IsAction action actions h)
+      (All-append WritesTyped _ _ (All-filter (λ x. _) WritesTyped live typed) (made_typed action (All-head IsAction action actions h)))
+
+  abbrev BasesTyped : List Config → Type 0
+  BasesTyped bases = (d : ℕ) → IsTypedUnder (own d) (config_of bases d)
+
+  fold_typed : (state : State) (calls : List Call) → AreActions decls calls → All WritesTyped state.live → BasesTyped state.bases
+      → All WritesTyped (fold_from decls state calls).live × BasesTyped (fold_from decls state calls).bases
+  fold_typed state [] h live bases = (live, bases)
+  fold_typed state (call ∷ calls) h live bases =
+      let lawful : Call → Type 0 = λ c. All IsAction c.actions in
+      fold_typed (after decls state call) calls (All-tail lawful call calls h)
+      (behind_typed call.actions state.live (All-head lawful call calls h) live) bases
+
+  overlaid_typed : (live : List Service) (d : ℕ) (base : Config) → All WritesTyped live → IsTypedUnder (own d) base
+      → IsTypedUnder (own d) (overlay_all (map (λ service. part service d) live) base)
+  overlaid_typed [] d base h typed = typed
+  overlaid_typed (a ∷ rest) d base h typed =
+      overlaid_typed rest d (overlay (part a d) base) (All-tail WritesTyped a rest h)
+      (typed-overlay (own d) (part a d) base (All-head WritesTyped a rest h d) typed)
+
+-- ---- bases
+
+-- the device at a place is the first of its name
+apart : (devices : List Device) (n : ℕ) (d : Device) (name : List ℕ) → slice_get devices n ≡ Some d
+    → AllByRecursion (λ other. is_same_text name other ≡ false) (names_of devices) → is_same_text name d.name ≡ false
+apart [] n d name e h = let not_so : None ≡ Some d = e in absurd cc
+apart (first ∷ rest) zero d name e h =
+    let same : first ≡ d = same_device first d e in subst (λ (x : Device). is_same_text name x.name ≡ false) same h.0
+  where
+    same_device : (x y : Device) → Some x ≡ Some y → x ≡ y
+    same_device x y e = cc
+apart (first ∷ rest) (suc n) d name e h = apart rest n d name e h.1
+
+named_there : (devices : List Device) (n : ℕ) (d : Device) → IsDistinct is_same_text (names_of devices) → slice_get devices n ≡ Some d
+    → device_named devices d.name ≡ Some d
+unfolding IsDistinct
+named_there [] n d h e = let not_so : None ≡ Some d = e in absurd cc
+named_there (first ∷ rest) zero d h e =
+    let same : first ≡ d = same_device first d e in
+    ap (λ t. if t then Some first else device_named rest d.name) ((bytes_decides d.name first.name).1 (sym (ap (λ (x : Device). x.name) same))) ∙ ap Some same
+  where
+    same_device : (x y : Device) → Some x ≡ Some y → x ≡ y
+    same_device x y e = cc
+named_there (first ∷ rest) (suc n) d h e =
+    ap (λ t. if t then Some first else device_named rest d.name) (other_way first.name d.name (apart rest n d first.name e h.0))
+    ∙ named_there rest n d h.1 e
+
+module _ (decls : Decls) (is : AreDecls decls) where
+  base_typed : (d : ℕ) → IsTypedUnder (own decls d) (config_of (map declared_base decls.devices) d)
+  base_typed d = on (slice_get decls.devices d) refl
+    where
+      on : (o : Option Device) → slice_get decls.devices d ≡ o → IsTypedUnder (own decls d) (config_of (map declared_base decls.devices) d)
+      on None at =
+          subst (λ (o : Option Config). IsTypedUnder (own decls d) (option_map_or (λ config. config) o empty))
+          (sym (slice_get-map declared_base decls.devices d ∙ ap (option_map declared_base) at)) (typed-empty (own decls d))
+      on (Some device) at =
+          let name : name_of decls.names d ≡ device.name =
+          ap (λ (names : List (List ℕ)). name_of names d) is.named
+          ∙ ap (λ (o : Option (List ℕ)). option_map_or (λ own_name. own_name) o []) (slice_get-map (λ (x : Device). x.name) decls.devices d ∙ ap (option_map (λ (x : Device). x.name)) at) in
+          let distinct = subst (λ (names : List (List ℕ)). IsDistinct is_same_text names) is.named is.distinct in
+          let schema : own decls d ≡ schema_in decls.schemas device.schema =
+          ap (λ (n : List ℕ). schema_named decls.schemas decls.devices n) name
+          ∙ ap (λ (o : Option Device). option_map_or (λ (x : Device). schema_in decls.schemas x.schema) o plain_table) (named_there decls.devices d device distinct at) in
+          subst (λ (o : Option Config). IsTypedUnder (own decls d) (option_map_or (λ config. config) o empty))
+          (sym (slice_get-map declared_base decls.devices d ∙ ap (option_map declared_base) at))
+          (subst (λ (s : SchemaTable). IsTypedUnder s (declared_base device)) (sym schema)
+          (typed-put_all (schema_in decls.schemas device.schema) device.base empty (items device (declared d device at)) (typed-empty _)))
+        where
+          items : (x : Device) → is_device decls.schemas x ≡ true → list_all (is_typed_put (schema_in decls.schemas x.schema)) x.base ≡ true
+          items x h =
+              let s = schema_in decls.schemas x.schema in
+              list_all_weaker (is_put s) (is_typed_put s) (λ p q. second_so _ (is_typed_put s p) q) x.base (base-items decls.schemas x h)
+
+          declared : (n : ℕ) (x : Device) → slice_get decls.devices n ≡ Some x → is_device decls.schemas x ≡ true
+          declared n x = found decls.devices n is.devices
+            where
+              found : (devices : List Device) (n : ℕ) → list_all (is_device decls.schemas) devices ≡ true → slice_get devices n ≡ Some x → is_device decls.schemas x ≡ true
+              found [] n h e = let not_so : None ≡ Some x = e in absurd cc
+              found (first ∷ rest) zero h e =
+                  subst (λ (y : Device). is_device decls.schemas y ≡ true) (same first x e) (first_so (is_device decls.schemas first) (list_all (is_device decls.schemas) rest) h)
+                where
+                  same : (y z : Device) → Some y ≡ Some z → y ≡ z
+                  same y z e = cc
+              found (first ∷ rest) (suc n) h e = found rest n (second_so (is_device decls.schemas first) (list_all (is_device decls.schemas) rest) h) e
+
+pub trees_are_typed : TreeIsTyped
+trees_are_typed decls history d is calls =
+    let state = state_of decls history in
+    let both = fold_typed decls (opening decls) history calls (All-nil (WritesTyped decls)) (base_typed decls is) in
+    overlaid_typed decls state.live d (config_of state.bases d) both.0 (both.1 d)

@@ -1,0 +1,145 @@
+-- A call leaves the trees of the devices that it doesn't touch.
+use Rattle.std.proofs.Common.{◌≡◌, ℕ, zero, suc, Bool, true, false, ◌&&◌, not, ◌==◌, cond, List, [], ◌∷◌, ◌++◌, map, All, None, Some, refl, sym, ap, ◌∙◌}
+use Rattle.std.specs.Prelude.{Option, if◌then◌else◌}
+use Rattle.std.specs.Option.{option_or}
+use Rattle.std.specs.List.{filter, list_any}
+use Rattle.std.specs.FinMap.{empty, empty_of_len, get, get-empty, len}
+use Rattle.std.proofs.lemmas.Bool.{false≢true, eqb-true}
+use Rattle.std.proofs.lemmas.List.Elements.{All-nil, All-cons, All-tail, All-head, All-append, All-filter, All-weaker}
+use Rattle.orc_path.specs.Order.{path_cmp}
+use Rattle.orc_path.specs.Configurations.{Config, overlay}
+use Rattle.orc_path.specs.declared.item.Item.{Item}
+use Rattle.orc_path.proofs.ConfigurationLaws.{get-overlay, same_config}
+use Rattle.orc_call.specs.declared.answer.Answer.{Answer}
+use Rattle.orc_call.specs.declared.answer.Answer.TheVariants.{Exists}
+use Rattle.orc_call.specs.declared.call.Action.{Action}
+use Rattle.orc_call.specs.declared.call.Action.TheVariants.{Literal, Delete}
+use Rattle.orc_call.specs.declared.call.DevicePut.{DevicePut}
+use Rattle.orc_state.specs.States.{config_of, expansion, has_id, is_same_text, lives, name_of, overlay_all, part, put_all, puts_on}
+use Rattle.orc_state.specs.Actions.{live_after, live_step, names, new_services}
+use Rattle.orc_state.specs.Next.{existence, existence_of}
+use Rattle.orc_state.specs.Touched.{is_held_by, is_touched_by, is_written_by}
+use Rattle.orc_state.specs.Laws.{UntouchedStay}
+use Rattle.orc_state.specs.declared.declarations.Decls.{Decls}
+use Rattle.orc_state.specs.declared.state.Service.{Service}
+use Rattle.orc_state.specs.declared.state.State.{State}
+use Rattle.orc_state.proofs.Lists.{any_none, or_first, or_second}
+
+-- ---- services that write nothing on a device
+
+module _ (d : ℕ) where
+  abbrev Blank : Service → Type 0
+  Blank a = part a d ≡ empty
+
+  abbrev laid : List Service → Config → Config
+  laid live base = overlay_all (map (λ service. part service d) live) base
+
+  overlay-empty : (base : Config) → overlay empty base ≡ base
+  overlay-empty base = same_config (overlay empty base) base (λ q. get-overlay empty base q ∙ ap (λ (o : Option Item). option_or o (get base q)) (get-empty path_cmp q))
+
+  laid-blank : (a : Service) (rest : List Service) (base : Config) → Blank a → laid (a ∷ rest) base ≡ laid rest base
+  laid-blank a rest base blank = ap (λ (b : Config). laid rest b) (ap (λ (top : Config). overlay top base) blank ∙ overlay-empty base)
+
+  laid-blanks : (made : List Service) (base : Config) → All Blank made → laid made base ≡ base
+  laid-blanks [] base h = refl
+  laid-blanks (a ∷ rest) base h = laid-blank a rest base (All-head Blank a rest h) ∙ laid-blanks rest base (All-tail Blank a rest h)
+
+  -- without services that write nothing there, and with new ones that don't
+  laid-kept : (p : Service → Bool) (live made : List Service) (base : Config) → All (λ a. p a ≡ true → Blank a) live → All Blank made
+      → laid (filter (λ a. not (p a)) live ++ made) base ≡ laid live base
+  laid-kept p [] made base gone new = laid-blanks made base new
+  laid-kept p (a ∷ rest) made base gone new = on (p a) refl (λ under. laid-kept p rest made under (All-tail (λ x. p x ≡ true → Blank x) a rest gone) new)
+    where
+      kept : List Service
+      kept = filter (λ x. not (p x)) rest
+
+      on : (t : Bool) → p a ≡ t → ((under : Config) → laid (kept ++ made) under ≡ laid rest under) → laid (cond (not t) (a ∷ kept) kept ++ made) base ≡ laid (a ∷ rest) base
+      on true is later = later base ∙ sym (laid-blank a rest base (All-head (λ x. p x ≡ true → Blank x) a rest gone is))
+      on false is later = later (overlay (part a d) base)
+
+  module _ (devices : List (List ℕ)) where
+    -- an action names no living service that writes there, and makes none
+    abbrev IsQuiet : List Service → Action → Type 0
+    IsQuiet live action = All (λ a. names action a.id ≡ true → Blank a) live × All Blank (new_services devices action)
+
+    behind_quiet : (actions : List Action) (live : List Service) (base : Config) → All (IsQuiet live) actions
+        → laid (live_after devices actions live) base ≡ laid live base
+    behind_quiet [] live base h = refl
+    behind_quiet (action ∷ actions) live base h =
+        let now : IsQuiet live action = All-head (IsQuiet live) action actions h in
+        let made = new_services devices action in
+        let still : (other : Action) → IsQuiet live other → IsQuiet (live_step devices live action) other = λ other quiet. (
+          All-append (λ (a : Service). names other a.id ≡ true → Blank a) _ made
+              (All-filter (λ a. _) (λ (a : Service). names other a.id ≡ true → Blank a) live quiet.0)
+              (All-weaker Blank (λ (a : Service). names other a.id ≡ true → Blank a) (λ a blank named. blank) made now.1),
+          quiet.1,
+        ) in
+        behind_quiet actions (live_step devices live action) base
+        (All-weaker (IsQuiet live) (IsQuiet (live_step devices live action)) still actions (All-tail (IsQuiet live) action actions h))
+        ∙ laid-kept (λ a. names action a.id) live made base now.0 now.1
+
+-- ---- a call that isn't refused
+
+none_on : (name : List ℕ) (writes : List DevicePut) → is_written_by writes name ≡ false → puts_on name writes ≡ []
+none_on name [] h = refl
+none_on name (w ∷ ws) h =
+    ap (λ t. if t then record { path = w.path; item = w.item } ∷ puts_on name ws else puts_on name ws) (or_first (is_same_text w.device name) (is_written_by ws name) h)
+    ∙ none_on name ws (or_second (is_same_text w.device name) (is_written_by ws name) h)
+
+blank_part : (devices : List (List ℕ)) (writes : List DevicePut) (d : ℕ) → is_written_by writes (name_of devices d) ≡ false → config_of (expansion devices writes) d ≡ empty
+blank_part [] writes d h = refl
+blank_part (name ∷ devices) writes zero h = ap (λ puts. put_all puts empty) (none_on name writes h)
+blank_part (name ∷ devices) writes (suc d) h = blank_part devices writes d h
+
+no_answer : (t : Bool) (answer : Answer) → (if t then Some answer else None) ≡ None → t ≡ false
+no_answer true answer h = cc
+no_answer false answer h = refl
+
+none_first : (a b : Option Answer) → option_or a b ≡ None → a ≡ None
+none_first (Some x) b e = cc
+none_first None b e = refl
+
+none_later : (a b : Option Answer) → option_or a b ≡ None → b ≡ None
+none_later (Some x) b e = cc
+none_later None b e = e
+
+-- it holds nothing there
+holds_nothing : (m : Config) → (len m == 0) ≡ true → m ≡ empty
+holds_nothing m h = empty_of_len m (eqb-true _ _ h)
+
+held : (t : Bool) (m : Config) → t ≡ true → (t && not (len m == 0)) ≡ false → m ≡ empty
+held true m is h = holds_nothing m (on (len m == 0) h)
+  where
+    on : (b : Bool) → not b ≡ false → b ≡ true
+    on true e = refl
+    on false e = absurd (false≢true (sym e))
+held false m is h = absurd (false≢true is)
+
+module _ (decls : Decls) (state : State) (d : ℕ) where
+  quiet : (action : Action) → existence_of state.live action ≡ None → is_touched_by decls.names state d action ≡ false → IsQuiet d decls.names state.live action
+  quiet (Literal id writes) none off = (
+    All-weaker (λ (a : Service). has_id id a ≡ false) (λ (a : Service). has_id id a ≡ true → Blank d a) (λ a other named. absurd (false≢true (sym other ∙ named)))
+        state.live (any_none (has_id id) state.live (no_answer (lives state.live id) (Exists id) none)),
+    All-cons (Blank d) (record { id = id; parts = expansion decls.names writes }) [] (blank_part decls.names writes d off) (All-nil (Blank d)),
+  )
+  quiet (Delete id) none off = (
+    All-weaker (λ (a : Service). is_held_by id d a ≡ false) (λ (a : Service). has_id id a ≡ true → Blank d a) (λ a free named. held (has_id id a) (part a d) named free)
+        state.live (any_none (is_held_by id d) state.live off),
+    All-nil (Blank d),
+  )
+  quiet other none off = (All-weaker (λ (a : Service). Unit {0}) (λ (a : Service). names other a.id ≡ true → Blank d a) (λ a u named. absurd (false≢true named)) state.live (λ i x lt. tt), All-nil (Blank d))
+
+  all_quiet : (actions : List Action) → existence state.live actions ≡ None → list_any (is_touched_by decls.names state d) actions ≡ false → All (IsQuiet d decls.names state.live) actions
+  all_quiet [] none off = All-nil (IsQuiet d decls.names state.live)
+  all_quiet (action ∷ actions) none off =
+      let touches = is_touched_by decls.names state d action in
+      let later = list_any (is_touched_by decls.names state d) actions in
+      let first = existence_of state.live action in
+      All-cons (IsQuiet d decls.names state.live) action actions
+      (quiet action (none_first first (existence state.live actions) none) (or_first touches later off))
+      (all_quiet actions (none_later first (existence state.live actions) none) (or_second touches later off))
+
+pub untouched_stay : UntouchedStay
+untouched_stay decls state call d unrefused off =
+    behind_quiet d decls.names call.actions state.live (config_of state.bases d)
+    (all_quiet decls state d call.actions (none_first (existence state.live call.actions) _ unrefused) off)

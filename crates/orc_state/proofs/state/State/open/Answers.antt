@@ -1,0 +1,22 @@
+use Rattle.std.proofs.Common.{ℕ, List, All, IsTrue, sym, subst}
+use Rattle.orc_call.specs.declared.call.Put.{Put}
+use Rattle.orc_state.specs.States.{fits_puts}
+use Rattle.orc_state.specs.Calls.{is_lawful_name}
+use Rattle.orc_state.specs.declared.declarations.Device.{Device}
+use Rattle.orc_state.proofs.Fits.{data-fits, devices-fit}
+use Rattle.orc_state.proofs.Kept.{decls-names}
+use Rattle.orc_state.proofs.state.State.open.Goals as goal
+
+pub opening_data-requires-clause-names : goal.opening_data-requires-clause-names
+opening_data-requires-clause-names c =
+    subst (λ (names : List (List ℕ)). All (λ name. IsTrue (is_lawful_name name)) names) (sym c.as_slice.ensures) (decls-names c.args.decls.now c.requires)
+
+pub opening_data-requires-clause-fit : goal.opening_data-requires-clause-fit
+opening_data-requires-clause-fit c =
+    subst (λ (puts : List Put). IsTrue (fits_puts puts)) (sym c.as_slice-2.ensures)
+    (data-fits c.args.decls.now.data_schema c.args.decls.now.data c.requires.items)
+
+pub bases-requires : goal.bases-requires
+bases-requires c =
+    subst (λ (devices : List Device). All (λ device. IsTrue (fits_puts device.base)) devices) (sym c.as_slice-3.ensures)
+    (devices-fit c.args.decls.now.schemas c.args.decls.now.devices c.requires.devices)

@@ -1,0 +1,59 @@
+-- What the actions of a call do: those on the data in their order, and those on services.
+use Rattle.std.specs.Prelude.{ℕ, Bool, true, false, not, ◌&&◌, List, [], ◌∷◌, ◌++◌, filter, Option}
+use Rattle.std.specs.declared.option.Option.TheVariants.{None, Some}
+use Rattle.std.specs.Option.{option_map_or}
+use Rattle.std.specs.List.{flat_map, fold, list_any}
+use Rattle.orc_path.specs.Configurations.{Config, put_item, drop_item}
+use Rattle.orc_call.specs.declared.call.Action.{Action}
+use Rattle.orc_call.specs.declared.call.Action.TheVariants.{Literal, Delete, Set, Unset}
+use Rattle.orc_state.specs.States.{expansion, is_same_text}
+use Rattle.orc_state.specs.declared.state.Service.{Service}
+
+-- The service that an action names, if it names one. The kinds of actions that don't stand here aren't built yet: they
+-- name no service and change nothing.
+abbrev pub named : Action → Option (List ℕ)
+named (Literal id writes) = Some id
+named (Delete id) = Some id
+named other = None
+
+-- the action names the service of this name
+abbrev pub names : Action → List ℕ → Bool
+names action id = option_map_or (λ own. is_same_text id own) (named action) false
+
+-- one of the actions names it
+abbrev pub is_named_by : List Action → List ℕ → Bool
+is_named_by actions id = list_any (λ action. names action id) actions
+
+-- the actions name each service at most once
+abbrev pub name_each_once : List Action → Bool
+name_each_once [] = true
+name_each_once (action ∷ actions) =
+    option_map_or (λ id. not (is_named_by actions id)) (named action) true && name_each_once actions
+
+-- the data behind an action: setting an item adds the entries on its way; removing a path that ends in keys removes
+-- that entry and all below it, and removing another one that leaf
+abbrev pub data_step : Config → Action → Config
+data_step config (Set put) = put_item config put.path put.item
+data_step config (Unset path) = drop_item config path
+data_step config other = config
+
+-- the data behind actions, which are done in their order
+abbrev pub data_after : List Action → Config → Config
+data_after actions config = fold data_step config actions
+
+-- the services that an action makes: none or one
+abbrev pub new_services : List (List ℕ) → Action → List Service
+new_services devices (Literal id writes) = record { id = id; parts = expansion devices writes } ∷ []
+new_services devices other = []
+
+-- the living services behind an action: the one that it names goes, and the one that it makes comes
+abbrev pub live_step : List (List ℕ) → List Service → Action → List Service
+live_step devices live action = filter (λ service. not (names action service.id)) live ++ new_services devices action
+
+-- the living services behind actions
+abbrev pub live_after : List (List ℕ) → List Action → List Service → List Service
+live_after devices actions live = fold (live_step devices) live actions
+
+-- of these services those that the actions name, in the order of the actions
+abbrev pub touched : List Action → List Service → List Service
+touched actions live = flat_map (λ action. filter (λ service. names action service.id) live) actions

@@ -1,0 +1,59 @@
+-- What a call does to a state, or why it is refused.
+use Rattle.std.specs.Prelude.{◌≡◌, ℕ, List, [], ◌∷◌, length, Option, option_map, if◌then◌else◌}
+use Rattle.std.specs.declared.option.Option.TheVariants.{None, Some}
+use Rattle.std.specs.Option.{option_or}
+use Rattle.orc_path.specs.Configurations.{Config}
+use Rattle.orc_schema.specs.Schemas.{SchemaTable}
+use Rattle.orc_check.specs.Validity.{broken_of}
+use Rattle.orc_call.specs.declared.answer.Answer.{Answer}
+use Rattle.orc_call.specs.declared.answer.Answer.TheVariants.{Exists, Missing, Invalid}
+use Rattle.orc_call.specs.declared.call.Action.{Action}
+use Rattle.orc_call.specs.declared.call.Action.TheVariants.{Literal, Delete}
+use Rattle.orc_call.specs.declared.call.Call.{Call}
+use Rattle.orc_state.specs.States.{IsComplete, lives}
+use Rattle.orc_state.specs.Actions.{data_after, live_after, touched}
+use Rattle.orc_state.specs.Clashes.{clash_from}
+use Rattle.orc_state.specs.declared.declarations.Decls.{Decls}
+use Rattle.orc_state.specs.declared.state.Service.{Service}
+use Rattle.orc_state.specs.declared.state.State.{State}
+
+-- the action creates a service that lives, or deletes one that does not
+abbrev pub existence_of : List Service → Action → Option Answer
+existence_of live (Literal id writes) = if lives live id then Some (Exists id) else None
+existence_of live (Delete id) = if lives live id then None else Some (Missing id)
+existence_of live other = None
+
+-- the first such action of a call; each is looked at in the state before the call
+abbrev pub existence : List Service → List Action → Option Answer
+existence live [] = None
+existence live (action ∷ actions) = option_or (existence_of live action) (existence live actions)
+
+-- the least path of the data at which a rule is broken, and the first rule that is
+abbrev pub invalid : SchemaTable → Config → Option Answer
+invalid schema config = option_map (λ breach. Invalid breach.path breach.rule) (broken_of schema config)
+
+-- the clash of the services that a call names with the other ones that live behind it
+abbrev pub clash : List (List ℕ) → List Service → List Action → Option Answer
+clash devices live actions =
+    let behind = live_after devices actions live in clash_from behind (touched actions behind) 0 devices
+
+-- Why a call is refused, if it is: the first action at fault, else what is broken in the data behind all its actions,
+-- else a clash.
+abbrev pub refusal : Decls → State → Call → Option Answer
+refusal decls state call = option_or (existence state.live call.actions) (option_or
+    (invalid decls.data_schema (data_after call.actions state.data))
+    (clash decls.names state.live call.actions))
+
+-- the state behind a call that is not refused
+abbrev pub after : Decls → State → Call → State
+after decls state call = record state {
+  «data» = data_after call.actions state.data;
+  live = live_after decls.names call.actions state.live;
+}
+
+-- What each call keeps: there is a base for each declared device, and a part of each living service; and the data is
+-- valid.
+pub record IsStateOf (decls : Decls) (state : State) : Type 0 where
+  pub bases : length state.bases ≡ length decls.names
+  pub complete : IsComplete state
+  pub valid : broken_of decls.data_schema state.data ≡ None

@@ -1,0 +1,28 @@
+-- The data behind a call.
+use Rattle.std.specs.Prelude.{◌≡◌, Bool, true, false, Result}
+use Rattle.std.specs.declared.option.Option.TheVariants.{None, Some}
+use Rattle.std.specs.declared.result.Result.TheVariants.{Ok, Err}
+use Rattle.std.specs.Option.{option_or}
+use Rattle.orc_path.specs.Configurations.{Config}
+use Rattle.orc_call.specs.declared.answer.Answer.{Answer}
+use Rattle.orc_call.specs.declared.call.Action.{Action}
+use Rattle.orc_call.specs.declared.call.Action.TheVariants.{Set, Unset}
+use Rattle.orc_call.specs.declared.call.Call.{Call}
+use Rattle.orc_state.specs.Actions.{data_after}
+use Rattle.orc_state.specs.Next.{existence, invalid}
+use Rattle.orc_state.specs.declared.declarations.Decls.{Decls}
+use Rattle.orc_state.specs.declared.state.State.{State}
+
+-- an action sets or unsets an item of the data
+abbrev pub is_on_data : Action → Bool
+is_on_data (Set put) = true
+is_on_data (Unset path) = true
+is_on_data other = false
+
+-- these are the data, where no action is at fault and nothing is broken in them, and else the first answer
+abbrev pub IsDataBehind : Decls → State → Call → Result Config Answer → Type 0
+IsDataBehind decls state call (Ok config) =
+    (config ≡ data_after call.actions state.data) × (existence state.live call.actions ≡ None)
+    × (invalid decls.data_schema (data_after call.actions state.data) ≡ None)
+IsDataBehind decls state call (Err found) = option_or (existence state.live call.actions)
+    (invalid decls.data_schema (data_after call.actions state.data)) ≡ Some found

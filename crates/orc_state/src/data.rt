@@ -1,0 +1,118 @@
+//! The data: what it is at the opening, what actions make of it, and what is broken in it.
+ghost use Rattle.std.specs.Prelude.{◌≡◌, None, All, codes, IfOk, OnOk, IsTrue};
+ghost use Rattle.orc_check.specs.Validity.{broken_of};
+ghost use Rattle.orc_state.specs.States.{device_entry, fits_puts, opening_data};
+ghost use Rattle.orc_state.specs.Actions.{data_after, data_step};
+ghost use Rattle.orc_state.specs.Calls.{is_lawful_name};
+ghost use Rattle.orc_state.specs.Next.{invalid};
+ghost use Rattle.std.specs.List.{list_any};
+ghost use Rattle.orc_state.specs.inside.Behind.{is_on_data};
+ghost use Rattle.orc_state.specs.inside.Fitting.{fits_action, FitActions};
+
+use crate::base::tree_of;
+use orc_call::{Action, Answer, Put};
+use orc_check::{CheckFault, valid};
+use orc_path::{Item, Name, Path, Step};
+use orc_schema::Schema;
+use orc_text::{Memory, Row, Text};
+use orc_tree::Tree;
+use std::alloc::Global;
+
+// The name of the list of the devices.
+fn device_node(alloc: Global) -> Result<Name, Memory>
+    ensures { IfOk result (λ name. name ≡ codes "orc:device") }
+{
+    match Name::new(alloc, "orc:device") {
+        Ok(name) => Ok(name),
+        Err(_) => Err(Memory),
+    }
+}
+
+// The entry of the device of a name.
+fn device_entry(alloc: Global, name: &Text) -> Result<Path, Memory>
+    requires { IsTrue (is_lawful_name name.now) }
+    ensures { IfOk result (λ path. path ≡ device_entry name.now) }
+{
+    let node = device_node(alloc)?;
+    let mut keys = Row::new(alloc);
+    keys.push(name.copy(alloc)?)?;
+    let mut steps = Row::new(alloc);
+    steps.push(Step { node, keys })?;
+    Ok(Path { steps })
+}
+
+/// The data at the opening: these items, and an entry `/orc:device[D]` for each of the devices of
+/// these names.
+pub fn opening_data(alloc: Global, names: &[Text], puts: &[Put]) -> Result<Tree, Memory>
+    requires names { All (λ name. IsTrue (is_lawful_name name)) names.now }
+    requires fit { IsTrue (fits_puts puts.now) }
+    ensures { IfOk result (λ tree. tree ≡ opening_data names.now puts.now) }
+{
+    let mut tree = tree_of(alloc, puts)?;
+    for name in names {
+        tree.set(device_entry(alloc, name)?, Item::Entry)?;
+    }
+    Ok(tree)
+}
+
+// Does an action on the data.
+fn do_on_data(alloc: Global, data: &mut Tree, action: &Action) -> Result<(), Memory>
+    requires { IsTrue (fits_action action.now) }
+    ensures { OnOk result («data».new ≡ data_step «data».old action.now) }
+{
+    match action {
+        Action::Set(put) => data.set(put.path.copy(alloc)?, put.item.copy(alloc)?),
+        Action::Unset(path) => data.remove(path),
+        // The others are on services, or not built yet.
+        _ => Ok(()),
+    }
+}
+
+// Whether one of the actions is on the data.
+fn is_on_data(actions: &[Action]) -> bool
+    ensures { result ≡ list_any is_on_data actions.now }
+{
+    actions.iter().any(|action| matches!(action, Action::Set(_) | Action::Unset(_)))
+}
+
+/// The data behind actions, done in their order.
+pub(crate) fn data_after(alloc: Global, data: &Tree, actions: &[Action]) -> Result<Tree, Memory>
+    requires { FitActions actions.now }
+    ensures { IfOk result (λ tree. tree ≡ data_after actions.now «data».now) }
+{
+    let mut tree = data.copy(alloc)?;
+    for action in actions {
+        do_on_data(alloc, &mut tree, action)?;
+    }
+    Ok(tree)
+}
+
+/// What is broken in the data behind actions, if anything is. Actions on services alone leave the data,
+/// which was valid: it isn't looked at again.
+pub(crate) fn invalid_behind(
+    alloc: Global,
+    schema: &Schema,
+    actions: &[Action],
+    old: &Tree,
+    data: &Tree,
+) -> Result<Option<Answer>, Memory>
+    requires valid { broken_of schema.now old.now ≡ None }
+    requires behind { «data».now ≡ data_after actions.now old.now }
+    ensures { IfOk result (λ found. found ≡ invalid schema.now «data».now) }
+{
+    if !is_on_data(actions) {
+        return Ok(None);
+    }
+    invalid(alloc, schema, data)
+}
+
+// What is broken in the data, if anything is.
+fn invalid(alloc: Global, schema: &Schema, data: &Tree) -> Result<Option<Answer>, Memory>
+    ensures { IfOk result (λ found. found ≡ invalid schema.now «data».now) }
+{
+    match valid(alloc, schema, data) {
+        Ok(()) => Ok(None),
+        Err(CheckFault::Broken { path, rule }) => Ok(Some(Answer::Invalid(path, rule))),
+        Err(CheckFault::Memory) => Err(Memory),
+    }
+}
