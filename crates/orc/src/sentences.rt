@@ -28,7 +28,8 @@ pub(crate) fn sentence(stop: &Stop) -> &'static str {
         Stop::NotJournal =>
             "The file isn't empty and doesn't begin as a journal. It is left as it was.",
         Stop::Damaged { .. } => {
-            "At this byte of the journal, counted from 0, stands no entry that may stand there. It is left as it was."
+            "At this byte of the journal, counted from 0, stands no entry that may stand there. All that the file held \
+             is left as it was."
         }
     }
 }

@@ -1,3 +1,4 @@
+# A service is created and deleted: its device is as before, and the history has both calls.
 orc 1
 device r1 plain
 script

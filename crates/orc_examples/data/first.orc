@@ -1,3 +1,4 @@
+# The least that shows something: a device, its base, and a look at it.
 orc 1
 device r1 plain
 base r1 /if:mtu = 1500

@@ -1,3 +1,4 @@
+# Of two writes of one service to one path the later one counts.
 orc 1
 device r1 plain
 script

@@ -1,3 +1,4 @@
+# Which service a clash names: on the first device, at the least path that differs, the least name by its bytes.
 orc 1
 device r1 plain
 script

@@ -1,3 +1,4 @@
+# Services, shared leaves, refusals and calls sent again on one device, with a stop and a recovery.
 orc 1
 device r1 plain
 base r1 /if:mtu = 1500

@@ -1,3 +1,4 @@
+# A list's entry stays as long as something below it is written by a service.
 orc 1
 device r1 plain
 script

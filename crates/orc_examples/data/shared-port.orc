@@ -1,3 +1,4 @@
+# Two services that write one leaf alike share it; the base's value is back when both are gone.
 orc 1
 device r1 plain
 base r1 /if:mtu = 1500

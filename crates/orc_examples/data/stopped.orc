@@ -1,3 +1,4 @@
+# A stop comes with the last sync of a decision: the call has no answer and is committed, as `recover` tells.
 orc 1
 device r1 plain
 base r1 /if:mtu = 1500

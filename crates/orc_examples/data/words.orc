@@ -1,3 +1,4 @@
+# Names, keys and numbers at their edges.
 orc 1
 device _-.9 plain
 base _-.9 /if:a[-][_.9]/b[x]

@@ -1,5 +1,5 @@
 //! Runs each example of a folder, of the one that it is started in where no word names another, and
-//! says whether it does what stands beside it.
+//! says of which it doesn't do what stands beside it.
 //!
 //! `NAME.orc` is a bundle that is run to its end over an empty disk and must print `NAME.out`.
 //! `NAME.case` has bundles of its own and runs of them, over disks, sources and sinks that fail where
@@ -34,7 +34,7 @@ fn main(rt: HostRuntime) -> ExitCode {
     }
 }
 
-// Prints a line for each example, in the order of their names.
+// Prints a line for each example that differs, in the order of their names, and one line where none does.
 fn run_all<R: Files<File = File> + Env + Print + AllocGlobal + Clone + Drop>(
     rt: &R,
 ) -> io::Result<bool> {
@@ -45,12 +45,15 @@ fn run_all<R: Files<File = File> + Env + Print + AllocGlobal + Clone + Drop>(
         None => String::from_str(rt.alloc(), ".")?,
     };
     let files = files(rt, folder.as_str())?;
-    let mut good = faults(rt)?;
+    let mut good = faults(rt)? && !files.is_empty();
     for file in files.iter() {
         if !is_as_it_must_be(rt, folder.as_str(), &files, file.as_str())? {
             println!(rt; "{file}: DIFFERS")?;
             good = false;
         }
+    }
+    if good {
+        println!(rt; "each example: as it must be")?;
     }
     Ok(good)
 }
@@ -96,11 +99,7 @@ fn is_bundle_as_it_must_be<R: Files + Print + AllocGlobal>(
     let Ok(wanted) = fs::read(rt, format!(in alloc; "{folder}/{name}.out")?.as_str()) else {
         return Ok(false);
     };
-    let good = run_to_end(alloc, bundle, wanted.as_slice())?;
-    if good {
-        println!(rt; "{name}: as it must be")?;
-    }
-    Ok(good)
+    Ok(run_to_end(alloc, bundle, wanted.as_slice())?)
 }
 
 // Whether each run of the case does what stands beside it.
@@ -111,9 +110,5 @@ fn is_case_as_it_must_be<R: Files<File = File> + Print + AllocGlobal>(
 ) -> io::Result<bool> {
     let text = fs::read_to_string(rt, format!(in rt.alloc(); "{folder}/{name}.case")?.as_str())?;
     let mut case = Case::new(rt.alloc(), text.as_str());
-    let good = case.run_all(rt, name)?;
-    if good {
-        println!(rt; "{name}: {} runs as they must be", case.runs())?;
-    }
-    Ok(good)
+    Ok(case.run_all(rt, name)? && case.runs() > 0)
 }

@@ -1,3 +1,5 @@
+# Down: the controller is stopped, and nothing was done. What to do: `recover`, and send the call again. `history` and
+# `data` say `down` until then; `show` answers.
 orc 1
 device r1 plain
 script

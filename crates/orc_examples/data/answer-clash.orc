@@ -1,3 +1,5 @@
+# Clash: a service of the call would write another value than a living one, on this device at this path. What to do:
+# agree on one value, leave that leaf out, or delete the service that is named.
 orc 1
 device r1 plain
 script

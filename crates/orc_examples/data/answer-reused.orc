@@ -1,3 +1,5 @@
+# Reused: this caller has used this number for another call, which is the entry that is named. What to do: take a number
+# that is free. The old call, sent again, gets its old answer.
 orc 1
 device r1 plain
 script
