@@ -10,7 +10,7 @@ use Rattle.orc_bundle.specs.Names.{is_among, with_name}
 use Rattle.orc_bundle.specs.Scripts.{is_caller_more, is_full, no_steps, scripted_at}
 use Rattle.orc_bundle.specs.Words.{is_text}
 use Rattle.orc_bundle.specs.declared.bundle.ScriptStep.{ScriptStep}
-use Rattle.orc_bundle.specs.declared.bundle.ScriptStep.TheVariants.{Show, Json, Data, Serve, Settle, Stop, StopAt, Recover, History}
+use Rattle.orc_bundle.specs.declared.bundle.ScriptStep.TheVariants.{Show, Json, Meta, Data, Serve, Settle, Stop, StopAt, Recover, History}
 use Rattle.orc_bundle.specs.declared.script.Script.{Script}
 use Rattle.orc_bundle.specs.declared.script.Part.{Part}
 use Rattle.orc_bundle.specs.declared.script.Part.TheVariants as part
@@ -55,6 +55,7 @@ settled_plain : (step : ScriptStep) (more : List ScriptStep) → is_plain step �
 settled_plain (Serve call) more h = absurd (false≢true h)
 settled_plain (Show device) more h = refl
 settled_plain (Json device) more h = refl
+settled_plain (Meta device path) more h = refl
 settled_plain Data more h = refl
 settled_plain Settle more h = refl
 settled_plain Stop more h = refl
@@ -66,6 +67,7 @@ callers_plain : (callers : List (List ℕ)) (step : ScriptStep) (more : List Scr
 callers_plain callers (Serve call) more h = absurd (false≢true h)
 callers_plain callers (Show device) more h = refl
 callers_plain callers (Json device) more h = refl
+callers_plain callers (Meta device path) more h = refl
 callers_plain callers Data more h = refl
 callers_plain callers Settle more h = refl
 callers_plain callers Stop more h = refl

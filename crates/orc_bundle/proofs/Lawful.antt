@@ -11,7 +11,7 @@ use Rattle.orc_call.specs.declared.call.Put.{Put}
 use Rattle.orc_call.specs.declared.call.DevicePut.{DevicePut}
 use Rattle.orc_state.specs.States.{is_same_text, names_of}
 use Rattle.orc_schema.specs.Schemas.{SchemaTable, plain_table}
-use Rattle.orc_state.specs.Calls.{device_named, is_data_item, is_device, is_forbid_rule, is_kept, is_lawful_name, is_max_rule, is_put, is_write, schema_in, schema_named}
+use Rattle.orc_state.specs.Calls.{device_named, is_base_path, is_data_item, is_device, is_forbid_rule, is_kept, is_lawful_name, is_max_rule, is_path_under, is_put, is_write, schema_in, schema_named}
 use Rattle.orc_state.specs.declared.declarations.Decls.{Decls}
 use Rattle.orc_state.specs.declared.declarations.Device.{Device}
 use Rattle.orc_bundle.specs.declared.declarations.Declared.{Declared}
@@ -46,13 +46,28 @@ named_same name (d ∷ ds) = on (is_same_text name d.name) (named_same name ds) 
   on true h = refl
   on false h = h
 
--- a write on a declared device
-pub written : (d : Declared) (most : ℕ) (s : Script) (w : DevicePut) (writes : List DevicePut)
-    → AreDeclared d → AreSteps (decls_in d) most s → s.part ≡ part.Literal → is_among d.names w.device ≡ true
-    → IsTrue (is_put (schema_named d.schemas d.devices w.device) (record { path = w.path; item = w.item }))
-    → writes ≡ s.writes ++ w ∷ [] → AreSteps (decls_in d) (most + 1) (record s { writes = writes })
-written d most s w writes known h here named item grown =
-    let decls = decls_in d in
+-- a device of a name that stands there is declared
+device_there : (d : Declared) (name : List ℕ) → AreDeclared d → is_among d.names name ≡ true → is_some (device_named d.devices name) ≡ true
+device_there d name known named = named_same name d.devices ∙ ap (λ (ns : List (List ℕ)). is_among ns name) (sym known.named) ∙ named
+
+-- an item of a declared device
+pub item_there : (d : Declared) (w : DevicePut) → AreDeclared d → is_among d.names w.device ≡ true
+    → IsTrue (is_put (schema_named d.schemas d.devices w.device) (record { path = w.path; item = w.item })) → is_write (decls_in d) w ≡ true
+item_there d w known named item =
+    both (is_some (device_named d.devices w.device)) (is_put (schema_named d.schemas d.devices w.device) (record { path = w.path; item = w.item }))
+    (device_there d w.device known named) item
+
+-- a path of one that can carry an item
+pub path_there : (d : Declared) (name : List ℕ) (path : List PathStep) → AreDeclared d → is_among d.names name ≡ true
+    → is_path_under (schema_named d.schemas d.devices name) path ≡ true → is_base_path (decls_in d) name path ≡ true
+path_there d name path known named under =
+    both (is_some (device_named d.devices name)) (is_path_under (schema_named d.schemas d.devices name) path) (device_there d name known named) under
+
+-- a write more of the open literal
+pub written : (decls : Decls) (most : ℕ) (s : Script) (w : DevicePut) (writes : List DevicePut)
+    → AreSteps decls most s → s.part ≡ part.Literal → is_write decls w ≡ true
+    → writes ≡ s.writes ++ w ∷ [] → AreSteps decls (most + 1) (record s { writes = writes })
+written decls most s w writes h here there grown =
     let call : Bool = has_caller s && are_begun decls s in
     let room : Bool = nat_lt (length s.actions) MOST_ACTIONS && not (is_named_by s.actions s.name) in
     let before = list_all (is_write decls) s.writes in
@@ -61,10 +76,7 @@ written d most s w writes known h here named item grown =
     let so_far : (call && is_literal_begun decls s) ≡ true = subst (λ (p : Part). is_open decls s p ≡ true) here h.call in
     let begun = second_so call (is_literal_begun decls s) so_far in
     let first = first_so (is_lawful_name s.name && before) room begun in
-    let there : is_some (device_named d.devices w.device) ≡ true =
-    named_same w.device d.devices ∙ ap (λ (ns : List (List ℕ)). is_among ns w.device) (sym known.named) ∙ named in
-    let all = all_more (is_write decls) s.writes w (second_so (is_lawful_name s.name) before first)
-    (both (is_some (device_named d.devices w.device)) (is_put (schema_named d.schemas d.devices w.device) (record { path = w.path; item = w.item })) there item) in
+    let all = all_more (is_write decls) s.writes w (second_so (is_lawful_name s.name) before first) there in
     let opened : is_open decls t part.Literal ≡ true =
     both call (is_literal_begun decls t) (first_so call (is_literal_begun decls s) so_far)
     (both (is_lawful_name s.name && behind) room (both (is_lawful_name s.name) behind (first_so (is_lawful_name s.name) before first) all)

@@ -7,9 +7,11 @@ use Rattle.orc_state.specs.Calls.{schema_named}
 use Rattle.orc_state.specs.States.{is_same_text, name_of}
 use Rattle.orc_state.specs.declared.declarations.Decls.{Decls}
 use Rattle.orc_bundle.specs.Bundles.{is_step}
+use Rattle.orc_path.specs.Steps.{PathStep}
 use Rattle.orc_bundle.specs.Names.{place_of}
+use Rattle.orc_bundle.specs.Places.{is_node_path}
 use Rattle.orc_bundle.specs.declared.bundle.ScriptStep.{ScriptStep}
-use Rattle.orc_bundle.specs.declared.bundle.ScriptStep.TheVariants.{Json}
+use Rattle.orc_bundle.specs.declared.bundle.ScriptStep.TheVariants.{Json, Meta}
 use Rattle.orc_bundle.specs.declared.declarations.Declared.{Declared}
 use Rattle.orc_bundle.specs.declared.script.Part.{Part}
 use Rattle.orc_bundle.specs.declared.script.Part.TheVariants as part
@@ -51,6 +53,14 @@ typed_step d name n placed typed =
     and_from (nat_lt n (length d.names)) (not (schema_named d.schemas d.devices (name_of d.names n)).plain)
     (lt-ltb n (length d.names) (place_within d.names name n placed))
     (ap (λ (x : List ℕ). not (schema_named d.schemas d.devices x).plain) (placed_name name d.names n placed) ∙ ap not typed)
+
+-- a path that a device may have can be named by a step `meta`
+pub node_step : (d : Declared) (name : List ℕ) (n : ℕ) (path : List PathStep) → place_of d.names name ≡ Some n
+    → is_node_path (schema_named d.schemas d.devices name) path ≡ true → is_step (decls_in d) (Meta n path) ≡ true
+node_step d name n path placed is =
+    and_from (nat_lt n (length d.names)) (is_node_path (schema_named d.schemas d.devices (name_of d.names n)) path)
+    (lt-ltb n (length d.names) (place_within d.names name n placed))
+    (ap (λ (x : List ℕ). is_node_path (schema_named d.schemas d.devices x) path) (placed_name name d.names n placed) ∙ is)
 
 -- a step more
 pub step_more : (decls : Decls) (most : ℕ) (s : Script) (step : ScriptStep) (steps : List ScriptStep) → AreSteps decls most s → is_step decls step ≡ true

@@ -12,15 +12,18 @@ use Rattle.orc_state.specs.Calls.{schema_named}
 use Rattle.orc_state.specs.declared.rule.Rule.{Rule}
 use Rattle.orc_state.specs.declared.rule.Rule.TheVariants as rule
 use Rattle.orc_bundle.specs.declared.declarations.Declared.{Declared}
-use Rattle.orc_bundle.specs.Items.{data_path_of, put_of}
+use Rattle.orc_path.specs.Reading.{path_of}
+use Rattle.orc_path.specs.Steps.{PathStep}
+use Rattle.orc_bundle.specs.Items.{data_path_of, is_past_path, put_of}
+use Rattle.orc_bundle.specs.Places.{device_item_of, device_node_of, device_node_words, device_path_of, is_no_word, node_path_of}
 use Rattle.orc_bundle.specs.Keywords.{keyword_of}
 use Rattle.orc_bundle.specs.Lines.{is_end, is_large, is_settled, is_skipped, text_of}
-use Rattle.orc_bundle.specs.Names.{is_among, place_of, with_name}
+use Rattle.orc_bundle.specs.Names.{place_of, with_name}
 use Rattle.orc_bundle.specs.Rules.{checked, or_rule}
-use Rattle.orc_bundle.specs.Scripts.{a_step, after_bare, after_call, after_delete, after_end, after_json, after_literal, after_set, after_show, after_step, after_stop, after_unset, after_write, an_action, bare_step, behind_literal, call_end, call_words, is_call_full, is_caller_more, is_followed, is_full, name_rules, scripted_at, step_words, stop_words, with_action, with_call, with_literal, with_step, word_at, words_at, write_words}
+use Rattle.orc_bundle.specs.Scripts.{a_step, after_bare, after_base_put, after_base_remove, after_call, after_delete, after_end, after_json, after_literal, after_meta, after_set, after_show, after_step, after_stop, after_unset, after_write, an_action, bare_step, behind_literal, call_end, call_words, is_call_full, is_caller_more, is_followed, is_full, name_rules, scripted_at, step_words, stop_words, with_action, with_call, with_literal, with_step, with_write, word_at, words_at}
 use Rattle.orc_bundle.specs.Words.{cut_at, first_word, is_text, number_in, word_before}
 use Rattle.orc_bundle.specs.declared.bundle.ScriptStep.{ScriptStep}
-use Rattle.orc_bundle.specs.declared.bundle.ScriptStep.TheVariants.{Show, Json, Data, Serve, Settle, Stop, StopAt, Recover, History}
+use Rattle.orc_bundle.specs.declared.bundle.ScriptStep.TheVariants.{Show, Json, Meta, Data, Serve, Settle, Stop, StopAt, Recover, History}
 use Rattle.orc_bundle.specs.declared.keyword.Keyword.{Keyword}
 use Rattle.orc_bundle.specs.declared.keyword.Keyword.TheVariants as keyword
 use Rattle.orc_bundle.specs.declared.script.Script.{Script}
@@ -176,6 +179,37 @@ module _ (d : Declared) (s : Script) (text : List ℕ) (later : List (List ℕ))
           unlooked = unlooked_at keyword.Json is refl;
         })
 
+    -- a step `meta` has room
+    node_room : (full : Bool) (rest : List ℕ) (node : ℕ × List PathStep) → device_node_of d full rest ≡ Ok node → full ≡ false
+    unfolding device_node_of
+    node_room full rest node h = on (cut_at 32 rest) h where
+      on : (o : Option (List ℕ × List ℕ)) → device_node_words d full o ≡ Ok node → full ≡ false
+      on None h = absurd (no_ok rule.Line node h)
+      on (Some words) h =
+          let long = is_long_name words.0 || full in
+          let past = is_past_path (path_of words.1) in
+          let one = passed (not (is_identifier words.0)) rule.Line _ node h in
+          let found = on_ok_ok (node_path_of (schema_named d.schemas d.devices words.0) long words.1) _ node one.1 in
+          let two = passed (is_no_word words.1) rule.Line _ found.0 found.1.0 in
+          let three = passed (long || past) rule.Size _ found.0 two.1 in
+          (or_parts (is_long_name words.0) full (or_parts long past three.0).0).1
+
+    told : (rest : List ℕ) → word ≡ keyword.Meta → after_meta d s rest ≡ Ok t → MakesOf s text later t
+    unfolding after_meta step_looks_at
+    told rest is h =
+        let found = on_ok_ok (device_node_of d (is_full s) rest) (λ node. Ok (with_step s (Meta node.0 node.1))) t h in
+        let step = Meta found.0.0 found.0.1 in
+        stepped (record {
+          step = step;
+          kept = kept;
+          resting = resting;
+          room = node_room (is_full s) rest found.0 found.1.0;
+          is = sym (same_ok (with_step s step) t found.1.1);
+          plain = refl;
+          settles = λ e. absurd (no_settle keyword.Meta is refl e);
+          unlooked = unlooked_at keyword.Meta is refl;
+        })
+
     stops : (o : Option (List ℕ × List ℕ)) → word ≡ keyword.Stop → stop_words s o ≡ Ok t → MakesOf s text later t
     unfolding step_looks_at
     stops None is h = absurd (no_ok rule.Line t h)
@@ -215,6 +249,7 @@ module _ (d : Declared) (s : Script) (text : List ℕ) (later : List (List ℕ))
     unfolding a_step after_stop after_call
     more_words keyword.Show rest followed is follows h = shown rest is h
     more_words keyword.Json rest followed is follows h = printed rest is h
+    more_words keyword.Meta rest followed is follows h = told rest is h
     more_words keyword.Stop rest followed is follows h = stops (cut_at 32 rest) is h
     more_words keyword.Call rest followed is follows h = calls (cut_at 32 rest) followed is follows h
     more_words _ rest followed is follows h = absurd (no_ok rule.Line t h)
@@ -236,16 +271,11 @@ module _ (d : Declared) (s : Script) (text : List ℕ) (later : List (List ℕ))
           unlooked = unlooked_at k is none;
         })
 
-    writes : (o : Option (List ℕ × List ℕ)) → word ≡ keyword.Write → write_words d s o ≡ Ok t → MakesOf s text later t
-    unfolding step_looks_at
-    writes None is h = absurd (no_ok rule.Line t h)
-    writes (Some words) is h =
-        let one = passed (not (is_identifier words.0)) rule.Line _ t h in
-        let found = on_ok_ok (put_of false (schema_named d.schemas d.devices words.0) (is_long_name words.0) words.1) _ t one.1 in
-        let put = found.0 in
-        let after : Script = record s { writes = s.writes ++ (record { device = words.0; path = put.path; item = put.item }) ∷ [] } in
-        let two = passed (not (is_among d.names words.0)) rule.Unknown (Ok after) t found.1.1 in
-        goes_on keyword.Write is refl refl after two.1 was_open refl refl refl
+    writes : (rest : List ℕ) → word ≡ keyword.Write → after_write d s rest ≡ Ok t → MakesOf s text later t
+    unfolding after_write step_looks_at
+    writes rest is h =
+        let found = on_ok_ok (device_item_of d rest) (λ write. Ok (with_write s write)) t h in
+        goes_on keyword.Write is refl refl (with_write s found.0) found.1.1 was_open refl refl refl
 
     -- behind the actions so far, where an open literal is one of them
     module _ (u : Script) (open_yet : is_resting u.part ≡ false) (steps : u.steps ≡ s.steps) (callers : u.callers ≡ s.callers) (caller : u.caller ≡ s.caller) where
@@ -269,6 +299,20 @@ module _ (d : Declared) (s : Script) (text : List ℕ) (later : List (List ℕ))
           let found = on_ok_ok (data_path_of d.data_schema rest) (λ path. Ok (with_action u (action.Unset path))) t one.1 in
           goes_on keyword.Unset is refl refl (with_action u (action.Unset found.0)) found.1.1 open_yet steps callers caller
 
+      puts_base : (rest : List ℕ) → word ≡ keyword.Base → after_base_put d u rest ≡ Ok t → MakesOf s text later t
+      unfolding after_base_put step_looks_at
+      puts_base rest is h =
+          let one = passed (is_call_full u) rule.Line _ t h in
+          let found = on_ok_ok (device_item_of d rest) (λ put. Ok (with_action u (action.BasePut put))) t one.1 in
+          goes_on keyword.Base is refl refl (with_action u (action.BasePut found.0)) found.1.1 open_yet steps callers caller
+
+      removes_base : (rest : List ℕ) → word ≡ keyword.Unbase → after_base_remove d u rest ≡ Ok t → MakesOf s text later t
+      unfolding after_base_remove step_looks_at
+      removes_base rest is h =
+          let one = passed (is_call_full u) rule.Line _ t h in
+          let found = on_ok_ok (device_path_of d rest) (λ named. Ok (with_action u (action.BaseRemove named.0 named.1))) t one.1 in
+          goes_on keyword.Unbase is refl refl (with_action u (action.BaseRemove found.0.0 found.0.1)) found.1.1 open_yet steps callers caller
+
       acts : (k : Keyword) (rest : List ℕ) → word ≡ k → an_action k d u rest ≡ Ok t → MakesOf s text later t
       unfolding an_action after_literal after_delete step_looks_at
       acts keyword.Literal rest is h =
@@ -279,6 +323,8 @@ module _ (d : Declared) (s : Script) (text : List ℕ) (later : List (List ℕ))
           goes_on keyword.Delete is refl refl v (names rest v h) open_yet steps callers caller
       acts keyword.Set rest is h = sets rest is h
       acts keyword.Unset rest is h = unsets rest is h
+      acts keyword.Base rest is h = puts_base rest is h
+      acts keyword.Unbase rest is h = removes_base rest is h
       acts _ rest is h = absurd (no_ok rule.Line t h)
 
       ends : (k : Keyword) (followed : Bool) → cut_at 32 text ≡ None → word ≡ k → is_followed word later ≡ followed → call_end k u followed ≡ Ok t → MakesOf s text later t
@@ -303,8 +349,8 @@ module _ (d : Declared) (s : Script) (text : List ℕ) (later : List (List ℕ))
       ends _ followed alone is follows h = absurd (no_ok rule.Line t h)
 
     a_line : (k : Keyword) (rest : List ℕ) → word ≡ k → behind_literal k d s rest ≡ Ok t → MakesOf s text later t
-    unfolding behind_literal after_write
-    a_line keyword.Write rest is h = writes (cut_at 32 rest) is h
+    unfolding behind_literal
+    a_line keyword.Write rest is h = writes rest is h
     a_line k rest is h = acts (with_literal s) refl refl refl refl k rest is h
 
   -- by what is open

@@ -9,7 +9,7 @@ use Rattle.orc_state.specs.Actions.{name_each_once}
 use Rattle.orc_state.specs.Calls.{is_action, is_lawful_name}
 use Rattle.orc_bundle.specs.Bundles.{decls_with, is_step}
 use Rattle.orc_bundle.specs.declared.bundle.ScriptStep.{ScriptStep}
-use Rattle.orc_bundle.specs.declared.bundle.ScriptStep.TheVariants.{Show, Json, Data, Serve, Settle, Stop, StopAt, Recover, History}
+use Rattle.orc_bundle.specs.declared.bundle.ScriptStep.TheVariants.{Show, Json, Meta, Data, Serve, Settle, Stop, StopAt, Recover, History}
 use Rattle.orc_bundle.specs.declared.declarations.Declared.{Declared}
 
 module _ (a b : List ℕ) (d : Declared) where
@@ -33,6 +33,7 @@ module _ (a b : List ℕ) (d : Declared) where
   pub step_same : (step : ScriptStep) → is_step (decls_with a d) step ≡ is_step (decls_with b d) step
   step_same (Show device) = refl
   step_same (Json device) = refl
+  step_same (Meta device path) = refl
   step_same Data = refl
   step_same (Serve call) =
       ap (λ (t : Bool). is_lawful_name call.caller && nat_lt call.number (2 ^ 64)

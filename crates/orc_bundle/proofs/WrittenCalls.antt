@@ -17,7 +17,7 @@ use Rattle.orc_schema.specs.Schemas.{SchemaTable}
 use Rattle.orc_typed.specs.Typed.{are_canonical_steps, is_in_schema}
 use Rattle.orc_state.specs.Actions.{is_named_by, name_each_once, named, names}
 use Rattle.orc_state.specs.States.{is_same_text, names_of}
-use Rattle.orc_state.specs.Calls.{blank_item, device_named, is_action, is_data_item, is_data_path, is_item_at, is_item_under, is_kept, is_lawful_name, is_path_under, is_write, schema_named}
+use Rattle.orc_state.specs.Calls.{blank_item, device_named, is_action, is_base_path, is_data_item, is_data_path, is_item_at, is_item_under, is_kept, is_lawful_name, is_path_under, is_write, schema_named}
 use Rattle.orc_state.specs.declared.lawful.TheConstants.{MOST_WRITES}
 use Rattle.orc_state.specs.declared.rule.Rule.{Rule}
 use Rattle.orc_state.specs.declared.rule.Rule.TheVariants as rule
@@ -28,7 +28,8 @@ use Rattle.orc_bundle.specs.Keywords.{keyword_of}
 use Rattle.orc_bundle.specs.Lines.{is_settled}
 use Rattle.orc_bundle.specs.Names.{is_among}
 use Rattle.orc_bundle.specs.Rules.{on_ok}
-use Rattle.orc_bundle.specs.Scripts.{after_delete, after_end, after_literal, after_set, after_step, after_unset, after_write, an_action, behind_literal, call_end, is_followed, with_action, word_at, words_at, write_words}
+use Rattle.orc_bundle.specs.Places.{device_item_of, device_item_words, device_path_of, device_path_words}
+use Rattle.orc_bundle.specs.Scripts.{after_base_put, after_base_remove, after_delete, after_end, after_literal, after_set, after_step, after_unset, after_write, an_action, behind_literal, call_end, is_followed, with_action, with_write, word_at, words_at}
 use Rattle.orc_bundle.specs.Words.{cut_at}
 use Rattle.orc_bundle.specs.Written.{AreLinesOf, lines_of_action, line_of_write}
 use Rattle.orc_bundle.specs.declared.bundle.ScriptStep.{ScriptStep}
@@ -38,8 +39,8 @@ use Rattle.orc_bundle.specs.declared.script.Part.TheVariants as part
 use Rattle.orc_bundle.proofs.LinesOf.{untrue}
 use Rattle.orc_bundle.proofs.Texts.{IsLawfulAt, IsLawfulName, IsWord, item_short, lawful_at, lawful_name, lawful_under, part_append, part_known, part_of_item, part_of_word, path_short, word_of_path}
 use Rattle.orc_bundle.proofs.Lawful.{named_same}
-use Rattle.orc_bundle.proofs.WrittenDevices.{data_again, same_back}
-use Rattle.orc_bundle.proofs.WrittenItems.{data_path_again, item_again}
+use Rattle.orc_bundle.proofs.WrittenDevices.{base_text, data_again, same_back}
+use Rattle.orc_bundle.proofs.WrittenItems.{base_path_again, carrying, data_path_again, item_again}
 use Rattle.orc_bundle.proofs.WrittenLines.{IsText, cut_alone, cut_word}
 use Rattle.orc_bundle.proofs.WrittenScript.{Ends, one_line, resting}
 
@@ -76,6 +77,43 @@ write_known text d w known h =
       item = parts.1;
       at = lawful_under schema w.path w.item parts.1;
     }
+
+-- an item of a declared device is read again
+pub device_item_again : (d : Declared) (w : DevicePut) → IsWrittenOn d w → device_item_of d (w.device ++ codes " " ++ item_text w.path w.item) ≡ Ok w
+unfolding device_item_of
+device_item_again d w k =
+    let item = item_text w.path w.item in
+    let ident = k.device.identifier in
+    let short = k.device.short in
+    let reads = item_again false (schema_named d.schemas d.devices w.device) w.path w.item k.item refl in
+    let declared = k.declared in
+    ap (λ (x : List ℕ). device_item_words d (cut_at 32 x)) (append_assoc w.device (codes " ") item)
+    ∙ ap (device_item_words d) (cut_word w.device item k.device.word)
+    ∙ rw ident (rw short (rw reads (rw declared refl)))
+
+-- what is known of a path of a declared device that can carry an item
+pub record IsPathOn (d : Declared) (name : List ℕ) (p : List PathStep) : Type 0 where
+  pub device : IsLawfulName name
+  pub declared : is_among d.names name ≡ true
+  pub under : is_path_under (schema_named d.schemas d.devices name) p ≡ true
+
+pub base_path_known : (text : List ℕ) (d : Declared) (name : List ℕ) (p : List PathStep) → AreNamed d → is_base_path (decls_with text d) name p ≡ true → IsPathOn d name p
+base_path_known text d name p known h =
+    let parts = and_parts (is_some (device_named d.devices name)) (is_path_under (schema_named d.schemas d.devices name) p) h in
+    let there : is_among d.names name ≡ true = ap (λ (ns : List (List ℕ)). is_among ns name) known.named ∙ sym (named_same name d.devices) ∙ parts.0 in
+    record { device = lawful_name name (lawful_among d.names name known.lawful there); declared = there; under = parts.1 }
+
+-- it is read again
+device_path_again : (d : Declared) (name : List ℕ) (p : List PathStep) → IsPathOn d name p → device_path_of d (name ++ codes " " ++ path_text p) ≡ Ok (name, p)
+unfolding device_path_of
+device_path_again d name p k =
+    let ident = k.device.identifier in
+    let short = k.device.short in
+    let reads = base_path_again (schema_named d.schemas d.devices name) p k.under in
+    let declared = k.declared in
+    ap (λ (x : List ℕ). device_path_words d (cut_at 32 x)) (append_assoc name (codes " ") (path_text p))
+    ∙ ap (device_path_words d) (cut_word name (path_text p) k.device.word)
+    ∙ rw ident (rw short (rw reads (rw declared refl)))
 
 -- what is known of a lawful path of the data
 pub record IsPathWord (p : List PathStep) : Type 0 where
@@ -155,6 +193,23 @@ unset_text s p h =
     let whole = length-append (codes "unset ") (path_text p) in
     record { part = part_append (codes "unset ") (path_text p) (part_known (codes "unset ") refl refl) (part_of_word (path_text p) k.word); kept = refl; short = omega arith }
 
+pub unbase_text : (s : SchemaTable) (name : List ℕ) (p : List PathStep) → IsLawfulName name → is_path_under s p ≡ true
+    → IsText (codes "unbase " ++ name ++ codes " " ++ path_text p)
+unbase_text s name p l h =
+    let k = carrying s p h in
+    let one = length-append (codes "unbase ") name in
+    let two = length-append (codes "unbase " ++ name) (codes " ") in
+    let three = length-append (codes "unbase " ++ name ++ codes " ") (path_text p) in
+    let size = l.size in
+    let most = path_short p k.lawful.short in
+    record {
+      part = part_append (codes "unbase " ++ name ++ codes " ") (path_text p)
+          (part_append (codes "unbase " ++ name) (codes " ") (part_append (codes "unbase ") name (part_known (codes "unbase ") refl refl) (part_of_word name l.word)) (part_known (codes " ") refl refl))
+          (part_of_word (path_text p) (word_of_path p k.lawful.path));
+      kept = refl;
+      short = omega arith;
+    }
+
 -- the places inside a call
 module _ (callers : List (List ℕ)) (done : List ScriptStep) (caller : List ℕ) (number : ℕ) where
   -- these actions stand
@@ -204,6 +259,18 @@ module _ (callers : List (List ℕ)) (done : List ScriptStep) (caller : List ℕ
   at_unset d _ _ rest later (closed actions) = refl
   at_unset d _ _ rest later (begun actions other writes) = refl
 
+  at_base : (d : Declared) (s : Script) (actions : List Action) (rest : List ℕ) (later : List (List ℕ)) → HasActions s actions
+      → after_step d s (codes "base " ++ rest) later ≡ after_base_put d (opened actions) rest
+  unfolding after_step words_at an_action behind_literal keyword_of
+  at_base d _ _ rest later (closed actions) = refl
+  at_base d _ _ rest later (begun actions other writes) = refl
+
+  at_unbase : (d : Declared) (s : Script) (actions : List Action) (rest : List ℕ) (later : List (List ℕ)) → HasActions s actions
+      → after_step d s (codes "unbase " ++ rest) later ≡ after_base_remove d (opened actions) rest
+  unfolding after_step words_at an_action behind_literal keyword_of
+  at_unbase d _ _ rest later (closed actions) = refl
+  at_unbase d _ _ rest later (begun actions other writes) = refl
+
   at_end : (d : Declared) (s : Script) (actions : List Action) (later : List (List ℕ)) → HasActions s actions → is_settled later ≡ true
       → after_step d s (codes "end") later ≡ after_end (opened actions) true
   unfolding after_step word_at call_end keyword_of is_followed
@@ -237,6 +304,20 @@ module _ (callers : List (List ℕ)) (done : List ScriptStep) (caller : List ℕ
         ap (λ (b : Bool). cond b (Err rule.Line) (on_ok (data_path_of d.data_schema (path_text p)) (λ q. Ok (with_action (opened actions) (action.Unset q))))) one
         ∙ ap (λ (r : Result (List PathStep) Rule). on_ok r (λ q. Ok (with_action (opened actions) (action.Unset q)))) (data_path_again d.data_schema p h)
 
+    base_made : (d : Declared) (w : DevicePut) → IsWrittenOn d w
+        → after_base_put d (opened actions) (w.device ++ codes " " ++ item_text w.path w.item) ≡ Ok (opened (actions ++ action.BasePut w ∷ []))
+    unfolding after_base_put
+    base_made d w k =
+        ap (λ (b : Bool). cond b (Err rule.Line) (on_ok (device_item_of d (w.device ++ codes " " ++ item_text w.path w.item)) (λ p. Ok (with_action (opened actions) (action.BasePut p))))) room
+        ∙ ap (λ (o : Result DevicePut Rule). on_ok o (λ p. Ok (with_action (opened actions) (action.BasePut p)))) (device_item_again d w k)
+
+    unbase_made : (d : Declared) (name : List ℕ) (p : List PathStep) → IsPathOn d name p
+        → after_base_remove d (opened actions) (name ++ codes " " ++ path_text p) ≡ Ok (opened (actions ++ action.BaseRemove name p ∷ []))
+    unfolding after_base_remove
+    unbase_made d name p k =
+        ap (λ (b : Bool). cond b (Err rule.Line) (on_ok (device_path_of d (name ++ codes " " ++ path_text p)) (λ n. Ok (with_action (opened actions) (action.BaseRemove n.0 n.1))))) room
+        ∙ ap (λ (o : Result (List ℕ × List PathStep) Rule). on_ok o (λ n. Ok (with_action (opened actions) (action.BaseRemove n.0 n.1)))) (device_path_again d name p k)
+
   module _ (d : Declared) (rest : List (List ℕ)) (r : Result (List ScriptStep) (ℕ × Rule)) where
     end_made : (actions : List Action) → nat_eq (length actions) 0 ≡ false → after_end (opened actions) true ≡ Ok (served actions)
     unfolding after_end
@@ -251,14 +332,7 @@ module _ (callers : List (List ℕ)) (done : List ScriptStep) (caller : List ℕ
         → after_step d (literal actions id writes) (line_of_write w) later ≡ Ok (literal actions id (writes ++ w ∷ []))
     unfolding after_step words_at behind_literal keyword_of after_write
     write_reads later actions id writes w k =
-        let item = item_text w.path w.item in
-        let ident = k.device.identifier in
-        let short = k.device.short in
-        let reads = item_again false (schema_named d.schemas d.devices w.device) w.path w.item k.item refl in
-        let declared = k.declared in
-        ap (λ (x : List ℕ). write_words d (literal actions id writes) (cut_at 32 x)) (append_assoc w.device (codes " ") item)
-        ∙ ap (write_words d (literal actions id writes)) (cut_word w.device item k.device.word)
-        ∙ rw ident (rw short (rw reads (rw declared refl)))
+        ap (λ (o : Result DevicePut Rule). on_ok o (λ v. Ok (with_write (literal actions id writes) v))) (device_item_again d w k)
 
     write_line : (actions : List Action) (id : List ℕ) (writes : List DevicePut) (w : DevicePut) → IsWrittenOn d w
         → Ends d (literal actions id (writes ++ w ∷ [])) rest r → Ends d (literal actions id writes) (line_of_write w ∷ rest) r
@@ -310,8 +384,20 @@ module _ (callers : List (List ℕ)) (done : List ScriptStep) (caller : List ℕ
     action_read (action.Create id body) is new behind = absurd (false≢true is)
     action_read (action.Modify id body) is new behind = absurd (false≢true is)
     action_read (action.Redeploy id) is new behind = absurd (false≢true is)
-    action_read (action.BasePut put) is new behind = absurd (false≢true is)
-    action_read (action.BaseRemove device path) is new behind = absurd (false≢true is)
+    action_read (action.BasePut w) is new behind =
+        let k = write_known text d w known is in
+        let words = w.device ++ codes " " ++ item_text w.path w.item in
+        let line = codes "base " ++ w.device ++ codes " " ++ item_text w.path w.item in
+        one_line d s (opened (before ++ action.BasePut w ∷ [])) line rest r (base_text w.device (record { path = w.path; item = w.item }) k.device k.at)
+        (λ later are. at_base d s before words later has ∙ base_made before room d w k)
+        (behind (opened (before ++ action.BasePut w ∷ [])) (closed (before ++ action.BasePut w ∷ [])))
+    action_read (action.BaseRemove name path) is new behind =
+        let k = base_path_known text d name path known is in
+        let words = name ++ codes " " ++ path_text path in
+        let line = codes "unbase " ++ name ++ codes " " ++ path_text path in
+        one_line d s (opened (before ++ action.BaseRemove name path ∷ [])) line rest r (unbase_text (schema_named d.schemas d.devices name) name path k.device k.under)
+        (λ later are. at_unbase d s before words later has ∙ unbase_made before room d name path k)
+        (behind (opened (before ++ action.BaseRemove name path ∷ [])) (closed (before ++ action.BaseRemove name path ∷ [])))
 
   -- the rest of a call's actions, and the line that ends it
   actions_read : (text : List ℕ) (d : Declared) (before todo : List Action) (s : Script) (rest : List (List ℕ)) (r : Result (List ScriptStep) (ℕ × Rule))

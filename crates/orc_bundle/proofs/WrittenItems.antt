@@ -1,7 +1,7 @@
 -- Items and paths that are written are read.
-use Rattle.std.proofs.Common.{◌≡◌, ℕ, ◌<◌, ◌-◌, Bool, true, false, not, ◌&&◌, ◌||◌, cond, nat_lt, List, [], ◌∷◌, ◌++◌, codes, length, take, Option, refl, ap, sym, ◌∙◌, arith, append_assoc, Some, None, Ok, nat_eq, option_map, option_and_then}
+use Rattle.std.proofs.Common.{◌≡◌, ℕ, ◌<◌, ◌-◌, Bool, true, false, not, ◌&&◌, ◌||◌, cond, nat_lt, List, [], ◌∷◌, ◌++◌, codes, length, take, Option, refl, ap, sym, ◌∙◌, arith, append_assoc, Some, None, Ok, nat_eq, option_map, option_and_then, is_some}
 use Rattle.std.specs.Result.{result_ok}
-use Rattle.std.proofs.lemmas.Bool.{and_parts, and_from, false≢true}
+use Rattle.std.proofs.lemmas.Bool.{and_parts, and_from, or_from, false≢true}
 use Rattle.orc_path.specs.Alphabet.{is_value}
 use Rattle.orc_path.specs.Items.{fits, item_text}
 use Rattle.orc_path.specs.Limits.{is_long_path}
@@ -22,9 +22,10 @@ use Rattle.orc_typed.proofs.Kept.{own_of_typed}
 use Rattle.orc_state.specs.Calls.{blank_item, has_entries, is_data_path, is_item_at, is_item_under, is_kept, is_list_path, is_path_under}
 use Rattle.orc_bundle.specs.Items.{can_carry, data_path_of, forbidden_of, forbidden_words, is_barred, is_past_path, is_past_value, item_words, leaf_of, list_path_of, names_list, put_of}
 use Rattle.orc_bundle.proofs.CanonicalItems.{carries_same}
+use Rattle.orc_bundle.specs.Places.{base_path_of, is_no_word, is_node_path, names_node, node_path_of}
 use Rattle.orc_bundle.specs.Words.{cut_at}
 use Rattle.orc_bundle.proofs.LinesOf.{untrue}
-use Rattle.orc_bundle.proofs.Texts.{IsLawfulAt, lawful_at, lawful_value, word_of_path}
+use Rattle.orc_bundle.proofs.Texts.{IsLawfulAt, IsWord, lawful_at, lawful_value, word_of_path}
 use Rattle.orc_bundle.proofs.WrittenLines.{cut_alone, cut_word}
 
 not_zero : (n : ℕ) → 0 < n → nat_eq n 0 ≡ false
@@ -197,3 +198,60 @@ list_path_again s p h =
           let one = and_parts stands (steps && entries) h in
           let two = and_parts steps entries one.1 in
           (and_from stands entries one.0 two.1, two.0)
+
+-- a word that is there alone
+word_alone : (w : List ℕ) → IsWord w → nat_eq (length w) 0 ≡ false → is_no_word w ≡ false
+word_alone w is some = or_from (nat_eq (length w) 0) (is_some (cut_at 32 w)) some (ap (λ (o : Option (List ℕ × List ℕ)). is_some o) (cut_alone w is))
+
+-- what is known of a lawful path that can carry an item
+pub record IsCarrying (s : SchemaTable) (p : List PathStep) : Type 0 where
+  pub lawful : IsLawfulAt p (blank_item p)
+  pub inside : is_in_schema s p (blank_item p) ≡ true
+  pub own : (s.plain || are_canonical_steps s [] p) ≡ true
+
+pub carrying : (s : SchemaTable) (p : List PathStep) → is_path_under s p ≡ true → IsCarrying s p
+carrying s p h =
+    let one = and_parts (is_item_at p (blank_item p)) (is_in_schema s p (blank_item p) && (s.plain || are_canonical_steps s [] p)) h in
+    let parts = and_parts (is_in_schema s p (blank_item p)) (s.plain || are_canonical_steps s [] p) one.1 in
+    record { lawful = lawful_at p (blank_item p) one.0; inside = parts.0; own = parts.1 }
+
+-- one of a device that can carry an item
+pub base_path_again : (s : SchemaTable) (p : List PathStep) → is_path_under s p ≡ true → base_path_of s false (path_text p) ≡ Ok p
+base_path_again s p h =
+    let k = carrying s p h in
+    let l = k.lawful in
+    let alone = word_alone (path_text p) (word_of_path p l.path) (path_some p) in
+    let kept = path_kept p l.path l.short in
+    let again = path_of_text p l.path in
+    let carries : can_carry s p (blank_item p) ≡ true = and_from (fits p (blank_item p)) (is_in_schema s p (blank_item p)) l.fit k.inside in
+    let own = path_own s p k.own in
+    rw alone (rw kept (rw again (rw carries (rw own (rw h refl)))))
+
+-- what is known of a path of a schema
+pub record IsNode (s : SchemaTable) (p : List PathStep) : Type 0 where
+  pub path : is_path p ≡ true
+  pub short : is_long_path p ≡ false
+  pub names : names_node s p ≡ true
+  pub own : (s.plain || are_canonical_steps s [] p) ≡ true
+
+pub node_known : (s : SchemaTable) (p : List PathStep) → is_node_path s p ≡ true → IsNode s p
+node_known s p h =
+    let stands = stand s [] p || names_list s p in
+    let two = and_parts (is_path p && not (is_long_path p)) (s.plain || (stands && are_canonical_steps s [] p)) h in
+    let one = and_parts (is_path p) (not (is_long_path p)) two.0 in
+    let parts = of_node s.plain stands (are_canonical_steps s [] p) two.1 in
+    record { path = one.0; short = untrue (is_long_path p) one.1; names = parts.0; own = parts.1 } where
+      of_node : (plain stands steps : Bool) → (plain || (stands && steps)) ≡ true → ((plain || stands) ≡ true) × ((plain || steps) ≡ true)
+      of_node true stands steps h = (refl, refl)
+      of_node false stands steps h = and_parts stands steps h
+
+-- any one of a device
+pub node_path_again : (s : SchemaTable) (p : List PathStep) → is_node_path s p ≡ true → node_path_of s false (path_text p) ≡ Ok p
+node_path_again s p h =
+    let k = node_known s p h in
+    let alone = word_alone (path_text p) (word_of_path p k.path) (path_some p) in
+    let kept = path_kept p k.path k.short in
+    let again = path_of_text p k.path in
+    let names = k.names in
+    let own = path_own s p k.own in
+    rw alone (rw kept (rw again (rw names (rw own (rw h refl)))))

@@ -1,5 +1,5 @@
 -- A script's lines that are written are read.
-use Rattle.std.proofs.Common.{◌≡◌, ℕ, ◌<◌, ◌≤◌, ◌+◌, ◌^◌, Bool, true, false, not, cond, List, [], ◌∷◌, ◌++◌, codes, length, length-append, refl, ap, ◌∙◌, arith, append_assoc, Result, Ok, Err, Some, decimal, nat_le, nat_lt}
+use Rattle.std.proofs.Common.{◌≡◌, ℕ, ◌<◌, ◌≤◌, ◌+◌, ◌^◌, Bool, true, false, not, cond, List, [], ◌∷◌, ◌++◌, codes, length, length-append, refl, ap, ◌∙◌, arith, append_assoc, Result, Ok, Err, Option, Some, decimal, nat_le, nat_lt}
 use Rattle.std.specs.List.{list_all}
 use Rattle.std.specs.Str.{is_utf8}
 use Rattle.std.proofs.lemmas.Bool.{lt-leb}
@@ -10,11 +10,16 @@ use Rattle.orc_bundle.specs.Bundles.{on_line, script_steps}
 use Rattle.orc_bundle.specs.Keywords.{keyword_of}
 use Rattle.orc_bundle.specs.Lines.{is_skipped, text_of}
 use Rattle.orc_bundle.specs.Names.{place_of}
-use Rattle.orc_bundle.specs.Scripts.{a_step, after_json, after_show, after_step, after_stop, bare_step, scripted_at, stop_words, word_at, words_at}
+use Rattle.orc_bundle.specs.Scripts.{a_step, after_json, after_meta, after_show, after_step, after_stop, bare_step, is_full, scripted_at, stop_words, with_step, word_at, words_at}
+use Rattle.orc_path.specs.Limits.{is_long_path}
+use Rattle.orc_path.specs.Steps.{PathStep, is_path}
+use Rattle.orc_path.specs.Texts.{path_text}
+use Rattle.orc_bundle.specs.Places.{device_node_of, device_node_words, is_node_path}
+use Rattle.orc_bundle.specs.Rules.{on_ok}
 use Rattle.orc_bundle.specs.Words.{cut_at}
 use Rattle.orc_bundle.specs.declared.declarations.Declared.{Declared}
 use Rattle.orc_bundle.specs.declared.bundle.ScriptStep.{ScriptStep}
-use Rattle.orc_bundle.specs.declared.bundle.ScriptStep.TheVariants.{Show, Json, Data, Settle, Stop, StopAt, Recover, History}
+use Rattle.orc_bundle.specs.declared.bundle.ScriptStep.TheVariants.{Show, Json, Meta, Data, Settle, Stop, StopAt, Recover, History}
 use Rattle.orc_bundle.specs.declared.bundle.TheConstants.{LARGEST_BUNDLE}
 use Rattle.orc_bundle.specs.declared.script.Script.{Script}
 use Rattle.orc_bundle.specs.declared.script.Part.TheVariants as part
@@ -23,8 +28,9 @@ use Rattle.std.proofs.lemmas.Str.{is_utf8-from_IsUtf8}
 use Rattle.orc_bundle.specs.Written.{AreLinesOf, IsLineOf, none, one, skipped}
 use Rattle.orc_bundle.specs.declared.lines.TheConstants.{LONGEST_LINE}
 use Rattle.orc_bundle.proofs.Skipped.{script}
-use Rattle.orc_bundle.proofs.Texts.{is_line_byte, IsLawfulName, number_short, part_append, part_known, part_of_word, word_of_number}
+use Rattle.orc_bundle.proofs.Texts.{is_line_byte, IsLawfulName, number_short, part_append, part_known, part_of_word, path_short, word_of_number, word_of_path}
 use Rattle.orc_bundle.proofs.WrittenDeclarations.{bytes_of}
+use Rattle.orc_bundle.proofs.WrittenItems.{node_known, node_path_again}
 use Rattle.orc_bundle.proofs.WrittenLines.{IsText, cut_word, not_large, number_again}
 
 -- a line is looked at by its text
@@ -98,6 +104,22 @@ json_text name l =
     let size = l.size in
     let whole = length-append (codes "json ") name in
     record { part = part_append (codes "json ") name (part_known (codes "json ") refl refl) (part_of_word name l.word); kept = refl; short = omega arith }
+
+pub meta_text : (name : List ℕ) (path : List PathStep) → IsLawfulName name → is_path path ≡ true → is_long_path path ≡ false
+    → IsText (codes "meta " ++ name ++ codes " " ++ path_text path)
+meta_text name path l is kept =
+    let one = length-append (codes "meta ") name in
+    let two = length-append (codes "meta " ++ name) (codes " ") in
+    let three = length-append (codes "meta " ++ name ++ codes " ") (path_text path) in
+    let size = l.size in
+    let most = path_short path kept in
+    record {
+      part = part_append (codes "meta " ++ name ++ codes " ") (path_text path)
+          (part_append (codes "meta " ++ name) (codes " ") (part_append (codes "meta ") name (part_known (codes "meta ") refl refl) (part_of_word name l.word)) (part_known (codes " ") refl refl))
+          (part_of_word (path_text path) (word_of_path path is));
+      kept = refl;
+      short = omega arith;
+    }
 
 pub stop_at_text : (count bytes : ℕ) → count < 2 ^ 64 → bytes < 2 ^ 64 → IsText (codes "stop " ++ decimal count ++ codes " " ++ decimal bytes)
 stop_at_text count bytes c b =
@@ -185,6 +207,28 @@ module _ (d : Declared) (callers : List (List ℕ)) (done : List ScriptStep) (nu
       → Ends d (behind (Json device)) rest r → Ends d here ((codes "json " ++ name) ∷ rest) r
   json_line name device l place typed =
       one_line d here (behind (Json device)) (codes "json " ++ name) rest r (json_text name l) (λ later are. json_reads later name device l place typed)
+
+  meta_reads : (later : List (List ℕ)) (name : List ℕ) (device : ℕ) (path : List PathStep) → IsLawfulName name → place_of d.names name ≡ Some device
+      → is_node_path (schema_named d.schemas d.devices name) path ≡ true
+      → after_step d here (codes "meta " ++ name ++ codes " " ++ path_text path) later ≡ Ok (behind (Meta device path))
+  unfolding after_step words_at a_step keyword_of after_meta device_node_of
+  meta_reads later name device path l place is =
+      let full = room done few in
+      let ident = l.identifier in
+      let short = l.short in
+      let again = node_path_again (schema_named d.schemas d.devices name) path is in
+      let next : Result (ℕ × List PathStep) Rule → Result Script Rule = λ r. on_ok r (λ node. Ok (with_step here (Meta node.0 node.1))) in
+      ap (λ (x : List ℕ). next (device_node_words d (is_full here) (cut_at 32 x))) (append_assoc name (codes " ") (path_text path))
+      ∙ ap (λ (o : Option (List ℕ × List ℕ)). next (device_node_words d (is_full here) o)) (cut_word name (path_text path) l.word)
+      ∙ rw ident (rw short (rw full (rw again (rw place refl))))
+
+  pub meta_line : (name : List ℕ) (device : ℕ) (path : List PathStep) → IsLawfulName name → place_of d.names name ≡ Some device
+      → is_node_path (schema_named d.schemas d.devices name) path ≡ true
+      → Ends d (behind (Meta device path)) rest r → Ends d here ((codes "meta " ++ name ++ codes " " ++ path_text path) ∷ rest) r
+  meta_line name device path l place is =
+      let k = node_known (schema_named d.schemas d.devices name) path is in
+      one_line d here (behind (Meta device path)) (codes "meta " ++ name ++ codes " " ++ path_text path) rest r (meta_text name path l k.path k.short)
+      (λ later are. meta_reads later name device path l place is)
 
   stop_at_reads : (later : List (List ℕ)) (count bytes : ℕ) → count < 2 ^ 64 → bytes < 2 ^ 64
       → after_step d here (codes "stop " ++ decimal count ++ codes " " ++ decimal bytes) later

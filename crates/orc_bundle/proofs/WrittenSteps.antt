@@ -16,10 +16,11 @@ use Rattle.orc_bundle.specs.Keywords.{keyword_of}
 use Rattle.orc_bundle.specs.Lines.{is_end, is_settled, text_of}
 use Rattle.orc_bundle.specs.Names.{is_among, place_of, with_name}
 use Rattle.orc_bundle.specs.Scripts.{a_step, after_call, after_step, call_words, is_caller_more, is_followed, words_at}
+use Rattle.orc_bundle.specs.Places.{is_node_path}
 use Rattle.orc_bundle.specs.Words.{cut_at, is_text}
 use Rattle.orc_bundle.specs.Written.{AreLinesOf, lines_of_action, step_lines}
 use Rattle.orc_bundle.specs.declared.bundle.ScriptStep.{ScriptStep}
-use Rattle.orc_bundle.specs.declared.bundle.ScriptStep.TheVariants.{Show, Json, Data, Serve, Settle, Stop, StopAt, Recover, History}
+use Rattle.orc_bundle.specs.declared.bundle.ScriptStep.TheVariants.{Show, Json, Meta, Data, Serve, Settle, Stop, StopAt, Recover, History}
 use Rattle.orc_bundle.specs.declared.script.Script.{Script}
 use Rattle.orc_bundle.specs.declared.script.TheConstants.{MOST_CALLERS, MOST_STEPS}
 use Rattle.orc_bundle.proofs.LinesOf.{untrue}
@@ -27,7 +28,7 @@ use Rattle.orc_bundle.proofs.Texts.{IsLawfulName, lawful_name, number_short, par
 use Rattle.orc_bundle.proofs.WrittenCalls.{AreNamed, call_read, opened}
 use Rattle.orc_bundle.proofs.WrittenDevices.{same_name}
 use Rattle.orc_bundle.proofs.WrittenLines.{IsText, among, contained_behind, cut_word, number_again, settled_first}
-use Rattle.orc_bundle.proofs.WrittenScript.{Ends, data_line, history_line, json_line, no_line, one_line, recover_line, resting, room, settle_line, show_line, stop_at_line, stop_line}
+use Rattle.orc_bundle.proofs.WrittenScript.{Ends, data_line, history_line, json_line, meta_line, no_line, one_line, recover_line, resting, room, settle_line, show_line, stop_at_line, stop_line}
 
 -- the line of a call
 
@@ -175,6 +176,7 @@ callers_more callers [] = omega arith
 callers_more callers (Serve call ∷ steps) = let one = with_more callers call.caller in let rest = callers_more (with_name callers call.caller) steps in omega arith
 callers_more callers (Show device ∷ steps) = callers_more callers steps
 callers_more callers (Json device ∷ steps) = callers_more callers steps
+callers_more callers (Meta device path ∷ steps) = callers_more callers steps
 callers_more callers (Data ∷ steps) = callers_more callers steps
 callers_more callers (Settle ∷ steps) = callers_more callers steps
 callers_more callers (Stop ∷ steps) = callers_more callers steps
@@ -189,6 +191,7 @@ settled_lines names (Settle ∷ steps) h later are = settled_first (flat_map (st
 settled_lines names (Serve call ∷ steps) h later are = absurd (false≢true h)
 settled_lines names (Show device ∷ steps) h later are = absurd (false≢true h)
 settled_lines names (Json device ∷ steps) h later are = absurd (false≢true h)
+settled_lines names (Meta device path ∷ steps) h later are = absurd (false≢true h)
 settled_lines names (Data ∷ steps) h later are = absurd (false≢true h)
 settled_lines names (Stop ∷ steps) h later are = absurd (false≢true h)
 settled_lines names (StopAt count bytes ∷ steps) h later are = absurd (false≢true h)
@@ -231,6 +234,13 @@ module _ (text : List ℕ) (d : Declared) (known_names : AreNamed d) (distinct :
       json_line d callers done number (lines steps) (Ok (done ++ Json device ∷ steps)) (omega arith) (name_of names device) device
       (lawful_name (name_of names device) (name_lawful names device known_names.lawful within)) (place_again names device distinct within) (untrue typed fits.1)
       (moved _ done (Json device) steps (steps_read callers (done ++ Json device ∷ []) steps number parts.1 settled (next done (Json device) steps few) most))
+  steps_read callers done (Meta device path ∷ steps) number all settled few most =
+      let parts = and_parts (is_one (Meta device path)) (list_all is_one steps) all in
+      let fits = and_parts (nat_lt device (length names)) (is_node_path (schema_named d.schemas d.devices (name_of names device)) path) parts.0 in
+      let within = ltb-true device (length names) fits.0 in
+      meta_line d callers done number (lines steps) (Ok (done ++ Meta device path ∷ steps)) (omega arith) (name_of names device) device path
+      (lawful_name (name_of names device) (name_lawful names device known_names.lawful within)) (place_again names device distinct within) fits.1
+      (moved _ done (Meta device path) steps (steps_read callers (done ++ Meta device path ∷ []) steps number parts.1 settled (next done (Meta device path) steps few) most))
   steps_read callers done (Data ∷ steps) number all settled few most =
       data_line d callers done number (lines steps) (Ok (done ++ Data ∷ steps)) (omega arith)
       (moved _ done Data steps (steps_read callers (done ++ Data ∷ []) steps number all settled (next done Data steps few) most))

@@ -21,13 +21,15 @@ use Rattle.orc_bundle.specs.declared.declarations.Declared.{Declared}
 use Rattle.orc_bundle.specs.Laws.{Preamble}
 use Rattle.orc_bundle.specs.Written.{base_line, data_line, device_lines, forbid_line, line_of_write, lines_of_action, max_line, step_lines}
 use Rattle.orc_bundle.specs.declared.bundle.ScriptStep.{ScriptStep}
-use Rattle.orc_bundle.specs.declared.bundle.ScriptStep.TheVariants.{Show, Json, Data, Serve, Settle, Stop, StopAt, Recover, History}
+use Rattle.orc_bundle.specs.declared.bundle.ScriptStep.TheVariants.{Show, Json, Meta, Data, Serve, Settle, Stop, StopAt, Recover, History}
 use Rattle.orc_bundle.proofs.Texts.{IsLawfulName, is_line_byte, lawful_name, lawful_under}
 use Rattle.orc_bundle.proofs.WrittenBases.{AreKnown}
-use Rattle.orc_bundle.proofs.WrittenCalls.{AreNamed, delete_text, literal_text, set_text, unset_text, write_known, write_text}
+use Rattle.orc_bundle.proofs.WrittenCalls.{AreNamed, base_path_known, delete_text, literal_text, set_text, unbase_text, unset_text, write_known, write_text}
 use Rattle.orc_bundle.proofs.WrittenDevices.{base_text, data_text, device_line, device_text, forbid_text, max_text}
+use Rattle.orc_bundle.specs.Places.{is_node_path}
+use Rattle.orc_bundle.proofs.WrittenItems.{node_known}
 use Rattle.orc_bundle.proofs.WrittenLines.{IsText}
-use Rattle.orc_bundle.proofs.WrittenScript.{json_text, show_text, stop_at_text}
+use Rattle.orc_bundle.proofs.WrittenScript.{json_text, meta_text, show_text, stop_at_text}
 use Rattle.orc_bundle.proofs.WrittenSteps.{call_text, known, name_lawful}
 
 abbrev pub is_clean : List ℕ → Bool
@@ -101,8 +103,12 @@ module _ (text : List ℕ) (d : Declared) (known_names : AreNamed d) where
   action_clean (action.Redeploy id) h = refl
   action_clean (action.Set put) h = clean_more (codes "set " ++ item_text put.path put.item) [] (set_text d.data_schema put h) refl
   action_clean (action.Unset path) h = clean_more (codes "unset " ++ path_text path) [] (unset_text d.data_schema path h) refl
-  action_clean (action.BasePut put) h = refl
-  action_clean (action.BaseRemove device path) h = refl
+  action_clean (action.BasePut w) h =
+      let k = write_known text d w known_names h in
+      clean_more (codes "base " ++ w.device ++ codes " " ++ item_text w.path w.item) [] (base_text w.device (record { path = w.path; item = w.item }) k.device k.at) refl
+  action_clean (action.BaseRemove name path) h =
+      let k = base_path_known text d name path known_names h in
+      clean_more (codes "unbase " ++ name ++ codes " " ++ path_text path) [] (unbase_text (schema_named d.schemas d.devices name) name path k.device k.under) refl
 
   actions_clean : (actions : List Action) → list_all (is_action decls) actions ≡ true → list_all is_clean (flat_map lines_of_action actions) ≡ true
   actions_clean [] h = refl
@@ -118,6 +124,13 @@ module _ (text : List ℕ) (d : Declared) (known_names : AreNamed d) where
       let fits = and_parts (nat_lt device (length d.names)) (not (schema_named d.schemas d.devices (name_of d.names device)).plain) h in
       let within = ltb-true device (length d.names) fits.0 in
       clean_more (codes "json " ++ name_of d.names device) [] (json_text (name_of d.names device) (lawful_name (name_of d.names device) (name_lawful d.names device known_names.lawful within))) refl
+  step_clean (Meta device path) h =
+      let schema = schema_named d.schemas d.devices (name_of d.names device) in
+      let fits = and_parts (nat_lt device (length d.names)) (is_node_path schema path) h in
+      let within = ltb-true device (length d.names) fits.0 in
+      let k = node_known schema path fits.1 in
+      let l = lawful_name (name_of d.names device) (name_lawful d.names device known_names.lawful within) in
+      clean_more (codes "meta " ++ name_of d.names device ++ codes " " ++ path_text path) [] (meta_text (name_of d.names device) path l k.path k.short) refl
   step_clean Data h = refl
   step_clean (Serve call) h =
       let k = known decls call h in

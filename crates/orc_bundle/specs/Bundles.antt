@@ -14,11 +14,12 @@ use Rattle.orc_state.specs.declared.rule.Rule.TheVariants as rule
 use Rattle.orc_bundle.specs.Rules.{on_ok}
 use Rattle.orc_bundle.specs.Lines.{first_kept, is_large, lines_of, seen, text_of}
 use Rattle.orc_bundle.specs.Names.{with_name}
+use Rattle.orc_bundle.specs.Places.{is_node_path}
 use Rattle.orc_bundle.specs.Declarations.{declared_at, is_opening, nothing_declared}
 use Rattle.orc_bundle.specs.Scripts.{no_steps, scripted_at}
 use Rattle.orc_bundle.specs.declared.bundle.Bundle.{Bundle}
 use Rattle.orc_bundle.specs.declared.bundle.ScriptStep.{ScriptStep}
-use Rattle.orc_bundle.specs.declared.bundle.ScriptStep.TheVariants.{Show, Json, Data, Serve, Settle, Stop, StopAt, Recover, History}
+use Rattle.orc_bundle.specs.declared.bundle.ScriptStep.TheVariants.{Show, Json, Meta, Data, Serve, Settle, Stop, StopAt, Recover, History}
 use Rattle.orc_bundle.specs.declared.declarations.Declared.{Declared}
 use Rattle.orc_bundle.specs.declared.declarations.Section.{Section}
 use Rattle.orc_bundle.specs.declared.declarations.Section.TheVariants as section
@@ -107,11 +108,14 @@ bundle_of bytes = bundle_in (seen bytes) (lines_of (seen bytes))
 
 -- what a bundle has
 
--- a step of a script behind these declarations; a step `json` names a device with a type
+-- a step of a script behind these declarations; a step `json` names a device with a type, and `meta` a path that the
+-- device may have
 abbrev pub is_step : Decls → ScriptStep → Bool
 is_step decls (Show device) = nat_lt device (length decls.names)
 is_step decls (Json device) = nat_lt device (length decls.names)
     && not (schema_named decls.schemas decls.devices (name_of decls.names device)).plain
+is_step decls (Meta device path) = nat_lt device (length decls.names)
+    && is_node_path (schema_named decls.schemas decls.devices (name_of decls.names device)) path
 is_step decls Data = true
 is_step decls (Serve call) = is_call decls call
 is_step decls Settle = true

@@ -15,6 +15,59 @@ use Rattle.orc_state.specs.declared.rule.Rule.{Rule}
 use Rattle.orc_state.specs.declared.rule.Rule.TheVariants as rule
 
 -- how a line with this first word is written, and where it stands
+
+-- the first words of lines
+unfoldable pub known_words : List ℕ
+known_words =
+    codes "A line begins with `device`, `base`, `rule`, `data`, `yang`, `datamodel`, `devicetype` or `script`; "
+    ++ codes "below `script` with `show`, `json`, `meta`, `data`, `call`, `settle`, `stop`, `recover` or "
+    ++ codes "`history`; within a call with `literal`, `write`, `delete`, `set`, `unset`, `base`, `unbase` or "
+    ++ codes "`end`."
+
+-- a line of a call, or a word that begins no line
+unfoldable pub call_line_words : Keyword → List ℕ
+call_line_words keyword.Literal =
+    codes "An action `literal NAME` stands within a call, which has 64 actions at most."
+call_line_words keyword.Write =
+    codes "A line `write DEVICE PATH` for an entry or `write DEVICE PATH = VALUE` for a leaf stands below the "
+    ++ codes "line `literal NAME` of its call."
+call_line_words keyword.Delete =
+    codes "An action `delete NAME` stands within a call, which has 64 actions at most."
+call_line_words keyword.Set =
+    codes "An action `set PATH` for an entry or `set PATH = VALUE` for a leaf stands within a call, which has "
+    ++ codes "64 actions at most."
+call_line_words keyword.Unset =
+    codes "An action `unset PATH` stands within a call, which has 64 actions at most."
+call_line_words keyword.Unbase =
+    codes "An action `unbase DEVICE PATH` stands within a call, which has 64 actions at most."
+call_line_words keyword.End =
+    codes "The line `end` ends a call that has an action, and `settle` is the next line."
+call_line_words _ = known_words
+
+-- a step of the script, or another line
+unfoldable pub step_line_words : Keyword → List ℕ
+step_line_words keyword.Show =
+    codes "The step `show DEVICE` stands below the line `script`, and not within a call."
+step_line_words keyword.Json =
+    codes "The step `json DEVICE` stands below the line `script`, and not within a call."
+step_line_words keyword.Meta =
+    codes "The step `meta DEVICE PATH` stands below the line `script`, and not within a call."
+step_line_words keyword.Call =
+    codes "A call begins with `call CALLER NUMBER`, below the line `script` and not within another call."
+step_line_words keyword.Settle =
+    codes "The step `settle` has nothing behind that word, and stands below the line `script` and not within a "
+    ++ codes "call."
+step_line_words keyword.Stop =
+    codes "A step `stop`, or `stop K B` with two numbers, stands below the line `script` and not within a call."
+step_line_words keyword.Recover =
+    codes "The step `recover` has nothing behind that word, and stands below the line `script` and not within "
+    ++ codes "a call."
+step_line_words keyword.History =
+    codes "The step `history` has nothing behind that word, and stands below the line `script` and not within "
+    ++ codes "a call."
+step_line_words word = call_line_words word
+
+-- a declaration, or another line
 unfoldable pub form_words : Keyword → List ℕ
 form_words keyword.Device =
     codes "A device is declared as `device NAME plain` or `device NAME TYPE`, before the line `script`."
@@ -27,7 +80,8 @@ form_words keyword.Rule =
     ++ codes "`rule DEVICE forbid PATH = VALUE`, before the line `script`."
 form_words keyword.Base =
     codes "An item of a device's base is `base DEVICE PATH` for an entry or `base DEVICE PATH = VALUE` for a "
-    ++ codes "leaf, before the line `script`."
+    ++ codes "leaf, before the line `script`; within a call, which has 64 actions at most, the same line is an "
+    ++ codes "action."
 form_words keyword.Data =
     codes "An item of the opening data is `data PATH` for an entry or `data PATH = VALUE` for a leaf, before "
     ++ codes "the line `script`; below that line the step `data` has nothing behind that word, and stands not "
@@ -36,37 +90,7 @@ form_words keyword.Yang =
     codes "A module is the line `yang N` and the N lines below it, before the line `script`."
 form_words keyword.Script =
     codes "The line `script` ends the declarations, once, and has nothing behind that word."
-form_words keyword.Show =
-    codes "The step `show DEVICE` stands below the line `script`, and not within a call."
-form_words keyword.Json = codes "The step `json DEVICE` stands below the line `script`, and not within a call."
-form_words keyword.Call =
-    codes "A call begins with `call CALLER NUMBER`, below the line `script` and not within another call."
-form_words keyword.Literal = codes "An action `literal NAME` stands within a call, which has 64 actions at most."
-form_words keyword.Write =
-    codes "A line `write DEVICE PATH` for an entry or `write DEVICE PATH = VALUE` for a leaf stands below the "
-    ++ codes "line `literal NAME` of its call."
-form_words keyword.Delete = codes "An action `delete NAME` stands within a call, which has 64 actions at most."
-form_words keyword.Set =
-    codes "An action `set PATH` for an entry or `set PATH = VALUE` for a leaf stands within a call, which has "
-    ++ codes "64 actions at most."
-form_words keyword.Unset = codes "An action `unset PATH` stands within a call, which has 64 actions at most."
-form_words keyword.End =
-    codes "The line `end` ends a call that has an action, and `settle` is the next line."
-form_words keyword.Settle =
-    codes "The step `settle` has nothing behind that word, and stands below the line `script` and not within a "
-    ++ codes "call."
-form_words keyword.Stop =
-    codes "A step `stop`, or `stop K B` with two numbers, stands below the line `script` and not within a call."
-form_words keyword.Recover =
-    codes "The step `recover` has nothing behind that word, and stands below the line `script` and not within "
-    ++ codes "a call."
-form_words keyword.History =
-    codes "The step `history` has nothing behind that word, and stands below the line `script` and not within "
-    ++ codes "a call."
-form_words keyword.Other =
-    codes "A line begins with `device`, `base`, `rule`, `data`, `yang`, `datamodel`, `devicetype` or `script`; "
-    ++ codes "below `script` with `show`, `json`, `data`, `call`, `settle`, `stop`, `recover` or `history`; "
-    ++ codes "within a call with `literal`, `write`, `delete`, `set`, `unset` or `end`."
+form_words word = step_line_words word
 
 -- words, names and numbers
 abbrev pub word_words : List ℕ
@@ -121,11 +145,12 @@ rule_words rule.Path word =
     codes "A path is written as /if:port[ge-0/0/1]/mtu: in front of its first name stands the module's, and "
     ++ codes "keys stand in brackets; in a key a backslash is \\\\, a closing bracket \\], a space \\s, a tab "
     ++ codes "\\t, a line feed \\n, a carriage return \\r. A path that ends in keys is an entry and has no ` = "
-    ++ codes "VALUE`; any other is a leaf and has one, but in `unset`, which has a path alone. On a device with a "
-    ++ codes "type, and in the data, the names are those of its modules, an entry has each key of its list, or a "
-    ++ codes "leaf-list's value, and a key has no line of its own. No line of the data (`data`, `set` and `unset`) "
-    ++ codes "names /orc:device, nor what stands below it. Behind `max` stands the path of a list or leaf-list, "
-    ++ codes "without keys at its end."
+    ++ codes "VALUE`; any other is a leaf and has one, but in `unset` and `unbase`, which have a path alone. On a "
+    ++ codes "device with a type, and in the data, the names are those of its modules, an entry has each key of its "
+    ++ codes "list, or a leaf-list's value, and a key has no line of its own. No line of the data (`data`, `set` and "
+    ++ codes "`unset`) names /orc:device, nor what stands below it. Behind `max` stands the path of a list or "
+    ++ codes "leaf-list, without keys at its end; `meta` takes any path of its device, that of a container, of a key "
+    ++ codes "or of a whole list too."
 rule_words rule.Value word =
     codes "In a value a backslash is \\\\, a tab \\t, a line feed \\n and a carriage return \\r. It has no "
     ++ codes "other control character below U+0020, and no noncharacter. On a device with a type, and in the data, "

@@ -16,12 +16,14 @@ keyword_of word =
     if is_text word (codes "script") then keyword.Script else
     if is_text word (codes "show") then keyword.Show else
     if is_text word (codes "json") then keyword.Json else
+    if is_text word (codes "meta") then keyword.Meta else
     if is_text word (codes "call") then keyword.Call else
     if is_text word (codes "literal") then keyword.Literal else
     if is_text word (codes "write") then keyword.Write else
     if is_text word (codes "delete") then keyword.Delete else
     if is_text word (codes "set") then keyword.Set else
     if is_text word (codes "unset") then keyword.Unset else
+    if is_text word (codes "unbase") then keyword.Unbase else
     if is_text word (codes "end") then keyword.End else
     if is_text word (codes "settle") then keyword.Settle else
     if is_text word (codes "stop") then keyword.Stop else

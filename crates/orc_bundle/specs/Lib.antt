@@ -4,6 +4,7 @@ pub mod Words
 pub mod Keywords
 pub mod Names
 pub mod Items
+pub mod Places
 pub mod Modules
 pub mod Schemas
 pub mod Declarations

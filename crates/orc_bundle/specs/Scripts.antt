@@ -8,6 +8,7 @@ use Rattle.orc_path.specs.Alphabet.{is_identifier}
 use Rattle.orc_path.specs.Limits.{is_long_name}
 use Rattle.orc_call.specs.declared.call.Action.{Action}
 use Rattle.orc_call.specs.declared.call.Action.TheVariants as action
+use Rattle.orc_call.specs.declared.call.DevicePut.{DevicePut}
 use Rattle.orc_call.specs.declared.call.TheConstants.{MOST_ACTIONS}
 use Rattle.orc_state.specs.Actions.{is_named_by}
 use Rattle.orc_state.specs.Calls.{schema_named}
@@ -19,6 +20,7 @@ use Rattle.orc_bundle.specs.Words.{cut_at, first_word, number_in}
 use Rattle.orc_bundle.specs.Keywords.{keyword_of}
 use Rattle.orc_bundle.specs.Names.{is_among, place_of, with_name}
 use Rattle.orc_bundle.specs.Items.{data_path_of, put_of}
+use Rattle.orc_bundle.specs.Places.{device_item_of, device_node_of, device_path_of}
 use Rattle.orc_bundle.specs.declared.declarations.Declared.{Declared}
 use Rattle.orc_bundle.specs.declared.bundle.ScriptStep.{ScriptStep}
 use Rattle.orc_bundle.specs.declared.bundle.ScriptStep.TheVariants as step
@@ -70,6 +72,11 @@ after_json d s rest =
     ∷ ((schema_named d.schemas d.devices rest).plain, rule.Unknown)
     ∷ [])
     (or_rule (place_of d.names rest) rule.Unknown (λ n. Ok (with_step s (step.Json n))))
+
+-- `meta D PATH`
+unfoldable pub after_meta : Declared → Script → List ℕ → Result Script Rule
+after_meta d s rest =
+    on_ok (device_node_of d (is_full s) rest) (λ node. Ok (with_step s (step.Meta node.0 node.1)))
 
 -- `stop K B`
 abbrev pub stop_words : Script → Option (List ℕ × List ℕ) → Result Script Rule
@@ -152,6 +159,18 @@ after_unset d s rest =
     checked ((is_call_full s || is_some (cut_at 32 rest), rule.Line) ∷ [])
     (on_ok (data_path_of d.data_schema rest) (λ path. Ok (with_action s (action.Unset path))))
 
+-- `base D ITEM`
+unfoldable pub after_base_put : Declared → Script → List ℕ → Result Script Rule
+after_base_put d s rest =
+    checked ((is_call_full s, rule.Line) ∷ [])
+    (on_ok (device_item_of d rest) (λ put. Ok (with_action s (action.BasePut put))))
+
+-- `unbase D PATH`
+unfoldable pub after_base_remove : Declared → Script → List ℕ → Result Script Rule
+after_base_remove d s rest =
+    checked ((is_call_full s, rule.Line) ∷ [])
+    (on_ok (device_path_of d rest) (λ named. Ok (with_action s (action.BaseRemove named.0 named.1))))
+
 -- the open literal gets its writes: the call has it as an action
 abbrev pub with_literal : Script → Script
 with_literal s = record s {
@@ -161,19 +180,13 @@ with_literal s = record s {
   writes = [];
 }
 
--- `write D ITEM`
-abbrev pub write_words : Declared → Script → Option (List ℕ × List ℕ) → Result Script Rule
-write_words d s None = Err rule.Line
-write_words d s (Some words) =
-    checked ((not (is_identifier words.0), rule.Line) ∷ [])
-    (on_ok (put_of false (schema_named d.schemas d.devices words.0) (is_long_name words.0) words.1) (λ put.
-    checked ((not (is_among d.names words.0), rule.Unknown) ∷ [])
-    (Ok (record s {
-      writes = s.writes ++ (record { device = words.0; path = put.path; item = put.item }) ∷ [];
-    }))))
+-- a write more of the open literal
+abbrev pub with_write : Script → DevicePut → Script
+with_write s write = record s { writes = s.writes ++ write ∷ [] }
 
+-- `write D ITEM`
 unfoldable pub after_write : Declared → Script → List ℕ → Result Script Rule
-after_write d s rest = write_words d s (cut_at 32 rest)
+after_write d s rest = on_ok (device_item_of d rest) (λ write. Ok (with_write s write))
 
 -- the call with its actions is a step
 abbrev pub with_call : Script → Script
@@ -195,6 +208,7 @@ after_end s followed =
 unfoldable pub a_step : Keyword → Declared → Script → List ℕ → Bool → Result Script Rule
 a_step keyword.Show d s rest followed = after_show d s rest
 a_step keyword.Json d s rest followed = after_json d s rest
+a_step keyword.Meta d s rest followed = after_meta d s rest
 a_step keyword.Stop d s rest followed = after_stop s rest
 a_step keyword.Call d s rest followed = after_call s rest followed
 a_step _ d s rest followed = Err rule.Line
@@ -214,6 +228,8 @@ an_action keyword.Literal d s rest = after_literal s rest
 an_action keyword.Delete d s rest = after_delete s rest
 an_action keyword.Set d s rest = after_set d s rest
 an_action keyword.Unset d s rest = after_unset d s rest
+an_action keyword.Base d s rest = after_base_put d s rest
+an_action keyword.Unbase d s rest = after_base_remove d s rest
 an_action _ d s rest = Err rule.Line
 
 -- a line of a literal, or the action behind it

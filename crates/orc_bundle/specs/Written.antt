@@ -8,7 +8,7 @@ use Rattle.orc_path.specs.Steps.{PathStep}
 use Rattle.orc_path.specs.Texts.{path_text}
 use Rattle.orc_path.specs.declared.item.Item.TheVariants.{Leaf}
 use Rattle.orc_call.specs.declared.call.Action.{Action}
-use Rattle.orc_call.specs.declared.call.Action.TheVariants.{Literal, Delete, Set, Unset}
+use Rattle.orc_call.specs.declared.call.Action.TheVariants.{Literal, Delete, Set, Unset, BasePut, BaseRemove}
 use Rattle.orc_call.specs.declared.call.DevicePut.{DevicePut}
 use Rattle.orc_call.specs.declared.call.Put.{Put}
 use Rattle.orc_state.specs.States.{name_of}
@@ -17,7 +17,7 @@ use Rattle.orc_state.specs.declared.declarations.Device.{Device}
 use Rattle.orc_bundle.specs.Lines.{as_line, is_skipped, text_of}
 use Rattle.orc_bundle.specs.declared.bundle.Bundle.{Bundle}
 use Rattle.orc_bundle.specs.declared.bundle.ScriptStep.{ScriptStep}
-use Rattle.orc_bundle.specs.declared.bundle.ScriptStep.TheVariants.{Show, Json, Data, Serve, Settle, Stop, StopAt, Recover, History}
+use Rattle.orc_bundle.specs.declared.bundle.ScriptStep.TheVariants.{Show, Json, Meta, Data, Serve, Settle, Stop, StopAt, Recover, History}
 use Rattle.orc_bundle.specs.declared.bundle.TheConstants.{LARGEST_BUNDLE}
 use Rattle.orc_bundle.specs.declared.lines.TheConstants.{LONGEST_LINE}
 
@@ -55,12 +55,15 @@ lines_of_action (Literal id writes) = (codes "literal " ++ id) ∷ map line_of_w
 lines_of_action (Delete id) = (codes "delete " ++ id) ∷ []
 lines_of_action (Set put) = (codes "set " ++ item_text put.path put.item) ∷ []
 lines_of_action (Unset path) = (codes "unset " ++ path_text path) ∷ []
+lines_of_action (BasePut put) = (codes "base " ++ put.device ++ codes " " ++ item_text put.path put.item) ∷ []
+lines_of_action (BaseRemove device path) = (codes "unbase " ++ device ++ codes " " ++ path_text path) ∷ []
 lines_of_action other = []
 
 -- a step of the script, where these devices are declared
 abbrev pub step_lines : List (List ℕ) → ScriptStep → List (List ℕ)
 step_lines names (Show device) = (codes "show " ++ name_of names device) ∷ []
 step_lines names (Json device) = (codes "json " ++ name_of names device) ∷ []
+step_lines names (Meta device path) = (codes "meta " ++ name_of names device ++ codes " " ++ path_text path) ∷ []
 step_lines names Data = codes "data" ∷ []
 step_lines names (Serve call) =
     (codes "call " ++ call.caller ++ codes " " ++ decimal call.number)

@@ -1,5 +1,6 @@
 //! A bundle as read: the declarations, and the steps of the script.
 use orc_call::Call;
+use orc_path::Path;
 use orc_state::Decls;
 use orc_text::Row;
 
@@ -13,6 +14,9 @@ pub enum ScriptStep {
     Show(u32),
     /// Print the tree of a device with a type, as JSON.
     Json(u32),
+    /// Print what is known of a path of a device: how many services write it, which they are, and
+    /// what the device's base has there.
+    Meta(u32, Path),
     /// Print the data.
     Data,
     /// Submit a call.

@@ -2,7 +2,7 @@
 ghost use Rattle.std.specs.Prelude.{◌≡◌, ◌≤◌, ◌+◌, ℕ, OnOk};
 ghost use Rattle.orc_state.specs.declared.declarations.Decls.{Decls};
 ghost use Rattle.orc_state.specs.declared.lawful.TheConstants.{MOST_WRITES};
-ghost use Rattle.orc_bundle.specs.Scripts.{after_delete, after_end, after_literal, after_set, after_unset, after_write, an_action, behind_literal, call_end, is_call_full, with_literal};
+ghost use Rattle.orc_bundle.specs.Scripts.{after_base_put, after_base_remove, after_delete, after_end, after_literal, after_set, after_unset, after_write, an_action, behind_literal, call_end, is_call_full, with_literal};
 ghost use Rattle.orc_bundle.specs.inside.Lawful.{AreDeclared, AreSteps, decls_in};
 ghost use Rattle.orc_bundle.specs.inside.Readers.{Takes};
 
@@ -11,11 +11,11 @@ use crate::declarations::Declared;
 use crate::fault::{LineFault, breaks};
 use crate::items::{read_data_path, read_put};
 use crate::keyword::Keyword;
+use crate::places::{read_device_item, read_device_path};
 use crate::script::{Part, Script};
 use crate::words::cut;
-use orc_call::{Action, Call, DevicePut, MOST_ACTIONS};
+use orc_call::{Action, Call, MOST_ACTIONS};
 use orc_path::{is_identifier, is_long_name};
-use orc_schema::Schema;
 use orc_state::{Rule, is_named_by};
 use orc_text::{Memory, Row, Text};
 use std::alloc::Global;
@@ -108,6 +108,48 @@ impl Script {
         Ok(())
     }
 
+    // `base D ITEM`.
+    #[tactic(auto, unfolding(crate::specs::Scripts::after_base_put))]
+    fn take_base_put(
+        &mut self,
+        alloc: Global,
+        declared: &Declared,
+        rest: &str,
+    ) -> Result<(), LineFault>
+        requires { AreDeclared declared.now }
+        ensures takes { Takes (after_base_put declared.now self.old rest.now) self.new result }
+        ensures lawful { (most : ℕ) → AreSteps (decls_in declared.now) most self.old
+            → self.old.part ≡ Part.Call → OnOk result (AreSteps (decls_in declared.now) most self.new) }
+    {
+        if self.is_call_full() {
+            return breaks(Rule::Line);
+        }
+        let put = read_device_item(alloc, declared, rest)?;
+        self.actions.push(Action::BasePut(put))?;
+        Ok(())
+    }
+
+    // `unbase D PATH`.
+    #[tactic(auto, unfolding(crate::specs::Scripts::after_base_remove))]
+    fn take_base_remove(
+        &mut self,
+        alloc: Global,
+        declared: &Declared,
+        rest: &str,
+    ) -> Result<(), LineFault>
+        requires { AreDeclared declared.now }
+        ensures takes { Takes (after_base_remove declared.now self.old rest.now) self.new result }
+        ensures lawful { (most : ℕ) → AreSteps (decls_in declared.now) most self.old
+            → self.old.part ≡ Part.Call → OnOk result (AreSteps (decls_in declared.now) most self.new) }
+    {
+        if self.is_call_full() {
+            return breaks(Rule::Line);
+        }
+        let named = read_device_path(alloc, declared, rest)?;
+        self.actions.push(Action::BaseRemove(named.0, named.1))?;
+        Ok(())
+    }
+
     // `write D ITEM`.
     #[tactic(auto, unfolding(crate::specs::Scripts::after_write))]
     fn take_write(
@@ -121,24 +163,8 @@ impl Script {
         ensures lawful { (most : ℕ) → AreSteps (decls_in declared.now) most self.old → self.old.part ≡ Part.Literal
             → OnOk result (AreSteps (decls_in declared.now) (most + 1) self.new) }
     {
-        let Some((name, item)) = cut(rest) else {
-            return breaks(Rule::Line);
-        };
-        if !is_identifier(name) {
-            return breaks(Rule::Line);
-        }
-        let device = Text::from_str(alloc, name)?;
-        let plain = Schema::plain(alloc);
-        let schema = declared.schema_named(&device, &plain);
-        let put = read_put(alloc, false, schema, is_long_name(name), item)?;
-        if !declared.names.has(&device) {
-            return breaks(Rule::Unknown);
-        }
-        self.writes.push(DevicePut {
-            device,
-            path: put.path,
-            item: put.item,
-        })?;
+        let write = read_device_item(alloc, declared, rest)?;
+        self.writes.push(write)?;
         Ok(())
     }
 
@@ -151,6 +177,7 @@ impl Script {
         word: Keyword,
         rest: &str,
     ) -> Result<(), LineFault>
+        requires { AreDeclared declared.now }
         ensures takes { Takes (an_action word declared.now self.old rest.now) self.new result }
         ensures lawful { (most : ℕ) → AreSteps (decls_in declared.now) most self.old
             → self.old.part ≡ Part.Call → OnOk result (AreSteps (decls_in declared.now) most self.new) }
@@ -160,6 +187,8 @@ impl Script {
             Keyword::Delete => self.take_delete(alloc, rest),
             Keyword::Set => self.take_set(alloc, declared, rest),
             Keyword::Unset => self.take_unset(alloc, declared, rest),
+            Keyword::Base => self.take_base_put(alloc, declared, rest),
+            Keyword::Unbase => self.take_base_remove(alloc, declared, rest),
             _ => breaks(Rule::Line),
         }
     }

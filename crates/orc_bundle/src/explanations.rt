@@ -4,7 +4,7 @@ ghost use Rattle.std.specs.List.{list_any};
 ghost use Rattle.std.specs.String.{string_bytes};
 ghost use Rattle.orc_bundle.specs.Explanations.{explained, explanation_of, line_explained, looked_at};
 ghost use Rattle.orc_bundle.specs.Explanations.{is_visible, no_line_explained, quoted, shown_character};
-ghost use Rattle.orc_bundle.specs.Explanations.{allowed_words, call_explained, duplicate_words, form_words, line_words, rule_words, unknown_words, whole_form};
+ghost use Rattle.orc_bundle.specs.Explanations.{allowed_words, call_explained, call_line_words, duplicate_words, form_words, known_words, line_words, rule_words, step_line_words, unknown_words, whole_form};
 ghost use Rattle.orc_bundle.specs.Lines.{is_end, lines_of};
 
 use crate::keyword::{Keyword, keyword_of};
@@ -248,11 +248,12 @@ fn rule_words(rule: Rule, word: Keyword) -> &'static str
              module's, and keys stand in brackets; in a key a backslash is \\\\, a closing bracket \
              \\], a space \\s, a tab \\t, a line feed \\n, a carriage return \\r. A path that ends \
              in keys is an entry and has no ` = VALUE`; any other is a leaf and has one, but in \
-             `unset`, which has a path alone. On a device with a type, and in the data, the names are \
-             those of its modules, an entry has each key of its list, or a leaf-list's value, and a key \
-             has no line of its own. No line of the data (`data`, `set` and `unset`) names /orc:device, \
-             nor what stands below it. Behind `max` stands the path of a list or leaf-list, without \
-             keys at its end."
+             `unset` and `unbase`, which have a path alone. On a device with a type, and in the data, \
+             the names are those of its modules, an entry has each key of its list, or a leaf-list's \
+             value, and a key has no line of its own. No line of the data (`data`, `set` and `unset`) \
+             names /orc:device, nor what stands below it. Behind `max` stands the path of a list or \
+             leaf-list, without keys at its end; `meta` takes any path of its device, that of a \
+             container, of a key or of a whole list too."
         }
         Rule::Value => {
             "In a value a backslash is \\\\, a tab \\t, a line feed \\n and a carriage return \\r. It \
@@ -277,7 +278,7 @@ fn rule_words(rule: Rule, word: Keyword) -> &'static str
     }
 }
 
-// How a line with this first word is written, and where it stands.
+// How a line with this first word is written, and where it stands: a declaration, or another line.
 #[tactic(auto, unfolding(crate::specs::Explanations::form_words))]
 fn form_words(word: Keyword) -> &'static str
     ensures { result.now ≡ form_words word }
@@ -298,7 +299,8 @@ fn form_words(word: Keyword) -> &'static str
         }
         Keyword::Base => {
             "An item of a device's base is `base DEVICE PATH` for an entry or `base DEVICE PATH = \
-             VALUE` for a leaf, before the line `script`."
+             VALUE` for a leaf, before the line `script`; within a call, which has 64 actions at \
+             most, the same line is an action."
         }
         Keyword::Data => {
             "An item of the opening data is `data PATH` for an entry or `data PATH = VALUE` for a \
@@ -311,31 +313,28 @@ fn form_words(word: Keyword) -> &'static str
         Keyword::Script => {
             "The line `script` ends the declarations, once, and has nothing behind that word."
         }
+        _ => step_line_words(word),
+    }
+}
+
+// The same of a step of the script, or another line.
+#[tactic(auto, unfolding(crate::specs::Explanations::step_line_words))]
+fn step_line_words(word: Keyword) -> &'static str
+    ensures { result.now ≡ step_line_words word }
+{
+    match word {
         Keyword::Show => {
             "The step `show DEVICE` stands below the line `script`, and not within a call."
         }
-        Keyword::Json =>
-            "The step `json DEVICE` stands below the line `script`, and not within a call.",
+        Keyword::Json => {
+            "The step `json DEVICE` stands below the line `script`, and not within a call."
+        }
+        Keyword::Meta => {
+            "The step `meta DEVICE PATH` stands below the line `script`, and not within a call."
+        }
         Keyword::Call => {
             "A call begins with `call CALLER NUMBER`, below the line `script` and not within another \
              call."
-        }
-        Keyword::Literal =>
-            "An action `literal NAME` stands within a call, which has 64 actions at most.",
-        Keyword::Write => {
-            "A line `write DEVICE PATH` for an entry or `write DEVICE PATH = VALUE` for a leaf stands \
-             below the line `literal NAME` of its call."
-        }
-        Keyword::Delete =>
-            "An action `delete NAME` stands within a call, which has 64 actions at most.",
-        Keyword::Set => {
-            "An action `set PATH` for an entry or `set PATH = VALUE` for a leaf stands within a \
-             call, which has 64 actions at most."
-        }
-        Keyword::Unset =>
-            "An action `unset PATH` stands within a call, which has 64 actions at most.",
-        Keyword::End => {
-            "The line `end` ends a call that has an action, and `settle` is the next line."
         }
         Keyword::Settle => {
             "The step `settle` has nothing behind that word, and stands below the line `script` and \
@@ -353,11 +352,50 @@ fn form_words(word: Keyword) -> &'static str
             "The step `history` has nothing behind that word, and stands below the line `script` and \
              not within a call."
         }
-        Keyword::Other => {
-            "A line begins with `device`, `base`, `rule`, `data`, `yang`, `datamodel`, `devicetype` \
-             or `script`; below `script` with `show`, `json`, `data`, `call`, `settle`, `stop`, \
-             `recover` or `history`; within a call with `literal`, `write`, `delete`, `set`, `unset` \
-             or `end`."
-        }
+        _ => call_line_words(word),
     }
+}
+
+// The same of a line of a call, or of a word that begins no line.
+#[tactic(auto, unfolding(crate::specs::Explanations::call_line_words))]
+fn call_line_words(word: Keyword) -> &'static str
+    ensures { result.now ≡ call_line_words word }
+{
+    match word {
+        Keyword::Literal => {
+            "An action `literal NAME` stands within a call, which has 64 actions at most."
+        }
+        Keyword::Write => {
+            "A line `write DEVICE PATH` for an entry or `write DEVICE PATH = VALUE` for a leaf stands \
+             below the line `literal NAME` of its call."
+        }
+        Keyword::Delete => {
+            "An action `delete NAME` stands within a call, which has 64 actions at most."
+        }
+        Keyword::Set => {
+            "An action `set PATH` for an entry or `set PATH = VALUE` for a leaf stands within a \
+             call, which has 64 actions at most."
+        }
+        Keyword::Unset => {
+            "An action `unset PATH` stands within a call, which has 64 actions at most."
+        }
+        Keyword::Unbase => {
+            "An action `unbase DEVICE PATH` stands within a call, which has 64 actions at most."
+        }
+        Keyword::End => {
+            "The line `end` ends a call that has an action, and `settle` is the next line."
+        }
+        _ => known_words(),
+    }
+}
+
+// The first words of lines.
+#[tactic(auto, unfolding(crate::specs::Explanations::known_words))]
+fn known_words() -> &'static str
+    ensures { result.now ≡ known_words }
+{
+    "A line begins with `device`, `base`, `rule`, `data`, `yang`, `datamodel`, `devicetype` or \
+     `script`; below `script` with `show`, `json`, `meta`, `data`, `call`, `settle`, `stop`, \
+     `recover` or `history`; within a call with `literal`, `write`, `delete`, `set`, `unset`, `base`, \
+     `unbase` or `end`."
 }

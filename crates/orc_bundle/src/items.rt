@@ -23,8 +23,8 @@ use orc_typed::{
 };
 use std::alloc::Global;
 
-// The path of a text, where it is one.
-fn read_path(alloc: Global, word: &str) -> Result<Option<Path>, Memory>
+/// The path of a text, where it is one.
+pub(crate) fn read_path(alloc: Global, word: &str) -> Result<Option<Path>, Memory>
     ensures { IfOk result (λ found. found ≡ path_of word.now) }
 {
     match Path::parse(alloc, word) {
@@ -43,8 +43,8 @@ fn value_in(alloc: Global, text: &str) -> Result<Option<Text>, Memory>
     read_value(alloc, text)
 }
 
-// Whether a path passes a limit.
-fn is_past_path(path: &Option<Path>) -> bool
+/// Whether a path passes a limit.
+pub(crate) fn is_past_path(path: &Option<Path>) -> bool
     ensures { result ≡ is_past_path path.now }
 {
     match path {
@@ -83,8 +83,8 @@ fn is_long_item(item: &Item) -> bool
     }
 }
 
-// Whether the path can carry such an item under the schema, whatever their texts.
-fn can_carry(schema: &Schema, path: &Path, item: &Item) -> bool
+/// Whether the path can carry such an item under the schema, whatever their texts.
+pub(crate) fn can_carry(schema: &Schema, path: &Path, item: &Item) -> bool
     ensures { result ≡ can_carry schema.now path.now item.now }
 {
     item.fits(path) && is_in_schema(schema, path, item)
@@ -205,8 +205,8 @@ pub(crate) fn read_put(
     }
 }
 
-// The item that the path can carry, but for a leaf's text.
-fn blank_item(alloc: Global, path: &Path) -> Item
+/// The item that the path can carry, but for a leaf's text.
+pub(crate) fn blank_item(alloc: Global, path: &Path) -> Item
     ensures { result ≡ blank_item path.now }
 {
     if path.ends_in_keys() {

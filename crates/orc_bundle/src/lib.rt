@@ -16,6 +16,7 @@ mod lists;
 mod module;
 mod names;
 mod opening;
+mod places;
 mod read;
 mod schemas;
 mod script;

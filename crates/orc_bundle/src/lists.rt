@@ -32,8 +32,8 @@ fn stands_at(schema: &Schema, steps: &[Step], step: &Step) -> bool
     }
 }
 
-// Whether each of the steps does.
-fn stand(schema: &Schema, steps: &[Step]) -> bool
+/// Whether each of the steps stands in the schema with its keys.
+pub(crate) fn stand(schema: &Schema, steps: &[Step]) -> bool
     ensures { result ≡ stand schema.now [] steps.now }
 {
     match steps.split_last() {
@@ -42,8 +42,8 @@ fn stand(schema: &Schema, steps: &[Step]) -> bool
     }
 }
 
-// Whether the keys of each step are in canonical form.
-fn are_canonical_steps(schema: &Schema, steps: &[Step]) -> bool
+/// Whether the keys of each step are in canonical form.
+pub(crate) fn are_canonical_steps(schema: &Schema, steps: &[Step]) -> bool
     ensures { result ≡ are_canonical_steps schema.now [] steps.now }
 {
     match steps.split_last() {

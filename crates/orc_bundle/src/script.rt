@@ -3,7 +3,7 @@ ghost use Rattle.std.specs.Prelude.{◌≡◌, ◌<◌, ◌≤◌, ◌+◌, ◌^
 ghost use Rattle.orc_bundle.specs.Keywords.{keyword_of};
 ghost use Rattle.orc_bundle.specs.Lines.{lines_of};
 ghost use Rattle.orc_bundle.specs.Words.{first_word};
-ghost use Rattle.orc_bundle.specs.Scripts.{no_steps, is_full, is_caller_more, after_bare, after_show, after_json, after_stop, after_call, after_step, a_step, bare_step, is_followed, words_at, word_at, scripted_at};
+ghost use Rattle.orc_bundle.specs.Scripts.{no_steps, is_full, is_caller_more, after_bare, after_show, after_json, after_meta, after_stop, after_call, after_step, a_step, bare_step, is_followed, words_at, word_at, scripted_at};
 ghost use Rattle.orc_bundle.specs.inside.Readers.{Takes};
 ghost use Rattle.orc_bundle.specs.inside.Costs.{scripted_looks_at, step_looks_at};
 ghost use Rattle.orc_bundle.specs.inside.Lawful.{AreDeclared, AreSteps, decls_in};
@@ -18,6 +18,7 @@ use crate::fault::{LineFault, breaks};
 use crate::keyword::{Keyword, keyword_of};
 use crate::lines::{ends_later, is_large, is_settled, is_skipped, line_text};
 use crate::names::Names;
+use crate::places::read_device_node;
 use crate::words::{cut, first_word, number_of, read_text};
 use orc_call::{Action, DevicePut};
 use orc_io::Steps;
@@ -158,6 +159,19 @@ impl Script {
         Ok(())
     }
 
+    // `meta D PATH`.
+    #[tactic(auto, unfolding(crate::specs::Scripts::after_meta))]
+    fn take_meta(&mut self, alloc: Global, declared: &Declared, rest: &str) -> Result<(), LineFault>
+        requires { AreDeclared declared.now }
+        ensures takes { Takes (after_meta declared.now self.old rest.now) self.new result }
+        ensures lawful { (most : ℕ) → AreSteps (decls_in declared.now) most self.old
+            → OnOk result (AreSteps (decls_in declared.now) most self.new) }
+    {
+        let node = read_device_node(alloc, declared, self.is_full(), rest)?;
+        self.steps.push(ScriptStep::Meta(node.0, node.1))?;
+        Ok(())
+    }
+
     // `stop K B`.
     #[tactic(auto, unfolding(crate::specs::Scripts::after_stop))]
     fn take_stop(&mut self, rest: &str) -> Result<(), LineFault>
@@ -233,6 +247,7 @@ impl Script {
         match word {
             Keyword::Show => self.take_show(alloc, declared, rest),
             Keyword::Json => self.take_json(alloc, declared, rest),
+            Keyword::Meta => self.take_meta(alloc, declared, rest),
             Keyword::Stop => self.take_stop(rest),
             Keyword::Call => self.take_call(alloc, rest, followed),
             _ => breaks(Rule::Line),

@@ -17,9 +17,6 @@ pub const KEY: u8 = 4;
 /// Rule 5: an entry of these keys, or a value of a leaf-list, stands there already.
 pub const DUPLICATE: u8 = 5;
 
-// The rule of `orc_value` that a JSON value of another kind breaks.
-pub(crate) const OTHER_KIND: u8 = 5;
-
 /// Why bytes are no JSON of a configuration (RFC 7951).
 #[derive(Drop)]
 pub enum JsonFault {

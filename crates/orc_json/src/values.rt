@@ -9,13 +9,13 @@ ghost use Rattle.orc_value.specs.Json.{canon_of_json};
 ghost use Rattle.orc_json.specs.Findings.{value_rule, leaf_value, entry_value, values, leaf_list, leaf_found};
 ghost use Rattle.orc_json.specs.Readings.{find_all};
 
-use crate::fault::{KIND, MEMBER, OTHER_KIND, VALUE};
+use crate::fault::{KIND, MEMBER, VALUE};
 use crate::reading::Reading;
 use crate::steps::path_below;
 use orc_path::{Item, Name, Path};
 use orc_schema::LeafNode;
 use orc_text::{Memory, Row, Text};
-use orc_value::{Kind, ValueFault, from_json};
+use orc_value::{KIND as OTHER_KIND, Kind, ValueFault, from_json};
 use serde_json::Value;
 use std::alloc::Global;
 

@@ -15,6 +15,7 @@ mod Standing
 mod Modes
 mod Names
 pub mod Characters
+pub mod Counting
 mod Cuts
 pub mod PathOf
 pub mod Values

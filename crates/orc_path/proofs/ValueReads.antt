@@ -1,10 +1,15 @@
 -- Reading a value character by character.
-use Rattle.std.proofs.Common.{◌≡◌, ℕ, Bool, true, false, not, cond, List, [], ◌∷◌, ◌++◌, Some, None, Option, is_some, length, encode_utf8, refl, sym, ap, ◌∙◌, arith, append-nil}
+use Rattle.std.proofs.Common.{◌≡◌, ℕ, ◌<◌, Bool, true, false, not, cond, List, [], ◌∷◌, ◌++◌, Some, None, Option, is_some, length, get_or, map, chars, encode_utf8, IsUtf8, refl, sym, ap, ◌∙◌, arith, append-nil}
+use Rattle.std.specs.List.{list_all}
 use Rattle.std.proofs.lemmas.List.{nil_from_length}
+use Rattle.std.proofs.lemmas.List.Folds.{list_all-map, list_all_at}
 use Rattle.std.proofs.lemmas.Str.{encode_ascii}
+use Rattle.orc_text.specs.Characters.{is_plain_character, is_plain_text}
+use Rattle.orc_text.proofs.Plain.{is_plain_text-utf8}
+use Rattle.orc_path.specs.Values.{value_of}
 use Rattle.orc_path.specs.inside.ValueReading.{value_unescape, is_never_raw, unescaped, led, behind, ahead}
 use Rattle.orc_path.specs.declared.value.ValueReader.{ValueReader}
-use Rattle.orc_path.proofs.Values.{is_marked, led_led, meaning_low, unescaped_character, unescaped_raw_none, unescaped_backslash, unescaped_meant, unescaped_none}
+use Rattle.orc_path.proofs.Values.{value_of-plain, value_of-not_plain, value_of-unescaped, is_marked, led_led, meaning_low, unescaped_character, unescaped_raw_none, unescaped_backslash, unescaped_meant, unescaped_none}
 
 -- whether a text goes on as one
 
@@ -90,3 +95,42 @@ ahead_first value text is = ap (λ v. led v (unescaped text)) is ∙ all (unesca
     all : (o : Option (List ℕ)) → led [] o ≡ o
     all None = refl
     all (Some bytes) = refl
+
+-- whether a text is a value's
+
+module _ (text : List ℕ) where
+  -- a character stands in it that no value has
+  pub none_at : (n c : ℕ) → IsUtf8 text → n < length (chars text) → c ≡ get_or (chars text) n c → is_plain_character c ≡ false → false ≡ is_some (value_of text)
+  none_at n c u lt at h =
+      sym (ap is_some (value_of-not_plain text (is_plain_text-utf8 text u ∙ list_all_at is_plain_character (chars text) n c lt (ap is_plain_character (sym at) ∙ h))))
+
+  -- its escapes can't be read
+  pub none_read : is_some (unescaped text) ≡ false → false ≡ is_some (value_of text)
+  none_read h = by (is_plain_text text) refl
+    where
+      by : (t : Bool) → is_plain_text text ≡ t → false ≡ is_some (value_of text)
+      by true e = sym (ap is_some (value_of-unescaped text e h))
+      by false e = sym (ap is_some (value_of-not_plain text e))
+
+  -- all its characters are those of values
+  pub read_alike : (cs : List ℕ) → IsUtf8 text → map (λ c. c) cs ≡ chars text → list_all is_plain_character cs ≡ true → is_some (unescaped text) ≡ is_some (value_of text)
+  read_alike cs u all h =
+      sym (ap is_some (value_of-plain text (is_plain_text-utf8 text u ∙ ap (list_all is_plain_character) (sym all) ∙ list_all-map is_plain_character (λ c. c) cs ∙ h)))
+
+  -- it is one
+  pub value_read : is_some (value_of text) ≡ true → value_of text ≡ unescaped text
+  value_read h = by (is_plain_text text) refl
+    where
+      none : value_of text ≡ None → value_of text ≡ unescaped text
+      none e = let not_so : false ≡ true = sym (ap is_some e) ∙ h in let no_way : ⊥ = cc in absurd no_way
+
+      by : (t : Bool) → is_plain_text text ≡ t → value_of text ≡ unescaped text
+      by true e = value_of-plain text e
+      by false e = none (value_of-not_plain text e)
+
+  pub value_none : false ≡ is_some (value_of text) → None ≡ value_of text
+  value_none h = by (value_of text) (sym h)
+    where
+      by : (o : Option (List ℕ)) → is_some o ≡ false → None ≡ o
+      by None e = refl
+      by (Some v) e = let not_so : ⊥ = cc in absurd not_so

@@ -9,5 +9,6 @@ pub mod Reading
 pub mod Limits
 pub mod Laws
 pub mod Configurations
+pub mod Views
 pub mod Codes
 pub mod inside

@@ -1,16 +1,20 @@
 -- What a script prints.
-use Rattle.std.specs.Prelude.{ℕ, suc, ◌≡◌, ◌==◌, ◌&&◌, nat_le, nat_lt, if◌then◌else◌, Bool, true, false, List, [], ◌∷◌, ◌++◌, codes, length}
+use Rattle.std.specs.Prelude.{ℕ, suc, ◌≡◌, ◌==◌, ◌&&◌, nat_le, nat_lt, if◌then◌else◌, Bool, true, false, List, [], ◌∷◌, ◌++◌, codes, length, Option}
+use Rattle.std.specs.declared.option.Option.TheVariants.{None, Some}
 use Rattle.std.specs.Fmt.{decimal}
 use Rattle.std.specs.List.{flat_map}
+use Rattle.std.specs.Option.{option_copied}
 use Rattle.std.specs.FinMap.{entries}
 use Rattle.orc_path.specs.Steps.{PathStep}
-use Rattle.orc_path.specs.Texts.{path_text}
+use Rattle.orc_path.specs.Texts.{path_text, value_text}
 use Rattle.orc_path.specs.Items.{item_text}
 use Rattle.orc_path.specs.Configurations.{Config}
 use Rattle.orc_path.specs.declared.item.Item.{Item}
+use Rattle.orc_path.specs.declared.item.Item.TheVariants.{Entry, Leaf}
 use Rattle.orc_call.specs.declared.call.Call.{Call}
 use Rattle.orc_call.specs.declared.answer.Answer.{Answer}
 use Rattle.orc_call.specs.declared.answer.Answer.TheVariants.{Committed, Exists, Missing, Invalid, Clash, Reused, Down, JournalFault}
+use Rattle.orc_refs.specs.declared.moves.Meta.{Meta}
 use Rattle.orc_schema.specs.Schemas.{SchemaTable}
 use Rattle.orc_check.specs.declared.rules.TheConstants.{KIND, KEY, MANDATORY, MIN_ELEMENTS, MAX_ELEMENTS, LEAFREF}
 use Rattle.orc_json.specs.Written.{IsJsonTextOf}
@@ -42,6 +46,34 @@ json_line name json = codes "json " ++ name ++ codes " " ++ json ++ codes "\n"
 -- the tree of a device under its schema, as the JSON text that RFC 7951 gives it
 abbrev pub IsJsonGroup : List ℕ → SchemaTable → Config → List ℕ → Type 0
 IsJsonGroup name schema tree text = (json : List ℕ) × IsJsonTextOf schema tree json × (text ≡ json_line name json)
+
+-- what is known of a path
+
+-- the line of a service that writes the path
+abbrev pub back_line : List ℕ → List ℕ
+back_line id = codes "back " ++ id ++ codes "\n"
+
+-- the line of what the base has there
+abbrev pub original_line : Item → List ℕ
+original_line Entry = codes "original\n"
+original_line (Leaf text) = codes "original = " ++ value_text text ++ codes "\n"
+
+-- the base has something there, or has not
+abbrev pub original_lines : Option Item → List ℕ
+original_lines None = []
+original_lines (Some item) = original_line item
+
+-- How many services write it, a line for each of them, and what the base has there. Where no service writes it, that
+-- they are none.
+abbrev pub known_lines : Option Meta → List ℕ
+known_lines None = codes "0\n"
+known_lines (Some meta) =
+    decimal meta.count ++ codes "\n" ++ flat_map back_line meta.back.now ++ original_lines (option_copied meta.original)
+
+-- a path of a device, and what is known of it
+abbrev pub meta_group : List ℕ → List PathStep → Option Meta → List ℕ
+meta_group name path known =
+    codes "meta " ++ name ++ codes " " ++ path_text path ++ codes " " ++ known_lines known ++ codes "end\n"
 
 -- answers
 

@@ -1,5 +1,5 @@
 //! Histories.
-ghost use Rattle.std.specs.Prelude.{◌≡◌, codes, IfOk};
+ghost use Rattle.std.specs.Prelude.{◌≡◌, [], codes, IfOk};
 ghost use Rattle.std.specs.List.{flat_map};
 ghost use Rattle.orc_print.specs.inside.Adding.{Adds};
 ghost use Rattle.orc_print.specs.Printed.{history_call, history_lines, history_text};
@@ -82,6 +82,17 @@ fn push_action(out: &mut String, alloc: Global, action: &Action) -> Result<(), M
             out.push_str(path.text(alloc)?.as_str())?;
             out.push_str("\n")?;
         }
+        Action::BasePut(write) => {
+            out.push_str("base ")?;
+            push_write(out, alloc, write)?;
+        }
+        Action::BaseRemove(device, path) => {
+            out.push_str("unbase ")?;
+            out.push_str(device.as_str())?;
+            out.push_str(" ")?;
+            out.push_str(path.text(alloc)?.as_str())?;
+            out.push_str("\n")?;
+        }
         // The other kinds are not built yet.
         _ => {}
     }
@@ -94,10 +105,18 @@ fn push_writes(out: &mut String, alloc: Global, writes: &[DevicePut]) -> Result<
 {
     for write in writes {
         out.push_str("  ")?;
-        out.push_str(write.device.as_str())?;
-        out.push_str(" ")?;
-        push_item(out, alloc, &write.path, &write.item)?;
-        out.push_str("\n")?;
+        push_write(out, alloc, write)?;
     }
+    Ok(())
+}
+
+// A write: the device's name, the item and where it stands.
+fn push_write(out: &mut String, alloc: Global, write: &DevicePut) -> Result<(), Memory>
+    ensures { Adds result out.old out.new (write_line [] write.now) }
+{
+    out.push_str(write.device.as_str())?;
+    out.push_str(" ")?;
+    push_item(out, alloc, &write.path, &write.item)?;
+    out.push_str("\n")?;
     Ok(())
 }

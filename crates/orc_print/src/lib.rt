@@ -4,9 +4,11 @@
 mod answers;
 mod histories;
 mod line;
+mod metas;
 mod trees;
 
 pub use answers::answer;
 pub use histories::history;
 pub use line::{down, recovered, stopped};
+pub use metas::meta;
 pub use trees::{data, json, show};

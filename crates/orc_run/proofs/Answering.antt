@@ -19,7 +19,7 @@ use Rattle.orc_run.specs.declared.serving.Served.{Served}
 use Rattle.orc_run.specs.Views.{View}
 use Rattle.orc_text.specs.declared.memory.Memory.{Memory}
 use Rattle.orc_run.proofs.Outcomes.{AreLaws, no_calls, outlives_kept}
-use Rattle.orc_state.specs.declared.state.State.{State}
+use Rattle.orc_state.specs.States.{State}
 
 -- where serving a call led that left the controller as it was
 pub unchanged : {D : Type 0} (meaning : DiskMeaning D) → AreLaws meaning → (decls : Decls) (entries : List Entry) (old : Controller D) → Knows meaning decls entries old

@@ -5,7 +5,7 @@ use Rattle.orc_append.specs.declared.outcome.Appended.{Appended}
 use Rattle.orc_append.specs.declared.outcome.Appended.TheVariants as appended
 use Rattle.orc_call.specs.declared.call.Call.{Call}
 use Rattle.orc_state.specs.declared.declarations.Decls.{Decls}
-use Rattle.orc_state.specs.declared.state.State.{State}
+use Rattle.orc_state.specs.States.{State}
 use Rattle.orc_run.specs.Commits.{commit_end}
 use Rattle.orc_run.specs.inside.Pasts.{IsBehind}
 use Rattle.orc_run.specs.inside.Serving.{ComesBehind, EndsBehind, up_behind}

@@ -26,7 +26,7 @@ use Rattle.orc_state.specs.Touched.{touched_devices}
 use Rattle.orc_state.specs.Calls.{is_call}
 use Rattle.orc_state.specs.Legal.{IsLegal, IsDue, state_of}
 use Rattle.orc_state.specs.declared.declarations.Decls.{Decls}
-use Rattle.orc_state.specs.declared.state.State.{State}
+use Rattle.orc_state.specs.States.{State}
 use Rattle.orc_state.proofs.Legality.{legal_more}
 use Rattle.orc_bundle.specs.declared.bundle.ScriptStep.TheVariants.{Serve}
 use Rattle.orc_run.specs.Views.{View, Decodes, IsKept, Rests, Outlives}

@@ -24,7 +24,7 @@ use Rattle.orc_call.specs.Fields.{Field, a_path, an_item, IsText, IsItem, IsPath
 use Rattle.orc_call.specs.Encoding.{device_put_fields, action_fields, IsCall}
 use Rattle.orc_call.specs.declared.call.Call.{Call}
 use Rattle.orc_call.specs.declared.call.Action.{Action}
-use Rattle.orc_call.specs.declared.call.Action.TheVariants.{Literal, Delete, Set, Unset}
+use Rattle.orc_call.specs.declared.call.Action.TheVariants.{Literal, Delete, Set, Unset, BasePut, BaseRemove}
 use Rattle.orc_call.specs.declared.call.DevicePut.{DevicePut}
 use Rattle.orc_call.specs.declared.call.TheConstants.{MOST_ACTIONS}
 use Rattle.orc_state.specs.States.{is_same_text, names_of}
@@ -90,10 +90,11 @@ placed_lawful p i h =
     )
 
 -- a path that can carry an item
+under_lawful : (schema : SchemaTable) (p : List PathStep) → is_path_under schema p ≡ true → AreLawful (a_path None p ∷ [])
+under_lawful schema p under = ((placed_lawful p (blank_item p) (first_so (is_item_at p (blank_item p)) _ under)).0, tt)
+
 unset_lawful : (schema : SchemaTable) (p : List PathStep) → is_data_path schema p ≡ true → AreLawful (a_path None p ∷ [])
-unset_lawful schema p h =
-    let under = first_so (is_path_under schema p) (not (is_kept p)) h in
-    ((placed_lawful p (blank_item p) (first_so (is_item_at p (blank_item p)) _ under)).0, tt)
+unset_lawful schema p h = under_lawful schema p (first_so (is_path_under schema p) (not (is_kept p)) h)
 
 -- writes
 
@@ -137,6 +138,13 @@ action_lawful decls (Delete id) h k = ((omega arith, omega arith), (name_text id
 action_lawful decls (Set put) h k =
     ((omega arith, omega arith), placed_lawful put.path put.item (item-under decls.data_schema put.path put.item (data-item decls.data_schema put k)))
 action_lawful decls (Unset path) h k = ((omega arith, omega arith), unset_lawful decls.data_schema path k)
+action_lawful decls (BasePut put) h k = ((omega arith, omega arith), write_lawful decls put h k)
+action_lawful decls (BaseRemove device path) h k =
+    let schema = schema_named decls.schemas decls.devices device in
+    let declared = first_so (is_some (device_named decls.devices device)) (is_path_under schema path) k in
+    let under = second_so (is_some (device_named decls.devices device)) (is_path_under schema path) k in
+    let known = known_name device (names_of decls.devices) h (sym (declared-named decls.devices device) ∙ declared) in
+    ((omega arith, omega arith), (name_text device known, under_lawful schema path under))
 action_lawful decls other h k = absurd (false≢true k)
 
 -- fields behind fields

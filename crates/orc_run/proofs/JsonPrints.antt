@@ -25,7 +25,7 @@ use Rattle.orc_state.specs.Declarations.{AreDecls}
 use Rattle.orc_state.specs.Legal.{IsLegal, state_of}
 use Rattle.orc_state.specs.declared.declarations.Decls.{Decls}
 use Rattle.orc_state.specs.declared.declarations.Device.{Device}
-use Rattle.orc_state.specs.declared.state.State.{State}
+use Rattle.orc_state.specs.States.{State}
 use Rattle.orc_print.specs.Printed.{IsJsonGroup, json_line}
 use Rattle.orc_run.specs.Steps.{PrintsJson, device_schema}
 

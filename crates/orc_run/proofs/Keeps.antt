@@ -108,6 +108,7 @@ module _ {D : Type 0} where
       → Adds first w calls → Does meaning decls w s text new → Adds first new (calls ++ calls_in (s ∷ []))
   adds_step meaning decls first w new calls (step.Show d) text told so does = adds_equal first w new calls so does.1
   adds_step meaning decls first w new calls (step.Json d) text told so does = adds_equal first w new calls so does.1
+  adds_step meaning decls first w new calls (step.Meta d path) text told so does = adds_equal first w new calls so does.1
   adds_step meaning decls first w new calls step.Data text told so does = adds_equal first w new calls so does.1
   adds_step meaning decls first w new calls (step.Serve call) text told so does = adds_serve meaning decls first w new calls call text so does
   adds_step meaning decls first w new calls step.Settle text told so does = adds_equal first w new calls so does.1

@@ -45,6 +45,7 @@ module _ {D : Type 0} (meaning : DiskMeaning D) (decls : Decls) where
   front_step : (old new : View D) (s : ScriptStep) (text : List ℕ) → is_some (meaning.content old.disk) ≡ true → Does meaning decls old s text new → IsPrefix old.known new.known
   front_step old new (step.Show d) text told does = front_equal old new does.1
   front_step old new (step.Json d) text told does = front_equal old new does.1
+  front_step old new (step.Meta d path) text told does = front_equal old new does.1
   front_step old new step.Data text told does = front_equal old new does.1
   front_step old new (step.Serve call) text told does = front_serves old new call text does
   front_step old new step.Settle text told does = front_equal old new does.1

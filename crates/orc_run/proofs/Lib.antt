@@ -6,11 +6,14 @@ mod Equality
 mod AtOnce
 mod Ranges
 mod JsonPrints
+mod Rising
+mod MetaPrints
 mod Reasons
 mod Runs
 mod Keeps
 mod Tops
 mod Histories
+mod Finding
 mod Fronts
 mod Openings
 mod Recoveries

@@ -23,7 +23,7 @@ use Rattle.orc_run.specs.inside.Transactions.{is_taken, AreNamed, IsFilled}
 use Rattle.orc_state.specs.declared.declarations.Decls.{Decls}
 use Rattle.orc_run.specs.declared.numbers.Numbers.{Numbers}
 use Rattle.orc_run.specs.declared.past.Past.{Past}
-use Rattle.orc_state.specs.declared.state.State.{State}
+use Rattle.orc_state.specs.States.{State}
 use Rattle.orc_state.proofs.Legality.{fold_from-push, legal_none, legal_more, legal_last}
 use Rattle.orc_run.proofs.Fronts.{history_of-append}
 

@@ -15,7 +15,7 @@ use Rattle.orc_state.specs.Touched.{is_touched, touched_devices}
 use Rattle.orc_state.specs.Declarations.{AreDecls}
 use Rattle.orc_state.specs.declared.declarations.Decls.{Decls}
 use Rattle.orc_state.specs.declared.declarations.Device.{Device}
-use Rattle.orc_state.specs.declared.state.State.{State}
+use Rattle.orc_state.specs.States.{State}
 
 below : (n : ℕ) → n < 2 ^ 16 → All (λ device. device < 2 ^ 16) (range_with_len 0 n)
 below n few =

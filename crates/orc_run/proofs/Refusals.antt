@@ -17,7 +17,7 @@ use Rattle.orc_call.specs.declared.answer.Answer.{Answer}
 use Rattle.orc_call.specs.declared.answer.Answer.TheVariants.{Clash, Exists, Invalid, Missing}
 use Rattle.orc_state.specs.declared.declarations.Decls.{Decls}
 use Rattle.orc_state.specs.declared.state.Service.{Service}
-use Rattle.orc_state.specs.declared.state.State.{State}
+use Rattle.orc_state.specs.States.{State}
 use Rattle.orc_run.proofs.Ruled.{IsRuled, broken_ruled}
 
 -- where there is an answer, it is one that calls get, and names a device among so many

@@ -19,7 +19,7 @@ use Rattle.orc_bundle.specs.declared.bundle.ScriptStep.{ScriptStep}
 use Rattle.orc_bundle.specs.declared.bundle.ScriptStep.TheVariants as step
 use Rattle.orc_run.specs.Views.{View}
 use Rattle.orc_run.specs.Commits.{AppendsUpTo, Commits, commit_end, commit_text}
-use Rattle.orc_run.specs.Steps.{Breaks, Does, PrintsJson, Recovers, Serves}
+use Rattle.orc_run.specs.Steps.{Breaks, Does, PrintsJson, PrintsMeta, Recovers, Serves}
 use Rattle.orc_run.specs.Runs.{StepsDone, EndsAtStep}
 use Rattle.orc_run.specs.Runs.StepsDone.{begun, one_more}
 use Rattle.orc_run.specs.Transcripts.{IsFrontOf, IsPlain, PrintTheSame, PrintsFront, arms_no_stop}
@@ -29,6 +29,7 @@ use Rattle.orc_run.specs.declared.stop.Stop.{Stop}
 use Rattle.orc_run.specs.declared.stop.Stop.TheVariants as ending
 use Rattle.orc_run.proofs.OneAnswer.{one_answer, not_due, distinct_push}
 use Rattle.orc_run.proofs.JsonPrints.{json_one}
+use Rattle.orc_run.proofs.MetaPrints.{meta_one}
 use Rattle.orc_run.proofs.Parts.{in_parts, none_is_some, one_done, same_parts}
 
 -- the line of the last of these calls as an entry
@@ -195,6 +196,12 @@ module _ {D E : Type 0} (one : DiskMeaning D) (other : DiskMeaning E) (decls : D
   does_one known up old new old' new' (step.Json d) text text' plain distinct is is' t t' p q =
       stay known up old new old' new' text text' distinct is is'
       (json_one decls (state_of decls old.known) d text text' p.0 (subst (λ (l : List Call). PrintsJson decls (state_of decls l) d text') (is'.known_is ∙ sym is.known_is) q.0)) p.1 q.1
+  does_one known up old new old' new' (step.Meta d path) text text' plain distinct is is' t t' p q =
+      let up_same = is'.up_is ∙ sym is.up_is in
+      let known_same = is'.known_is ∙ sym is.known_is in
+      let said = subst (λ (l : List Call). PrintsMeta old'.up decls (state_of decls l) d path text') known_same q.0 in
+      stay known up old new old' new' text text' distinct is is'
+      (meta_one old.up decls (state_of decls old.known) d path text text' p.0 (subst (λ (b : Bool). PrintsMeta b decls (state_of decls old.known) d path text') up_same said)) p.1 q.1
   does_one known up old new old' new' step.Data text text' plain distinct is is' t t' p q =
       stay known up old new old' new' text text' distinct is is'
       (p.0 ∙ printed old.up old'.up (is.up_is ∙ sym is'.up_is) ∙ sym q.0) p.1 q.1

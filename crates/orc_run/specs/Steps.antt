@@ -1,7 +1,9 @@
 -- What a step of a script prints, and what a user can tell behind it.
 use Rattle.std.specs.declared.option.Option.TheVariants.{None, Some}
-use Rattle.std.specs.Prelude.{◌≡◌, ◌≢◌, ◌⊎◌, ℕ, true, false, List, [], ◌++◌, codes, length, IfSome, is_some, if◌then◌else◌}
+use Rattle.std.specs.Prelude.{◌≡◌, ◌≢◌, ◌⊎◌, ℕ, Bool, true, false, List, [], ◌++◌, codes, length, Option, IfSome, is_some, if◌then◌else◌}
 use Rattle.orc_io.specs.Counts.{Rose}
+use Rattle.orc_path.specs.Steps.{PathStep}
+use Rattle.orc_refs.specs.declared.moves.Meta.{Meta}
 use Rattle.orc_schema.specs.Schemas.{SchemaTable}
 use Rattle.orc_json.specs.Written.{HasJson}
 use Rattle.orc_call.specs.declared.call.Call.{Call}
@@ -10,7 +12,8 @@ use Rattle.orc_call.specs.declared.answer.Answer.TheVariants.{Down}
 use Rattle.orc_state.specs.States.{tree_due, name_of}
 use Rattle.orc_state.specs.Calls.{schema_named}
 use Rattle.orc_state.specs.Legal.{state_of, AnswersAtOnce, IsDue, IsLegal}
-use Rattle.orc_print.specs.Printed.{IsJsonGroup, tree_text, data_text, answer_line, history_text, recovered_line}
+use Rattle.orc_state.specs.Metas.{IsMeta}
+use Rattle.orc_print.specs.Printed.{IsJsonGroup, meta_group, tree_text, data_text, answer_line, history_text, recovered_line}
 use Rattle.orc_disk.specs.Meanings.{DiskMeaning}
 use Rattle.orc_run.specs.Opening.{IsOpenedAs, IsRefused}
 use Rattle.orc_run.specs.Commits.{Commits, commit_text, commit_end}
@@ -20,7 +23,7 @@ use Rattle.orc_append.specs.declared.outcome.Appended.{Appended}
 use Rattle.orc_append.specs.declared.outcome.Appended.TheVariants.{Stopped}
 use Rattle.orc_run.specs.Views.{View, HasHistory, IsUntold}
 use Rattle.orc_state.specs.declared.declarations.Decls.{Decls}
-use Rattle.orc_state.specs.declared.state.State.{State}
+use Rattle.orc_state.specs.States.{State}
 use Rattle.orc_bundle.specs.declared.bundle.ScriptStep.{ScriptStep}
 use Rattle.orc_bundle.specs.declared.bundle.ScriptStep.TheVariants as step
 use Rattle.orc_run.specs.declared.stop.Stop.{Stop}
@@ -74,12 +77,20 @@ abbrev pub PrintsJson : Decls → State → ℕ → List ℕ → Type 0
 PrintsJson decls state device text = HasJson (device_schema decls device) (tree_due state device)
     × IsJsonGroup (name_of decls.names device) (device_schema decls device) (tree_due state device) text
 
+-- What is known of a path of a device is printed where the controller is up, and else that it is down.
+abbrev pub PrintsMeta : Bool → Decls → State → ℕ → List PathStep → List ℕ → Type 0
+PrintsMeta true decls state device path text = (meta : Option Meta) × IsMeta state device path meta
+    × (text ≡ meta_group (name_of decls.names device) path meta)
+PrintsMeta false decls state device path text = text ≡ codes "down\n"
+
 -- A step that is done. Trees of devices are printed whether the controller is up or not.
 abbrev pub Does : {D : Type 0} → DiskMeaning D → Decls → View D → ScriptStep → List ℕ → View D → Type 0
 Does meaning decls old (step.Show device) text new =
     (text ≡ tree_text (name_of decls.names device) (tree_due (state_of decls old.known) device)) × (new ≡ old)
 Does meaning decls old (step.Json device) text new =
     PrintsJson decls (state_of decls old.known) device text × (new ≡ old)
+Does meaning decls old (step.Meta device path) text new =
+    PrintsMeta old.up decls (state_of decls old.known) device path text × (new ≡ old)
 Does meaning decls old step.Data text new =
     (text ≡ (if old.up then data_text (state_of decls old.known).data else codes "down\n")) × (new ≡ old)
 Does meaning decls old (step.Serve call) text new = Serves meaning decls old call text new

@@ -1,5 +1,6 @@
 pub mod Inputs
 pub mod Transactions
+pub mod Numbered
 pub mod Pasts
 pub mod Serving
 pub mod Controllers

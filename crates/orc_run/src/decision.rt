@@ -4,7 +4,7 @@ ghost use Rattle.orc_call.specs.Encoding.{IsCall};
 ghost use Rattle.orc_journal.specs.Entries.{AreDevices};
 ghost use Rattle.orc_state.specs.Next.{IsStateOf, after, refusal};
 ghost use Rattle.orc_state.specs.Calls.{is_call};
-ghost use Rattle.orc_state.specs.Legal.{IsLegal, state_of};
+ghost use Rattle.orc_state.specs.Legal.{IsLegal, IsNew, state_of};
 ghost use Rattle.orc_state.specs.Declarations.{AreDecls};
 ghost use Rattle.orc_run.specs.inside.Transactions.{is_taken, IsFilled};
 ghost use Rattle.orc_run.specs.inside.Deciding.{IsIntentOf};
@@ -25,6 +25,7 @@ pub(crate) fn begin(
     devices: Row<u32>,
 ) -> Result<(u64, Entry), Memory>
     requires filled { IsFilled past.old.numbers }
+    requires new { IsNew past.old.history call.now }
     requires encodable { IsCall call.now }
     requires devices { AreDevices devices }
     ensures intent { IfOk result (λ begun. IsIntentOf begun.0 call.now devices begun.1) }
@@ -46,7 +47,7 @@ pub(crate) fn begin(
         call: call.copy(alloc)?,
         devices,
     };
-    past.history.push(call.copy(alloc)?)?;
+    past.history.push(alloc, call.copy(alloc)?)?;
     Ok((t, intent))
 }
 

@@ -1,30 +1,29 @@
 //! What the entries of a journal say of the past: the history, and the state behind it.
-ghost use Rattle.std.specs.Prelude.{◌≡◌, ◌++◌, ◌∷◌, [], ◌≢◌, ℕ, true, false, Ok, None, take, IfOk, IfSome, IsErrOf, IsTrue, MatchOption};
+ghost use Rattle.std.specs.Prelude.{◌≡◌, ◌++◌, ◌∷◌, [], ◌≢◌, ℕ, true, false, Ok, None, take, IfOk, IfSome, IsErrOf, IsTrue, MatchOption, Some, slice_get};
 ghost use Rattle.orc_call.specs.declared.call.Call.{Call};
 ghost use Rattle.orc_state.specs.declared.declarations.Decls.{Decls};
 ghost use Rattle.orc_journal.specs.Committed.{history_of};
 ghost use Rattle.orc_journal.specs.declared.entry.Entry.{Entry};
 ghost use Rattle.orc_state.specs.Calls.{is_call};
-ghost use Rattle.orc_state.specs.Legal.{AnswersAtOnce, IsDue, IsLegal, IsNew};
+ghost use Rattle.orc_state.specs.Legal.{AnswersAtOnce, IsDue, IsLegal, IsNew, IsSame};
 ghost use Rattle.orc_state.specs.Declarations.{AreDecls};
 ghost use Rattle.orc_run.specs.inside.Pasts.{IsBehind, IsPast};
 ghost use Rattle.orc_run.specs.Opening.{IsIllegalAt};
 
-use crate::history::place_of;
+use crate::history::History;
 use crate::numbers::Numbers;
 use orc_call::{Answer, Call};
 use orc_journal::{Entry, committed_by};
 use orc_state::{Decls, State, is_call};
-use orc_text::{Memory, Row};
+use orc_text::Memory;
 use std::alloc::Global;
-use std::mem;
 
 /// The numbers that transactions have, the calls that were committed, in order, and the state
 /// behind them.
 #[derive(Drop)]
 pub struct Past {
     pub numbers: Numbers,
-    pub history: Row<Call>,
+    pub history: History,
     pub state: State,
 }
 
@@ -58,7 +57,7 @@ impl Past {
     {
         let mut past = Past {
             numbers: Numbers::new(alloc),
-            history: Row::new(alloc),
+            history: History::new(alloc),
             state: State::open(alloc, decls)?,
         };
         for (place, entry) in entries.iter().enumerate() {
@@ -91,12 +90,10 @@ impl Past {
     }
 
     /// The calls behind so many are none of the history.
-    pub(crate) fn forget(&mut self, alloc: Global, count: usize)
+    pub(crate) fn forget(&mut self, count: usize)
         ensures { self.new ≡ record self.old { history = take count self.old.history } }
     {
-        let mut history = mem::replace(&mut self.history, Row::new(alloc)).into_vec();
-        history.truncate(count);
-        self.history = Row::from_vec(history);
+        self.history.truncate(count);
     }
 
     // Commits a call, and says whether the history is still legal; if not, it is as it was.
@@ -117,7 +114,7 @@ impl Past {
         if self.answer_or_apply(alloc, decls, call)?.is_some() {
             return Ok(false);
         }
-        self.history.push(call.copy(alloc)?)?;
+        self.history.push(alloc, call.copy(alloc)?)?;
         Ok(true)
     }
 
@@ -138,23 +135,32 @@ impl Past {
         ensures kept { result ≢ Ok None → self.new ≡ self.old }
         ensures rest { self.new ≡ record self.old { state = self.new.state } }
     {
-        if let Some(answer) = self.repeated(call) {
-            return Ok(Some(answer));
+        match self.repeated(alloc, call)? {
+            Some(answer) => Ok(Some(answer)),
+            None => self.state.next(alloc, decls, call),
         }
-        self.state.next(alloc, decls, call)
     }
 
     // The answer to a call whose caller and number the history has.
-    fn repeated(&self, call: &Call) -> Option<Answer>
-        ensures { MatchOption result (IsNew self.now.history call.now)
-            (λ answer. (decls : Decls) → AnswersAtOnce decls self.now.history call.now answer) }
+    fn repeated(&self, alloc: Global, call: &Call) -> Result<Option<Answer>, Memory>
+        ensures { IfOk result (λ found. MatchOption found (IsNew self.now.history call.now)
+            (λ answer. (decls : Decls) → AnswersAtOnce decls self.now.history call.now answer)) }
     {
-        let history = self.history.as_slice();
-        let place = place_of(history, call)?;
-        let entry = place as u64 + 1;
-        if history[place] == *call {
-            return Some(Answer::Committed(entry));
+        match self.history.place_of(alloc, call)? {
+            Some(place) => Ok(Some(answer_at(self.history.as_slice(), place, call))),
+            None => Ok(None),
         }
-        Some(Answer::Reused(entry))
     }
+}
+
+// The answer to a call whose caller and number the call at a place of the history has.
+fn answer_at(history: &[Call], place: usize, call: &Call) -> Answer
+    requires { (entry : Call) × (slice_get history.now place ≡ Some entry) × IsSame entry call.now }
+    ensures { (decls : Decls) → AnswersAtOnce decls history.now call.now result }
+{
+    let entry = place as u64 + 1;
+    if history[place] == *call {
+        return Answer::Committed(entry);
+    }
+    Answer::Reused(entry)
 }

@@ -98,7 +98,7 @@ impl<D: Disk> Controller<D> {
             Stage::Settled => self.settle(reached.outcome),
             Stage::Decide => self.fall_back(alloc, decls, reached.outcome),
             Stage::Intent => {
-                self.past.forget(alloc, self.known);
+                self.past.forget(self.known);
                 self.fall_back(alloc, decls, reached.outcome)
             }
         }

@@ -7,7 +7,7 @@ ghost use Rattle.orc_bundle.specs.Bundles.{is_step};
 ghost use Rattle.orc_state.specs.Legal.{state_of};
 ghost use Rattle.orc_state.specs.Declarations.{AreDecls};
 ghost use Rattle.orc_print.specs.Printed.{data_text, history_text, tree_text};
-ghost use Rattle.orc_run.specs.Steps.{PrintsJson, device_schema};
+ghost use Rattle.orc_run.specs.Steps.{PrintsJson, PrintsMeta, device_schema};
 ghost use Rattle.orc_run.specs.inside.Controllers.{known_of, view_of, CanDo, GoesOn, IsSound, StepsTo, Wants};
 ghost use Rattle.orc_bundle.specs.declared.bundle.ScriptStep.{ScriptStep};
 
@@ -19,7 +19,8 @@ use orc_bundle::ScriptStep;
 use orc_call::Call;
 use orc_disk::Disk;
 use orc_json::typed_has_json;
-use orc_print::{data, down, history, json, show, stopped};
+use orc_path::Path;
+use orc_print::{data, down, history, json, meta, show, stopped};
 use orc_schema::Schema;
 use orc_state::{Decls, device_name, tree_is_typed};
 use orc_text::{Memory, Row};
@@ -40,6 +41,7 @@ impl<D: Disk> Controller<D> {
         match step {
             ScriptStep::Show(device) => self.show(alloc, decls, *device),
             ScriptStep::Json(device) => self.json(alloc, decls, *device),
+            ScriptStep::Meta(device, path) => self.meta(alloc, decls, *device, path),
             ScriptStep::Data => self.data(alloc, decls),
             ScriptStep::Serve(call) => self.answer(alloc, decls, call),
             ScriptStep::Settle => self.settled(alloc, decls),
@@ -72,9 +74,9 @@ impl<D: Disk> Controller<D> {
         ensures { IfOk result (λ text. text ≡ tree_text (name_of decls.now.names device)
             (tree_due (state_of decls.now (known_of self.now)) device)) }
     {
-        let tree = self.past.state.tree_due(alloc, device)?;
+        let tree = self.past.state.tree_due(device);
         let name = device_name(decls.names.as_slice(), device);
-        Ok(Row::from_vec(show(alloc, name, &tree)?))
+        Ok(Row::from_vec(show(alloc, name, tree)?))
     }
 
     // Prints the tree of a device with a type, as JSON.
@@ -107,10 +109,48 @@ impl<D: Disk> Controller<D> {
     {
         tree_is_typed();
         typed_has_json();
-        let tree = self.past.state.tree_due(alloc, device)?;
+        let tree = self.past.state.tree_due(device);
         let name = device_name(decls.names.as_slice(), device);
         let schema = schema_of(decls, device);
-        Ok(Row::from_vec(json(alloc, name, schema, &tree)?))
+        Ok(Row::from_vec(json(alloc, name, schema, tree)?))
+    }
+
+    // Prints what is known of a path of a device.
+    fn meta(
+        self,
+        alloc: Global,
+        decls: &Decls,
+        device: u32,
+        path: &Path,
+    ) -> Result<(Controller<D>, Row<u8>), LastStep<D>>
+        requires sound { IsSound D.disk decls.now self }
+        requires device { device < length decls.now.names }
+        ensures { (sound : IsSound D.disk decls.now self)
+            → StepsTo D.disk decls.now (view_of self sound.0) (ScriptStep.Meta device path.now) result }
+    {
+        let text = self.meta_text(alloc, decls, device, path);
+        self.printing(alloc, text)
+    }
+
+    // The group of the path, or that the controller is down.
+    fn meta_text(
+        &self,
+        alloc: Global,
+        decls: &Decls,
+        device: u32,
+        path: &Path,
+    ) -> Result<Row<u8>, Memory>
+        requires sound { IsSound D.disk decls.now self.now }
+        requires device { device < length decls.now.names }
+        ensures { IfOk result
+            (PrintsMeta self.now.up decls.now (state_of decls.now (known_of self.now)) device path.now) }
+    {
+        if !self.up {
+            return Ok(Row::from_vec(down(alloc)?));
+        }
+        let known = self.past.state.meta(device, path);
+        let name = device_name(decls.names.as_slice(), device);
+        Ok(Row::from_vec(meta(alloc, name, path, known.as_ref())?))
     }
 
     // Prints the data.

@@ -29,7 +29,7 @@ use Rattle.orc_call.specs.declared.call.Action.{Action}
 use Rattle.orc_call.specs.declared.call.Action.TheVariants.{Literal}
 use Rattle.orc_state.specs.declared.declarations.Decls.{Decls}
 use Rattle.orc_state.specs.declared.state.Service.{Service}
-use Rattle.orc_state.specs.declared.state.State.{State}
+use Rattle.orc_state.specs.States.{State}
 use Rattle.orc_state.proofs.Lists.{not_true, filter_from, filter_nil, passes, true_not_false}
 use Rattle.orc_state.proofs.Named.{made_named}
 
@@ -275,7 +275,7 @@ step_unique devices live action h a b c d same =
     on (inr x) (inl y) = absurd (apart b a y x (sym same))
     on (inr x) (inr y) = made_unique devices action a b x y same
 
-after_unique : (devices : List (List ℕ)) (actions : List Action) (live : List Service) → AreUnique live → AreUnique (live_after devices actions live)
+pub after_unique : (devices : List (List ℕ)) (actions : List Action) (live : List Service) → AreUnique live → AreUnique (live_after devices actions live)
 after_unique devices [] live h = h
 after_unique devices (action ∷ actions) live h = after_unique devices actions (live_step devices live action) (step_unique devices live action h)
 

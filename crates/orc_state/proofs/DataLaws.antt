@@ -34,7 +34,7 @@ use Rattle.orc_state.specs.Histories.{fold_from, IsUnrefused}
 use Rattle.orc_state.specs.Calls.{is_action, is_data_item, is_kept, is_lawful_name, is_path_under, is_put}
 use Rattle.orc_state.specs.Laws.{AreActions, DataIsConfiguration, DataIsValid, DevicesStay}
 use Rattle.orc_state.specs.declared.declarations.Decls.{Decls}
-use Rattle.orc_state.specs.declared.state.State.{State}
+use Rattle.orc_state.specs.States.{State}
 use Rattle.orc_state.proofs.Agreement.{map_none, or_none}
 use Rattle.orc_state.proofs.Fits.{data-item, item-under, list_all_weaker}
 use Rattle.orc_state.proofs.Lists.{not_true, true_not_false}

@@ -18,7 +18,7 @@ use Rattle.orc_state.specs.declared.declarations.Device.{Device}
 use Rattle.orc_call.specs.declared.call.Put.{Put}
 use Rattle.orc_call.specs.declared.call.Call.{Call}
 use Rattle.orc_call.specs.declared.call.Action.{Action}
-use Rattle.orc_call.specs.declared.call.Action.TheVariants.{Literal, Set}
+use Rattle.orc_call.specs.declared.call.Action.TheVariants.{Literal, Set, BasePut}
 use Rattle.orc_call.specs.declared.call.DevicePut.{DevicePut}
 
 -- what all elements pass, one passes
@@ -82,6 +82,8 @@ action-fits decls (Literal id writes) h =
     list_all_weaker (is_write decls) (λ w. fits w.path w.item)
     (λ w q. item-fits (schema_named decls.schemas decls.devices w.device) w.path w.item (write-item decls w q)) writes (second_so _ (list_all (is_write decls) writes) h)
 action-fits decls (Set put) h = item-fits decls.data_schema put.path put.item (data-item decls.data_schema put h)
+action-fits decls (BasePut put) h =
+    item-fits (schema_named decls.schemas decls.devices put.device) put.path put.item (write-item decls put h)
 action-fits decls other h = refl
 
 -- the actions of a call that a call block gives are ones that it can give

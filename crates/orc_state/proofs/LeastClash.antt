@@ -289,12 +289,12 @@ is_not_less Less h e = cc
 is_not_less Equal h e = cc
 is_not_less Greater h e = cc
 
-at_place : {X : Type 0} (xs : List X) (k : ℕ) (x : X) → slice_get xs k ≡ Some x → Contains xs x
+pub at_place : {X : Type 0} (xs : List X) (k : ℕ) (x : X) → slice_get xs k ≡ Some x → Contains xs x
 at_place [] k x h = absurd (none_some h)
 at_place (y ∷ ys) zero x h = subst (Contains (y ∷ ys)) (some_is h) (first_in y ys)
 at_place (y ∷ ys) (suc k) x h = later_in y x ys (at_place ys k x h)
 
-abbrev At : Type 0
+abbrev pub At : Type 0
 At = List PathStep × List ℕ
 
 -- none of the services has something at a lesser path
@@ -469,7 +469,7 @@ found_from live services k (name ∷ devices) answer h =
 -- the law
 
 -- where nothing is unequal of a service, it has no clash
-none_of : (live : List Service) (d : ℕ) (path : List PathStep) (s rival : Service) → unequal_of live d s ≡ None → IsClash live d path s rival → ⊥
+pub none_of : (live : List Service) (d : ℕ) (path : List PathStep) (s rival : Service) → unequal_of live d s ≡ None → IsClash live d path s rival → ⊥
 none_of live d path s rival none c =
     let beside : Contains (others live s.id) rival = in_filter (λ (x : Service). not (has_id s.id x)) live rival c.living (ap not c.another) in
     unequal_differs c.item c.other c.unequal
@@ -477,7 +477,7 @@ none_of live d path s rival none c =
     ∙ no_unequal_among (others live s.id) d (entries (part s d)) path c.item rival none (sym (get-entries (part s d) path) ∙ c.written) beside)
 
 -- a clash of a service comes no earlier than what is unequal of it
-clash_has : (live : List Service) (d : ℕ) (path : List PathStep) (s rival : Service) → IsClash live d path s rival
+pub clash_has : (live : List Service) (d : ℕ) (path : List PathStep) (s rival : Service) → IsClash live d path s rival
     → (at : At) × (unequal_of live d s ≡ Some at) × (path_cmp path at.0 ≡ Less → ⊥)
 clash_has live d path s rival c = on (unequal_of live d s) refl
   where
@@ -494,11 +494,16 @@ clash_has live d path s rival c = on (unequal_of live d s) refl
               (sym (ap (differs c.item) c.holds) ∙ found.before path c.item rival (sym (get-entries (part s d) path) ∙ c.written) lt beside),
         )
 
-found_least : (live services : List Service) (device : ℕ) (at : At) → Best (unequal_of live device) services at
-    → ((j : ℕ) → j < device → unequal_on live services j ≡ None) → IsLeastClash services live device at.0 at.1
-found_least live services device at best earlier =
-    let s = best.service in
-    let found = found_among (others live s.id) device (entries (part s device)) at (entries_sorted (part s device)) best.has in
+-- what is unequal of a service is a clash of it, and no other one there has a lesser name
+pub record LeastAt (live : List Service) (d : ℕ) (s : Service) (at : At) : Type 0 where
+  pub rival : Service
+  pub named : rival.id ≡ at.1
+  pub clash : IsClash live d at.0 s rival
+  pub least_name : (r' : Service) → IsClash live d at.0 s r' → text_cmp r'.id at.1 ≡ Less → ⊥
+
+pub least_at : (live : List Service) (device : ℕ) (s : Service) (at : At) → unequal_of live device s ≡ Some at → LeastAt live device s at
+least_at live device s at has =
+    let found = found_among (others live s.id) device (entries (part s device)) at (entries_sorted (part s device)) has in
     let differs_here : Service → Bool = λ x. differs found.item (get (part x device) at.0) in
     let names = least_of _ at.1 found.name in
     let rival = in_map (λ (x : Service). x.id) (filter differs_here (others live s.id)) at.1 names.among in
@@ -506,9 +511,6 @@ found_least live services device at best earlier =
     let beside : Contains (others live s.id) rival.0 = filter_from differs_here (others live s.id) rival.0 rival.1 in
     let written : get (part s device) at.0 ≡ Some found.item = get-entries (part s device) at.0 ∙ found.here in
     record {
-      place = best.place;
-      service = s;
-      there = best.there;
       rival = rival.0;
       named = rival.2;
       clash = record {
@@ -520,10 +522,37 @@ found_least live services device at best earlier =
         holds = against.1;
         unequal = against.2;
       };
+      least_name = λ r' clash lt. name_least found.item written names.least r' clash lt;
+    }
+  where
+    -- what the clash writes is what was found, so its rival is among those whose names were compared
+    name_least : (item : Item) → get (part s device) at.0 ≡ Some item
+        → All (IsUpTo at.1) (map (λ (x : Service). x.id) (filter (λ (x : Service). differs item (get (part x device) at.0)) (others live s.id)))
+        → (r' : Service) (c : IsClash live device at.0 s r') → text_cmp r'.id at.1 ≡ Less → ⊥
+    name_least item written all r' c lt =
+        let here : Service → Bool = λ x. differs item (get (part x device) at.0) in
+        let each = all_map (IsUpTo at.1) (λ (x : Service). x.id) (filter here (others live s.id)) all in
+        let same : c.item ≡ item = some_is (sym c.written ∙ written) in
+        let rival_differs : here r' ≡ true = differing item (get (part r' device) at.0) c.other c.holds (λ e. c.unequal (same ∙ e)) in
+        let beside : Contains (others live s.id) r' = in_filter (λ (x : Service). not (has_id s.id x)) live r' c.living (ap not c.another) in
+        All-contains (λ (x : Service). IsUpTo at.1 x.id) (filter here (others live s.id)) r' each
+        (in_filter here (others live s.id) r' beside rival_differs) lt
+
+found_least : (live services : List Service) (device : ℕ) (at : At) → Best (unequal_of live device) services at
+    → ((j : ℕ) → j < device → unequal_on live services j ≡ None) → IsLeastClash services live device at.0 at.1
+found_least live services device at best earlier =
+    let least = least_at live device best.service at best.has in
+    record {
+      place = best.place;
+      service = best.service;
+      there = best.there;
+      rival = least.rival;
+      named = least.named;
+      clash = least.clash;
       least_device = λ device' path' s' r' c clash. no_earlier device' path' s' r' c clash;
       least_path = λ path' s' r' c clash lt. no_lesser path' s' r' c clash lt;
       first = λ k s' r' t clash. no_sooner k s' r' t clash;
-      least_name = λ r' clash lt. name_least found.item written names.least r' clash lt;
+      least_name = least.least_name;
     }
   where
     no_earlier : (device' : ℕ) (path' : List PathStep) (s' r' : Service) → Contains services s' → IsClash live device' path' s' r' → device ≤ device'
@@ -554,19 +583,6 @@ found_least live services device at best earlier =
         on o is upto Equal e = best.first k s' o t is (path_cmp_exact o.0 at.0 e)
         on o is upto Greater e = absurd (upto (path_cmp_total.antisymm at.0 o.0 ∙ ap ordering_reverse e))
 
-    -- what the clash writes is what was found, so its rival is among those whose names were compared
-    name_least : (item : Item) → get (part best.service device) at.0 ≡ Some item
-        → All (IsUpTo at.1) (map (λ (x : Service). x.id) (filter (λ (x : Service). differs item (get (part x device) at.0)) (others live best.service.id)))
-        → (r' : Service) (c : IsClash live device at.0 best.service r') → text_cmp r'.id at.1 ≡ Less → ⊥
-    name_least item written all r' c lt =
-        let here : Service → Bool = λ x. differs item (get (part x device) at.0) in
-        let each = all_map (IsUpTo at.1) (λ (x : Service). x.id) (filter here (others live best.service.id)) all in
-        let same : c.item ≡ item = some_is (sym c.written ∙ written) in
-        let rival_differs : here r' ≡ true = differing item (get (part r' device) at.0) c.other c.holds (λ e. c.unequal (same ∙ e)) in
-        let beside : Contains (others live best.service.id) r' = in_filter (λ (x : Service). not (has_id best.service.id x)) live r' c.living (ap not c.another) in
-        All-contains (λ (x : Service). IsUpTo at.1 x.id) (filter here (others live best.service.id)) r' each
-        (in_filter here (others live best.service.id) r' beside rival_differs) lt
-
 -- what is touched is made
 flat_map_cases : {X Y : Type 0} (f : X → List Y) (xs : List X) (y : Y) → Contains (flat_map f xs) y → (x : X) × Contains xs x × Contains (f x) y
 flat_map_cases f [] y c = absurd (none_in_nil y c)
@@ -577,7 +593,7 @@ flat_map_cases f (x ∷ xs) y c = on (λ later. flat_map_cases f xs y later) (Co
     on rest (inl here) = (x, first_in x xs, here)
     on rest (inr later) = let found = rest later in (found.0, later_in x found.0 xs found.1, found.2)
 
-any_of : {X : Type 0} (p : X → Bool) (xs : List X) (x : X) → Contains xs x → p x ≡ true → list_any p xs ≡ true
+pub any_of : {X : Type 0} (p : X → Bool) (xs : List X) (x : X) → Contains xs x → p x ≡ true → list_any p xs ≡ true
 any_of p [] x c h = absurd (none_in_nil x c)
 any_of p (y ∷ ys) x c h = on (any_of p ys x) (in_cases y x ys c)
   where

@@ -6,8 +6,10 @@ pub mod Overlays
 pub mod Trees
 mod TypedTrees
 mod Untouched
+pub mod Bases
+mod Placed
+mod Touching
 mod DataLaws
-mod ClashBehind
 mod LeastClash
 mod Kept
 mod Ranges
@@ -16,3 +18,11 @@ pub mod Declared
 pub mod Legality
 pub mod Removals
 mod PutOrder
+mod OnDevice
+mod Clashing
+mod Placing
+mod Wholes
+mod Devices
+mod Writers
+mod Openings
+mod Changing

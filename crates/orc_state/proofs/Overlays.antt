@@ -8,14 +8,10 @@ use Rattle.orc_path.specs.Steps.{PathStep}
 use Rattle.orc_path.specs.Configurations.{Config, overlay}
 use Rattle.orc_path.proofs.ConfigurationLaws.{same_config, get-overlay}
 use Rattle.orc_path.specs.declared.item.Item.{Item}
-use Rattle.orc_state.specs.States.{part, tree_due, opening, overlay_all, config_of}
-use Rattle.orc_state.specs.Next.{after}
+use Rattle.orc_state.specs.States.{part, tree_due, overlay_all, config_of}
 use Rattle.orc_state.specs.Legal.{state_of}
-use Rattle.orc_state.specs.Histories.{fold_from}
 use Rattle.orc_state.specs.Laws.{AllAgree, IsOverlay, OverlayIsOne, OrderOfCreationIsFree}
-use Rattle.orc_call.specs.declared.call.Call.{Call}
 use Rattle.orc_state.specs.declared.state.Service.{Service}
-use Rattle.orc_state.specs.declared.state.State.{State}
 use Rattle.orc_state.specs.declared.declarations.Decls.{Decls}
 use Rattle.orc_state.proofs.Agreement.{living_agree, none_in_nil, first_in, later_in, in_cases}
 
@@ -93,18 +89,12 @@ overlay_one decls history d h =
     let is = laid_is_overlay s.live d (config_of s.bases d) (living_agree decls history h) in
     (is, λ tree other. overlay_unique s.live d (config_of s.bases d) tree (tree_due s d) other is)
 
-pub bases_stay : (decls : Decls) (s : State) (calls : List Call) → (fold_from decls s calls).bases ≡ s.bases
-bases_stay decls s [] = refl
-bases_stay decls s (call ∷ calls) = bases_stay decls (after decls s call) calls
-
 pub order_free : OrderOfCreationIsFree
-order_free decls one other d h g there back =
+order_free decls one other d h g there back same =
     let s = state_of decls one in
     let t = state_of decls other in
-    let bases : t.bases ≡ s.bases = bases_stay decls (opening decls) other ∙ sym (bases_stay decls (opening decls) one) in
     let is = laid_is_overlay s.live d (config_of s.bases d) (living_agree decls one h) in
-    let is' = subst (λ (b : List Config). IsOverlay t.live d (config_of b d) (laid t.live d (config_of b d))) bases
+    let is' = subst (λ (b : Config). IsOverlay t.live d b (tree_due t d)) (sym same)
     (laid_is_overlay t.live d (config_of t.bases d) (living_agree decls other g)) in
     overlay_unique s.live d (config_of s.bases d) (tree_due s d) (tree_due t d) is
-    (subst (λ (b : List Config). IsOverlay s.live d (config_of s.bases d) (laid t.live d (config_of b d))) (sym bases)
-    (record { written = λ a p x c. is'.written a p x (there a c); others = λ p none. is'.others p (λ a c. none a (back a c)) }))
+    (record { written = λ a p x c. is'.written a p x (there a c); others = λ p none. is'.others p (λ a c. none a (back a c)) })

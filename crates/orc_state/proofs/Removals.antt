@@ -25,7 +25,7 @@ use Rattle.orc_state.specs.Legal.{IsSame, AreDistinct}
 use Rattle.orc_state.specs.Laws.{Creates, Deletes, NamesOther, UnrefusedWithoutTrace, LegalWithoutTrace}
 use Rattle.orc_state.specs.declared.declarations.Decls.{Decls}
 use Rattle.orc_state.specs.declared.state.Service.{Service}
-use Rattle.orc_state.specs.declared.state.State.{State}
+use Rattle.orc_state.specs.States.{State}
 use Rattle.orc_state.proofs.Lists.{filter-filter, or_first, or_second}
 use Rattle.orc_state.proofs.Named.{created_is_new, other_way}
 use Rattle.orc_state.proofs.Agreement.{least_none, map_nil, map_none, or_none, none_on, on_none, unrefused_parts}

@@ -3,16 +3,19 @@ use Rattle.std.proofs.Common.{◌≡◌, ℕ, Bool, false, cond, not, List, [], 
 use Rattle.std.specs.List.{filter}
 use Rattle.std.proofs.lemmas.List.Elements.{filter-append, All-head, All-tail}
 use Rattle.orc_state.specs.States.{has_id, lives, others, expansion}
-use Rattle.orc_state.specs.Actions.{data_after, is_named_by, live_after, live_step, new_services, names}
+use Rattle.orc_state.specs.Actions.{bases_after, data_after, is_named_by, live_after, live_step, new_services, names}
 use Rattle.orc_state.specs.Next.{after}
 use Rattle.orc_state.specs.Histories.{fold_from}
 use Rattle.orc_state.specs.Laws.{Creates, Deletes, DeletedWithoutTrace, NamesOther}
 use Rattle.orc_call.specs.declared.call.Call.{Call}
+use Rattle.orc_path.specs.Configurations.{Config}
 use Rattle.orc_call.specs.declared.call.Action.{Action}
+use Rattle.orc_call.specs.declared.call.Action.TheVariants.{Literal, Delete}
 use Rattle.orc_call.specs.declared.call.DevicePut.{DevicePut}
 use Rattle.orc_state.specs.declared.declarations.Decls.{Decls}
 use Rattle.orc_state.specs.declared.state.Service.{Service}
-use Rattle.orc_state.specs.declared.state.State.{State}
+use Rattle.orc_state.specs.States.{State}
+use Rattle.orc_state.proofs.Bases.{bases_still}
 use Rattle.orc_state.proofs.Lists.{any_none, filter_all, filter-filter, or_first, or_second}
 use Rattle.orc_state.proofs.Named.{is_text_itself, all_not, made_others}
 
@@ -51,7 +54,7 @@ behind-without devices (action ∷ actions) live id h =
 pub after-without : (decls : Decls) (s : State) (call : Call) (id : List ℕ) → NamesOther id call
     → without id (after decls s call) ≡ after decls (without id s) call
 after-without decls s call id h =
-    let with_live : List Service → State = λ live. record s { «data» = data_after call.actions s.data; live = live } in
+    let with_live : List Service → State = λ live. record s { «data» = data_after call.actions s.data; bases = bases_after decls.names call.actions s.bases; live = live } in
     ap with_live (behind-without decls.names call.actions s.live id h)
 
 fold-without : (decls : Decls) (s : State) (calls : List Call) (id : List ℕ) → All (NamesOther id) calls
@@ -64,17 +67,20 @@ fold-without decls s (call ∷ calls) id h =
 -- the state behind a call that deletes a service, and behind one that makes one
 pub after-deletes : (decls : Decls) (s : State) (call : Call) (id : List ℕ) → Deletes call id → after decls s call ≡ without id s
 after-deletes decls s call id h =
-    let behind : List Action → State = λ actions. record s { «data» = data_after actions s.data; live = live_after decls.names actions s.live } in
-    ap behind h ∙ ap (λ (l : List Service). record s { live = l }) (append-nil (others s.live id))
+    let behind : List Action → State = λ actions. record s { «data» = data_after actions s.data; bases = bases_after decls.names actions s.bases; live = live_after decls.names actions s.live } in
+    ap behind h
+    ∙ ap (λ (b : List Config). record s { bases = b; live = others s.live id ++ [] }) (bases_still (Delete id) (λ name base. refl) decls.names s.bases)
+    ∙ ap (λ (l : List Service). record s { live = l }) (append-nil (others s.live id))
 
 -- a service that is made and goes again leaves the state as it was
 pub gone_again : (decls : Decls) (s : State) (call : Call) (id : List ℕ) (writes : List DevicePut) → Creates call id writes → lives s.live id ≡ false
     → without id (after decls s call) ≡ s
 gone_again decls s call id writes makes absent =
-    let behind : List Action → State = λ actions. record s { «data» = data_after actions s.data; live = live_after decls.names actions s.live } in
+    let behind : List Action → State = λ actions. record s { «data» = data_after actions s.data; bases = bases_after decls.names actions s.bases; live = live_after decls.names actions s.live } in
     let service : Service = record { id = id; parts = expansion decls.names writes } in
     let gone : others (service ∷ []) id ≡ [] = ap (λ t. cond (not t) (service ∷ []) []) (is_text_itself id) in
     ap (λ (z : State). without id z) (ap behind makes)
+    ∙ ap (λ (b : List Config). record s { bases = b; live = others (others s.live id ++ service ∷ []) id }) (bases_still (Literal id writes) (λ name base. refl) decls.names s.bases)
     ∙ ap (λ (l : List Service). record s { live = l })
     (filter-append (λ x. not (has_id id x)) (others s.live id) (service ∷ [])
     ∙ ap (λ (l : List Service). others (others s.live id) id ++ l) gone ∙ append-nil (others (others s.live id) id)

@@ -5,11 +5,11 @@ use Rattle.std.specs.List.{list_all}
 use Rattle.std.specs.Cmp.{first_so, second_so}
 use Rattle.std.specs.FinMap.{empty}
 use Rattle.std.proofs.lemmas.Bool.{and_from}
-use Rattle.std.proofs.lemmas.List.Elements.{All-nil, All-cons, All-head, All-tail, All-append, All-filter}
-use Rattle.orc_path.specs.Configurations.{Config, IsConfig, put_item}
-use Rattle.orc_path.proofs.ConfigurationLaws.{IsConfig-empty, IsConfig-put_item, IsConfig-overlay}
-use Rattle.orc_state.specs.States.{is_same_text, declared_base, config_of, part, put_all, puts_on, expansion, opening, overlay_all}
-use Rattle.orc_state.specs.Actions.{live_after, live_step, new_services, names}
+use Rattle.std.proofs.lemmas.List.Elements.{All-nil, All-cons, All-head, All-tail, All-append, All-filter, All-weaker}
+use Rattle.orc_path.specs.Configurations.{Config, IsConfig, drop_item, put_item}
+use Rattle.orc_path.proofs.ConfigurationLaws.{IsConfig-empty, IsConfig-put_item, IsConfig-drop_item, IsConfig-overlay}
+use Rattle.orc_state.specs.States.{is_same_text, declared_base, config_of, name_of, part, put_all, puts_on, expansion, opening, overlay_all}
+use Rattle.orc_state.specs.Actions.{bases_after, live_after, live_step, new_services, names}
 use Rattle.orc_state.specs.Next.{after}
 use Rattle.orc_state.specs.Histories.{fold_from}
 use Rattle.orc_schema.specs.Schemas.{SchemaTable}
@@ -17,15 +17,16 @@ use Rattle.orc_state.specs.Calls.{is_item_at, is_put, is_write, is_device, is_ac
 use Rattle.orc_state.specs.declared.declarations.Decls.{Decls}
 use Rattle.orc_state.specs.Legal.{state_of}
 use Rattle.orc_state.specs.Laws.{AreActions, TreeIsConfiguration}
+use Rattle.orc_state.proofs.Bases.{KeepsBase, base_kept}
 use Rattle.orc_state.proofs.Fits.{base-items, item-under, list_all_weaker, write-item}
 use Rattle.orc_call.specs.declared.call.Put.{Put}
 use Rattle.orc_state.specs.declared.declarations.Device.{Device}
 use Rattle.orc_call.specs.declared.call.Call.{Call}
 use Rattle.orc_call.specs.declared.call.Action.{Action}
-use Rattle.orc_call.specs.declared.call.Action.TheVariants.{Literal}
+use Rattle.orc_call.specs.declared.call.Action.TheVariants.{Literal, BasePut, BaseRemove}
 use Rattle.orc_call.specs.declared.call.DevicePut.{DevicePut}
 use Rattle.orc_state.specs.declared.state.Service.{Service}
-use Rattle.orc_state.specs.declared.state.State.{State}
+use Rattle.orc_state.specs.States.{State}
 
 -- an item that may stand somewhere, whatever the schema
 abbrev pub is_put_somewhere : Put → Bool
@@ -95,18 +96,48 @@ behind_configs decls (action ∷ actions) live h c =
     (All-append WritesConfigs _ _ (All-filter (λ x. _) WritesConfigs live c)
     (made_configs decls action (All-head (λ (a : Action). is_action decls a ≡ true) action actions h)))
 
+-- an edit of a base leaves a configuration
+edited_config : (decls : Decls) (name : List ℕ) (action : Action) → is_action decls action ≡ true → KeepsBase IsConfig name action
+edited_config decls name (BasePut put) h base c = on (is_same_text put.device name)
+  where
+    item : is_item_at put.path put.item ≡ true
+    item = item-under (schema_named decls.schemas decls.devices put.device) put.path put.item (write-item decls put h)
+
+    on : (t : Bool) → IsConfig (if t then put_item base put.path put.item else base)
+    on true = IsConfig-put_item base put.path put.item c (first_so _ _ (first_so _ _ (first_so _ _ item))) (second_so _ _ item)
+    on false = c
+edited_config decls name (BaseRemove device path) h base c = on (is_same_text device name)
+  where
+    on : (t : Bool) → IsConfig (if t then drop_item base path else base)
+    on true = IsConfig-drop_item base path c
+    on false = c
+edited_config decls name other h base c = c
+
+-- the base of each device is a configuration
+abbrev AreConfigs : List Config → Type 0
+AreConfigs bases = (d : ℕ) → IsConfig (config_of bases d)
+
+edited_configs : (decls : Decls) (actions : List Action) (bases : List Config) → All (λ action. is_action decls action ≡ true) actions
+    → AreConfigs bases → AreConfigs (bases_after decls.names actions bases)
+edited_configs decls actions bases h c d =
+    let name = name_of decls.names d in
+    base_kept IsConfig decls.names actions bases d
+    (All-weaker (λ (a : Action). is_action decls a ≡ true) (KeepsBase IsConfig name) (λ a is. edited_config decls name a is) actions h) (c d)
+
 fold_configs : (decls : Decls) (s : State) (calls : List Call) → AreActions decls calls
-    → All WritesConfigs s.live → All IsConfig s.bases
-    → All WritesConfigs (fold_from decls s calls).live × All IsConfig (fold_from decls s calls).bases
+    → All WritesConfigs s.live → AreConfigs s.bases
+    → All WritesConfigs (fold_from decls s calls).live × AreConfigs (fold_from decls s calls).bases
 fold_configs decls s [] h live bases = (live, bases)
 fold_configs decls s (call ∷ calls) h live bases =
     let lawful : Call → Type 0 = λ c. All (λ action. is_action decls action ≡ true) c.actions in
+    let now = All-head lawful call calls h in
     fold_configs decls (after decls s call) calls (All-tail lawful call calls h)
-    (behind_configs decls call.actions s.live (All-head lawful call calls h) live) bases
+    (behind_configs decls call.actions s.live now live) (edited_configs decls call.actions s.bases now bases)
 
 pub trees_are_configs : TreeIsConfiguration
 trees_are_configs decls history d devices_are calls_are =
     let s = state_of decls history in
     let both =
-    fold_configs decls (opening decls) history calls_are (All-nil WritesConfigs) (opening_configs decls.schemas decls.devices devices_are) in
-    overlaid_config s.live d (config_of s.bases d) both.0 (IsConfig-config_of s.bases d both.1)
+    fold_configs decls (opening decls) history calls_are (All-nil WritesConfigs)
+    (λ n. IsConfig-config_of (map declared_base decls.devices) n (opening_configs decls.schemas decls.devices devices_are)) in
+    overlaid_config s.live d (config_of s.bases d) both.0 (both.1 d)

@@ -1,5 +1,5 @@
 -- What stands in the trees of devices is typed.
-use Rattle.std.proofs.Common.{◌≡◌, ℕ, zero, suc, Bool, true, false, ◌&&◌, ◌||◌, nat_eq, nat_lt, List, [], ◌∷◌, ◌++◌, inl, inr, length, take, map, All, is_some, None, Some, refl, sym, ap, subst, ◌∙◌, arith, append_assoc}
+use Rattle.std.proofs.Common.{◌≡◌, ℕ, zero, suc, Bool, true, false, cond, ◌&&◌, ◌||◌, nat_eq, nat_lt, List, [], ◌∷◌, ◌++◌, inl, inr, length, take, map, All, is_some, None, Some, refl, sym, ap, subst, ◌∙◌, arith, append_assoc}
 use Rattle.std.specs.Prelude.{Option, option_map, slice_get, if◌then◌else◌}
 use Rattle.std.specs.Option.{option_map_or, option_or}
 use Rattle.std.specs.List.{list_all, AllByRecursion, IsDistinct}
@@ -7,13 +7,13 @@ use Rattle.std.specs.Cmp.{first_so, second_so}
 use Rattle.std.specs.Cmp.Lexicographic.{bytes_decides}
 use Rattle.std.specs.FinMap.{empty, get, get-empty}
 use Rattle.std.proofs.lemmas.Bool.{and_from, eqb-true, false≢true}
-use Rattle.std.proofs.lemmas.List.Elements.{All-nil, All-cons, All-head, All-tail, All-append, All-filter}
+use Rattle.std.proofs.lemmas.List.Elements.{All-nil, All-cons, All-head, All-tail, All-append, All-filter, All-weaker}
 use Rattle.orc_path.specs.Steps.{PathStep, ends_in_keys, has_keys}
 use Rattle.orc_path.specs.Order.{path_cmp}
-use Rattle.orc_path.specs.Configurations.{Config, IsWay, overlay, put_item}
+use Rattle.orc_path.specs.Configurations.{Config, IsWay, drop_item, is_removed_with, overlay, put_item}
 use Rattle.orc_path.specs.declared.item.Item.{Item}
 use Rattle.orc_path.specs.declared.item.Item.TheVariants.{Entry}
-use Rattle.orc_path.proofs.ConfigurationLaws.{get-overlay, put_item_cases}
+use Rattle.orc_path.proofs.ConfigurationLaws.{get-drop_item, get-overlay, put_item_cases}
 use Rattle.orc_schema.specs.Schemas.{SchemaTable, kind_at_path, node_at, path_names, plain_table}
 use Rattle.orc_schema.specs.declared.line.Node.{Node}
 use Rattle.orc_schema.specs.declared.line.Node.TheVariants.{Container, List as ListOf, Leaf, LeafList}
@@ -21,10 +21,10 @@ use Rattle.orc_typed.specs.Typed.{are_canonical_steps, carries, each_step, has_c
 use Rattle.orc_call.specs.declared.call.Put.{Put}
 use Rattle.orc_call.specs.declared.call.Call.{Call}
 use Rattle.orc_call.specs.declared.call.Action.{Action}
-use Rattle.orc_call.specs.declared.call.Action.TheVariants.{Literal}
+use Rattle.orc_call.specs.declared.call.Action.TheVariants.{Literal, BasePut, BaseRemove}
 use Rattle.orc_call.specs.declared.call.DevicePut.{DevicePut}
 use Rattle.orc_state.specs.States.{config_of, declared_base, expansion, is_same_text, name_of, names_of, opening, overlay_all, part, put_all, puts_on}
-use Rattle.orc_state.specs.Actions.{live_after, live_step, new_services}
+use Rattle.orc_state.specs.Actions.{base_step, bases_after, live_after, live_step, new_services}
 use Rattle.orc_state.specs.Next.{after}
 use Rattle.orc_state.specs.Histories.{fold_from}
 use Rattle.orc_state.specs.Legal.{state_of}
@@ -34,7 +34,8 @@ use Rattle.orc_state.specs.Laws.{AreActions, TreeIsTyped}
 use Rattle.orc_state.specs.declared.declarations.Decls.{Decls}
 use Rattle.orc_state.specs.declared.declarations.Device.{Device}
 use Rattle.orc_state.specs.declared.state.Service.{Service}
-use Rattle.orc_state.specs.declared.state.State.{State}
+use Rattle.orc_state.specs.States.{State}
+use Rattle.orc_state.proofs.Bases.{KeepsBase, base_kept}
 use Rattle.orc_state.proofs.Fits.{base-items, list_all_weaker, write-item}
 use Rattle.orc_state.proofs.Named.{other_way}
 use Rattle.std.proofs.lemmas.Option.{slice_get-map}
@@ -122,6 +123,13 @@ typed-put_item s m p put typed here path item e = elim (put_item_cases m p put p
   ]
 ]
 
+typed-drop_item : (s : SchemaTable) (m : Config) (p : List PathStep) → IsTypedUnder s m → IsTypedUnder s (drop_item m p)
+typed-drop_item s m p typed path item e = on (is_removed_with p path) (sym (get-drop_item m p path) ∙ e)
+  where
+    on : (t : Bool) → cond t None (get m path) ≡ Some item → is_typed s path item ≡ true
+    on true h = let not_so : None ≡ Some item = h in absurd cc
+    on false h = typed path item h
+
 abbrev is_typed_put : SchemaTable → Put → Bool
 is_typed_put s put = is_typed s put.path put.item
 
@@ -195,13 +203,49 @@ module _ (decls : Decls) where
   abbrev BasesTyped : List Config → Type 0
   BasesTyped bases = (d : ℕ) → IsTypedUnder (own d) (config_of bases d)
 
+  -- an edit of the base of the device of a name
+  edited_typed : (name : List ℕ) (action : Action) → is_action decls action ≡ true
+      → KeepsBase (IsTypedUnder (schema_named decls.schemas decls.devices name)) name action
+  edited_typed name (BasePut put) h base typed = on (is_same_text put.device name) refl
+    where
+      s : SchemaTable
+      s = schema_named decls.schemas decls.devices name
+
+      own_schema : SchemaTable
+      own_schema = schema_named decls.schemas decls.devices put.device
+
+      here : is_typed own_schema put.path put.item ≡ true
+      here = second_so _ (is_typed own_schema put.path put.item) (write-item decls put h)
+
+      on : (t : Bool) → is_same_text put.device name ≡ t → IsTypedUnder s (if t then put_item base put.path put.item else base)
+      on true is =
+          typed-put_item s base put.path put.item typed
+          (subst (λ (n : List ℕ). is_typed (schema_named decls.schemas decls.devices n) put.path put.item ≡ true) ((bytes_decides put.device name).0 is) here)
+      on false is = typed
+  edited_typed name (BaseRemove device path) h base typed = on (is_same_text device name)
+    where
+      s : SchemaTable
+      s = schema_named decls.schemas decls.devices name
+
+      on : (t : Bool) → IsTypedUnder s (if t then drop_item base path else base)
+      on true = typed-drop_item s base path typed
+      on false = typed
+  edited_typed name other h base typed = typed
+
+  bases_typed : (actions : List Action) (bases : List Config) → All IsAction actions → BasesTyped bases → BasesTyped (bases_after decls.names actions bases)
+  bases_typed actions bases h typed d =
+      let name = name_of decls.names d in
+      base_kept (IsTypedUnder (own d)) decls.names actions bases d
+      (All-weaker IsAction (KeepsBase (IsTypedUnder (own d)) name) (λ action is. edited_typed name action is) actions h) (typed d)
+
   fold_typed : (state : State) (calls : List Call) → AreActions decls calls → All WritesTyped state.live → BasesTyped state.bases
       → All WritesTyped (fold_from decls state calls).live × BasesTyped (fold_from decls state calls).bases
   fold_typed state [] h live bases = (live, bases)
   fold_typed state (call ∷ calls) h live bases =
       let lawful : Call → Type 0 = λ c. All IsAction c.actions in
+      let now = All-head lawful call calls h in
       fold_typed (after decls state call) calls (All-tail lawful call calls h)
-      (behind_typed call.actions state.live (All-head lawful call calls h) live) bases
+      (behind_typed call.actions state.live now live) (bases_typed call.actions state.bases now bases)
 
   overlaid_typed : (live : List Service) (d : ℕ) (base : Config) → All WritesTyped live → IsTypedUnder (own d) base
       → IsTypedUnder (own d) (overlay_all (map (λ service. part service d) live) base)

@@ -7,22 +7,23 @@ use Rattle.std.specs.FinMap.{empty, empty_of_len, get, get-empty, len}
 use Rattle.std.proofs.lemmas.Bool.{false≢true, eqb-true}
 use Rattle.std.proofs.lemmas.List.Elements.{All-nil, All-cons, All-tail, All-head, All-append, All-filter, All-weaker}
 use Rattle.orc_path.specs.Order.{path_cmp}
-use Rattle.orc_path.specs.Configurations.{Config, overlay}
+use Rattle.orc_path.specs.Configurations.{Config, drop_item, overlay, put_item}
 use Rattle.orc_path.specs.declared.item.Item.{Item}
 use Rattle.orc_path.proofs.ConfigurationLaws.{get-overlay, same_config}
 use Rattle.orc_call.specs.declared.answer.Answer.{Answer}
 use Rattle.orc_call.specs.declared.answer.Answer.TheVariants.{Exists}
 use Rattle.orc_call.specs.declared.call.Action.{Action}
-use Rattle.orc_call.specs.declared.call.Action.TheVariants.{Literal, Delete}
+use Rattle.orc_call.specs.declared.call.Action.TheVariants.{Literal, Delete, BasePut, BaseRemove}
 use Rattle.orc_call.specs.declared.call.DevicePut.{DevicePut}
 use Rattle.orc_state.specs.States.{config_of, expansion, has_id, is_same_text, lives, name_of, overlay_all, part, put_all, puts_on}
-use Rattle.orc_state.specs.Actions.{live_after, live_step, names, new_services}
+use Rattle.orc_state.specs.Actions.{base_step, bases_after, live_after, live_step, names, new_services}
 use Rattle.orc_state.specs.Next.{existence, existence_of}
 use Rattle.orc_state.specs.Touched.{is_held_by, is_touched_by, is_written_by}
 use Rattle.orc_state.specs.Laws.{UntouchedStay}
 use Rattle.orc_state.specs.declared.declarations.Decls.{Decls}
 use Rattle.orc_state.specs.declared.state.Service.{Service}
-use Rattle.orc_state.specs.declared.state.State.{State}
+use Rattle.orc_state.specs.States.{State}
+use Rattle.orc_state.proofs.Bases.{KeepsBase, base_kept}
 use Rattle.orc_state.proofs.Lists.{any_none, or_first, or_second}
 
 -- ---- services that write nothing on a device
@@ -86,7 +87,7 @@ none_on name (w ∷ ws) h =
     ap (λ t. if t then record { path = w.path; item = w.item } ∷ puts_on name ws else puts_on name ws) (or_first (is_same_text w.device name) (is_written_by ws name) h)
     ∙ none_on name ws (or_second (is_same_text w.device name) (is_written_by ws name) h)
 
-blank_part : (devices : List (List ℕ)) (writes : List DevicePut) (d : ℕ) → is_written_by writes (name_of devices d) ≡ false → config_of (expansion devices writes) d ≡ empty
+pub blank_part : (devices : List (List ℕ)) (writes : List DevicePut) (d : ℕ) → is_written_by writes (name_of devices d) ≡ false → config_of (expansion devices writes) d ≡ empty
 blank_part [] writes d h = refl
 blank_part (name ∷ devices) writes zero h = ap (λ puts. put_all puts empty) (none_on name writes h)
 blank_part (name ∷ devices) writes (suc d) h = blank_part devices writes d h
@@ -95,11 +96,11 @@ no_answer : (t : Bool) (answer : Answer) → (if t then Some answer else None) �
 no_answer true answer h = cc
 no_answer false answer h = refl
 
-none_first : (a b : Option Answer) → option_or a b ≡ None → a ≡ None
+pub none_first : (a b : Option Answer) → option_or a b ≡ None → a ≡ None
 none_first (Some x) b e = cc
 none_first None b e = refl
 
-none_later : (a b : Option Answer) → option_or a b ≡ None → b ≡ None
+pub none_later : (a b : Option Answer) → option_or a b ≡ None → b ≡ None
 none_later (Some x) b e = cc
 none_later None b e = e
 
@@ -107,7 +108,7 @@ none_later None b e = e
 holds_nothing : (m : Config) → (len m == 0) ≡ true → m ≡ empty
 holds_nothing m h = empty_of_len m (eqb-true _ _ h)
 
-held : (t : Bool) (m : Config) → t ≡ true → (t && not (len m == 0)) ≡ false → m ≡ empty
+pub held : (t : Bool) (m : Config) → t ≡ true → (t && not (len m == 0)) ≡ false → m ≡ empty
 held true m is h = holds_nothing m (on (len m == 0) h)
   where
     on : (b : Bool) → not b ≡ false → b ≡ true
@@ -139,7 +140,21 @@ module _ (decls : Decls) (state : State) (d : ℕ) where
       (quiet action (none_first first (existence state.live actions) none) (or_first touches later off))
       (all_quiet actions (none_later first (existence state.live actions) none) (or_second touches later off))
 
+-- an action that doesn't touch a device leaves its base
+base_stays : (names : List (List ℕ)) (state : State) (d : ℕ) (action : Action) → is_touched_by names state d action ≡ false
+    → (base : Config) → base_step (name_of names d) base action ≡ base
+base_stays names state d (BasePut put) off base = ap (λ t. if t then put_item base put.path put.item else base) off
+base_stays names state d (BaseRemove device path) off base = ap (λ t. if t then drop_item base path else base) off
+base_stays names state d other off base = refl
+
 pub untouched_stay : UntouchedStay
 untouched_stay decls state call d unrefused off =
+    let base = config_of state.bases d in
+    let stays : config_of (bases_after decls.names call.actions state.bases) d ≡ base =
+    base_kept (λ (b : Config). b ≡ base) decls.names call.actions state.bases d
+    (All-weaker (λ (action : Action). is_touched_by decls.names state d action ≡ false) (KeepsBase (λ (b : Config). b ≡ base) (name_of decls.names d))
+    (λ action none b is. base_stays decls.names state d action none b ∙ is) call.actions
+    (any_none (is_touched_by decls.names state d) call.actions off)) refl in
+    ap (λ (b : Config). laid d (live_after decls.names call.actions state.live) b) stays ∙
     behind_quiet d decls.names call.actions state.live (config_of state.bases d)
     (all_quiet decls state d call.actions (none_first (existence state.live call.actions) _ unrefused) off)

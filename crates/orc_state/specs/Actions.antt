@@ -1,11 +1,11 @@
--- What the actions of a call do: those on the data in their order, and those on services.
-use Rattle.std.specs.Prelude.{ℕ, Bool, true, false, not, ◌&&◌, List, [], ◌∷◌, ◌++◌, filter, Option}
+-- What the actions of a call do: those on the data and on the bases of devices in their order, and those on services.
+use Rattle.std.specs.Prelude.{ℕ, Bool, true, false, not, ◌&&◌, List, [], ◌∷◌, ◌++◌, filter, Option, if◌then◌else◌}
 use Rattle.std.specs.declared.option.Option.TheVariants.{None, Some}
 use Rattle.std.specs.Option.{option_map_or}
 use Rattle.std.specs.List.{flat_map, fold, list_any}
 use Rattle.orc_path.specs.Configurations.{Config, put_item, drop_item}
 use Rattle.orc_call.specs.declared.call.Action.{Action}
-use Rattle.orc_call.specs.declared.call.Action.TheVariants.{Literal, Delete, Set, Unset}
+use Rattle.orc_call.specs.declared.call.Action.TheVariants.{Literal, Delete, Set, Unset, BasePut, BaseRemove}
 use Rattle.orc_state.specs.States.{expansion, is_same_text}
 use Rattle.orc_state.specs.declared.state.Service.{Service}
 
@@ -40,6 +40,19 @@ data_step config other = config
 -- the data behind actions, which are done in their order
 abbrev pub data_after : List Action → Config → Config
 data_after actions config = fold data_step config actions
+
+-- the base of the device of this name behind an action
+abbrev pub base_step : List ℕ → Config → Action → Config
+base_step name base (BasePut put) = if is_same_text put.device name then put_item base put.path put.item else base
+base_step name base (BaseRemove device path) = if is_same_text device name then drop_item base path else base
+base_step name base other = base
+
+-- the bases of the devices of these names behind actions, which are done in their order
+abbrev pub bases_after : List (List ℕ) → List Action → List Config → List Config
+bases_after names actions [] = []
+bases_after [] actions (base ∷ bases) = base ∷ bases
+bases_after (name ∷ names) actions (base ∷ bases) =
+    fold (base_step name) base actions ∷ bases_after names actions bases
 
 -- the services that an action makes: none or one
 abbrev pub new_services : List (List ℕ) → Action → List Service

@@ -22,7 +22,7 @@ use Rattle.orc_call.specs.declared.call.TheConstants.{MOST_ACTIONS}
 use Rattle.orc_call.specs.declared.call.Put.{Put}
 use Rattle.orc_call.specs.declared.call.Call.{Call}
 use Rattle.orc_call.specs.declared.call.Action.{Action}
-use Rattle.orc_call.specs.declared.call.Action.TheVariants.{Literal, Delete, Set, Unset}
+use Rattle.orc_call.specs.declared.call.Action.TheVariants.{Literal, Delete, Set, Unset, BasePut, BaseRemove}
 use Rattle.orc_call.specs.declared.call.DevicePut.{DevicePut}
 
 -- what a caller, a device and a literal service can be called: an identifier that keeps the limit
@@ -130,6 +130,11 @@ is_write decls write =
     is_some (device_named decls.devices write.device)
     && is_item_under (schema_named decls.schemas decls.devices write.device) write.path write.item
 
+-- a path of a declared device that can carry an item of its base
+abbrev pub is_base_path : Decls → List ℕ → List PathStep → Bool
+is_base_path decls device path =
+    is_some (device_named decls.devices device) && is_path_under (schema_named decls.schemas decls.devices device) path
+
 -- an action that a call block gives; the other kinds are not built yet
 abbrev pub is_action : Decls → Action → Bool
 is_action decls (Literal id writes) =
@@ -137,6 +142,8 @@ is_action decls (Literal id writes) =
 is_action decls (Delete id) = is_lawful_name id
 is_action decls (Set put) = is_data_item decls.data_schema put
 is_action decls (Unset path) = is_data_path decls.data_schema path
+is_action decls (BasePut write) = is_write decls write
+is_action decls (BaseRemove device path) = is_base_path decls device path
 is_action decls other = false
 
 -- a call that a call block gives: it has 1 to 64 actions, and names each service at most once

@@ -4,7 +4,7 @@ use Rattle.std.specs.declared.option.Option.TheVariants.{None}
 use Rattle.orc_state.specs.Next.{after, refusal}
 use Rattle.orc_call.specs.declared.call.Call.{Call}
 use Rattle.orc_state.specs.declared.declarations.Decls.{Decls}
-use Rattle.orc_state.specs.declared.state.State.{State}
+use Rattle.orc_state.specs.States.{State}
 
 -- the state after the calls of a history, from a state on
 abbrev pub fold_from : Decls → State → List Call → State

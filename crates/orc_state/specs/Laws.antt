@@ -24,7 +24,7 @@ use Rattle.orc_call.specs.declared.call.Action.TheVariants.{Literal, Delete}
 use Rattle.orc_call.specs.declared.call.Call.{Call}
 use Rattle.orc_call.specs.declared.call.DevicePut.{DevicePut}
 use Rattle.orc_state.specs.declared.state.Service.{Service}
-use Rattle.orc_state.specs.declared.state.State.{State}
+use Rattle.orc_state.specs.States.{State}
 
 -- each action of the calls of a history is one that call blocks can give
 abbrev pub AreActions : Decls → List Call → Type 0
@@ -156,14 +156,15 @@ abbrev pub LivesIn : State → State → Type 0
 LivesIn one other = (service : Service) → Contains one.live service → Contains other.live service
 
 -- The tree of a device doesn't depend on the order in which the services that live now were created: two histories that
--- leave the same services alive leave the same trees.
+-- leave the same services alive, and the same base of a device, leave the same tree of it.
 abbrev pub OrderOfCreationIsFree : Type 0
 OrderOfCreationIsFree =
     (decls : Decls) (one other : List Call) (device : ℕ)
     → let state = state_of decls one in
     let state' = state_of decls other in
     IsUnrefused decls (opening decls) one → IsUnrefused decls (opening decls) other
-    → LivesIn state state' → LivesIn state' state → tree_due state device ≡ tree_due state' device
+    → LivesIn state state' → LivesIn state' state → config_of state.bases device ≡ config_of state'.bases device
+    → tree_due state device ≡ tree_due state' device
 
 -- one of these services and a living one of another name write unequal items there
 pub record IsClash (live : List Service) (device : ℕ) (path : List PathStep) (service rival : Service) : Type 0 where

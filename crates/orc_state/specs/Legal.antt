@@ -9,7 +9,7 @@ use Rattle.orc_state.specs.Next.{refusal}
 use Rattle.orc_state.specs.Histories.{fold_from, IsUnrefused}
 use Rattle.orc_state.specs.Calls.{is_call}
 use Rattle.orc_state.specs.declared.declarations.Decls.{Decls}
-use Rattle.orc_state.specs.declared.state.State.{State}
+use Rattle.orc_state.specs.States.{State}
 
 -- one caller and number
 abbrev pub IsSame : Call → Call → Type 0

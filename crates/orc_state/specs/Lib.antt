@@ -1,5 +1,6 @@
 pub mod States
 pub mod Actions
+pub mod Codes
 pub mod Clashes
 pub mod Next
 pub mod Touched
@@ -11,3 +12,4 @@ pub mod Legal
 pub mod Rules
 pub mod Laws
 pub mod inside
+pub mod Metas

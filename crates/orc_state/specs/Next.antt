@@ -11,11 +11,11 @@ use Rattle.orc_call.specs.declared.call.Action.{Action}
 use Rattle.orc_call.specs.declared.call.Action.TheVariants.{Literal, Delete}
 use Rattle.orc_call.specs.declared.call.Call.{Call}
 use Rattle.orc_state.specs.States.{IsComplete, lives}
-use Rattle.orc_state.specs.Actions.{data_after, live_after, touched}
+use Rattle.orc_state.specs.Actions.{bases_after, data_after, live_after, touched}
 use Rattle.orc_state.specs.Clashes.{clash_from}
 use Rattle.orc_state.specs.declared.declarations.Decls.{Decls}
 use Rattle.orc_state.specs.declared.state.Service.{Service}
-use Rattle.orc_state.specs.declared.state.State.{State}
+use Rattle.orc_state.specs.States.{State}
 
 -- the action creates a service that lives, or deletes one that does not
 abbrev pub existence_of : List Service → Action → Option Answer
@@ -48,6 +48,7 @@ refusal decls state call = option_or (existence state.live call.actions) (option
 abbrev pub after : Decls → State → Call → State
 after decls state call = record state {
   «data» = data_after call.actions state.data;
+  bases = bases_after decls.names call.actions state.bases;
   live = live_after decls.names call.actions state.live;
 }
 

@@ -13,7 +13,13 @@ use Rattle.orc_call.specs.declared.call.DevicePut.{DevicePut}
 use Rattle.orc_state.specs.declared.declarations.Decls.{Decls}
 use Rattle.orc_state.specs.declared.declarations.Device.{Device}
 use Rattle.orc_state.specs.declared.state.Service.{Service}
-use Rattle.orc_state.specs.declared.state.State.{State}
+
+-- The state: the data; the base of each device, which no service wrote; and the living services with what they write,
+-- in the order in which they were made.
+pub record State : Type 0 where
+  pub «data» : Config
+  pub bases : List Config
+  pub live : List Service
 
 -- whether two texts are equal
 abbrev pub is_same_text : List ℕ → List ℕ → Bool

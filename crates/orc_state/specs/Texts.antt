@@ -4,7 +4,7 @@ use Rattle.std.specs.List.{flat_map}
 use Rattle.orc_path.specs.Texts.{path_text}
 use Rattle.orc_path.specs.Items.{item_text}
 use Rattle.orc_call.specs.declared.call.Action.{Action}
-use Rattle.orc_call.specs.declared.call.Action.TheVariants.{Literal, Delete, Set, Unset}
+use Rattle.orc_call.specs.declared.call.Action.TheVariants.{Literal, Delete, Set, Unset, BasePut, BaseRemove}
 use Rattle.orc_call.specs.declared.call.DevicePut.{DevicePut}
 
 -- the line of a write behind a word: the device's name, the item and where it stands
@@ -17,4 +17,6 @@ action_lines word (Literal id writes) = codes "literal " ++ id ++ codes "\n" ++ 
 action_lines word (Delete id) = codes "delete " ++ id ++ codes "\n"
 action_lines word (Set put) = codes "set " ++ item_text put.path put.item ++ codes "\n"
 action_lines word (Unset path) = codes "unset " ++ path_text path ++ codes "\n"
+action_lines word (BasePut write) = write_line (codes "base ") write
+action_lines word (BaseRemove device path) = codes "unbase " ++ device ++ codes " " ++ path_text path ++ codes "\n"
 action_lines word other = []

@@ -1,14 +1,15 @@
--- The devices that a call touches: those on which a service that it names writes, behind it or before it.
+-- The devices that a call touches: those on which a service that it names writes, behind it or before it, and those
+-- whose base it edits.
 use Rattle.std.specs.Prelude.{ℕ, Bool, false, ◌&&◌, ◌==◌, not, List, length}
 use Rattle.std.specs.FinMap.{len}
 use Rattle.std.specs.List.{filter, list_any, range_with_len}
 use Rattle.orc_call.specs.declared.call.Action.{Action}
-use Rattle.orc_call.specs.declared.call.Action.TheVariants.{Literal, Delete}
+use Rattle.orc_call.specs.declared.call.Action.TheVariants.{Literal, Delete, BasePut, BaseRemove}
 use Rattle.orc_call.specs.declared.call.Call.{Call}
 use Rattle.orc_call.specs.declared.call.DevicePut.{DevicePut}
 use Rattle.orc_state.specs.States.{has_id, is_same_text, name_of, part}
 use Rattle.orc_state.specs.declared.state.Service.{Service}
-use Rattle.orc_state.specs.declared.state.State.{State}
+use Rattle.orc_state.specs.States.{State}
 
 -- one of the writes is on the device of this name
 abbrev pub is_written_by : List DevicePut → List ℕ → Bool
@@ -18,10 +19,12 @@ is_written_by writes name = list_any (λ write. is_same_text write.device name) 
 abbrev pub is_held_by : List ℕ → ℕ → Service → Bool
 is_held_by id device service = has_id id service && not (len (part service device) == 0)
 
--- the action makes a service that writes on the device, or deletes one that has an item on it
+-- the action makes a service that writes on the device, deletes one that has an item on it, or edits its base
 abbrev pub is_touched_by : List (List ℕ) → State → ℕ → Action → Bool
 is_touched_by names state device (Literal id writes) = is_written_by writes (name_of names device)
 is_touched_by names state device (Delete id) = list_any (is_held_by id device) state.live
+is_touched_by names state device (BasePut put) = is_same_text put.device (name_of names device)
+is_touched_by names state device (BaseRemove name path) = is_same_text name (name_of names device)
 is_touched_by names state device other = false
 
 -- one of the actions of a call touches the device

@@ -1,5 +1,9 @@
 pub mod Fitting
 pub mod Behind
 pub mod Deleted
-pub mod Rivals
 pub mod Orders
+pub mod Placed
+pub mod Touching
+pub mod Known
+pub mod Turns
+pub mod Keeping

@@ -4,7 +4,8 @@ ghost use Rattle.std.specs.Option.{option_copied, option_map_or};
 ghost use Rattle.std.specs.List.{list_all};
 ghost use Rattle.orc_typed.specs.Typed.{are_canonical_steps, is_typed};
 ghost use Rattle.orc_state.specs.Actions.{is_named_by, name_each_once, named, names};
-ghost use Rattle.orc_state.specs.Calls.{blank_item, device_named, is_action, is_call, is_data_item, is_data_path, is_item_at, is_kept, is_lawful_item, is_lawful_name, is_path_under, is_write, schema_in};
+ghost use Rattle.orc_state.specs.inside.Known.{is_known};
+ghost use Rattle.orc_state.specs.Calls.{blank_item, device_named, is_action, is_base_path, is_call, is_data_item, is_data_path, is_item_at, is_kept, is_lawful_item, is_lawful_name, is_path_under, is_write, schema_in};
 
 use crate::{Decls, Device};
 use orc_call::{Action, Call, DevicePut, MOST_ACTIONS, Put};
@@ -101,6 +102,9 @@ fn is_action(alloc: Global, decls: &Decls, action: &Action) -> bool
         Action::Delete(id) => is_lawful_name(id.as_str()),
         Action::Set(put) => is_data_item(&decls.data_schema, put),
         Action::Unset(path) => is_data_path(alloc, &decls.data_schema, path),
+        Action::BasePut(write) => is_write(decls, write),
+        Action::BaseRemove(device, path) => is_base_path(alloc, decls, device, path),
+        // The other kinds aren't built yet.
         _ => false,
     }
 }
@@ -151,6 +155,30 @@ fn is_write(decls: &Decls, write: &DevicePut) -> bool
     }
 }
 
+// Whether the path of a declared device can carry an item of its base.
+fn is_base_path(alloc: Global, decls: &Decls, device: &Text, path: &Path) -> bool
+    ensures { result ≡ is_base_path decls.now device.now path.now }
+{
+    let item = blank_item(alloc, path);
+    match device_named(decls.devices.as_slice(), device) {
+        Some(device) => {
+            is_item_at(path, &item)
+                && is_known_in(decls.schemas.as_slice(), device.schema, path, &item)
+        }
+        None => false,
+    }
+}
+
+// Whether the schema of a place has the item there, with its keys in canonical form.
+fn is_known_in(schemas: &[Schema], place: u32, path: &Path, item: &Item) -> bool
+    ensures { result ≡ is_known (schema_in schemas.now place) path.now item.now }
+{
+    match schemas.get(place as usize) {
+        Some(schema) => is_known(schema, path, item),
+        None => true,
+    }
+}
+
 // The first device of this name.
 fn device_named<'a>(devices: &'a [Device], name: &Text) -> Option<&'a Device>
     ensures { option_map (λ device. device.now) result ≡ device_named devices.now name.now }
@@ -173,9 +201,15 @@ fn is_path_under(alloc: Global, schema: &Schema, path: &Path) -> bool
     ensures { result ≡ is_path_under schema.now path.now }
 {
     let item = blank_item(alloc, path);
-    is_item_at(path, &item)
-        && (is_in_schema(schema, path, &item)
-            && (schema.is_plain() || are_canonical_steps(schema, path.steps.as_slice())))
+    is_item_at(path, &item) && is_known(schema, path, &item)
+}
+
+// Whether the schema has the item there, with its keys in canonical form.
+fn is_known(schema: &Schema, path: &Path, item: &Item) -> bool
+    ensures { result ≡ is_known schema.now path.now item.now }
+{
+    is_in_schema(schema, path, item)
+        && (schema.is_plain() || are_canonical_steps(schema, path.steps.as_slice()))
 }
 
 // The item that the path can carry, but for a leaf's text.

@@ -30,7 +30,8 @@ pub fn legal_without_trace()
     ensures { LegalWithoutTrace }
 {}
 
-/// Each device's tree doesn't depend on the order in which the services that live now were created.
+/// Each device's tree doesn't depend on the order in which the services that live now were created,
+/// where its base is the same.
 pub fn order_of_creation_is_free()
     ensures { OrderOfCreationIsFree }
 {}

@@ -4,17 +4,20 @@
 #![tactic(auto)]
 
 mod base;
-mod clash;
+mod commit;
 mod data;
 mod declarations;
 mod expansion;
 mod fault;
 mod lawful;
 mod laws;
+mod living;
 mod rule;
 mod services;
 mod state;
+mod stores;
 mod touched;
+mod turns;
 
 pub use base::declared_base;
 pub use data::opening_data;

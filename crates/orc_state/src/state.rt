@@ -1,24 +1,32 @@
 //! The state of the orchestrator, and what a call does to it.
-ghost use Rattle.std.specs.Prelude.{◌≡◌, ◌≢◌, ◌<◌, ◌^◌, ◌++◌, not, IfOk, IsTrue, Ok, None, OnOk, OnErr, All, filter, length, map, take};
+ghost use Rattle.std.specs.Prelude.{◌≡◌, ◌≢◌, ◌<◌, ◌^◌, [], IfOk, IsTrue, Ok, None, All, length, map};
 ghost use Rattle.orc_check.specs.Validity.{broken_of};
-ghost use Rattle.orc_state.specs.States.{IsComplete, declared_base, fits_puts, opening, part, tree_due};
+ghost use Rattle.orc_state.specs.States.{declared_base, fits_puts, opening, part, tree_due};
 ghost use Rattle.orc_state.specs.Actions.{name_each_once};
 ghost use Rattle.orc_state.specs.Calls.{is_call};
 ghost use Rattle.orc_state.specs.Declarations.{AreDecls};
+ghost use Rattle.orc_state.specs.Metas.{IsMeta};
 ghost use Rattle.orc_state.specs.Next.{IsStateOf, after, refusal};
 ghost use Rattle.orc_state.specs.inside.Behind.{IsDataBehind};
-ghost use Rattle.orc_state.specs.inside.Deleted.{is_deleted_by};
 ghost use Rattle.orc_state.specs.inside.Fitting.{FitActions};
+ghost use Rattle.orc_state.specs.inside.Keeping.{IsStoreFor};
 
 use crate::base::declared_base;
-use crate::clash::clash;
+use crate::commit::{add_all, place, remove_deleted};
 use crate::data::{data_after, invalid_behind, opening_data};
-use crate::services::{existence, is_deleted_by, made};
+use crate::living::Living;
+use crate::services::existence;
+use crate::stores::stores_behind;
+use crate::touched::touched_devices;
+use crate::turns::turns;
 use crate::{Decls, Device};
-use orc_call::{Action, Answer, Call};
+use orc_call::{Answer, Call};
+use orc_path::Path;
+use orc_refs::{Meta, Refs, store_is_overlay};
 use orc_text::{Memory, Row, Text};
 use orc_tree::Tree;
 use std::alloc::Global;
+use std::marker::Model;
 use std::mem;
 
 /// A living service and the items that it writes, on each device in the order of declaration.
@@ -28,13 +36,31 @@ pub struct Service {
     pub parts: Row<Tree>,
 }
 
-/// The data; the base of each device, which no service wrote; and the living services in the order in
-/// which they were made.
+/// The data; the store of each device, which has its base and its tree; and the living services.
 #[derive(Drop)]
 pub struct State {
-    pub data: Tree,
-    pub bases: Row<Tree>,
-    pub live: Row<Service>,
+    pub(crate) data: Tree,
+    pub(crate) stores: Row<Refs>,
+    pub(crate) live: Living,
+}
+
+impl Model for State {
+    ghost use Rattle.std.specs.Prelude.{map};
+    ghost use Rattle.orc_state.specs.Codes.{state_code};
+    ghost use Rattle.orc_state.specs.States.{State};
+    ghost use Rattle.orc_state.specs.inside.Keeping.{AreKept};
+
+    ghost Value = { State };
+
+    ghost coded = { state_code };
+
+    ghost view = { λ state. record {
+      «data» = state.data;
+      bases = map (λ store. store.base) state.stores;
+      live = state.live;
+    } };
+
+    ghost invariant = { λ state. AreKept state.stores state.live };
 }
 
 impl Service {
@@ -62,29 +88,38 @@ impl State {
         ensures kept { IfOk result (IsStateOf decls.now) }
     {
         let data = opening_data(alloc, decls.names.as_slice(), decls.data.as_slice())?;
-        let bases = bases(alloc, decls.devices.as_slice())?;
+        let stores = idle_stores(alloc, decls.devices.as_slice())?;
         Ok(State {
             data,
-            bases,
-            live: Row::new(alloc),
+            stores,
+            live: Living::new(alloc),
         })
     }
 
     /// The tree that is due on a device: its base overlaid with the items that living services write.
-    pub fn tree_due(&self, alloc: Global, device: u32) -> Result<Tree, Memory>
-        requires declared { device < length self.now.bases }
-        requires complete { IsComplete self.now }
-        ensures { IfOk result (λ tree. tree ≡ tree_due self.now device) }
+    /// It is kept, and nothing is laid anew.
+    pub fn tree_due(&self, device: u32) -> &Tree
+        requires { device < length self.now.bases }
+        ensures { result.now ≡ tree_due self.now device }
     {
-        let mut tree = self.bases.as_slice()[device as usize].copy(alloc)?;
-        for service in self.live.as_slice() {
-            tree.overlay_with(service.part(device))?;
-        }
-        Ok(tree)
+        store_is_overlay();
+        self.live.names_differ();
+        self.stores.as_slice()[device as usize].tree()
+    }
+
+    /// What is known of a path of a device; none exactly where no living service writes it. It takes
+    /// no memory.
+    pub fn meta(&self, device: u32, path: &Path) -> Option<Meta<'_>>
+        requires { device < length self.now.bases }
+        ensures { IsMeta self.now device path.now result }
+    {
+        self.live.names_differ();
+        self.stores.as_slice()[device as usize].meta(path)
     }
 
     /// Does a call, or answers why it is refused; then, and after want of memory, the state is as it
-    /// was.
+    /// was. It looks at the services that the call names, at the devices that it touches, and at what
+    /// is written there; not at the other living services.
     pub fn next(
         &mut self,
         alloc: Global,
@@ -117,7 +152,7 @@ impl State {
         ensures { IfOk result (λ found. IsDataBehind decls.now self.now call.now found) }
     {
         let actions = call.actions.as_slice();
-        if let Some(found) = existence(alloc, self.live.as_slice(), actions)? {
+        if let Some(found) = existence(alloc, &self.live, actions)? {
             return Ok(Err(found));
         }
         let data = data_after(alloc, &self.data, actions)?;
@@ -127,8 +162,8 @@ impl State {
         }
     }
 
-    // Changes the living services and takes the new data, or answers with which service a new one
-    // clashes.
+    // Changes the stores and the living services and takes the new data, or answers with which service
+    // a new one clashes.
     fn change(
         &mut self,
         alloc: Global,
@@ -147,72 +182,54 @@ impl State {
     {
         let actions = call.actions.as_slice();
         let names = decls.names.as_slice();
-        let made = made(alloc, names, actions)?;
-        let first = self.live.len();
-        self.add(alloc, made)?;
-        let services = self.live.as_slice();
-        match clash(alloc, names, services, &services[first..], actions) {
-            Ok(None) => {
-                self.drop_deleted(alloc, actions);
+        let turns = turns(alloc, names, actions)?;
+        let touched = touched_devices(alloc, names, self, call)?;
+        self.live.names_differ();
+        let found = stores_behind(
+            alloc,
+            names,
+            &self.live,
+            actions,
+            turns.as_slice(),
+            touched.as_slice(),
+            self.stores.as_slice(),
+        )?;
+        match found {
+            Ok(changes) => {
+                add_all(alloc, &mut self.live, turns)?;
+                remove_deleted(&mut self.live, actions);
+                let stores = mem::replace(&mut self.stores, Row::new(alloc)).into_vec();
+                self.stores = Row::from_vec(place(stores, changes.into_vec()));
                 self.data = data;
                 Ok(None)
             }
-            Ok(Some(found)) => {
-                self.drop_behind(alloc, first);
-                Ok(Some(found))
-            }
-            Err(Memory) => {
-                self.drop_behind(alloc, first);
-                Err(Memory)
-            }
+            Err(answer) => Ok(Some(answer)),
         }
-    }
-
-    // Adds services at the end.
-    fn add(&mut self, alloc: Global, made: Row<Service>) -> Result<(), Memory>
-        ensures ok { OnOk result (self.new ≡ record self.old { live = self.old.live ++ made }) }
-        ensures err { OnErr result (self.new ≡ self.old) }
-    {
-        let mut live = mem::replace(&mut self.live, Row::new(alloc)).into_vec();
-        let mut made = made.into_vec();
-        let added = live.append(&mut made);
-        self.live = Row::from_vec(live);
-        match added {
-            Ok(()) => Ok(()),
-            Err(_) => Err(Memory),
-        }
-    }
-
-    // Takes the services behind the first ones away.
-    fn drop_behind(&mut self, alloc: Global, first: usize)
-        ensures { self.new ≡ record self.old { live = take first self.old.live } }
-    {
-        let mut live = mem::replace(&mut self.live, Row::new(alloc)).into_vec();
-        live.truncate(first);
-        self.live = Row::from_vec(live);
-    }
-
-    // Takes the services away that actions delete.
-    fn drop_deleted(&mut self, alloc: Global, actions: &[Action])
-        ensures { self.new ≡ record self.old {
-          live =
-              filter (λ service. not (is_deleted_by actions.now service.id)) self.old.live;
-        } }
-    {
-        let mut live = mem::replace(&mut self.live, Row::new(alloc)).into_vec();
-        live.retain(|service| !is_deleted_by(actions, &service.id));
-        self.live = Row::from_vec(live);
     }
 }
 
-// The declared bases of devices.
-fn bases(alloc: Global, devices: &[Device]) -> Result<Row<Tree>, Memory>
-    requires { All (λ device. IsTrue (fits_puts device.base)) devices.now }
-    ensures { IfOk result (λ bases. bases ≡ map declared_base devices.now) }
+// The store of a device on which no service writes.
+fn idle_store(alloc: Global, device: &Device) -> Result<Refs, Memory>
+    requires { IsTrue (fits_puts device.now.base) }
+    ensures base { IfOk result (λ store. store.base ≡ declared_base device.now) }
+    ensures idle { IfOk result (IsStoreFor [] 0) }
 {
-    let mut bases = Row::new(alloc);
+    let base = declared_base(alloc, device)?;
+    let store = Refs::new(alloc, base)?;
+    // Looked at, so that the proof knows that it is a store.
+    let _base = store.base();
+    Ok(store)
+}
+
+// The stores of devices on which no service writes.
+fn idle_stores(alloc: Global, devices: &[Device]) -> Result<Row<Refs>, Memory>
+    requires { All (λ device. IsTrue (fits_puts device.base)) devices.now }
+    ensures bases { IfOk result (λ stores. map (λ store. store.base) stores ≡ map declared_base devices.now) }
+    ensures idle { IfOk result (All (IsStoreFor [] 0)) }
+{
+    let mut stores = Row::new(alloc);
     for device in devices {
-        bases.push(declared_base(alloc, device)?)?;
+        stores.push(idle_store(alloc, device)?)?;
     }
-    Ok(bases)
+    Ok(stores)
 }

@@ -1,16 +1,19 @@
 //! The devices that a call touches.
-ghost use Rattle.std.specs.Prelude.{◌≡◌, ◌<◌, ◌^◌, All, IfOk, length};
+ghost use Rattle.std.specs.Prelude.{◌≡◌, ◌<◌, ◌^◌, ◌||◌, All, IfOk, length, map};
 ghost use Rattle.std.specs.List.{list_any};
-ghost use Rattle.orc_state.specs.States.{IsComplete};
-ghost use Rattle.orc_state.specs.Touched.{is_held_by, is_touched, is_touched_by, is_written_by, touched_devices};
+ghost use Rattle.std.specs.Option.{option_copied};
+ghost use Rattle.orc_state.specs.States.{IsComplete, name_of};
+ghost use Rattle.orc_state.specs.Touched.{is_touched_by, is_written_by, touched_devices};
+ghost use Rattle.orc_state.specs.inside.Touching.{deleted_by, deleted_of, is_edited, is_edited_by, is_on};
 
+use crate::living::Living;
 use crate::{Service, State};
 use orc_call::{Action, Call, DevicePut};
 use orc_text::{Memory, Row, Text};
 use std::alloc::Global;
 
 /// The numbers of the devices that a call touches, ascending: those on which a service that it makes
-/// writes, and those on which one that it deletes has an item.
+/// writes, those on which one that it deletes has an item, and those whose base it edits.
 pub fn touched_devices(
     alloc: Global,
     names: &[Text],
@@ -22,40 +25,91 @@ pub fn touched_devices(
     requires bases { length state.now.bases ≡ length names.now }
     ensures { IfOk result (λ devices. devices ≡ touched_devices names.now state.now call.now) }
 {
+    let actions = call.actions.as_slice();
+    let deleted = deleted(alloc, &state.live, actions)?;
     let mut devices = Row::new(alloc);
     for device in 0..names.len() as u32 {
-        if is_touched(names, state, call.actions.as_slice(), device) {
+        if is_touched(names, state, actions, deleted.as_slice(), device) {
             devices.push(device)?;
         }
     }
     Ok(devices)
 }
 
-// Whether one of the actions touches the device.
-fn is_touched(names: &[Text], state: &State, actions: &[Action], device: u32) -> bool
+/// The living services that actions delete, each looked up once.
+pub(crate) fn deleted<'a>(
+    alloc: Global,
+    live: &'a Living,
+    actions: &[Action],
+) -> Result<Vec<&'a Service>, Memory>
+    ensures { IfOk result (λ services.
+        map (λ service. service.now) services.items ≡ deleted_of live.now actions.now) }
+{
+    let mut deleted = Vec::new(alloc);
+    for action in actions {
+        if let Some(service) = deleted_by(live, action) {
+            deleted.push(service)?;
+        }
+    }
+    Ok(deleted)
+}
+
+// The living service that an action deletes.
+fn deleted_by<'a>(live: &'a Living, action: &Action) -> Option<&'a Service>
+    ensures { option_copied result ≡ deleted_by live.now action.now }
+{
+    match action {
+        Action::Delete(id) => live.find(id),
+        _ => None,
+    }
+}
+
+/// Whether one of the actions touches the device, given the living services that they delete.
+pub(crate) fn is_touched(
+    names: &[Text],
+    state: &State,
+    actions: &[Action],
+    deleted: &[&Service],
+    device: u32,
+) -> bool
     requires device { device < length names.now }
     requires complete { IsComplete state.now }
     requires bases { length state.now.bases ≡ length names.now }
+    requires deleted { map (λ service. service.now) deleted.now ≡ deleted_of state.now.live actions.now }
     ensures { result ≡ list_any (is_touched_by names.now state.now device) actions.now }
 {
-    for action in actions {
-        if is_touched_by(names, state, device, action) {
-            return true;
-        }
-    }
-    false
+    state.live.names_differ();
+    touches(names, actions, deleted, device)
+}
+
+// Whether one of the actions makes a service that writes on the device or edits its base, or one of
+// the services has an item there.
+fn touches(names: &[Text], actions: &[Action], deleted: &[&Service], device: u32) -> bool
+    requires device { device < length names.now }
+    requires complete { All (λ service. device < length service.now.parts) deleted.now }
+    ensures { result
+        ≡ (is_edited (name_of names.now device) actions.now
+        || list_any (λ service. is_on device service.now) deleted.now) }
+{
+    is_edited(actions, &names[device as usize]) || is_any_on(deleted, device)
+}
+
+// Whether one of the actions makes a service that writes on the device of this name, or edits its
+// base.
+fn is_edited(actions: &[Action], name: &Text) -> bool
+    ensures { result ≡ is_edited name.now actions.now }
+{
+    actions.iter().any(|action| is_edited_by(action, name))
 }
 
 // Whether the action does.
-fn is_touched_by(names: &[Text], state: &State, device: u32, action: &Action) -> bool
-    requires device { device < length names.now }
-    requires complete { IsComplete state.now }
-    requires bases { length state.now.bases ≡ length names.now }
-    ensures { result ≡ is_touched_by names.now state.now device action.now }
+fn is_edited_by(action: &Action, name: &Text) -> bool
+    ensures { result ≡ is_edited_by name.now action.now }
 {
     match action {
-        Action::Literal(_, writes) => is_written_by(writes.as_slice(), &names[device as usize]),
-        Action::Delete(id) => is_any_held_by(state.live.as_slice(), id, device),
+        Action::Literal(_, writes) => is_written_by(writes.as_slice(), name),
+        Action::BasePut(put) => put.device == *name,
+        Action::BaseRemove(device, _) => *device == *name,
         _ => false,
     }
 }
@@ -67,26 +121,23 @@ fn is_written_by(writes: &[DevicePut], name: &Text) -> bool
     writes.iter().any(|write| write.device == *name)
 }
 
-// Whether one of the services has this name and an item on the device.
-fn is_any_held_by(live: &[Service], id: &Text, device: u32) -> bool
-    requires { All (λ service. device < length service.parts) live.now }
-    ensures { result ≡ list_any (is_held_by id.now device) live.now }
+// Whether one of the services has an item on the device.
+fn is_any_on(services: &[&Service], device: u32) -> bool
+    requires { All (λ service. device < length service.now.parts) services.now }
+    ensures { result ≡ list_any (λ service. is_on device service.now) services.now }
 {
-    for service in live {
-        if is_held_by(service, id, device) {
+    for service in services {
+        if is_on(service, device) {
             return true;
         }
     }
     false
 }
 
-// Whether the service has this name and an item on the device.
-fn is_held_by(service: &Service, id: &Text, device: u32) -> bool
+// Whether the service has an item on the device.
+fn is_on(service: &Service, device: u32) -> bool
     requires { device < length service.now.parts }
-    ensures { result ≡ is_held_by id.now device service.now }
+    ensures { result ≡ is_on device service.now }
 {
-    if service.id != *id {
-        return false;
-    }
     !service.part(device).is_empty()
 }

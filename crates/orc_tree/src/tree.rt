@@ -2,12 +2,14 @@
 ghost use Rattle.std.specs.Prelude.{◌≡◌, IfOk, OnOk, OnErr, IsTrue, ◌↔◌, length};
 ghost use Rattle.std.specs.Option.{option_copied};
 ghost use Rattle.std.specs.FinMap.{empty, get, keys, entries};
-ghost use Rattle.std.specs.List.{filter};
+ghost use Rattle.std.specs.List.{filter, list_all};
 ghost use Rattle.orc_text.specs.Counts.{capped};
 ghost use Rattle.orc_path.specs.Items.{fits};
 ghost use Rattle.orc_path.specs.Configurations.{IsConfig, put_item, drop_item, overlay, is_entry_of};
+ghost use Rattle.orc_tree.specs.Changes.{applied, change_fits};
 ghost use Rattle.orc_tree.specs.Pages.{rows_of, AreSized};
 
+use crate::change::{ChangeSet, apply_to};
 use crate::listed::{new_list, pages_in, put_shared, remove_shared, share_list};
 use crate::lists::list_entries;
 use crate::lookup::find_item;
@@ -95,6 +97,23 @@ impl Tree {
         lay_pages(&mut pages, pages_in(&top.list))?;
         self.list = new_list(self.alloc, pages)?;
         Ok(())
+    }
+
+    /// Applies changes: first the removals among them, and then what they put, each item with the
+    /// entries on its way that are missing. It costs a list of the pages, and for each change what
+    /// `remove` or `set` costs. After want of memory the tree is as it was.
+    pub fn apply(&mut self, set: &ChangeSet) -> Result<(), Memory>
+        requires fits { IsTrue (list_all change_fits set.now.changes) }
+        ensures ok { OnOk result (self.new ≡ applied set.now.changes self.old) }
+        ensures err { OnErr result (self.new ≡ self.old) }
+        ensures config { IsConfig self.new }
+    {
+        apply_to(self.allocator(), self, set)
+    }
+
+    // Where the tree's memory is from.
+    fn allocator(&self) -> Global {
+        self.alloc
     }
 
     /// Copies of the entries of a list, in path order: the present paths that end in keys and whose

@@ -3,6 +3,7 @@ pub mod NumberLaws
 pub mod Parts
 pub mod PathNames
 pub mod Narrowing
+pub mod Apart
 pub mod Distinct
 pub mod Bounds
 pub mod LengthNarrowing

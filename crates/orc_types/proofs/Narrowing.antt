@@ -66,7 +66,7 @@ passed_option : {X : Type 0} (test : X → Bool) (o : Option X) (y : X) → opti
 passed_option test None y h = none_some h
 passed_option test (Some x) y h = passed test x y h
 
-kept : {X : Type 0} (b : Bool) (o : Option X) (y : X) → cond b o None ≡ Some y → o ≡ Some y
+pub kept : {X : Type 0} (b : Bool) (o : Option X) (y : X) → cond b o None ≡ Some y → o ≡ Some y
 kept true o y h = h
 kept false o y h = none_some h
 

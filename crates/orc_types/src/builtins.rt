@@ -1,15 +1,16 @@
 //! The built-in types.
-ghost use Rattle.std.specs.Prelude.{◌≡◌, IfOk, Some, codes};
+ghost use Rattle.std.specs.Prelude.{◌≡◌, IsTrue, IfOk, IfSome, Some, codes, int_le};
 ghost use Rattle.orc_types.specs.BuiltIn.{integer_range, is_quoted, other_type, integer_type, built_in_or, built_in, is_left_out};
 
 use crate::types::{Base, LeafType};
 use orc_text::{Memory, Row};
-use orc_value::IntKind;
+use orc_value::{IntKind, Lengths, Ranges};
 use std::alloc::Global;
 
 // The numbers of an integer type.
 fn integer_range(name: &str) -> Option<(i128, i128)>
-    ensures { result ≡ integer_range name.now }
+    ensures range { result ≡ integer_range name.now }
+    ensures proper { IfSome result (λ range. IsTrue (int_le range.0 range.1)) }
 {
     if name == "int8" {
         Some((-128, 127))
@@ -34,12 +35,16 @@ fn integer_range(name: &str) -> Option<(i128, i128)>
 
 // The integer type of a name and a range.
 fn integer_type(alloc: Global, name: &str, range: (i128, i128)) -> Result<Base, Memory>
+    requires { IsTrue (int_le range.0 range.1) }
     ensures { IfOk result (λ base. base ≡ integer_type name.now range) }
 {
     let mut ranges = Row::new(alloc);
     ranges.push(range)?;
     let quoted = name == "int64" || name == "uint64";
-    Ok(Base::Known(LeafType::Int(IntKind { ranges, quoted })))
+    Ok(Base::Known(LeafType::Int(IntKind {
+        ranges: Ranges::from_row(ranges),
+        quoted,
+    })))
 }
 
 // Strings of every length.
@@ -48,7 +53,7 @@ fn string_type(alloc: Global) -> Result<Base, Memory>
 {
     let mut lengths = Row::new(alloc);
     lengths.push((0, u64::MAX))?;
-    Ok(Base::Known(LeafType::Str(lengths)))
+    Ok(Base::Known(LeafType::Str(Lengths::from_row(lengths))))
 }
 
 // The other types.

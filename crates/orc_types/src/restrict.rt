@@ -14,7 +14,7 @@ use crate::ranges::narrowed;
 use crate::statements::{argument, first_of, has, is_a, is_idle, none_below};
 use crate::types::{Base, EnumName, LeafType};
 use orc_text::{Memory, Row, Text};
-use orc_value::IntKind;
+use orc_value::{IntKind, Lengths, Ranges};
 use orc_yang::Stmt;
 use std::alloc::Global;
 
@@ -162,41 +162,28 @@ fn argument_given<'a>(word: &str, stmts: &'a [Stmt]) -> Option<&'a str>
     }
 }
 
-// The same ranges.
-fn copied_ranges(alloc: Global, ranges: &Row<(i128, i128)>) -> Result<Row<(i128, i128)>, Memory>
-    ensures { IfOk result (λ copy. copy ≡ ranges.now) }
-{
-    Ok(Row::from_vec(Vec::from_slice(alloc, ranges.as_slice())?))
-}
-
 // The ranges that an argument leaves.
-fn ranges_left(
-    alloc: Global,
-    base: &Row<(i128, i128)>,
-    stmts: &[Stmt],
-) -> Result<Row<(i128, i128)>, Memory>
+#[tactic(auto, using(crate::proofs::Apart::ranges_apart))]
+fn ranges_left(alloc: Global, base: &Ranges, stmts: &[Stmt]) -> Result<Ranges, Memory>
     ensures { IfOk result (λ ranges. ranges ≡ ranges_left base.now (argument_given (codes "range") stmts.now)) }
 {
     match argument_given("range", stmts) {
         Some(text) => match narrowed(alloc, base.as_slice(), text)? {
-            Some(ranges) => Ok(ranges),
-            None => copied_ranges(alloc, base),
+            Some(ranges) => Ok(Ranges::from_row(ranges)),
+            None => base.copy(alloc),
         },
-        None => copied_ranges(alloc, base),
+        None => base.copy(alloc),
     }
 }
 
 // The lengths that an argument leaves.
-fn lengths_left(
-    alloc: Global,
-    base: &Row<(u64, u64)>,
-    stmts: &[Stmt],
-) -> Result<Row<(u64, u64)>, Memory>
+#[tactic(auto, using(crate::proofs::Apart::lengths_apart))]
+fn lengths_left(alloc: Global, base: &Lengths, stmts: &[Stmt]) -> Result<Lengths, Memory>
     ensures { IfOk result (λ lengths. lengths ≡ lengths_left base.now (argument_given (codes "length") stmts.now)) }
 {
     match argument_given("length", stmts) {
         Some(text) => match narrowed_lengths(alloc, base.as_slice(), text)? {
-            Some(lengths) => Ok(lengths),
+            Some(lengths) => Ok(Lengths::from_row(lengths)),
             None => base.copy(alloc),
         },
         None => base.copy(alloc),

@@ -3,7 +3,7 @@ ghost use Rattle.std.specs.Prelude.{◌≡◌, IfOk, map};
 ghost use Rattle.orc_types.specs.Types.{kind_of};
 
 use orc_text::{Copied, Memory, Row, Text};
-use orc_value::{IntKind, Kind};
+use orc_value::{IntKind, Kind, Lengths, Names};
 use std::alloc::Global;
 
 /// A name of an enumeration, and its value (RFC 7950 section 9.6.4).
@@ -21,7 +21,7 @@ pub enum LeafType {
     /// A decimal64 with this many fraction digits.
     Decimal(u8),
     /// A string with one of these lengths, each a least and a greatest one.
-    Str(Row<(u64, u64)>),
+    Str(Lengths),
     /// `true` or `false`.
     Bool,
     /// One of the names.
@@ -101,8 +101,8 @@ impl Copied for LeafType {
     }
 }
 
-// The names without their values.
-fn plain_names(alloc: Global, enums: &[EnumName]) -> Result<Row<Text>, Memory>
+// The names without their values, in a row.
+fn row_of_names(alloc: Global, enums: &[EnumName]) -> Result<Row<Text>, Memory>
     ensures { IfOk result (λ names. names ≡ map (λ e. e.name) enums.now) }
 {
     let mut names = Row::new(alloc);
@@ -110,6 +110,13 @@ fn plain_names(alloc: Global, enums: &[EnumName]) -> Result<Row<Text>, Memory>
         names.push(known.name.copy(alloc)?)?;
     }
     Ok(names)
+}
+
+// The names without their values.
+fn plain_names(alloc: Global, enums: &[EnumName]) -> Result<Names, Memory>
+    ensures { IfOk result (λ names. names ≡ map (λ e. e.name) enums.now) }
+{
+    Names::from_row(alloc, row_of_names(alloc, enums)?)
 }
 
 impl Base {

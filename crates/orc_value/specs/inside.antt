@@ -1,2 +1,4 @@
 -- What private contracts and proofs alone speak of.
+pub mod Halved
+pub mod Hashed
 pub mod Scaled

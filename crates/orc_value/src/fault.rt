@@ -13,8 +13,8 @@ pub(crate) const LENGTH: u8 = 3;
 // The text is none of the names.
 pub(crate) const ENUM: u8 = 4;
 
-// The JSON value is of another kind than the type's.
-pub(crate) const KIND: u8 = 5;
+/// The rule that a JSON value breaks which is of another kind than the type's.
+pub const KIND: u8 = 5;
 
 /// A text or a JSON value that is no value of a type.
 #[derive(Clone, Copy, Debug, PartialEq, Eq)]

@@ -1,7 +1,8 @@
 //! The types of values.
 ghost use Rattle.std.specs.Prelude.{◌≡◌, IfOk};
 
-use orc_text::{Copied, Memory, Row, Text};
+use crate::{Lengths, Names, Ranges};
+use orc_text::{Copied, Memory};
 use std::alloc::Global;
 
 /// The type of a leaf's values. A leafref has the type of its target.
@@ -13,11 +14,11 @@ pub enum Kind {
     Decimal(u8),
     /// A string whose number of characters lies in one of the ranges, each a least and a greatest
     /// length. A string without restriction has the one range 0 to `u64::MAX`.
-    Str(Row<(u64, u64)>),
+    Str(Lengths),
     /// `true` or `false`.
     Bool,
     /// One of the names.
-    Enum(Row<Text>),
+    Enum(Names),
     /// The empty text.
     Empty,
 }
@@ -27,7 +28,7 @@ pub enum Kind {
 pub struct IntKind {
     /// The ranges, each a least and a greatest number. A number lies in one of them, and between
     /// the least int64 and the greatest uint64.
-    pub ranges: Row<(i128, i128)>,
+    pub ranges: Ranges,
     /// Whether JSON has the number in a string, as for int64 and uint64.
     pub quoted: bool,
 }
@@ -38,7 +39,7 @@ impl IntKind {
         ensures { IfOk result (λ copy. copy ≡ self.now) }
     {
         Ok(IntKind {
-            ranges: Row::from_vec(Vec::from_slice(alloc, self.ranges.as_slice())?),
+            ranges: self.ranges.copy(alloc)?,
             quoted: self.quoted,
         })
     }

@@ -9,10 +9,15 @@ mod fault;
 mod integers;
 mod json;
 mod kind;
+mod names;
 mod numerals;
+mod ranges;
+mod searches;
 mod signs;
 
-pub use canonical::{canon, is_canonical};
-pub use fault::ValueFault;
+pub use canonical::{canon, canon_counted, is_canonical, is_canonical_counted};
+pub use fault::{KIND, ValueFault};
 pub use json::{from_json, to_json};
 pub use kind::{IntKind, Kind};
+pub use names::Names;
+pub use ranges::{Lengths, Ranges};

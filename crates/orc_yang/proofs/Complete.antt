@@ -14,7 +14,7 @@ use Rattle.orc_yang.specs.Quoted.{string_value, is_escape}
 use Rattle.orc_yang.specs.Grammar as grammar
 use Rattle.orc_yang.specs.Grammar.{Is, Of}
 use Rattle.orc_yang.specs.Machine as machine
-use Rattle.orc_yang.specs.Machine.{Head, Spot, Between, Keyed, Worded, Strung, Joining, Work, Gap, Slashed, InLine, InBlock, BehindStar, InKeyword, BehindColon, InSecond, Lone, WordSlash, WordStar, InWord, InSingle, InDouble, BehindBackslash, State, Fed, run, feed, feed_work, fed, leaf, enter, framed, ended}
+use Rattle.orc_yang.specs.Machine.{Head, Spot, Between, Keyed, Worded, Strung, Joining, Work, Gap, Slashed, InLine, InBlock, BehindStar, InKeyword, BehindColon, InSecond, Lone, WordSlash, WordStar, InWord, InSingle, InDouble, BehindBackslash, Machine, Fed, run, feed, feed_work, fed, leaf, enter, framed, ended}
 use Rattle.orc_yang.proofs.GapWays.{Answer, at_work, from, onward, step_is, line, comment, piece, gap}
 
 module _ (done : List Stmt) (frames : List Frame) (end : ℕ) where

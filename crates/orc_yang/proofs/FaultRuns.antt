@@ -10,7 +10,7 @@ use Rattle.orc_yang.specs.Sorts.{sort_of}
 use Rattle.orc_yang.specs.Text.{placed, next_column}
 use Rattle.orc_yang.specs.Faults.{ends_single, ends_double, ends_comment}
 use Rattle.orc_yang.specs.Machine as machine
-use Rattle.orc_yang.specs.Machine.{Head, Spot, Between, Keyed, Worded, Strung, Joining, Work, Gap, Slashed, InLine, InBlock, BehindStar, InKeyword, BehindColon, InSecond, Lone, WordSlash, WordStar, InWord, InSingle, InDouble, BehindBackslash, State, Fed, run, feed, fed, start, finish}
+use Rattle.orc_yang.specs.Machine.{Head, Spot, Between, Keyed, Worded, Strung, Joining, Work, Gap, Slashed, InLine, InBlock, BehindStar, InKeyword, BehindColon, InSecond, Lone, WordSlash, WordStar, InWord, InSingle, InDouble, BehindBackslash, Machine, Fed, run, feed, fed, start, finish}
 use Rattle.orc_yang.proofs.Complete.{complete}
 use Rattle.orc_yang.proofs.Viable.{pending}
 use Rattle.orc_yang.proofs.Faults.{character, Came, came_nil, came_more, begins, S}
@@ -58,7 +58,7 @@ module _ (front : List ℕ) (end : ℕ) (q : end ≡ length (encode_utf8_all fro
     inr (inr (w.slash, w.star, w.inner, refl, w.slash_sort, w.star_sort, w.takes, ap (ends_comment false) (sym (append-nil w.inner)) ∙ (w.goes [] ∙ e))),
   )
 
-  module _ (s : State) (w : Came front s) (h : run [] s end ≡ Err (OpenBlock end)) (clean : pending s.work ≡ None) where
+  module _ (s : Machine) (w : Came front s) (h : run [] s end ≡ Err (OpenBlock end)) (clean : pending s.work ≡ None) where
     block_open : Found front (OpenBlock end)
     block_open = (
       q,
@@ -101,13 +101,13 @@ module _ (front : List ℕ) (end : ℕ) (q : end ≡ length (encode_utf8_all fro
   ended (BehindBackslash h a o column raw p) done frames w op f e = to (OpenString o) f (err_of e) (double_open true o refl op)
 
 -- from any state on
-fed_on : (front : List ℕ) (c : ℕ) (rest : List ℕ) (s : State) (w : Came front s) (end : ℕ) (f : YangFault) (answer : Fed) → feed s (character (length (encode_utf8_all front)) w.column c) ≡ answer → After front c rest answer
-    → ((t : State) → Came (front ++ c ∷ []) t → Opened (front ++ c ∷ []) t.work → Pends (front ++ c ∷ []) (pending t.work) → Found (front ++ c ∷ rest) f)
+fed_on : (front : List ℕ) (c : ℕ) (rest : List ℕ) (s : Machine) (w : Came front s) (end : ℕ) (f : YangFault) (answer : Fed) → feed s (character (length (encode_utf8_all front)) w.column c) ≡ answer → After front c rest answer
+    → ((t : Machine) → Came (front ++ c ∷ []) t → Opened (front ++ c ∷ []) t.work → Pends (front ++ c ∷ []) (pending t.work) → Found (front ++ c ∷ rest) f)
     → fed answer (λ t. run (placed (length (encode_utf8_all front) + length (encode_utf8 c)) (next_column c w.column) rest) t end) ≡ Err f → Found (front ++ c ∷ rest) f
 fed_on front c rest s w end f (Ok t) q a next e = next t (came_more front s t w c q) a.0 a.1
 fed_on front c rest s w end f (Err g) q a next e = let P : YangFault → Type 0 = λ v. Found (front ++ c ∷ rest) v in subst P (err_of e) a
 
-faulty : (rest front : List ℕ) (s : State) (w : Came front s) (end : ℕ) → end ≡ length (encode_utf8_all (front ++ rest)) → Opened front s.work → Pends front (pending s.work) → (f : YangFault)
+faulty : (rest front : List ℕ) (s : Machine) (w : Came front s) (end : ℕ) → end ≡ length (encode_utf8_all (front ++ rest)) → Opened front s.work → Pends front (pending s.work) → (f : YangFault)
     → run (placed 0 1 (front ++ rest)) start end ≡ Err f → Found (front ++ rest) f
 faulty [] front s w end q op ps f e =
     let P : List ℕ → Type 0 = λ l. Found l f in

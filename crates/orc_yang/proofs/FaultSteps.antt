@@ -14,7 +14,7 @@ use Rattle.orc_yang.specs.Sorts.{sort_of}
 use Rattle.orc_yang.specs.Quoted.{is_escape}
 use Rattle.orc_yang.specs.Faults.{CanFollow, TakesComment, is_quote, is_double_quote, is_backslash, is_star, is_slash, IsFirstMisfit, IsPlace}
 use Rattle.orc_yang.specs.Machine as machine
-use Rattle.orc_yang.specs.Machine.{Head, Spot, Between, Keyed, Worded, Strung, Joining, Work, Gap, Slashed, InLine, InBlock, BehindStar, InKeyword, BehindColon, InSecond, Lone, WordSlash, WordStar, InWord, InSingle, InDouble, BehindBackslash, State, Fed, run, feed, feed_work, fed}
+use Rattle.orc_yang.specs.Machine.{Head, Spot, Between, Keyed, Worded, Strung, Joining, Work, Gap, Slashed, InLine, InBlock, BehindStar, InKeyword, BehindColon, InSecond, Lone, WordSlash, WordStar, InWord, InSingle, InDouble, BehindBackslash, Machine, Fed, run, feed, feed_work, fed}
 use Rattle.orc_yang.proofs.Viable.{pending}
 use Rattle.orc_yang.proofs.Faults.{character, Came, begins, stops_err, stops_doomed, can_follow, S, takes_keyed, takes_joining, takes_gap, takes_first, takes_second, escaping, not_escaping}
 use Rattle.orc_yang.proofs.Openings.{OpenSingle, OpenDouble, OpenComment, OpenSlash, Opened, Pends, pends_none, After, single_more, double_more, double_escaped, comment_more, comment_star, single_opens, double_opens, slash_opens, comment_opens, pends_more, Found}
@@ -58,7 +58,7 @@ module _ (front : List ℕ) (c : ℕ) (after : List ℕ) (done : List Stmt) wher
         (front, c, halts v w (BadToken (at + length (encode_utf8 c) - 1)) q e, last_place k b, not_escaping front done frames v q n w, not_brace Forbidden (λ z. cc) k)
 
     -- a block too deep
-    enters : (b : Bool) (t : State) (v : Work) (w : C v) → pending v ≡ None → pending t.work ≡ None → Opened (front ++ c ∷ []) t.work → F v w ≡ cond b (Ok t) (Err (Depth at)) → CanFollow front 59 → sort_of c ≡ OpenBrace
+    enters : (b : Bool) (t : Machine) (v : Work) (w : C v) → pending v ≡ None → pending t.work ≡ None → Opened (front ++ c ∷ []) t.work → F v w ≡ cond b (Ok t) (Err (Depth at)) → CanFollow front 59 → sort_of c ≡ OpenBrace
         → After front c after (cond b (Ok t) (Err (Depth at)))
     enters true t v w q q' o e s k = (o, let P : Option YangFault → Type 0 = λ p. Pends (front ++ c ∷ []) p in subst P (sym q') (pends_none (front ++ c ∷ [])))
     enters false t v w q q' o e s k = (front, c, halts v w (Depth at) q e, k, s, refl)
@@ -129,7 +129,7 @@ module _ (front : List ℕ) (c : ℕ) (after : List ℕ) (done : List Stmt) wher
     line_work spot w _ e = (tt, none)
 
     -- a fault in a string or comment waits for its end
-    spoils : (v : Work) (w : C v) (t : State) (f : YangFault) → pending v ≡ None → N v → F v w ≡ Ok t → pending t.work ≡ Some (BadToken (at + length (encode_utf8 c) - 1)) → sort_of c ≡ Forbidden → CanFollow front 128
+    spoils : (v : Work) (w : C v) (t : Machine) (f : YangFault) → pending v ≡ None → N v → F v w ≡ Ok t → pending t.work ≡ Some (BadToken (at + length (encode_utf8 c) - 1)) → sort_of c ≡ Forbidden → CanFollow front 128
         → Some (BadToken (at + length (encode_utf8 c) - 1)) ≡ Some f → (rest : List ℕ) → Found ((front ++ c ∷ []) ++ rest) f
     spoils v w t f q n e p k b i rest =
         let g = BadToken (at + length (encode_utf8 c) - 1) in
@@ -152,7 +152,7 @@ module _ (front : List ℕ) (c : ℕ) (after : List ℕ) (done : List Stmt) wher
     block_work spot o (Some g) w op ps Forbidden e = (comment_more front c false (ap is_star e) op, pends_more front c (Some g) ps)
     block_work spot o p w op ps _ e = (comment_more front c false (ap is_star e) op, pends_more front c p ps)
 
-    unspoilt : (p : Option YangFault) (t : State) → Pends front p → Opened (front ++ c ∷ []) t.work → pending t.work ≡ None → After front c after (machine.unspoilt p (Ok t))
+    unspoilt : (p : Option YangFault) (t : Machine) → Pends front p → Opened (front ++ c ∷ []) t.work → pending t.work ≡ None → After front c after (machine.unspoilt p (Ok t))
     unspoilt None t ps o q = (o, let P : Option YangFault → Type 0 = λ v. Pends (front ++ c ∷ []) v in subst P (sym q) none)
     unspoilt (Some f) t ps o q = ps f refl (c ∷ after)
 

@@ -11,7 +11,7 @@ use Rattle.orc_yang.specs.declared.character.Character.{Character}
 use Rattle.orc_yang.specs.declared.parser.Frame.{Frame}
 use Rattle.orc_yang.specs.Text.{placed, next_column}
 use Rattle.orc_yang.specs.Faults.{CanOpen, CanFollow, IsEscaping, TakesString, TakesComment}
-use Rattle.orc_yang.specs.Machine.{Head, Spot, Between, Keyed, Worded, Strung, Joining, Work, Gap, Slashed, InLine, InBlock, BehindStar, InKeyword, BehindColon, InSecond, Lone, WordSlash, WordStar, InWord, InSingle, InDouble, BehindBackslash, State, run, feed, feed_work, fed, start}
+use Rattle.orc_yang.specs.Machine.{Head, Spot, Between, Keyed, Worded, Strung, Joining, Work, Gap, Slashed, InLine, InBlock, BehindStar, InKeyword, BehindColon, InSecond, Lone, WordSlash, WordStar, InWord, InSingle, InDouble, BehindBackslash, Machine, run, feed, feed_work, fed, start}
 use Rattle.orc_yang.proofs.Complete.{complete}
 use Rattle.orc_yang.proofs.Rests.{Rest}
 use Rattle.orc_yang.proofs.Sound.{sound, reads}
@@ -22,14 +22,14 @@ abbrev pub character : ℕ → ℕ → ℕ → Character
 character at column c = record { code = c; at = at; last = at + length (encode_utf8 c) - 1; column = column }
 
 -- The machine comes from the beginning through these characters to this state.
-pub record Came (front : List ℕ) (s : State) : Type 0 where
+pub record Came (front : List ℕ) (s : Machine) : Type 0 where
   pub column : ℕ
   pub goes : (rest : List ℕ) (end : ℕ) → run (placed 0 1 (front ++ rest)) start end ≡ run (placed (length (encode_utf8_all front)) column rest) s end
 
 pub came_nil : Came [] start
 came_nil = record { column = 1; goes = λ rest end. refl }
 
-pub came_more : (front : List ℕ) (s t : State) (w : Came front s) (c : ℕ) → feed s (character (length (encode_utf8_all front)) w.column c) ≡ Ok t → Came (front ++ c ∷ []) t
+pub came_more : (front : List ℕ) (s t : Machine) (w : Came front s) (c : ℕ) → feed s (character (length (encode_utf8_all front)) w.column c) ≡ Ok t → Came (front ++ c ∷ []) t
 came_more front s t w c e = record {
   column = next_column c w.column;
   goes = λ rest end.
@@ -43,18 +43,18 @@ came_more front s t w c e = record {
 }
 
 -- what an accepted end says of the front
-pub begins_by : (front : List ℕ) (s : State) → Came front s → (cs more : List ℕ) (list : List Stmt) → all_scalars more ≡ true
+pub begins_by : (front : List ℕ) (s : Machine) → Came front s → (cs more : List ℕ) (list : List Stmt) → all_scalars more ≡ true
     → ((at column end : ℕ) → run (placed at column (cs ++ more)) s end ≡ Ok list) → CanOpen (front ++ cs)
 begins_by front s w cs more list q h =
     (more, list, q, sound 0 (ap (λ l. run (placed 0 1 l) start 0) (append_assoc front cs more) ∙ (w.goes (cs ++ more) 0 ∙ h (length (encode_utf8_all front)) w.column 0)))
 
-pub refused_by : (front : List ℕ) (s : State) → Came front s → (cs : List ℕ) → ((at column end : ℕ) (more : List ℕ) (list : List Stmt) → run (placed at column (cs ++ more)) s end ≡ Ok list → ⊥)
+pub refused_by : (front : List ℕ) (s : Machine) → Came front s → (cs : List ℕ) → ((at column end : ℕ) (more : List ℕ) (list : List Stmt) → run (placed at column (cs ++ more)) s end ≡ Ok list → ⊥)
     → CanOpen (front ++ cs) → ⊥
 refused_by front s w cs h b =
     h (length (encode_utf8_all front)) w.column 0 b.0 b.1
     (sym (w.goes (cs ++ b.0) 0) ∙ (ap (λ l. run (placed 0 1 l) start 0) (sym (append_assoc front cs b.0)) ∙ complete 0 b.3))
 
-pub begins : (front : List ℕ) (s : State) → Came front s → pending s.work ≡ None → CanOpen front
+pub begins : (front : List ℕ) (s : Machine) → Came front s → pending s.work ≡ None → CanOpen front
 begins front s w q =
     let a = accepts s q in
     (a.0, a.1, a.2, sound 0 (w.goes a.0 0 ∙ a.3 (length (encode_utf8_all front)) w.column 0))
@@ -63,7 +63,7 @@ begins front s w q =
 some_none : {A : Type 0} (f : YangFault) (p : Option YangFault) → p ≡ Some f → p ≡ None → A
 some_none f p e e' = cc
 
-doomed_work : (w : Work) (s : State) (list : List Stmt) (xs : List Character) (f : YangFault) → pending w ≡ Some f → Rest s.done s.frames list w xs → ⊥
+doomed_work : (w : Work) (s : Machine) (list : List Stmt) (xs : List Character) (f : YangFault) → pending w ≡ Some f → Rest s.done s.frames list w xs → ⊥
 doomed_work (InBlock spot o p) s list xs f q r = some_none f p q r.0
 doomed_work (BehindStar spot o p) s list xs f q r = some_none f p q r.0
 doomed_work (InSingle h a o p) s list xs f q r = some_none f p q r.0
@@ -71,11 +71,11 @@ doomed_work (InDouble h a o column raw p) s list xs f q r = some_none f p q r.0
 doomed_work (BehindBackslash h a o column raw p) s list xs f q r = some_none f p q r.0
 doomed_work _ s list xs f q r = cc
 
-pub doomed : (s : State) (f : YangFault) → pending s.work ≡ Some f → (xs : List Character) (list : List Stmt) (end : ℕ) → run xs s end ≡ Ok list → ⊥
+pub doomed : (s : Machine) (f : YangFault) → pending s.work ≡ Some f → (xs : List Character) (list : List Stmt) (end : ℕ) → run xs s end ≡ Ok list → ⊥
 doomed s f q xs list end e = doomed_work s.work s list xs f q (reads xs list end s e)
 
 -- where a step faults, the character can't follow
-pub stops_err : (front : List ℕ) (s : State) (w : Came front s) (c : ℕ) (f : YangFault) → feed s (character (length (encode_utf8_all front)) w.column c) ≡ Err f → CanFollow front c → ⊥
+pub stops_err : (front : List ℕ) (s : Machine) (w : Came front s) (c : ℕ) (f : YangFault) → feed s (character (length (encode_utf8_all front)) w.column c) ≡ Err f → CanFollow front c → ⊥
 stops_err front s w c f e b =
     let at = length (encode_utf8_all front) in
     let q = sym (w.goes (c ∷ b.0) 0) ∙ (ap (λ l. run (placed 0 1 l) start 0) (sym (append_assoc front (c ∷ []) b.0)) ∙ complete 0 b.3) in
@@ -85,17 +85,17 @@ stops_err front s w c f e b =
     err_ok : {A B : Type 0} {x : A} {y : B} → Err x ≡ Ok y → ⊥
     err_ok h = cc
 
-pub stops_doomed : (front : List ℕ) (s t : State) (w : Came front s) (c : ℕ) (f : YangFault) → feed s (character (length (encode_utf8_all front)) w.column c) ≡ Ok t → pending t.work ≡ Some f
+pub stops_doomed : (front : List ℕ) (s t : Machine) (w : Came front s) (c : ℕ) (f : YangFault) → feed s (character (length (encode_utf8_all front)) w.column c) ≡ Ok t → pending t.work ≡ Some f
     → CanFollow front c → ⊥
 stops_doomed front s t w c f e q b =
     let v = came_more front s t w c e in
     doomed t f q (placed (length (encode_utf8_all (front ++ c ∷ []))) v.column b.0) b.1 0 (sym (v.goes b.0 0) ∙ complete 0 b.3)
 
 -- where a step goes on without a fault, the character can follow
-pub can_follow : (front : List ℕ) (s t : State) (w : Came front s) (c : ℕ) → feed s (character (length (encode_utf8_all front)) w.column c) ≡ Ok t → pending t.work ≡ None → CanFollow front c
+pub can_follow : (front : List ℕ) (s t : Machine) (w : Came front s) (c : ℕ) → feed s (character (length (encode_utf8_all front)) w.column c) ≡ Ok t → pending t.work ≡ None → CanFollow front c
 can_follow front s t w c e q = begins (front ++ c ∷ []) t (came_more front s t w c e) q
 
-abbrev pub S : List Stmt → List Frame → Work → State
+abbrev pub S : List Stmt → List Frame → Work → Machine
 S done frames w = record { work = w; done = done; frames = frames }
 
 module _ (front : List ℕ) (done : List Stmt) (frames : List Frame) where

@@ -13,11 +13,11 @@ use Rattle.orc_yang.specs.Quoted.{string_value}
 use Rattle.orc_yang.specs.Grammar as grammar
 use Rattle.orc_yang.specs.Grammar.{Is, Of, Line, Comment, Piece, Letters, Keyword, Word, Unquoted, Single, Double, Quoted, Joined, Heading, Statements}
 use Rattle.orc_yang.specs.Machine as machine
-use Rattle.orc_yang.specs.Machine.{Head, Spot, Between, Keyed, Worded, Strung, Joining, Work, Gap, Slashed, InLine, InBlock, BehindStar, InKeyword, BehindColon, InSecond, Lone, WordSlash, WordStar, InWord, InSingle, InDouble, BehindBackslash, State, Fed, run, feed, feed_work, fed, leaf, enter, framed, ended}
+use Rattle.orc_yang.specs.Machine.{Head, Spot, Between, Keyed, Worded, Strung, Joining, Work, Gap, Slashed, InLine, InBlock, BehindStar, InKeyword, BehindColon, InSecond, Lone, WordSlash, WordStar, InWord, InSingle, InDouble, BehindBackslash, Machine, Fed, run, feed, feed_work, fed, leaf, enter, framed, ended}
 use Rattle.orc_yang.proofs.Rests.{Closed, Tail, Ending, Argued, Stringed, Plussed, AfterKey, KeyEnd, KeyFirst, InWordRest, SingleRest, DoubleRest, RestGap, Parted, Rest, RestFed}
 
 module _ (done : List Stmt) (frames : List Frame) (list : List Stmt) where
-  abbrev pub S : Work → State
+  abbrev pub S : Work → Machine
   S w = record { work = w; done = done; frames = frames }
 
   abbrev pub R : Work → List Character → Type 0
@@ -30,7 +30,7 @@ module _ (done : List Stmt) (frames : List Frame) (list : List Stmt) where
   pub back_leaf : (h : Head) (a : Option (List ℕ)) (w : Work) {x : Character} {xs : List Character} → Is Semicolon x → RestFed list xs (leaf (S w) h a) → End h a (x ∷ xs)
   back_leaf h a w e r = Ending.semicolon e r
 
-  deep : (b : Bool) (s : State) (x : Character) (xs : List Character) → RestFed list xs (cond b (Ok s) (Err (Depth x.at))) → (b ≡ true) × RestFed list xs (Ok s)
+  deep : (b : Bool) (s : Machine) (x : Character) (xs : List Character) → RestFed list xs (cond b (Ok s) (Err (Depth x.at))) → (b ≡ true) × RestFed list xs (Ok s)
   deep true s x xs r = (refl, r)
   deep false s x xs r = absurd r
 

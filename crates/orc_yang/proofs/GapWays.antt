@@ -11,14 +11,14 @@ use Rattle.orc_yang.specs.declared.parser.Frame.{Frame}
 use Rattle.orc_yang.specs.Sorts.{sort_of}
 use Rattle.orc_yang.specs.Grammar as grammar
 use Rattle.orc_yang.specs.Grammar.{Is, Of}
-use Rattle.orc_yang.specs.Machine.{Spot, Between, Keyed, Worded, Strung, Joining, Work, Gap, Slashed, InLine, InBlock, BehindStar, Lone, State, run, feed_work, fed}
+use Rattle.orc_yang.specs.Machine.{Spot, Between, Keyed, Worded, Strung, Joining, Work, Gap, Slashed, InLine, InBlock, BehindStar, Lone, Machine, run, feed_work, fed}
 
 -- the answer from a state on
 abbrev pub Answer : Type 0
 Answer = Result (List Stmt) YangFault
 
 module _ (done : List Stmt) (frames : List Frame) (end : ℕ) where
-  abbrev pub at_work : Work → State
+  abbrev pub at_work : Work → Machine
   at_work w = record { work = w; done = done; frames = frames }
 
   abbrev pub from : List Character → Work → Answer

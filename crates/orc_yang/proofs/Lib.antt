@@ -15,3 +15,4 @@ mod OneFault
 mod Wanting
 mod Spelling
 mod Parsed
+mod Counting

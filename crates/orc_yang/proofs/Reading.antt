@@ -10,7 +10,7 @@ use Rattle.orc_yang.specs.declared.fault.YangFault.TheVariants.{NotUtf8, BadToke
 use Rattle.orc_yang.specs.declared.statement.Stmt.{Stmt}
 use Rattle.orc_yang.specs.declared.character.Character.{Character}
 use Rattle.orc_yang.specs.Text.{placed, next_column}
-use Rattle.orc_yang.specs.Machine.{State, Fed, run, feed, fed, finish}
+use Rattle.orc_yang.specs.Machine.{Machine, Fed, run, feed, fed, finish}
 use Rattle.orc_yang.specs.Sorts.{sort_of}
 use Rattle.orc_yang.specs.Parsing.{FailsWith}
 use Rattle.orc_yang.specs.inside.Wanting.{MayTake, RunMayTake}
@@ -24,7 +24,7 @@ abbrev pub character : ℕ → ℕ → ℕ → ℕ → Character
 character at len column c = record { code = c; at = at; last = at + len - 1; column = column }
 
 -- a fault of a step is a fault of the whole
-pub fails_on : (fault : YangFault) (answer : Fed) (next : State → Result (List Stmt) YangFault) → FailsWith answer fault → FailsWith (fed answer next) fault
+pub fails_on : (fault : YangFault) (answer : Fed) (next : Machine → Result (List Stmt) YangFault) → FailsWith answer fault → FailsWith (fed answer next) fault
 fails_on Memory answer next h = tt
 fails_on (NotUtf8 at) answer next h = ap (λ a. fed a next) h
 fails_on (BadToken at) answer next h = ap (λ a. fed a next) h
@@ -44,27 +44,27 @@ module _ (cs : List ℕ) (n c at len column end : ℕ) (found : (n < length cs) 
       let e' : length (encode_utf8_all (drop m cs)) ≡ length (encode_utf8_all (drop (n + 1) cs)) = ap (λ r. length (encode_utf8_all (drop r cs))) q in
       omega arith
 
-  one : (s : State) → run (placed at column (drop n cs)) s end ≡ fed (feed s (character at len column c)) (λ t. run (placed (at + len) (next_column c column) (drop (n + 1) cs)) t end)
+  one : (s : Machine) → run (placed at column (drop n cs)) s end ≡ fed (feed s (character at len column c)) (λ t. run (placed (at + len) (next_column c column) (drop (n + 1) cs)) t end)
   one s =
       let P : ℕ → Type 0 = λ m. run (placed at column (c ∷ drop (n + 1) cs)) s end ≡ fed (feed s (character at m column c)) (λ t. run (placed (at + m) (next_column c column) (drop (n + 1) cs)) t end) in
       ap (λ r. run (placed at column r) s end) here ∙ subst P (sym is) refl
 
-  pub run_turn : (s t : State) (m : ℕ) (whole : Result (List Stmt) YangFault) → m ≡ n + 1 → run (placed at column (drop n cs)) s end ≡ whole → feed s (character at len column c) ≡ Ok t
+  pub run_turn : (s t : Machine) (m : ℕ) (whole : Result (List Stmt) YangFault) → m ≡ n + 1 → run (placed at column (drop n cs)) s end ≡ whole → feed s (character at len column c) ≡ Ok t
       → run (placed (at + len) (next_column c column) (drop m cs)) t end ≡ whole
   run_turn s t m whole q h e =
       ap (λ r. run (placed (at + len) (next_column c column) (drop r cs)) t end) q
       ∙ (sym (one s ∙ ap (λ a. fed a (λ t. run (placed (at + len) (next_column c column) (drop (n + 1) cs)) t end)) e) ∙ h)
 
-  pub fault_turn : (s : State) (fault : YangFault) (whole : Result (List Stmt) YangFault) → run (placed at column (drop n cs)) s end ≡ whole → FailsWith (feed s (character at len column c)) fault → FailsWith whole fault
+  pub fault_turn : (s : Machine) (fault : YangFault) (whole : Result (List Stmt) YangFault) → run (placed at column (drop n cs)) s end ≡ whole → FailsWith (feed s (character at len column c)) fault → FailsWith whole fault
   fault_turn s fault whole h f =
       let P : Result (List Stmt) YangFault → Type 0 = λ a. FailsWith a fault in
       subst P (sym (one s) ∙ h) (fails_on fault _ (λ t. run (placed (at + len) (next_column c column) (drop (n + 1) cs)) t end) f)
 
   -- a step that wants memory, and one behind which it is wanted
-  pub wants_here : (s : State) → MayTake s.work s.frames (sort_of c) → RunMayTake (placed at column (drop n cs)) s
+  pub wants_here : (s : Machine) → MayTake s.work s.frames (sort_of c) → RunMayTake (placed at column (drop n cs)) s
   wants_here s h = let P : List ℕ → Type 0 = λ r. RunMayTake (placed at column r) s in subst P (sym here) (inl h)
 
-  pub wants_turn : (s t : State) (m : ℕ) → m ≡ n + 1 → feed s (character at len column c) ≡ Ok t → RunMayTake (placed (at + len) (next_column c column) (drop m cs)) t → RunMayTake (placed at column (drop n cs)) s
+  pub wants_turn : (s t : Machine) (m : ℕ) → m ≡ n + 1 → feed s (character at len column c) ≡ Ok t → RunMayTake (placed (at + len) (next_column c column) (drop m cs)) t → RunMayTake (placed at column (drop n cs)) s
   wants_turn s t m q e h =
       let P : List ℕ → Type 0 = λ r. RunMayTake (placed at column r) s in
       let Q : ℕ → Type 0 = λ l. feed s (character at l column c) ≡ Ok t → RunMayTake (placed (at + l) (next_column c column) (drop (n + 1) cs)) t → P (c ∷ drop (n + 1) cs) in
@@ -88,6 +88,6 @@ pub spelled : (bs : List ℕ) → IsUtf8 bs → encode_utf8_all (chars bs) ≡ b
 spelled bs u = ap (λ b. encode_utf8_all (chars b)) (sym u.1.1) ∙ (ap encode_utf8_all (chars-encodes u.0 u.1.0) ∙ u.1.1)
 
 -- at the end of the text
-pub at_end : (cs : List ℕ) (n at column end : ℕ) (s : State) (whole : Result (List Stmt) YangFault) → length cs ≡ n → run (placed at column (drop n cs)) s end ≡ whole → whole ≡ finish s end
+pub at_end : (cs : List ℕ) (n at column end : ℕ) (s : Machine) (whole : Result (List Stmt) YangFault) → length cs ≡ n → run (placed at column (drop n cs)) s end ≡ whole → whole ≡ finish s end
 at_end cs n at column end s whole q h =
     sym h ∙ ap (λ r. run (placed at column r) s end) (ap (λ m. drop m cs) (sym q) ∙ drop-length cs)

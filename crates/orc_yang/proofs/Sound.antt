@@ -9,13 +9,13 @@ use Rattle.orc_yang.specs.Sorts.{sort_of}
 use Rattle.orc_yang.specs.Grammar as grammar
 use Rattle.orc_yang.specs.Grammar.{Is, Of, Line, Comment, Piece, Letters, Keyword, Word, Unquoted, Single, Double, Quoted, Joined, Heading, Statements}
 use Rattle.orc_yang.specs.Machine as machine
-use Rattle.orc_yang.specs.Machine.{Head, Spot, Between, Keyed, Worded, Strung, Joining, Work, Gap, Slashed, InLine, InBlock, BehindStar, InKeyword, BehindColon, InSecond, Lone, WordSlash, WordStar, InWord, InSingle, InDouble, BehindBackslash, State, Fed, run, feed, feed_work, fed, leaf, enter, framed, ended}
+use Rattle.orc_yang.specs.Machine.{Head, Spot, Between, Keyed, Worded, Strung, Joining, Work, Gap, Slashed, InLine, InBlock, BehindStar, InKeyword, BehindColon, InSecond, Lone, WordSlash, WordStar, InWord, InSingle, InDouble, BehindBackslash, Machine, Fed, run, feed, feed_work, fed, leaf, enter, framed, ended}
 use Rattle.orc_yang.proofs.Rests.{Tail, RestGap, Rest, RestFed}
 use Rattle.orc_yang.proofs.GapRests.{back_gap}
 use Rattle.orc_yang.proofs.TokenRests.{back_slashed, back_line, back_block, back_star, back_first, back_second, back_colon, back_word, back_slash, back_starred, back_lone, back_single, back_double, back_backslash}
 
 module _ (done : List Stmt) (frames : List Frame) (list : List Stmt) where
-  abbrev S : Work → State
+  abbrev S : Work → Machine
   S w = record { work = w; done = done; frames = frames }
 
   abbrev R : Work → List Character → Type 0
@@ -46,14 +46,14 @@ ends_between [] done list end e =
     record { more = []; rest = []; body = Statements.none; closed = (refl, sym q ∙ sym (append-nil done)) }
 ends_between (f ∷ fs) done list end e = cc
 
-ends_gap : (spot : Spot) (s : State) (list : List Stmt) (end : ℕ) → machine.finish_gap spot s end ≡ Ok list → RestGap s.done s.frames list spot []
+ends_gap : (spot : Spot) (s : Machine) (list : List Stmt) (end : ℕ) → machine.finish_gap spot s end ≡ Ok list → RestGap s.done s.frames list spot []
 ends_gap Between s list end e = ends_between s.frames s.done list end e
 ends_gap (Keyed h) s list end e = cc
 ends_gap (Worded h a) s list end e = cc
 ends_gap (Strung h a) s list end e = cc
 ends_gap (Joining h a) s list end e = cc
 
-ends : (w : Work) (s : State) (list : List Stmt) (end : ℕ) → machine.finish_work w s end ≡ Ok list → Rest s.done s.frames list w []
+ends : (w : Work) (s : Machine) (list : List Stmt) (end : ℕ) → machine.finish_work w s end ≡ Ok list → Rest s.done s.frames list w []
 ends (Gap spot) s list end e = ends_gap spot s list end e
 ends (InLine spot) s list end e = record { rest = []; line = Line.at_end; goes = ends_gap spot s list end e }
 ends (Slashed spot o) s list end e = cc
@@ -70,13 +70,13 @@ ends (InSingle h a o p) s list end e = cc
 ends (InDouble h a o column raw p) s list end e = cc
 ends (BehindBackslash h a o column raw p) s list end e = cc
 
-fed_back : (list : List Stmt) (xs : List Character) (end : ℕ) → ((s : State) → run xs s end ≡ Ok list → Rest s.done s.frames list s.work xs)
+fed_back : (list : List Stmt) (xs : List Character) (end : ℕ) → ((s : Machine) → run xs s end ≡ Ok list → Rest s.done s.frames list s.work xs)
     → (answer : Fed) → fed answer (λ t. run xs t end) ≡ Ok list → RestFed list xs answer
 fed_back list xs end all (Ok s) e = all s e
 fed_back list xs end all (Err f) e = cc
 
 -- wherever the machine goes on to answer a list, the rest is what the grammar has there
-pub reads : (xs : List Character) (list : List Stmt) (end : ℕ) (s : State) → run xs s end ≡ Ok list → Rest s.done s.frames list s.work xs
+pub reads : (xs : List Character) (list : List Stmt) (end : ℕ) (s : Machine) → run xs s end ≡ Ok list → Rest s.done s.frames list s.work xs
 reads [] list end s e = ends s.work s list end e
 reads (x ∷ xs) list end s e =
     back s.done s.frames list s.work (sort_of x.code) x xs refl (fed_back list xs end (λ t. reads xs list end t) (feed s x) e)

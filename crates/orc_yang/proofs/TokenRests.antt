@@ -13,12 +13,12 @@ use Rattle.orc_yang.specs.Quoted.{string_value, is_escape}
 use Rattle.orc_yang.specs.Grammar as grammar
 use Rattle.orc_yang.specs.Grammar.{Is, Of, Line, Comment, Piece, Letters, Keyword, Word, Unquoted, Single, Double, Quoted, Joined, Heading, Statements}
 use Rattle.orc_yang.specs.Machine as machine
-use Rattle.orc_yang.specs.Machine.{Head, Spot, Between, Keyed, Worded, Strung, Joining, Work, Gap, Slashed, InLine, InBlock, BehindStar, InKeyword, BehindColon, InSecond, Lone, WordSlash, WordStar, InWord, InSingle, InDouble, BehindBackslash, State, Fed, run, feed, feed_work, fed, leaf, enter, framed, ended}
+use Rattle.orc_yang.specs.Machine.{Head, Spot, Between, Keyed, Worded, Strung, Joining, Work, Gap, Slashed, InLine, InBlock, BehindStar, InKeyword, BehindColon, InSecond, Lone, WordSlash, WordStar, InWord, InSingle, InDouble, BehindBackslash, Machine, Fed, run, feed, feed_work, fed, leaf, enter, framed, ended}
 use Rattle.orc_yang.proofs.Rests.{Argued, Stringed, AfterKey, KeyEnd, longer, KeyFirst, KeyColon, KeySecond, InWordRest, SingleRest, DoubleRest, EscapeRest, Rest, RestFed}
 use Rattle.orc_yang.proofs.GapRests.{back_leaf, back_enter, in_front, white_is, word_first}
 
 module _ (done : List Stmt) (frames : List Frame) (list : List Stmt) where
-  abbrev S : Work → State
+  abbrev S : Work → Machine
   S w = record { work = w; done = done; frames = frames }
 
   abbrev R : Work → List Character → Type 0
@@ -45,7 +45,7 @@ module _ (done : List Stmt) (frames : List Frame) (list : List Stmt) where
   back_block Forbidden spot o p x xs e r = never p (BadToken x.last) r.0
   back_block _ spot o p x xs e r = (r.0, record { rest = r.1.rest; comment = Comment.more (ap grammar.in_comment e) r.1.comment; goes = r.1.goes })
 
-  unspoilt : (p : Option YangFault) (s : State) (xs : List Character) → RestFed list xs (machine.unspoilt p (Ok s)) → (p ≡ None) × RestFed list xs (Ok s)
+  unspoilt : (p : Option YangFault) (s : Machine) (xs : List Character) → RestFed list xs (machine.unspoilt p (Ok s)) → (p ≡ None) × RestFed list xs (Ok s)
   unspoilt None s xs r = (refl, r)
   unspoilt (Some f) s xs r = absurd r
 

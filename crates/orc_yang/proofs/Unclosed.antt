@@ -13,14 +13,14 @@ use Rattle.orc_yang.specs.declared.parser.Frame.{Frame}
 use Rattle.orc_yang.specs.Sorts.{sort_of}
 use Rattle.orc_yang.specs.Text.{placed, next_column, ReadsAs}
 use Rattle.orc_yang.specs.Faults.{CanOpen, CanFollow, TakesString, TakesComment, ends_single, ends_double, ends_comment, is_quote, is_double_quote, is_backslash, is_star, is_slash, IsUnclosed}
-use Rattle.orc_yang.specs.Machine.{Head, Spot, Between, Keyed, Worded, Strung, Joining, Work, Gap, Slashed, InLine, InBlock, BehindStar, InKeyword, BehindColon, InSecond, Lone, WordSlash, WordStar, InWord, InSingle, InDouble, BehindBackslash, State, Fed, run, feed, feed_work, fed, start}
+use Rattle.orc_yang.specs.Machine.{Head, Spot, Between, Keyed, Worded, Strung, Joining, Work, Gap, Slashed, InLine, InBlock, BehindStar, InKeyword, BehindColon, InSecond, Lone, WordSlash, WordStar, InWord, InSingle, InDouble, BehindBackslash, Machine, Fed, run, feed, feed_work, fed, start}
 use Rattle.orc_yang.proofs.Complete.{complete}
 use Rattle.orc_yang.proofs.Viable.{pending}
 use Rattle.orc_yang.proofs.Faults.{character, Came, came_nil, came_more, stops_err, stops_doomed, can_follow, doomed, S}
 
 -- A front that can begin a text brings the machine to a state without a fault.
 pub record Comes (front : List ℕ) : Type 0 where
-  pub state : State
+  pub state : Machine
   pub came : Came front state
   pub clean : pending state.work ≡ None
 
@@ -34,17 +34,17 @@ never : {B : Type 0} {list : List Stmt} {f : YangFault} → fails f ≡ gives li
 never e = cc
 
 module _ (more : List ℕ) (list : List Stmt) where
-  arrived : (front : List ℕ) (s : State) (w : Came front s) → run (placed 0 1 (front ++ more)) start 0 ≡ Ok list → (p : Option YangFault) → pending s.work ≡ p → Comes front
+  arrived : (front : List ℕ) (s : Machine) (w : Came front s) → run (placed 0 1 (front ++ more)) start 0 ≡ Ok list → (p : Option YangFault) → pending s.work ≡ p → Comes front
   arrived front s w e None q = record { state = s; came = w; clean = q }
   arrived front s w e (Some f) q = absurd (doomed s f q (placed (length (encode_utf8_all front)) w.column more) list 0 (sym (w.goes more 0) ∙ e))
 
-  arrives_on : (c : ℕ) (rest front : List ℕ) (s : State) (w : Came front s) (answer : Fed) → feed s (character (length (encode_utf8_all front)) w.column c) ≡ answer
+  arrives_on : (c : ℕ) (rest front : List ℕ) (s : Machine) (w : Came front s) (answer : Fed) → feed s (character (length (encode_utf8_all front)) w.column c) ≡ answer
       → fed answer (λ t. run (placed (length (encode_utf8_all front) + length (encode_utf8 c)) (next_column c w.column) (rest ++ more)) t 0) ≡ Ok list
-      → ((t : State) → Came (front ++ c ∷ []) t → Comes (front ++ c ∷ rest)) → Comes (front ++ c ∷ rest)
+      → ((t : Machine) → Came (front ++ c ∷ []) t → Comes (front ++ c ∷ rest)) → Comes (front ++ c ∷ rest)
   arrives_on c rest front s w (Ok t) q e next = next t (came_more front s t w c q)
   arrives_on c rest front s w (Err f) q e next = never e
 
-  arrives : (rest front : List ℕ) (s : State) → Came front s → run (placed 0 1 ((front ++ rest) ++ more)) start 0 ≡ Ok list → Comes (front ++ rest)
+  arrives : (rest front : List ℕ) (s : Machine) → Came front s → run (placed 0 1 ((front ++ rest) ++ more)) start 0 ≡ Ok list → Comes (front ++ rest)
   arrives [] front s w e =
       let P : List ℕ → Type 0 = λ l. Comes l in
       subst P (sym (append-nil front)) (arrived front s w (ap (λ l. run (placed 0 1 (l ++ more)) start 0) (sym (append-nil front)) ∙ e) (pending s.work) refl)
@@ -127,7 +127,7 @@ module _ (front : List ℕ) (done : List Stmt) (frames : List Frame) where
       let P : List ℕ → Type 0 = λ l. CanOpen l in subst P q t.0
 
   -- a brace behind a slash
-  braced : (u : Work) (t : State) (w : Came (front ++ 47 ∷ []) (S done frames u)) → feed (S done frames u) (character (length (encode_utf8_all (front ++ 47 ∷ []))) w.column 125) ≡ Ok t → pending t.work ≡ None → CanOpen (front ++ 47 ∷ 125 ∷ [])
+  braced : (u : Work) (t : Machine) (w : Came (front ++ 47 ∷ []) (S done frames u)) → feed (S done frames u) (character (length (encode_utf8_all (front ++ 47 ∷ []))) w.column 125) ≡ Ok t → pending t.work ≡ None → CanOpen (front ++ 47 ∷ 125 ∷ [])
   braced u t w e q = let P : List ℕ → Type 0 = λ l. CanOpen l in subst P (append_assoc front (47 ∷ []) (125 ∷ [])) (can_follow (front ++ 47 ∷ []) (S done frames u) t w 125 e q)
 
   -- behind a `*` of a comment, a slash ends the comment
@@ -252,8 +252,8 @@ module _ (front : List ℕ) (end : ℕ) where
   comment_from done frames v m w c d after e e' n =
       let x = character at w.column c in
       let y = character (at + length (encode_utf8 c)) (next_column c w.column) d in
-      let next = λ (t : State). run (placed (at + length (encode_utf8 c)) (next_column c w.column) (d ∷ after)) t end in
-      let last = λ (t : State). run (placed ((at + length (encode_utf8 c)) + length (encode_utf8 d)) (next_column d (next_column c w.column)) after) t end in
+      let next = λ (t : Machine). run (placed (at + length (encode_utf8 c)) (next_column c w.column) (d ∷ after)) t end in
+      let last = λ (t : Machine). run (placed ((at + length (encode_utf8 c)) + length (encode_utf8 d)) (next_column d (next_column c w.column)) after) t end in
       ap (λ k. fed (feed_work v k (S done frames v) x) next) e ∙ (ap (λ a. fed a next) (m.slash x)
       ∙ (ap (λ k. fed (feed_work (m.mid x) k (S done frames (m.mid x)) y) last) e' ∙ (ap (λ a. fed a last) (m.star x y) ∙ comment_runs done frames end after false _ _ _ _ _ n)))
 

@@ -5,10 +5,10 @@ use Rattle.orc_yang.specs.declared.fault.YangFault.{YangFault}
 use Rattle.orc_yang.specs.declared.statement.Stmt.{Stmt}
 use Rattle.orc_yang.specs.declared.parser.Frame.{Frame}
 use Rattle.orc_yang.specs.Text.{placed}
-use Rattle.orc_yang.specs.Machine.{Spot, Between, Keyed, Worded, Strung, Joining, Work, Gap, Slashed, InLine, InBlock, BehindStar, InKeyword, BehindColon, InSecond, Lone, WordSlash, WordStar, InWord, InSingle, InDouble, BehindBackslash, State, run, ended}
+use Rattle.orc_yang.specs.Machine.{Spot, Between, Keyed, Worded, Strung, Joining, Work, Gap, Slashed, InLine, InBlock, BehindStar, InKeyword, BehindColon, InSecond, Lone, WordSlash, WordStar, InWord, InSingle, InDouble, BehindBackslash, Machine, run, ended}
 
 -- a text that goes on from this state to an end, wherever it stands
-abbrev pub Accepts : State → Type 0
+abbrev pub Accepts : Machine → Type 0
 Accepts s = (more : List ℕ) × (list : List Stmt) × (all_scalars more ≡ true) × ((at column end : ℕ) → run (placed at column more) s end ≡ Ok list)
 
 -- the fault that waits for the end of a string or comment
@@ -25,7 +25,7 @@ closes [] done = ([], done, refl, λ at column end. refl)
 closes (f ∷ fs) done = let r = closes fs (ended f done) in (125 ∷ r.0, r.1, r.2, λ at column end. r.3 _ _ end)
 
 module _ (done : List Stmt) (frames : List Frame) where
-  abbrev pub S : Work → State
+  abbrev pub S : Work → Machine
   S w = record { work = w; done = done; frames = frames }
 
   pub accept_gap : (spot : Spot) → Accepts (S (Gap spot))
@@ -57,5 +57,5 @@ module _ (done : List Stmt) (frames : List Frame) where
   accept (BehindBackslash h a o column raw None) q = let r = closes frames _ in (110 ∷ 34 ∷ 59 ∷ r.0, r.1, r.2, λ at col end. r.3 _ _ end)
   accept (BehindBackslash h a o column raw (Some f)) q = cc
 
-pub accepts : (s : State) → pending s.work ≡ None → Accepts s
+pub accepts : (s : Machine) → pending s.work ≡ None → Accepts s
 accepts s q = accept s.done s.frames s.work q

@@ -10,7 +10,7 @@ use Rattle.orc_yang.specs.Sorts.{sort_of}
 use Rattle.orc_yang.specs.Grammar as grammar
 use Rattle.orc_yang.specs.Grammar.{Is, Line, Comment, Piece}
 use Rattle.orc_yang.specs.Machine as machine
-use Rattle.orc_yang.specs.Machine.{Spot, Between, Work, Gap, Slashed, InLine, InBlock, BehindStar, State, feed, feed_work, start}
+use Rattle.orc_yang.specs.Machine.{Spot, Between, Work, Gap, Slashed, InLine, InBlock, BehindStar, Machine, feed, feed_work, start}
 use Rattle.orc_yang.specs.inside.Wanting.{MayTake, RunMayTake}
 
 -- white space and comments, and then the first character of a keyword
@@ -29,7 +29,7 @@ BehindComment b xs = (ys : List Character) × Comment b xs ys × Ahead ys
 
 -- the machine before the first keyword
 module _ (done : List Stmt) where
-  abbrev pub S : Work → State
+  abbrev pub S : Work → Machine
   S w = record { work = w; done = done; frames = [] }
 
   -- what stands ahead of this work, where memory is wanted
@@ -45,13 +45,13 @@ module _ (done : List Stmt) where
 
   -- a step that may take memory, or one that goes on
   abbrev Turn : Work → Sort → Character → List Character → Type 0
-  Turn w k x xs = MayTake w [] k ⊎ ((t : State) × (feed_work w k (S w) x ≡ Ok t) × RunMayTake xs t)
+  Turn w k x xs = MayTake w [] k ⊎ ((t : Machine) × (feed_work w k (S w) x ≡ Ok t) × RunMayTake xs t)
 
   turn : (w : Work) (k : Sort) (x : Character) (xs : List Character) → sort_of x.code ≡ k → RunMayTake (x ∷ xs) (S w) → Turn w k x xs
   turn w k x xs e h = let P : Sort → Type 0 = λ q. Turn w q x xs in subst P e h
 
   module _ (x : Character) (xs : List Character) (next : (w : Work) → RunMayTake xs (S w) → Stands w xs) where
-    on : (w : Work) (t : State) → machine.go (S w) w ≡ Ok t → RunMayTake xs t → Stands w xs
+    on : (w : Work) (t : Machine) → machine.go (S w) w ≡ Ok t → RunMayTake xs t → Stands w xs
     on w t e h = let q : S w ≡ t = cc in next w (subst (λ s. RunMayTake xs s) (sym q) h)
 
     at_gap : (k : Sort) → sort_of x.code ≡ k → Turn (Gap Between) k x xs → Ahead (x ∷ xs)

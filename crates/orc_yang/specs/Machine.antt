@@ -46,15 +46,15 @@ pub data Work : Type 0 where
   BehindBackslash : Head → List ℕ → ℕ → ℕ → List ℕ → Option YangFault → Work
 
 -- the statements so far of the innermost open block, and the open blocks, the innermost first
-pub record State : Type 0 where
+pub record Machine : Type 0 where
   pub work : Work
   pub done : List Stmt
   pub frames : List Frame
 
 abbrev pub Fed : Type 0
-Fed = Result State YangFault
+Fed = Result Machine YangFault
 
-abbrev pub go : State → Work → Fed
+abbrev pub go : Machine → Work → Fed
 go s work = Ok (record { work = work; done = s.done; frames = s.frames })
 
 abbrev pub bad : Character → Fed
@@ -68,17 +68,17 @@ abbrev pub spoilt : Option YangFault → YangFault → Option YangFault
 spoilt None fault = Some fault
 spoilt (Some first) fault = Some first
 
-abbrev pub leaf : State → Head → Option (List ℕ) → Fed
+abbrev pub leaf : Machine → Head → Option (List ℕ) → Fed
 leaf s head argument = Ok (record {
   work = Gap Between;
   done = s.done ++ statement head.keyword argument [] head.at ∷ [];
   frames = s.frames;
 })
 
-abbrev pub framed : State → Head → Option (List ℕ) → Frame
+abbrev pub framed : Machine → Head → Option (List ℕ) → Frame
 framed s head argument = record { keyword = head.keyword; argument = argument; at = head.at; before = s.done }
 
-abbrev pub enter : State → Head → Option (List ℕ) → Character → Fed
+abbrev pub enter : Machine → Head → Option (List ℕ) → Character → Fed
 enter s head argument x =
     if nat_lt (length s.frames) MAX_DEPTH
     then Ok (record { work = Gap Between; done = []; frames = framed s head argument ∷ s.frames })
@@ -87,11 +87,11 @@ enter s head argument x =
 abbrev pub ended : Frame → List Stmt → List Stmt
 ended f subs = f.before ++ statement f.keyword f.argument subs f.at ∷ []
 
-abbrev pub close : List Frame → State → Character → Fed
+abbrev pub close : List Frame → Machine → Character → Fed
 close [] s x = bad x
 close (f ∷ fs) s x = Ok (record { work = Gap Between; done = ended f s.done; frames = fs })
 
-abbrev pub between : Sort → State → Character → Fed
+abbrev pub between : Sort → Machine → Character → Fed
 between LineFeed s x = Ok s
 between Blank s x = Ok s
 between Slash s x = go s (Slashed Between x.at)
@@ -99,7 +99,7 @@ between CloseBrace s x = close s.frames s x
 between Start s x = go s (InKeyword (record { keyword = encode_utf8 x.code; at = x.at }))
 between _ s x = bad x
 
-abbrev pub keyed : Sort → Head → State → Character → Fed
+abbrev pub keyed : Sort → Head → Machine → Character → Fed
 keyed LineFeed h s x = Ok s
 keyed Blank h s x = Ok s
 keyed Semicolon h s x = leaf s h None
@@ -112,7 +112,7 @@ keyed Slash h s x = go s (Lone h (encode_utf8 x.code) x.at)
 keyed Star h s x = go s (WordStar h (encode_utf8 x.code))
 keyed _ h s x = go s (InWord h (encode_utf8 x.code))
 
-abbrev pub worded : Sort → Head → List ℕ → State → Character → Fed
+abbrev pub worded : Sort → Head → List ℕ → Machine → Character → Fed
 worded LineFeed h a s x = Ok s
 worded Blank h a s x = Ok s
 worded Slash h a s x = go s (Slashed (Worded h a) x.at)
@@ -120,7 +120,7 @@ worded Semicolon h a s x = leaf s h (Some a)
 worded OpenBrace h a s x = enter s h (Some a) x
 worded _ h a s x = bad x
 
-abbrev pub strung : Sort → Head → List ℕ → State → Character → Fed
+abbrev pub strung : Sort → Head → List ℕ → Machine → Character → Fed
 strung LineFeed h a s x = Ok s
 strung Blank h a s x = Ok s
 strung Slash h a s x = go s (Slashed (Strung h a) x.at)
@@ -129,7 +129,7 @@ strung OpenBrace h a s x = enter s h (Some a) x
 strung Plus h a s x = go s (Gap (Joining h a))
 strung _ h a s x = bad x
 
-abbrev pub joining : Sort → Head → List ℕ → State → Character → Fed
+abbrev pub joining : Sort → Head → List ℕ → Machine → Character → Fed
 joining LineFeed h a s x = Ok s
 joining Blank h a s x = Ok s
 joining Slash h a s x = go s (Slashed (Joining h a) x.at)
@@ -137,19 +137,19 @@ joining DoubleQuote h a s x = go s (InDouble h a x.at x.column [] None)
 joining SingleQuote h a s x = go s (InSingle h a x.at None)
 joining _ h a s x = bad x
 
-abbrev pub feed_gap : Spot → Sort → State → Character → Fed
+abbrev pub feed_gap : Spot → Sort → Machine → Character → Fed
 feed_gap Between k s x = between k s x
 feed_gap (Keyed h) k s x = keyed k h s x
 feed_gap (Worded h a) k s x = worded k h a s x
 feed_gap (Strung h a) k s x = strung k h a s x
 feed_gap (Joining h a) k s x = joining k h a s x
 
-abbrev pub slashed : Sort → Spot → ℕ → State → Character → Fed
+abbrev pub slashed : Sort → Spot → ℕ → Machine → Character → Fed
 slashed Slash spot opened s x = go s (InLine spot)
 slashed Star spot opened s x = go s (InBlock spot opened None)
 slashed _ spot opened s x = bad x
 
-abbrev pub feed_line : Sort → Spot → State → Character → Fed
+abbrev pub feed_line : Sort → Spot → Machine → Character → Fed
 feed_line LineFeed spot s x = go s (Gap spot)
 feed_line Forbidden spot s x = cut x
 feed_line _ spot s x = Ok s
@@ -159,12 +159,12 @@ abbrev pub unspoilt : Option YangFault → Fed → Fed
 unspoilt None fed = fed
 unspoilt (Some fault) fed = Err fault
 
-abbrev pub feed_block : Sort → Spot → ℕ → Option YangFault → State → Character → Fed
+abbrev pub feed_block : Sort → Spot → ℕ → Option YangFault → Machine → Character → Fed
 feed_block Star spot opened p s x = go s (BehindStar spot opened p)
 feed_block Forbidden spot opened p s x = go s (InBlock spot opened (spoilt p (BadToken x.last)))
 feed_block _ spot opened p s x = Ok s
 
-abbrev pub feed_star : Sort → Spot → ℕ → Option YangFault → State → Character → Fed
+abbrev pub feed_star : Sort → Spot → ℕ → Option YangFault → Machine → Character → Fed
 feed_star Slash spot opened p s x = unspoilt p (go s (Gap spot))
 feed_star Star spot opened p s x = Ok s
 feed_star Forbidden spot opened p s x = go s (InBlock spot opened (spoilt p (BadToken x.last)))
@@ -173,7 +173,7 @@ feed_star _ spot opened p s x = go s (InBlock spot opened p)
 abbrev pub grown : Head → Character → Head
 grown h x = record { keyword = h.keyword ++ encode_utf8 x.code; at = h.at }
 
-abbrev pub end_keyword : Sort → Head → State → Character → Fed
+abbrev pub end_keyword : Sort → Head → Machine → Character → Fed
 end_keyword LineFeed h s x = go s (Gap (Keyed h))
 end_keyword Blank h s x = go s (Gap (Keyed h))
 end_keyword Slash h s x = go s (Slashed (Keyed h) x.at)
@@ -181,22 +181,22 @@ end_keyword Semicolon h s x = leaf s h None
 end_keyword OpenBrace h s x = enter s h None x
 end_keyword _ h s x = bad x
 
-abbrev pub feed_keyword : Sort → Head → State → Character → Fed
+abbrev pub feed_keyword : Sort → Head → Machine → Character → Fed
 feed_keyword Start h s x = go s (InKeyword (grown h x))
 feed_keyword Inner h s x = go s (InKeyword (grown h x))
 feed_keyword Colon h s x = go s (BehindColon (grown h x))
 feed_keyword k h s x = end_keyword k h s x
 
-abbrev pub feed_colon : Sort → Head → State → Character → Fed
+abbrev pub feed_colon : Sort → Head → Machine → Character → Fed
 feed_colon Start h s x = go s (InSecond (grown h x))
 feed_colon _ h s x = bad x
 
-abbrev pub feed_second : Sort → Head → State → Character → Fed
+abbrev pub feed_second : Sort → Head → Machine → Character → Fed
 feed_second Start h s x = go s (InSecond (grown h x))
 feed_second Inner h s x = go s (InSecond (grown h x))
 feed_second k h s x = end_keyword k h s x
 
-abbrev pub feed_word : Sort → Head → List ℕ → State → Character → Fed
+abbrev pub feed_word : Sort → Head → List ℕ → Machine → Character → Fed
 feed_word LineFeed h a s x = go s (Gap (Worded h a))
 feed_word Blank h a s x = go s (Gap (Worded h a))
 feed_word Semicolon h a s x = leaf s h (Some a)
@@ -209,37 +209,37 @@ feed_word Slash h a s x = go s (WordSlash h (a ++ encode_utf8 x.code))
 feed_word Star h a s x = go s (WordStar h (a ++ encode_utf8 x.code))
 feed_word _ h a s x = go s (InWord h (a ++ encode_utf8 x.code))
 
-abbrev pub lone : Sort → Head → List ℕ → ℕ → State → Character → Fed
+abbrev pub lone : Sort → Head → List ℕ → ℕ → Machine → Character → Fed
 lone Slash h a opened s x = go s (InLine (Keyed h))
 lone Star h a opened s x = go s (InBlock (Keyed h) opened None)
 lone k h a opened s x = feed_word k h a s x
 
-abbrev pub word_slash : Sort → Head → List ℕ → State → Character → Fed
+abbrev pub word_slash : Sort → Head → List ℕ → Machine → Character → Fed
 word_slash Slash h a s x = bad x
 word_slash Star h a s x = bad x
 word_slash k h a s x = feed_word k h a s x
 
-abbrev pub word_star : Sort → Head → List ℕ → State → Character → Fed
+abbrev pub word_star : Sort → Head → List ℕ → Machine → Character → Fed
 word_star Slash h a s x = bad x
 word_star k h a s x = feed_word k h a s x
 
-abbrev pub feed_single : Sort → Head → List ℕ → ℕ → Option YangFault → State → Character → Fed
+abbrev pub feed_single : Sort → Head → List ℕ → ℕ → Option YangFault → Machine → Character → Fed
 feed_single SingleQuote h a opened p s x = unspoilt p (go s (Gap (Strung h a)))
 feed_single Forbidden h a opened p s x = go s (InSingle h a opened (spoilt p (BadToken x.last)))
 feed_single _ h a opened p s x = go s (InSingle h (a ++ encode_utf8 x.code) opened p)
 
-abbrev pub feed_double : Sort → Head → List ℕ → ℕ → ℕ → List ℕ → Option YangFault → State → Character → Fed
+abbrev pub feed_double : Sort → Head → List ℕ → ℕ → ℕ → List ℕ → Option YangFault → Machine → Character → Fed
 feed_double DoubleQuote h a opened column raw p s x = unspoilt p (go s (Gap (Strung h (a ++ string_value column raw))))
 feed_double Backslash h a opened column raw p s x = go s (BehindBackslash h a opened column (raw ++ x.code ∷ []) p)
 feed_double Forbidden h a opened column raw p s x = go s (InDouble h a opened column raw (spoilt p (BadToken x.last)))
 feed_double _ h a opened column raw p s x = go s (InDouble h a opened column (raw ++ x.code ∷ []) p)
 
-abbrev pub feed_backslash : Head → List ℕ → ℕ → ℕ → List ℕ → Option YangFault → State → Character → Fed
+abbrev pub feed_backslash : Head → List ℕ → ℕ → ℕ → List ℕ → Option YangFault → Machine → Character → Fed
 feed_backslash h a opened column raw p s x =
     go s (InDouble h a opened column (raw ++ x.code ∷ [])
     (if is_escape x.code then p else spoilt p (BadEscape (x.at - 1))))
 
-abbrev pub feed_work : Work → Sort → State → Character → Fed
+abbrev pub feed_work : Work → Sort → Machine → Character → Fed
 feed_work (Gap spot) k s x = feed_gap spot k s x
 feed_work (Slashed spot opened) k s x = slashed k spot opened s x
 feed_work (InLine spot) k s x = feed_line k spot s x
@@ -257,19 +257,19 @@ feed_work (InDouble h a opened column raw p) k s x = feed_double k h a opened co
 feed_work (BehindBackslash h a opened column raw p) k s x = feed_backslash h a opened column raw p s x
 
 -- what one character makes of a state
-abbrev pub feed : State → Character → Fed
+abbrev pub feed : Machine → Character → Fed
 feed s x = feed_work s.work (sort_of x.code) s x
 
 abbrev pub finish_between : List Frame → List Stmt → ℕ → Result (List Stmt) YangFault
 finish_between [] done end = Ok done
 finish_between (f ∷ fs) done end = Err (OpenBlock end)
 
-abbrev pub finish_gap : Spot → State → ℕ → Result (List Stmt) YangFault
+abbrev pub finish_gap : Spot → Machine → ℕ → Result (List Stmt) YangFault
 finish_gap Between s end = finish_between s.frames s.done end
 finish_gap _ s end = Err (OpenBlock end)
 
 -- what the text's end makes of a state
-abbrev pub finish_work : Work → State → ℕ → Result (List Stmt) YangFault
+abbrev pub finish_work : Work → Machine → ℕ → Result (List Stmt) YangFault
 finish_work (Gap spot) s end = finish_gap spot s end
 finish_work (InLine spot) s end = finish_gap spot s end
 finish_work (InBlock spot opened p) s end = Err (OpenString opened)
@@ -279,18 +279,18 @@ finish_work (InDouble h a opened column raw p) s end = Err (OpenString opened)
 finish_work (BehindBackslash h a opened column raw p) s end = Err (OpenString opened)
 finish_work _ s end = Err (OpenBlock end)
 
-abbrev pub finish : State → ℕ → Result (List Stmt) YangFault
+abbrev pub finish : Machine → ℕ → Result (List Stmt) YangFault
 finish s end = finish_work s.work s end
 
-abbrev pub fed : Fed → (State → Result (List Stmt) YangFault) → Result (List Stmt) YangFault
+abbrev pub fed : Fed → (Machine → Result (List Stmt) YangFault) → Result (List Stmt) YangFault
 fed (Ok s) next = next s
 fed (Err fault) next = Err fault
 
 -- the answer to a state and the characters that are left of a text of this length
-abbrev pub run : List Character → State → ℕ → Result (List Stmt) YangFault
+abbrev pub run : List Character → Machine → ℕ → Result (List Stmt) YangFault
 run [] s end = finish s end
 run (x ∷ xs) s end = fed (feed s x) (λ t. run xs t end)
 
 -- the state before the first character
-abbrev pub start : State
+abbrev pub start : Machine
 start = record { work = Gap Between; done = []; frames = [] }

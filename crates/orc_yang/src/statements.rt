@@ -1,5 +1,5 @@
 //! From bytes to statements.
-ghost use Rattle.std.specs.Prelude.{◌≡◌, ◌<◌, ◌^◌, ◌++◌, ◌⊎◌, ℕ, true, length, MatchResult, IfOk, IfErr, IsErrOf, List};
+ghost use Rattle.std.specs.Prelude.{◌≡◌, ◌<◌, ◌≤◌, ◌+◌, ◌*◌, ◌^◌, ◌++◌, ◌⊎◌, ℕ, true, length, MatchResult, IfOk, IfErr, IsErrOf, List};
 ghost use Rattle.std.specs.Str.{chars, all_scalars, encode_utf8_all};
 ghost use Rattle.orc_yang.specs.Text.{placed, next_column, IsTextOf};
 ghost use Rattle.orc_yang.specs.Machine.{run, start};
@@ -11,8 +11,11 @@ ghost use Rattle.orc_yang.specs.declared.statement.Stmt.{Stmt};
 use crate::character::Character;
 use crate::parser::Parser;
 use crate::{Stmt, YangFault};
+use orc_io::Steps;
 use std::alloc::Global;
+use std::marker::Brand;
 use std::str::from_utf8;
+use std::sync::ledger::{Blank, Ledger};
 
 /// The statements that the bytes spell.
 pub fn parse(alloc: Global, bytes: &[u8]) -> Result<Vec<Stmt>, YangFault>
@@ -34,8 +37,65 @@ pub fn parse(alloc: Global, bytes: &[u8]) -> Result<Vec<Stmt>, YangFault>
         → MatchResult result (λ _. ⊥)
         (λ fault. (fault ≡ YangFault.OpenString (byte_count front)) ⊎ (fault ≡ YangFault.Memory)) }
 {
+    parse_uncounted::<Brand>(alloc, bytes, Blank::new(1))
+}
+
+// The same, where nothing is counted.
+fn parse_uncounted<L: Ledger>(
+    alloc: Global,
+    bytes: &[u8],
+    blank: Blank,
+) -> Result<Vec<Stmt>, YangFault>
+    requires name { blank.name ≡ L.name }
+    requires parts { blank.parts ≡ L.parts }
+    requires some { 0 < blank.parts }
+    ensures answer { MatchResult result
+        (λ list. statements_of bytes.now ≡ Ok list.items)
+        (FailsWith (statements_of bytes.now)) }
+    ensures found { IfOk result (λ list. IsTextOf bytes.now list.items) }
+    ensures only { (list : List Stmt) → IsTextOf bytes.now list
+        → MatchResult result (λ read. read.items ≡ list) (λ fault. fault ≡ YangFault.Memory) }
+    ensures faults { IfErr result (IsFault bytes.now) }
+    ensures unclosed { (front rest : List ℕ) → all_scalars (front ++ rest) ≡ true
+        → encode_utf8_all (front ++ rest) ≡ bytes.now → IsUnclosed front rest
+        → MatchResult result (λ _. ⊥)
+        (λ fault. (fault ≡ YangFault.OpenString (byte_count front)) ⊎ (fault ≡ YangFault.Memory)) }
+{
+    let mut steps = Steps::<L>::new(blank);
+    parse_counted(alloc, bytes, &mut steps)
+}
+
+/// The same, with its steps counted. A step is a character at which a loop of this crate looks, or
+/// one that it writes: each character of the text, and of a double-quoted string at its end once more,
+/// ahead for a line break, and as the spaces that a tab leaves. That the bytes are UTF-8 is told before,
+/// and isn't counted.
+pub fn parse_counted<L: Ledger>(
+    alloc: Global,
+    bytes: &[u8],
+    steps: &mut Steps<L>,
+) -> Result<Vec<Stmt>, YangFault>
+    // The one answer, unless memory runs out.
+    ensures answer { MatchResult result
+        (λ list. statements_of bytes.now ≡ Ok list.items)
+        (FailsWith (statements_of bytes.now)) }
+    // What is read is spelled so.
+    ensures found { IfOk result (λ list. IsTextOf bytes.now list.items) }
+    // What is spelled so is read, unless memory runs out, and as no other list.
+    ensures only { (list : List Stmt) → IsTextOf bytes.now list
+        → MatchResult result (λ read. read.items ≡ list) (λ fault. fault ≡ YangFault.Memory) }
+    // Where bytes that are not UTF-8 cease to be; else what the fault means for the characters.
+    // Memory is wanted only of a text that comes to a keyword.
+    ensures faults { IfErr result (IsFault bytes.now) }
+    // A string or a comment without end is the fault, whatever stands in it, unless memory runs out.
+    ensures unclosed { (front rest : List ℕ) → all_scalars (front ++ rest) ≡ true
+        → encode_utf8_all (front ++ rest) ≡ bytes.now → IsUnclosed front rest
+        → MatchResult result (λ _. ⊥)
+        (λ fault. (fault ≡ YangFault.OpenString (byte_count front)) ⊎ (fault ≡ YangFault.Memory)) }
+    // Ten steps for each byte at most.
+    ensures cost { steps.new ≤ steps.old + 10 * length bytes.now }
+{
     match from_utf8(bytes) {
-        Ok(text) => read(alloc, text),
+        Ok(text) => read(alloc, text, steps),
         Err(error) => Err(YangFault::NotUtf8 {
             at: error.valid_up_to() as u64,
         }),
@@ -43,17 +103,19 @@ pub fn parse(alloc: Global, bytes: &[u8]) -> Result<Vec<Stmt>, YangFault>
 }
 
 // The statements of a text.
-fn read(alloc: Global, text: &str) -> Result<Vec<Stmt>, YangFault>
+fn read<L: Ledger>(alloc: Global, text: &str, steps: &mut Steps<L>) -> Result<Vec<Stmt>, YangFault>
     ensures answer { MatchResult result
         (λ list. run (placed 0 1 (chars text.now)) start (length text.now) ≡ Ok list.items)
         (FailsWith (run (placed 0 1 (chars text.now)) start (length text.now))) }
     ensures memory { IsErrOf result YangFault.Memory → RunMayTake (placed 0 1 (chars text.now)) start }
+    ensures cost { steps.new ≤ steps.old + 10 * length text.now }
 {
     let end = text.len() as u64;
     let mut parser = Parser::new(alloc);
     let mut at = 0;
     let mut column = 1;
     for code in text.chars() {
+        steps.tick();
         let next = at + code.len_utf8() as u64;
         let x = Character {
             code,
@@ -61,7 +123,7 @@ fn read(alloc: Global, text: &str) -> Result<Vec<Stmt>, YangFault>
             last: next - 1,
             column,
         };
-        parser.step(alloc, x)?;
+        parser.step(alloc, x, steps)?;
         at = next;
         column = next_column(code, column);
     }

@@ -11,7 +11,7 @@ use Rattle.orc_call.specs.declared.call.Call.{Call}
 use Rattle.orc_state.specs.Actions.{data_after}
 use Rattle.orc_state.specs.Next.{existence, invalid}
 use Rattle.orc_state.specs.declared.declarations.Decls.{Decls}
-use Rattle.orc_state.specs.declared.state.State.{State}
+use Rattle.orc_state.specs.States.{State}
 
 -- an action sets or unsets an item of the data
 abbrev pub is_on_data : Action → Bool

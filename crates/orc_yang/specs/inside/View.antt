@@ -7,7 +7,7 @@ use Rattle.orc_yang.specs.declared.parser.Mode.TheVariants as modes
 use Rattle.orc_yang.specs.declared.parser.Spot as code
 use Rattle.orc_yang.specs.declared.parser.Spot.TheVariants as spots
 use Rattle.orc_yang.specs.Parsing.{FailsWith}
-use Rattle.orc_yang.specs.Machine.{Head, Spot, Between, Keyed, Worded, Strung, Joining, Work, Gap, Slashed, InLine, InBlock, BehindStar, InKeyword, BehindColon, InSecond, Lone, WordSlash, WordStar, InWord, InSingle, InDouble, BehindBackslash, State}
+use Rattle.orc_yang.specs.Machine.{Head, Spot, Between, Keyed, Worded, Strung, Joining, Work, Gap, Slashed, InLine, InBlock, BehindStar, InKeyword, BehindColon, InSecond, Lone, WordSlash, WordStar, InWord, InSingle, InDouble, BehindBackslash, Machine}
 
 abbrev pub head_of : Parser → Head
 head_of p = record { keyword = p.keyword; at = p.at }
@@ -39,10 +39,10 @@ work_of modes.Single p = InSingle (head_of p) p.argument p.opened p.pending
 work_of modes.Double p = InDouble (head_of p) p.argument p.opened p.column p.raw p.pending
 work_of modes.Escape p = BehindBackslash (head_of p) p.argument p.opened p.column p.raw p.pending
 
-abbrev pub view : Parser → State
+abbrev pub view : Parser → Machine
 view p = record { work = work_of p.mode p; done = p.done; frames = reverse p.frames }
 
 -- what a step makes of the reader is what the machine makes of its state
-abbrev pub Mirrors : {T : Type 0} → Result State YangFault → State → Result T YangFault → Type 0
+abbrev pub Mirrors : {T : Type 0} → Result Machine YangFault → Machine → Result T YangFault → Type 0
 Mirrors answer new (Ok _) = answer ≡ Ok new
 Mirrors answer new (Err fault) = FailsWith answer fault

@@ -3,7 +3,11 @@ use Rattle.std.proofs.Common.{arith, sym, ap, subst}
 use Rattle.orc_call.specs.Encoding.{IsCall}
 use Rattle.orc_call.specs.declared.call.Call.{Call}
 use Rattle.orc_journal.specs.declared.entry.Entry.TheVariants.{Intent}
+use Rattle.orc_state.specs.Legal.{IsNew}
 use Rattle.orc_run.proofs.decision.begin.Goals as goal
+
+pub push-requires : goal.push-requires
+push-requires c = subst (IsNew c.args.past.now.history) (sym c.in_ok-copy-2.ensures) c.requires.new
 
 pub returns-clause-intent : goal.returns-clause-intent
 returns-clause-intent c = record {

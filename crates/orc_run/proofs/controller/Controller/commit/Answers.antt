@@ -11,6 +11,9 @@ use Rattle.orc_run.proofs.controller.Controller.commit.Goals as goal
 pub begin-requires-clause-encodable : goal.begin-requires-clause-encodable
 begin-requires-clause-encodable g c = encodable c.args.decls.now c.args.call.now c.requires.decls c.requires.call
 
+pub begin-requires-clause-new : goal.begin-requires-clause-new
+begin-requires-clause-new g c = c.requires.committing.1.due.new
+
 pub returns-in_err-t : goal.returns-in_err-t
 returns-in_err-t g c es is =
     let wants = err_from_is_err_and c.from_residual-in_err-t.result c.from_residual-in_err-t.ensures.1 in

@@ -10,7 +10,7 @@ use Rattle.orc_run.specs.Steps.{Serves}
 use Rattle.orc_run.specs.Views.{View}
 use Rattle.orc_run.specs.inside.Controllers.{LeadsTo}
 use Rattle.orc_state.specs.Legal.{AnswersAtOnce, state_of}
-use Rattle.orc_state.specs.declared.state.State.{State}
+use Rattle.orc_state.specs.States.{State}
 use Rattle.orc_run.proofs.Answering.{at_once, is_committing, same_view, says, wanting}
 use Rattle.orc_run.proofs.Outcomes.{AreLaws}
 use Rattle.orc_run.proofs.Ranges.{touched_are_devices}

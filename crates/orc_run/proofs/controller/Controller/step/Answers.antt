@@ -31,6 +31,16 @@ pub returns-in-Json : goal.returns-in-Json
 returns-in-Json g c sound =
     subst (λ (s : ScriptStep). StepsTo g.D.Disk.disk c.args.decls.now (view_of c.args.self sound.0) s c.json.result) (sym c.in-Json.is) (c.json.ensures sound)
 
+pub meta-requires-clause-device : goal.meta-requires-clause-device
+meta-requires-clause-device g c =
+    let decls = c.args.decls.now in
+    ltb-true c.in-Meta.device (length decls.names)
+    (first_so (nat_lt c.in-Meta.device (length decls.names)) _ (subst (λ (s : ScriptStep). IsTrue (is_step decls s)) c.in-Meta.is c.requires.can.lawful))
+
+pub returns-in-Meta : goal.returns-in-Meta
+returns-in-Meta g c sound =
+    subst (λ (s : ScriptStep). StepsTo g.D.Disk.disk c.args.decls.now (view_of c.args.self sound.0) s c.meta.result) (sym c.in-Meta.is) (c.meta.ensures sound)
+
 pub returns-in-Data : goal.returns-in-Data
 returns-in-Data g c sound =
     subst (λ (s : ScriptStep). StepsTo g.D.Disk.disk c.args.decls.now (view_of c.args.self sound.0) s c.data.result) (sym c.in-Data.is) (c.data.ensures sound)

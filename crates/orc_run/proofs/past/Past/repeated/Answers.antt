@@ -1,23 +1,23 @@
-use Rattle.std.proofs.Common.{◌≡◌, ◌+◌, List, sym, subst, ◌∙◌}
+use Rattle.std.proofs.Common.{◌≡◌, ℕ, List, sym, subst}
+use Rattle.std.specs.Prelude.{Option, MatchOption, slice_get}
+use Rattle.std.specs.declared.option.Option.TheVariants.{Some}
 use Rattle.orc_call.specs.declared.call.Call.{Call}
-use Rattle.orc_call.specs.declared.answer.Answer.TheVariants.{Committed, Reused}
-use Rattle.orc_state.specs.Legal.{AnswersAtOnce}
-use Rattle.orc_run.proofs.AtOnce.{is_again, is_reused}
-use Rattle.orc_run.proofs.Equality.{call_eq_decides}
+use Rattle.orc_state.specs.Legal.{AnswersAtOnce, IsNew, IsSame}
+use Rattle.orc_state.specs.declared.declarations.Decls.{Decls}
 use Rattle.orc_run.proofs.past.Past.repeated.Goals as goal
 
-pub returns-then-eq : goal.returns-then-eq
-returns-then-eq c = λ decls.
-    let found = c.in_ok-place.ensures in
-    let same = (call_eq_decides c.index-history-place.result c.args.call.now).0 (sym c.eq.ensures ∙ c.if-eq.true) in
-    subst (λ (l : List Call). AnswersAtOnce decls l c.args.call.now (Committed (c.in_ok-place.place + 1))) c.as_slice-history.ensures
-    (is_again decls c.as_slice-history.result.now c.args.call.now c.in_ok-place.place found.0 c.index-history-place.result found.1 c.index-history-place.is same)
+pub answer_at-requires : goal.answer_at-requires
+answer_at-requires c =
+    let history = c.args.self.now.history in
+    let call = c.args.call.now in
+    subst (λ (l : List Call). (entry : Call) × (slice_get l c.in-Some.place ≡ Some entry) × IsSame entry call) (sym c.as_slice.ensures)
+    (subst (λ (o : Option ℕ). MatchOption o (IsNew history call) (λ place. (entry : Call) × (slice_get history place ≡ Some entry) × IsSame entry call)) c.in-Some.is c.in_ok-place.ensures)
 
-pub returns : goal.returns
-returns c = λ decls.
-    let found = c.in_ok-place.ensures in
-    let other = λ (e : c.index-history-place.result ≡ c.args.call.now).
-    let t = (call_eq_decides c.index-history-place.result c.args.call.now).1 e in
-    absurd (cc (c.eq.ensures, t, c.if-eq.false)) in
-    subst (λ (l : List Call). AnswersAtOnce decls l c.args.call.now (Reused (c.in_ok-place.place + 1))) c.as_slice-history.ensures
-    (is_reused decls c.as_slice-history.result.now c.args.call.now c.in_ok-place.place found.0 c.index-history-place.result found.1 c.index-history-place.is found.2 other)
+pub returns-in-Some : goal.returns-in-Some
+returns-in-Some c = λ decls. subst (λ (l : List Call). AnswersAtOnce decls l c.args.call.now c.answer_at.result) c.as_slice.ensures (c.answer_at.ensures decls)
+
+pub returns-in-None : goal.returns-in-None
+returns-in-None c =
+    let history = c.args.self.now.history in
+    let call = c.args.call.now in
+    subst (λ (o : Option ℕ). MatchOption o (IsNew history call) (λ place. (entry : Call) × (slice_get history place ≡ Some entry) × IsSame entry call)) c.in-None.is c.in_ok-place.ensures

@@ -1,63 +1,126 @@
-use Rattle.std.proofs.Common.{◌≡◌, ℕ, ◌-◌, List, ◌++◌, length, drop, take, All, sym, ap, subst, ◌∙◌}
-use Rattle.std.specs.List.{flat_map}
-use Rattle.orc_state.specs.Actions.{new_services}
-use Rattle.orc_state.specs.declared.state.Service.{Service}
-use Rattle.orc_state.specs.declared.state.State.{State}
-use Rattle.orc_state.proofs.Kept.{after-live, joined-complete, made-behind, made-complete, refusal-clash}
+use Rattle.std.proofs.Common.{rules, ◌≡◌, sym, ap, subst, ◌∙◌}
+use Rattle.std.specs.declared.result.Result.TheVariants.{Ok, Err}
+use Rattle.orc_state.specs.States.{State}
+use Rattle.orc_state.specs.inside.Turns.{AreNew}
+use Rattle.orc_state.specs.inside.Keeping.{placed}
+use Rattle.orc_state.proofs.Changing.{Course, course-exist, course-once, course-open, done-after, done-kept, done-unrefused, found-none, refused-is}
+use Rattle.orc_state.proofs.Devices.{untouched-stays}
+use Rattle.orc_state.proofs.Placing.{comers-new}
 use Rattle.orc_state.proofs.state.State.change.Goals as goal
 
-pub clash-requires-clause-complete : goal.clash-requires-clause-complete
-clash-requires-clause-complete c =
-    let decls = c.args.decls.now in
-    let s = c.args.self.now in
-    let actions = c.args.call.now.actions in
-    let ns_are : c.as_slice-names.result.now ≡ decls.names = c.as_slice-names.ensures in
-    let made_is : c.in_ok-made.made ≡ flat_map (new_services decls.names) actions =
-    c.in_ok-made.ensures ∙ ap (flat_map (new_services c.as_slice-names.result.now)) c.as_slice-actions.ensures
-    ∙ ap (λ (n : List (List ℕ)). flat_map (new_services n) actions) ns_are in
-    let joined : c.as_slice-services.result.now ≡ s.live ++ c.in_ok-made.made =
-    c.as_slice-services.ensures ∙ ap (λ (z : State). z.live) c.in_ok-add.ensures.ok in
-    subst (λ (n : List (List ℕ)). All (λ (x : Service). length x.parts ≡ length n) c.as_slice-services.result.now) (sym ns_are)
-    (joined-complete decls.names actions s c.in_ok-made.made c.as_slice-services.result.now c.requires.state.complete c.requires.state.bases made_is joined)
+pub stores_behind-requires-clause-stays : goal.stores_behind-requires-clause-stays
+stores_behind-requires-clause-stays c =
+    let course : Course c.args.decls.now c.args.self.now c.args.call.now c.args.data c.as_slice-names.result.now c.as_slice-actions.result.now c.self.inside.live c.self.inside.stores =
+    record {
+      called = c.as_slice-names.ensures;
+      acted = c.as_slice-actions.ensures;
+      first = c.self.inside.data;
+      view = c.self.view_is;
+      kept = c.self.invariant;
+      bases = c.requires.state.bases;
+      once = c.requires.once;
+      behind = c.requires.behind;
+    } in
+    λ device lt off.
+    untouched-stays c.as_slice-names.result.now c.args.self.now c.args.call.now c.as_slice-actions.result.now c.self.inside.live c.as_slice-2.result.now device
+    (ap (λ (z : State). z.live) c.self.view_is) c.as_slice-actions.ensures (c.as_slice-2.ensures ∙ c.in_ok-touched.ensures)
+    (course-open c.args.decls.now c.args.self.now c.args.call.now c.args.data c.as_slice-names.result.now c.as_slice-actions.result.now c.self.inside.live
+    c.self.inside.stores course c.names_differ.ensures)
+    lt off
 
-pub clash-requires-clause-own : goal.clash-requires-clause-own
-clash-requires-clause-own c =
-    let ns = c.as_slice-names.result.now in
-    let services = c.as_slice-services.result.now in
-    let first = c.len-first.result in
-    let joined : services ≡ c.args.self.now.live ++ c.in_ok-made.made =
-    c.as_slice-services.ensures ∙ ap (λ (z : State). z.live) c.in_ok-add.ensures.ok in
-    subst (λ (l : List Service). All (λ (x : Service). length x.parts ≡ length ns) l)
-    (sym (made-behind c.args.self.now.live c.in_ok-made.made services first joined c.len-first.ensures))
-    (made-complete ns c.as_slice-actions.result.now c.in_ok-made.made c.in_ok-made.ensures)
+pub add_all-requires : goal.add_all-requires
+add_all-requires c =
+    let course : Course c.args.decls.now c.args.self.now c.args.call.now c.args.data c.as_slice-names.result.now c.as_slice-actions.result.now c.self.inside.live c.self.inside.stores =
+    record {
+      called = c.as_slice-names.ensures;
+      acted = c.as_slice-actions.ensures;
+      first = c.self.inside.data;
+      view = c.self.view_is;
+      kept = c.self.invariant;
+      bases = c.requires.state.bases;
+      once = c.requires.once;
+      behind = c.requires.behind;
+    } in
+    subst (AreNew c.self.inside.live) (sym c.in_ok-turns.ensures)
+    (comers-new c.as_slice-names.result.now c.self.inside.live c.as_slice-actions.result.now
+    (course-once c.args.decls.now c.args.self.now c.args.call.now c.args.data c.as_slice-names.result.now c.as_slice-actions.result.now c.self.inside.live c.self.inside.stores course)
+    (course-exist c.args.decls.now c.args.self.now c.args.call.now c.args.data c.as_slice-names.result.now c.as_slice-actions.result.now c.self.inside.live c.self.inside.stores course))
 
-pub returns-in-Ok-None-clause-refusal : goal.returns-in-Ok-None-clause-refusal
-returns-in-Ok-None-clause-refusal c =
-    let services = c.as_slice-services.result.now in
-    let first = c.len-first.result in
-    let joined : services ≡ c.args.self.now.live ++ c.in_ok-made.made =
-    c.as_slice-services.ensures ∙ ap (λ (z : State). z.live) c.in_ok-add.ensures.ok in
-    refusal-clash c.args.decls.now c.args.self.now c.args.call.now c.args.data c.in_ok-made.made services
-    (take (length services - first) (drop first services)) c.as_slice-actions.result.now c.as_slice-names.result.now _
-    c.requires.behind c.requires.once c.as_slice-actions.ensures c.as_slice-names.ensures c.in_ok-made.ensures joined
-    (made-behind c.args.self.now.live c.in_ok-made.made services first joined c.len-first.ensures)
-    (sym c.in-Ok-None.field-0-is ∙ c.in-Ok-None.ensures)
+pub invariant_of-self-in-Ok-1 : goal.invariant_of-self-in-Ok-1
+invariant_of-self-in-Ok-1 c =
+    let course : Course c.args.decls.now c.args.self.now c.args.call.now c.args.data c.as_slice-names.result.now c.as_slice-actions.result.now c.self.inside.live c.self.inside.stores =
+    record {
+      called = c.as_slice-names.ensures;
+      acted = c.as_slice-actions.ensures;
+      first = c.self.inside.data;
+      view = c.self.view_is;
+      kept = c.self.invariant;
+      bases = c.requires.state.bases;
+      once = c.requires.once;
+      behind = c.requires.behind;
+    } in
+    let is : c.in_ok-found.found ≡ Ok c.in-Ok.changes = search rules in
+    let put : c.from_vec.result ≡ placed c.self.inside.stores c.in-Ok.changes = search rules in
+    done-kept c.args.decls.now c.args.self.now c.args.call.now c.args.data c.as_slice-names.result.now c.as_slice-actions.result.now c.self.inside.live
+    c.self.inside.stores c.from_vec.result c.in-Ok.changes c.in_ok-turns.turns.items c.add_all.new.live c.remove_deleted.new.live course
+    (found-none c.as_slice-names.result.now c.self.inside.live c.as_slice-actions.result.now c.self.inside.stores c.as_slice-3.result.now c.in-Ok.changes c.in_ok-found.found
+    c.in_ok-found.ensures c.as_slice-3.ensures is)
+    c.in_ok-turns.ensures c.in_ok-add_all-in-Ok.ensures.ok c.remove_deleted.ensures put
 
-pub returns-in-Ok-None-clause-done : goal.returns-in-Ok-None-clause-done
-returns-in-Ok-None-clause-done c =
+pub returns-in_ok-add_all-in-Ok-clause-refusal : goal.returns-in_ok-add_all-in-Ok-clause-refusal
+returns-in_ok-add_all-in-Ok-clause-refusal c =
+    let course : Course c.args.decls.now c.args.self.now c.args.call.now c.args.data c.as_slice-names.result.now c.as_slice-actions.result.now c.self.inside.live c.self.inside.stores =
+    record {
+      called = c.as_slice-names.ensures;
+      acted = c.as_slice-actions.ensures;
+      first = c.self.inside.data;
+      view = c.self.view_is;
+      kept = c.self.invariant;
+      bases = c.requires.state.bases;
+      once = c.requires.once;
+      behind = c.requires.behind;
+    } in
+    let is : c.in_ok-found.found ≡ Ok c.in-Ok.changes = search rules in
+    done-unrefused c.args.decls.now c.args.self.now c.args.call.now c.args.data c.as_slice-names.result.now c.as_slice-actions.result.now c.self.inside.live
+    c.self.inside.stores c.in-Ok.changes course
+    (found-none c.as_slice-names.result.now c.self.inside.live c.as_slice-actions.result.now c.self.inside.stores c.as_slice-3.result.now c.in-Ok.changes c.in_ok-found.found
+    c.in_ok-found.ensures c.as_slice-3.ensures is)
+
+pub returns-in_ok-add_all-in-Ok-clause-done : goal.returns-in_ok-add_all-in-Ok-clause-done
+returns-in_ok-add_all-in-Ok-clause-done c =
+    let course : Course c.args.decls.now c.args.self.now c.args.call.now c.args.data c.as_slice-names.result.now c.as_slice-actions.result.now c.self.inside.live c.self.inside.stores =
+    record {
+      called = c.as_slice-names.ensures;
+      acted = c.as_slice-actions.ensures;
+      first = c.self.inside.data;
+      view = c.self.view_is;
+      kept = c.self.invariant;
+      bases = c.requires.state.bases;
+      once = c.requires.once;
+      behind = c.requires.behind;
+    } in
+    let is : c.in_ok-found.found ≡ Ok c.in-Ok.changes = search rules in
+    let put : c.from_vec.result ≡ placed c.self.inside.stores c.in-Ok.changes = search rules in
     λ ok.
-    after-live c.args.decls.now c.args.self.now c.args.call.now c.args.data c.in_ok-made.made c.add.new.self c.drop_deleted.new.self
-    c.as_slice-actions.result.now c.as_slice-names.result.now c.requires.behind c.requires.once c.as_slice-actions.ensures c.as_slice-names.ensures
-    c.in_ok-made.ensures c.in_ok-add.ensures.ok c.drop_deleted.ensures
+    done-after c.args.decls.now c.args.self.now c.args.call.now c.args.data c.as_slice-names.result.now c.as_slice-actions.result.now c.self.inside.live
+    c.self.inside.stores c.from_vec.result c.in-Ok.changes c.in_ok-turns.turns.items c.add_all.new.live c.remove_deleted.new.live course
+    (found-none c.as_slice-names.result.now c.self.inside.live c.as_slice-actions.result.now c.self.inside.stores c.as_slice-3.result.now c.in-Ok.changes c.in_ok-found.found
+    c.in_ok-found.ensures c.as_slice-3.ensures is)
+    c.in_ok-turns.ensures c.in_ok-add_all-in-Ok.ensures.ok c.remove_deleted.ensures put
 
-pub returns-in-Ok-Some-clause-refusal : goal.returns-in-Ok-Some-clause-refusal
-returns-in-Ok-Some-clause-refusal c =
-    let services = c.as_slice-services.result.now in
-    let first = c.len-first.result in
-    let joined : services ≡ c.args.self.now.live ++ c.in_ok-made.made =
-    c.as_slice-services.ensures ∙ ap (λ (z : State). z.live) c.in_ok-add.ensures.ok in
-    refusal-clash c.args.decls.now c.args.self.now c.args.call.now c.args.data c.in_ok-made.made services
-    (take (length services - first) (drop first services)) c.as_slice-actions.result.now c.as_slice-names.result.now _
-    c.requires.behind c.requires.once c.as_slice-actions.ensures c.as_slice-names.ensures c.in_ok-made.ensures joined
-    (made-behind c.args.self.now.live c.in_ok-made.made services first joined c.len-first.ensures)
-    (sym c.in-Ok-Some.field-0-is ∙ c.in-Ok-Some.ensures)
+pub returns-in-Err-clause-refusal : goal.returns-in-Err-clause-refusal
+returns-in-Err-clause-refusal c =
+    let course : Course c.args.decls.now c.args.self.now c.args.call.now c.args.data c.as_slice-names.result.now c.as_slice-actions.result.now c.self.inside.live c.self.inside.stores =
+    record {
+      called = c.as_slice-names.ensures;
+      acted = c.as_slice-actions.ensures;
+      first = c.self.inside.data;
+      view = c.self.view_is;
+      kept = c.self.invariant;
+      bases = c.requires.state.bases;
+      once = c.requires.once;
+      behind = c.requires.behind;
+    } in
+    let is : c.in_ok-found.found ≡ Err c.in-Err.answer = search rules in
+    refused-is c.args.decls.now c.args.self.now c.args.call.now c.args.data c.as_slice-names.result.now c.as_slice-actions.result.now c.self.inside.live
+    c.self.inside.stores c.as_slice-3.result.now c.in_ok-found.found c.in-Err.answer course c.in_ok-found.ensures is

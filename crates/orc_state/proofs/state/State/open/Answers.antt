@@ -5,6 +5,7 @@ use Rattle.orc_state.specs.Calls.{is_lawful_name}
 use Rattle.orc_state.specs.declared.declarations.Device.{Device}
 use Rattle.orc_state.proofs.Fits.{data-fits, devices-fit}
 use Rattle.orc_state.proofs.Kept.{decls-names}
+use Rattle.orc_state.proofs.Openings.{opened-kept}
 use Rattle.orc_state.proofs.state.State.open.Goals as goal
 
 pub opening_data-requires-clause-names : goal.opening_data-requires-clause-names
@@ -16,7 +17,10 @@ opening_data-requires-clause-fit c =
     subst (λ (puts : List Put). IsTrue (fits_puts puts)) (sym c.as_slice-2.ensures)
     (data-fits c.args.decls.now.data_schema c.args.decls.now.data c.requires.items)
 
-pub bases-requires : goal.bases-requires
-bases-requires c =
+pub idle_stores-requires : goal.idle_stores-requires
+idle_stores-requires c =
     subst (λ (devices : List Device). All (λ device. IsTrue (fits_puts device.base)) devices) (sym c.as_slice-3.ensures)
     (devices-fit c.args.decls.now.schemas c.args.decls.now.devices c.requires.devices)
+
+pub invariant_of-result : goal.invariant_of-result
+invariant_of-result c = opened-kept c.in_ok-stores.stores c.new.result c.new.ensures c.in_ok-stores.ensures.idle

@@ -1,0 +1,3 @@
+pub mod Towards
+pub mod Exact
+pub mod Walked

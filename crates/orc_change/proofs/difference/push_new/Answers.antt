@@ -1,0 +1,8 @@
+use Rattle.std.proofs.Common.{List, ◌++◌, refl, sym, ap, ◌∙◌, append-nil}
+use Rattle.orc_tree.specs.declared.change.Change.{Change}
+use Rattle.orc_change.proofs.Exact.{new_puts_held}
+use Rattle.orc_change.proofs.difference.push_new.Goals as goal
+
+pub returns-then-has_page : goal.returns-then-has_page
+returns-then-has_page c =
+    sym (ap (λ (l : List Change). c.args.changes.now ++ l) (new_puts_held c.args.rows.now c.args.from.now (c.if-has_page.ensures refl)) ∙ append-nil c.args.changes.now)

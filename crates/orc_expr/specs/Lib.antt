@@ -1,0 +1,9 @@
+pub mod Expressions
+pub mod Grammar
+pub mod Parts
+pub mod Reads
+pub mod Looks
+pub mod Touches
+pub mod Resolved
+pub mod Laws
+pub mod inside

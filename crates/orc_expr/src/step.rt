@@ -1,0 +1,47 @@
+//! How far an expression was followed.
+
+use crate::Read;
+use crate::looked::Looked;
+use orc_path::{Name, Path};
+use orc_text::{Row, Text};
+
+/// A predicate: a key's name, and what its term gives.
+#[derive(Drop)]
+pub(crate) struct Asked {
+    pub(crate) key: Name,
+    pub(crate) given: Looked<Text>,
+}
+
+/// The last step so far: where the steps before it lead, in the schema and in the data, its name,
+/// and its predicates.
+#[derive(Drop)]
+pub(crate) struct LastStep {
+    pub(crate) parent: Path,
+    pub(crate) before: Looked<Path>,
+    pub(crate) name: Name,
+    pub(crate) asked: Row<Asked>,
+}
+
+/// How far an expression was followed: it is the context, a text in quotes, or has a last step.
+#[derive(Drop)]
+pub(crate) enum Reached {
+    Context,
+    Given(Text),
+    Last(LastStep),
+}
+
+/// The keys that predicates choose, or nothing where a term gives no text, or that one gives more
+/// than one.
+#[derive(Drop)]
+pub(crate) enum Choice {
+    Keys(Row<Text>),
+    Nothing,
+    Many,
+}
+
+/// What the predicates of a step choose, and what their terms read.
+#[derive(Drop)]
+pub(crate) struct Chosen {
+    pub(crate) choice: Choice,
+    pub(crate) reads: Row<Read>,
+}

@@ -1,0 +1,14 @@
+mod IdsLaws
+mod PathLaws
+mod TouchedLaws
+mod StoreLaws
+mod RowLaws
+mod ShelfLaws
+mod ExactLaws
+mod SettledLaws
+mod LiveLaws
+mod ClashLaws
+mod PlannedLaws
+mod EditLaws
+mod Halves
+mod OneStore

@@ -1,0 +1,6 @@
+pub mod Ids
+pub mod Stores
+pub mod Moves
+pub mod Clashes
+pub mod Live
+pub mod inside

@@ -1,0 +1,5 @@
+pub mod Kept
+pub mod Shelves
+pub mod Settling
+pub mod Rivals
+pub mod Plans

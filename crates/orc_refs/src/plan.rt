@@ -1,0 +1,185 @@
+//! What moves come to at the paths that they touch.
+ghost use Rattle.std.specs.Prelude.{◌≡◌, ◌+◌, ◌≤◌, ◌++◌, ◌∷◌, [], OnOk, IfOk, IfErr, Ok, true, IsTrue, length};
+ghost use Rattle.std.specs.Option.{option_copied};
+ghost use Rattle.std.specs.FinMap.{from_sorted, is_sorted};
+ghost use Rattle.orc_path.specs.Order.{path_cmp};
+ghost use Rattle.orc_refs.specs.Moves.{BringWhole};
+ghost use Rattle.orc_refs.specs.inside.Settling.{all_bring, ids_after, item_after};
+ghost use Rattle.orc_refs.specs.inside.Plans.{HasCause, all_agree, come, gone, puts_due, removals_due, rows_due};
+
+use crate::backs::Backs;
+use crate::rival::rival;
+use crate::settle::{all_bring, any_stays, first_brought, has_item, ids_after};
+use crate::{Move, RefsFault};
+use orc_io::Steps;
+use orc_path::{Item, Path};
+use orc_text::{Memory, Row, Text};
+use orc_tree::{Change, Tree};
+use std::alloc::Global;
+use std::sync::ledger::Ledger;
+
+// The back pointers of the paths that moves touch, and the changes of the tree there.
+#[derive(Drop)]
+pub(crate) struct Plan {
+    pub(crate) rows: Row<(Path, Row<Text>)>,
+    pub(crate) removals: Row<Change>,
+    pub(crate) puts: Row<Change>,
+}
+
+// What stands at a path: the ids of the services that write it, the tree's item, and the base's
+// item once it is edited.
+#[derive(Clone, Copy)]
+pub(crate) struct Place<'a> {
+    pub(crate) ids: &'a [Text],
+    pub(crate) here: Option<&'a Item>,
+    pub(crate) base: Option<&'a Item>,
+}
+
+// A store as moves find it, with the base once it is edited.
+#[derive(Clone, Copy)]
+pub(crate) struct Parts<'a> {
+    pub(crate) backs: &'a Backs,
+    pub(crate) tree: &'a Tree,
+    pub(crate) base: &'a Tree,
+}
+
+impl Plan {
+    // Nothing yet.
+    fn new(alloc: Global) -> Plan
+        ensures rows { result.rows ≡ [] }
+        ensures removals { result.removals ≡ [] }
+        ensures puts { result.puts ≡ [] }
+    {
+        Plan {
+            rows: Row::new(alloc),
+            removals: Row::new(alloc),
+            puts: Row::new(alloc),
+        }
+    }
+
+    // Settles one path where all that write it agree, and else answers false.
+    fn settle(
+        &mut self,
+        alloc: Global,
+        moves: &[Move],
+        path: &Path,
+        found: &Place<'_>,
+    ) -> Result<bool, Memory>
+        requires whole { BringWhole moves.now }
+        ensures agree { IfOk result (λ agree. agree
+            ≡ all_bring moves.now path.now
+            (item_after moves.now path.now found.now.ids.now (option_copied found.now.here)
+            (option_copied found.now.base))) }
+        ensures rows { result ≡ Ok true
+            → self.new.rows ≡ self.old.rows ++ (path.now, ids_after moves.now path.now found.now.ids.now) ∷ [] }
+        ensures removals { result ≡ Ok true
+            → self.new.removals ≡ self.old.removals ++ gone (option_copied found.now.here)
+            (item_after moves.now path.now found.now.ids.now (option_copied found.now.here)
+            (option_copied found.now.base))
+            path.now }
+        ensures puts { result ≡ Ok true
+            → self.new.puts ≡ self.old.puts ++ come (option_copied found.now.here)
+            (item_after moves.now path.now found.now.ids.now (option_copied found.now.here)
+            (option_copied found.now.base))
+            path.now }
+    {
+        let after = item_after(moves, path, found);
+        if !all_bring(moves, path, after) {
+            return Ok(false);
+        }
+        let ids = ids_after(alloc, moves, path, found.ids)?;
+        self.rows.push((path.copy(alloc)?, Row::from_vec(ids)))?;
+        self.change(alloc, path, found.here, after)?;
+        Ok(true)
+    }
+
+    // Adds the change of a path, if there is one.
+    fn change(
+        &mut self,
+        alloc: Global,
+        path: &Path,
+        here: Option<&Item>,
+        after: Option<&Item>,
+    ) -> Result<(), Memory>
+        ensures rows { self.new.rows ≡ self.old.rows }
+        ensures removals { OnOk result (self.new.removals
+            ≡ self.old.removals ++ gone (option_copied here.entry) (option_copied after.entry) path.now) }
+        ensures puts { OnOk result (self.new.puts
+            ≡ self.old.puts ++ come (option_copied here.entry) (option_copied after.entry) path.now) }
+    {
+        match after {
+            Some(item) => {
+                if !has_item(here, item) {
+                    self.puts
+                        .push(Change::Put(path.copy(alloc)?, item.copy(alloc)?))?;
+                }
+            }
+            None => {
+                if here.is_some() {
+                    self.removals.push(Change::Remove(path.copy(alloc)?))?;
+                }
+            }
+        }
+        Ok(())
+    }
+}
+
+// The item that stands at a path once the moves are done.
+fn item_after<'a>(moves: &'a [Move], path: &Path, found: &Place<'a>) -> Option<&'a Item>
+    requires whole { BringWhole moves.now }
+    ensures { option_copied result
+        ≡ item_after moves.now path.now found.now.ids.now (option_copied found.now.here)
+        (option_copied found.now.base) }
+{
+    if any_stays(moves, found.ids) {
+        return found.here;
+    }
+    match first_brought(moves, path) {
+        Some(item) => Some(item),
+        None => found.base,
+    }
+}
+
+// What the moves come to at the paths that they touch. It visits each of these paths once.
+pub(crate) fn plan_of<L: Ledger>(
+    alloc: Global,
+    moves: &[Move],
+    store: &Parts<'_>,
+    touched: &[(Path, ())],
+    steps: &mut Steps<L>,
+) -> Result<Plan, RefsFault>
+    requires backs { IsTrue (is_sorted path_cmp store.now.backs.now) }
+    requires paths { IsTrue (is_sorted path_cmp touched.now) }
+    requires whole { BringWhole moves.now }
+    ensures clash { IfErr result (HasCause (from_sorted store.now.backs.now) store.now.tree.now store.now.base.now
+        moves.now touched.now) }
+    ensures rows { IfOk result
+        (λ plan. plan.rows ≡ rows_due (from_sorted store.now.backs.now) moves.now touched.now) }
+    ensures removals { IfOk result
+        (λ plan. plan.removals ≡ removals_due (from_sorted store.now.backs.now) store.now.tree.now store.now.base.now
+        moves.now touched.now) }
+    ensures puts { IfOk result
+        (λ plan. plan.puts ≡ puts_due (from_sorted store.now.backs.now) store.now.tree.now store.now.base.now
+        moves.now touched.now) }
+    ensures agree { IfOk result
+        (λ plan. IsTrue (all_agree (from_sorted store.now.backs.now) store.now.tree.now store.now.base.now
+        moves.now touched.now)) }
+    ensures steps { steps.new ≤ steps.old + length touched.now }
+{
+    let mut plan = Plan::new(alloc);
+    for row in touched {
+        steps.tick();
+        let path = &row.0;
+        let found = Place {
+            ids: store.backs.ids_of(path),
+            here: store.tree.get(path),
+            base: store.base.get(path),
+        };
+        if !plan.settle(alloc, moves, path, &found)? {
+            let path = path.copy(alloc)?;
+            let other = rival(alloc, moves, &path, &found)?;
+            return Err(RefsFault::Clash { path, other });
+        }
+    }
+    Ok(plan)
+}

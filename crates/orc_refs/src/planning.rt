@@ -1,0 +1,275 @@
+//! Moves and edits of the base prepared and put in place. All that can be refused is refused before
+//! anything is changed.
+ghost use Rattle.std.specs.Prelude.{◌≡◌, ◌+◌, ◌*◌, ◌<◌, ◌≤◌, ◌++◌, IsErr, IfErr, IfOk, OnOk, OnErr, IsTrue, length, vec_len};
+ghost use Rattle.std.specs.List.{list_all};
+ghost use Rattle.std.specs.FinMap.{from_sorted, is_sorted};
+ghost use Rattle.orc_path.specs.Order.{path_cmp};
+ghost use Rattle.orc_path.specs.Configurations.{IsConfig};
+ghost use Rattle.orc_tree.specs.Changes.{applied, change_fits};
+ghost use Rattle.orc_change.specs.Differences.{difference};
+ghost use Rattle.orc_refs.specs.Stores.{store_of, written_by};
+ghost use Rattle.orc_refs.specs.Moves.{BringWhole, IsMoved, LeadsTo, StartAt, are_distinct, count_moved, edit_fits, edited, writes_after};
+ghost use Rattle.orc_refs.specs.Clashes.{IsCause};
+ghost use Rattle.orc_refs.specs.inside.Kept.{AreKept};
+ghost use Rattle.orc_refs.specs.inside.Plans.{HasCause, IsPlanned, all_agree, changes_due, planned_store, rows_due, with_rows};
+
+use crate::backs::Backs;
+use crate::base::{NewBase, new_base};
+use crate::plan::{Parts, Plan, plan_of};
+use crate::touched::touched;
+use crate::{BaseEdit, Move, RefsFault};
+use orc_io::Steps;
+use orc_path::Path;
+use orc_text::{Memory, Row, Text};
+use orc_tree::{Change, ChangeSet, Tree};
+use std::alloc::Global;
+use std::sync::ledger::{Blank, Ledger};
+
+// What is due on a store: the changes of its tree and the back pointers of the paths that are
+// touched.
+#[derive(Drop)]
+pub(crate) struct Due {
+    pub(crate) set: ChangeSet,
+    pub(crate) rows: Row<(Path, Row<Text>)>,
+}
+
+// The same, with the base and the tree that the store is to have.
+#[derive(Drop)]
+pub(crate) struct Prepared {
+    pub(crate) due: Due,
+    pub(crate) base: Tree,
+    pub(crate) tree: Tree,
+}
+
+// What is due at these paths. It visits each of them once.
+fn due_at<L: Ledger>(
+    alloc: Global,
+    store: &Parts<'_>,
+    moves: &[Move],
+    paths: &[(Path, ())],
+    steps: &mut Steps<L>,
+) -> Result<Due, RefsFault>
+    requires backs { IsTrue (is_sorted path_cmp store.now.backs.now) }
+    requires paths { IsTrue (is_sorted path_cmp paths.now) }
+    requires whole { BringWhole moves.now }
+    ensures changes { IfOk result
+        (λ due. due.set.changes ≡ changes_due (from_sorted store.now.backs.now) store.now.tree.now
+        store.now.base.now moves.now paths.now) }
+    ensures rows { IfOk result
+        (λ due. due.rows ≡ rows_due (from_sorted store.now.backs.now) moves.now paths.now) }
+    ensures agree { IfOk result
+        (λ due. IsTrue (all_agree (from_sorted store.now.backs.now) store.now.tree.now store.now.base.now
+        moves.now paths.now)) }
+    ensures clash { IfErr result (HasCause (from_sorted store.now.backs.now) store.now.tree.now store.now.base.now
+        moves.now paths.now) }
+    ensures steps { steps.new ≤ steps.old + length paths.now }
+{
+    // A `match` and no `?`, so that the proof has the fault by its name.
+    let plan = match plan_of(alloc, moves, store, paths, steps) {
+        Ok(plan) => plan,
+        Err(fault) => return Err(fault),
+    };
+    let Plan {
+        rows,
+        removals,
+        puts,
+    } = plan;
+    let set = joined(removals, puts)?;
+    Ok(Due { set, rows })
+}
+
+// What is due once the base is an edited one. It visits each touched path once.
+fn due_on<L: Ledger>(
+    alloc: Global,
+    backs: &Backs,
+    tree: &Tree,
+    base: &Tree,
+    edited: &Tree,
+    changes: &[Change],
+    moves: &[Move],
+    steps: &mut Steps<L>,
+) -> Result<Due, RefsFault>
+    requires kept { AreKept base.now tree.now backs.now }
+    requires start { StartAt (store_of base.now tree.now backs.now) moves.now }
+    requires distinct { IsTrue (are_distinct moves.now) }
+    requires whole { BringWhole moves.now }
+    requires config { IsConfig edited.now }
+    requires changes { changes.now ≡ difference base.now edited.now }
+    ensures planned { IfOk result
+        (λ due. IsPlanned (store_of base.now tree.now backs.now) edited.now moves.now due.set.changes due.rows) }
+    ensures len { IfOk result
+        (λ due. length due.rows ≤ count_moved moves.now + length (difference base.now edited.now)) }
+    ensures clash { IfErr result
+        (IsCause (writes_after moves.now (written_by (store_of base.now tree.now backs.now))) moves.now) }
+    ensures steps { steps.new ≤ steps.old + (count_moved moves.now + length (difference base.now edited.now)) }
+{
+    let paths = touched(alloc, moves, changes)?;
+    let store = Parts {
+        backs,
+        tree,
+        base: edited,
+    };
+    match due_at(alloc, &store, moves, paths.as_slice(), steps) {
+        Ok(due) => Ok(due),
+        Err(fault) => Err(fault),
+    }
+}
+
+// Removals, and behind them what is put.
+fn joined(mut removals: Row<Change>, puts: Row<Change>) -> Result<ChangeSet, Memory>
+    ensures { IfOk result (λ set. set.changes ≡ removals ++ puts) }
+{
+    for change in puts.into_vec() {
+        removals.push(change)?;
+    }
+    Ok(ChangeSet { changes: removals })
+}
+
+// A copy of a tree with changes applied.
+fn applied_to(alloc: Global, set: &ChangeSet, tree: &Tree) -> Result<Tree, Memory>
+    requires fits { IsTrue (list_all change_fits set.now.changes) }
+    ensures applied { IfOk result (λ new. new ≡ applied set.now.changes tree.now) }
+    ensures config { IfOk result (λ new. IsConfig new) }
+{
+    let mut new = tree.copy(alloc)?;
+    new.apply(set)?;
+    Ok(new)
+}
+
+// What moves and edits make of a store.
+pub(crate) fn prepare<L: Ledger>(
+    alloc: Global,
+    backs: &Backs,
+    tree: &Tree,
+    base: &Tree,
+    moves: &[Move],
+    edits: &[BaseEdit],
+    steps: &mut Steps<L>,
+) -> Result<Prepared, RefsFault>
+    requires kept { AreKept base.now tree.now backs.now }
+    requires start { StartAt (store_of base.now tree.now backs.now) moves.now }
+    requires distinct { IsTrue (are_distinct moves.now) }
+    requires whole { BringWhole moves.now }
+    requires fits { IsTrue (list_all edit_fits edits.now) }
+    ensures moved { IfOk result
+        (λ prepared. IsMoved (store_of base.now tree.now backs.now) moves.now edits.now
+        (planned_store (store_of base.now tree.now backs.now) prepared.base prepared.due.set.changes
+        prepared.due.rows)) }
+    ensures tree { IfOk result (λ prepared. prepared.tree ≡ applied prepared.due.set.changes tree.now) }
+    ensures exact { IfOk result
+        (λ prepared. prepared.due.set.changes
+        ≡ difference tree.now (applied prepared.due.set.changes tree.now)) }
+    ensures len { IfOk result
+        (λ prepared. length prepared.due.rows
+        ≤ count_moved moves.now + length (difference base.now (edited edits.now base.now))) }
+    ensures clash { IfErr result
+        (IsCause (writes_after moves.now (written_by (store_of base.now tree.now backs.now))) moves.now) }
+    ensures steps { steps.new
+        ≤ steps.old + (count_moved moves.now + length (difference base.now (edited edits.now base.now))) }
+{
+    let new = new_base(alloc, base, edits)?;
+    let changes = new.set.changes.as_slice();
+    let due = match due_on(alloc, backs, tree, base, &new.tree, changes, moves, steps) {
+        Ok(due) => due,
+        Err(fault) => return Err(fault),
+    };
+    let new_tree = applied_to(alloc, &due.set, tree)?;
+    let NewBase {
+        tree: edited_base,
+        set: _,
+    } = new;
+    Ok(Prepared {
+        due,
+        base: edited_base,
+        tree: new_tree,
+    })
+}
+
+// Does moves and edits on the parts of a store, and gives the changes of the tree. It visits each
+// path that is touched twice. After a refusal the parts are as they were.
+pub(crate) fn apply_moves<L: Ledger>(
+    alloc: Global,
+    backs: &mut Backs,
+    tree: &mut Tree,
+    base: &mut Tree,
+    moves: &[Move],
+    edits: &[BaseEdit],
+    steps: &mut Steps<L>,
+) -> Result<ChangeSet, RefsFault>
+    requires kept { AreKept base.old tree.old backs.old }
+    requires start { StartAt (store_of base.old tree.old backs.old) moves.now }
+    requires distinct { IsTrue (are_distinct moves.now) }
+    requires whole { BringWhole moves.now }
+    requires fits { IsTrue (list_all edit_fits edits.now) }
+    ensures kept { AreKept base.new tree.new backs.new }
+    ensures moved { OnOk result
+        (IsMoved (store_of base.old tree.old backs.old) moves.now edits.now
+        (store_of base.new tree.new backs.new)) }
+    ensures leads { IfOk result (λ set. applied set.changes tree.old ≡ tree.new) }
+    ensures exact { IfOk result (λ set. set.changes ≡ difference tree.old tree.new) }
+    ensures clash { IfErr result
+        (IsCause (writes_after moves.now (written_by (store_of base.old tree.old backs.old))) moves.now) }
+    ensures same { IsErr result
+        → store_of base.new tree.new backs.new ≡ store_of base.old tree.old backs.old }
+    ensures steps { steps.new
+        ≤ steps.old + 2 * (count_moved moves.now + length (difference base.old (edited edits.now base.old))) }
+{
+    let prepared = match prepare(alloc, &*backs, &*tree, &*base, moves, edits, steps) {
+        Ok(prepared) => prepared,
+        Err(fault) => return Err(fault),
+    };
+    let Prepared {
+        due,
+        base: new_base,
+        tree: new_tree,
+    } = prepared;
+    let Due { set, rows } = due;
+    let new_backs = backs.with_rows(alloc, rows.into_vec(), steps)?;
+    *backs = new_backs;
+    *base = new_base;
+    *tree = new_tree;
+    Ok(set)
+}
+
+// The changes alone.
+fn set_of(prepared: Prepared) -> ChangeSet
+    ensures { result.changes ≡ prepared.due.set.changes }
+{
+    let Prepared {
+        due,
+        base: _,
+        tree: _,
+    } = prepared;
+    let Due { set, rows: _ } = due;
+    set
+}
+
+// The changes of the tree that moves and edits would make, where nothing is counted.
+pub(crate) fn preview_moves<L: Ledger>(
+    alloc: Global,
+    backs: &Backs,
+    tree: &Tree,
+    base: &Tree,
+    moves: &[Move],
+    edits: &[BaseEdit],
+    blank: Blank,
+) -> Result<ChangeSet, RefsFault>
+    requires name { blank.name ≡ L.name }
+    requires parts { blank.parts ≡ L.parts }
+    requires some { 0 < blank.parts }
+    requires kept { AreKept base.now tree.now backs.now }
+    requires start { StartAt (store_of base.now tree.now backs.now) moves.now }
+    requires distinct { IsTrue (are_distinct moves.now) }
+    requires whole { BringWhole moves.now }
+    requires fits { IsTrue (list_all edit_fits edits.now) }
+    ensures leads { IfOk result
+        (λ set. LeadsTo (store_of base.now tree.now backs.now) moves.now edits.now set.changes) }
+    ensures clash { IfErr result
+        (IsCause (writes_after moves.now (written_by (store_of base.now tree.now backs.now))) moves.now) }
+{
+    let mut steps = Steps::<L>::new(blank);
+    match prepare(alloc, backs, tree, base, moves, edits, &mut steps) {
+        Ok(prepared) => Ok(set_of(prepared)),
+        Err(fault) => Err(fault),
+    }
+}

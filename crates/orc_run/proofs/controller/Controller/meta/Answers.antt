@@ -1,0 +1,17 @@
+use Rattle.std.proofs.Common.{refl}
+use Rattle.orc_state.specs.Legal.{state_of}
+use Rattle.orc_run.specs.Steps.{PrintsMeta}
+use Rattle.orc_run.specs.inside.Controllers.{known_of}
+use Rattle.orc_bundle.specs.declared.bundle.ScriptStep.TheVariants.{Meta}
+use Rattle.orc_run.proofs.Outcomes.{AreLaws, only_prints}
+use Rattle.orc_run.proofs.controller.Controller.meta.Goals as goal
+
+pub returns : goal.returns
+returns g c sound =
+    let d = g.D.Disk.disk in
+    let laws : AreLaws d =
+    record { reads = g.met.D.Disk.reads_as_image; counts = g.met.D.Disk.counts_now; only_now = g.met.D.Disk.only_now; untold = g.met.D.Disk.untold_has_no_image } in
+    let decls = c.args.decls.now in
+    only_prints d laws decls (Meta c.args.device c.args.path.now) c.args.self c.meta_text-text.result c.printing.result
+    (PrintsMeta c.args.self.up decls (state_of decls (known_of c.args.self)) c.args.device c.args.path.now)
+    sound (λ t is. (is, refl)) c.meta_text-text.ensures c.printing.ensures (λ is. cc)

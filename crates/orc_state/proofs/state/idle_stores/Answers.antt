@@ -1,0 +1,23 @@
+use Rattle.std.proofs.Common.{◌≡◌, ◌+◌, ◌++◌, ◌∷◌, [], List, All, map, take, sym, subst, ap, ◌∙◌}
+use Rattle.std.proofs.lemmas.List.{map-append, take_more}
+use Rattle.orc_state.specs.declared.declarations.Device.{Device}
+use Rattle.orc_refs.specs.Stores.{Store}
+use Rattle.orc_state.specs.States.{declared_base}
+use Rattle.orc_state.specs.inside.Keeping.{IsStoreFor}
+use Rattle.orc_state.proofs.Openings.{more-bases, one-more}
+use Rattle.orc_state.proofs.state.idle_stores.Goals as goal
+
+pub loop-device-preserved : goal.loop-device-preserved
+loop-device-preserved c =
+    let more : map declared_base (take (c.loop-device.device-index + 1) c.args.devices.now)
+    ≡ map declared_base (take c.loop-device.device-index c.args.devices.now) ++ declared_base c.device-item.result ∷ [] =
+    ap (map declared_base) (take_more c.args.devices.now c.loop-device.device-index c.device-item.result c.loop-device-test.true
+    ∙ ap (λ (d : Device). take c.loop-device.device-index c.args.devices.now ++ d ∷ []) (sym c.device-item.is))
+    ∙ map-append declared_base (take c.loop-device.device-index c.args.devices.now) (c.device-item.result ∷ []) in
+    record {
+      bases = more-bases c.loop-device.stores c.push.new.self c.in_ok-idle_store.field-0
+          (map declared_base (take c.loop-device.device-index c.args.devices.now)) (declared_base c.device-item.result)
+          c.loop-device.invariant.bases c.in_ok-idle_store.ensures.base c.in_ok-push.ensures.ok ∙ sym more;
+      idle = subst (All (IsStoreFor [] 0)) (sym c.in_ok-push.ensures.ok)
+          (one-more c.loop-device.stores c.in_ok-idle_store.field-0 c.loop-device.invariant.idle c.in_ok-idle_store.ensures.idle);
+    }

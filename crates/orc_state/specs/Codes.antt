@@ -1,0 +1,19 @@
+-- The codes of a service and of a state, which a model that is made of them needs.
+use Rattle.std.specs.Prelude.{ℕ, List, refl}
+use Rattle.std.specs.Coded.{Coded, code_by, coded×, coded_ℕ, coded_list}
+use Rattle.orc_path.specs.Codes.{config_code}
+use Rattle.orc_path.specs.Configurations.{Config}
+use Rattle.orc_state.specs.States.{State}
+use Rattle.orc_state.specs.declared.state.Service.{Service}
+
+abbrev pub service_code : Coded Service
+service_code =
+    code_by (List ℕ × List Config) (coded× (coded_list coded_ℕ) (coded_list config_code))
+    (λ service. (service.id, service.parts)) (λ pair. record { id = pair.0; parts = pair.1 }) (λ _. refl)
+
+abbrev pub state_code : Coded State
+state_code =
+    code_by (Config × (List Config × List Service))
+    (coded× config_code (coded× (coded_list config_code) (coded_list service_code)))
+    (λ state. (state.data, (state.bases, state.live)))
+    (λ parts. record { «data» = parts.0; bases = parts.1.0; live = parts.1.1 }) (λ _. refl)

@@ -1,0 +1,35 @@
+-- What touches a device: edits of it by its name, and the services that are deleted.
+use Rattle.std.specs.Prelude.{ℕ, Bool, false, ◌==◌, not, List, Option}
+use Rattle.std.specs.declared.option.Option.TheVariants.{None}
+use Rattle.std.specs.Option.{option_to_list}
+use Rattle.std.specs.FinMap.{len}
+use Rattle.std.specs.List.{find, flat_map, list_any}
+use Rattle.orc_call.specs.declared.call.Action.{Action}
+use Rattle.orc_call.specs.declared.call.Action.TheVariants.{Literal, Delete, BasePut, BaseRemove}
+use Rattle.orc_state.specs.States.{has_id, is_same_text, part}
+use Rattle.orc_state.specs.Touched.{is_written_by}
+use Rattle.orc_state.specs.declared.state.Service.{Service}
+
+-- the action makes a service that writes on the device of this name, or edits its base
+abbrev pub is_edited_by : List ℕ → Action → Bool
+is_edited_by name (Literal id writes) = is_written_by writes name
+is_edited_by name (BasePut put) = is_same_text put.device name
+is_edited_by name (BaseRemove device path) = is_same_text device name
+is_edited_by name other = false
+
+-- one of the actions does
+abbrev pub is_edited : List ℕ → List Action → Bool
+is_edited name actions = list_any (is_edited_by name) actions
+
+-- the living service that an action deletes
+abbrev pub deleted_by : List Service → Action → Option Service
+deleted_by live (Delete id) = find (has_id id) live
+deleted_by live other = None
+
+-- those that actions delete
+abbrev pub deleted_of : List Service → List Action → List Service
+deleted_of live actions = flat_map (λ action. option_to_list (deleted_by live action)) actions
+
+-- the service has an item on the device
+abbrev pub is_on : ℕ → Service → Bool
+is_on device service = not (len (part service device) == 0)

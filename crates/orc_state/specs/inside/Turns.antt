@@ -1,0 +1,62 @@
+-- What a call does to the services that it names, and what that asks of the store of one device.
+use Rattle.std.specs.Prelude.{◌≡◌, ℕ, false, List, [], ◌∷◌, ◌++◌, map, if◌then◌else◌}
+use Rattle.std.specs.List.{find}
+use Rattle.std.specs.Option.{option_map_or}
+use Rattle.std.specs.FinMap.{entries}
+use Rattle.orc_path.specs.Steps.{PathStep}
+use Rattle.orc_path.specs.Configurations.{Config}
+use Rattle.orc_path.specs.declared.item.Item.{Item}
+use Rattle.orc_call.specs.declared.call.Put.{Put}
+use Rattle.orc_call.specs.declared.call.Action.{Action}
+use Rattle.orc_call.specs.declared.call.Action.TheVariants.{Literal, Delete, BasePut, BaseRemove}
+use Rattle.orc_refs.specs.declared.moves.Move.{Move}
+use Rattle.orc_refs.specs.declared.moves.BaseEdit.{BaseEdit}
+use Rattle.orc_refs.specs.declared.moves.BaseEdit.TheVariants as edit
+use Rattle.orc_state.specs.States.{expansion, has_id, is_same_text, lives, others, part}
+use Rattle.orc_state.specs.declared.state.Service.{Service}
+use Rattle.orc_state.specs.declared.turns.Turn.{Turn}
+use Rattle.orc_state.specs.declared.turns.Turn.TheVariants.{Comes, Goes}
+
+-- what an action does to the service that it names: none or one
+abbrev pub turns_of : List (List ℕ) → Action → List Turn
+turns_of names (Literal id writes) = Comes (record { id = id; parts = expansion names writes }) ∷ []
+turns_of names (Delete id) = Goes id ∷ []
+turns_of names other = []
+
+-- the items of a configuration, in path order
+abbrev pub put_of : List PathStep × Item → Put
+put_of row = record { path = row.0; item = row.1 }
+
+abbrev pub items_of : Config → List Put
+items_of config = map put_of (entries config)
+
+-- the move of a service on a device: from nothing to what it writes there, or from that to nothing
+abbrev pub move_of : List Service → ℕ → Turn → List Move
+move_of live device (Comes service) =
+    record { service = service.id; old = []; new = items_of (part service device) } ∷ []
+move_of live device (Goes id) = option_map_or
+    (λ service. record { service = id; old = items_of (part service device); new = [] } ∷ [])
+    (find (has_id id) live) []
+
+-- the edit of the base of the device of this name that an action is: none or one
+abbrev pub edits_of : List ℕ → Action → List BaseEdit
+edits_of name (BasePut write) =
+    if is_same_text write.device name then edit.Put (record { path = write.path; item = write.item }) ∷ [] else []
+edits_of name (BaseRemove device path) = if is_same_text device name then edit.Remove path ∷ [] else []
+edits_of name other = []
+
+-- the service that comes
+abbrev pub comers : Turn → List Service
+comers (Comes service) = service ∷ []
+comers (Goes id) = []
+
+-- each service that comes has a name that none of the living ones has, nor one of those that come before it
+abbrev pub AreNew : List Service → List Turn → Type 0
+AreNew live [] = Unit {0}
+AreNew live (Comes service ∷ turns) = (lives live service.id ≡ false) × AreNew (live ++ service ∷ []) turns
+AreNew live (Goes id ∷ turns) = AreNew live turns
+
+-- the living services without the one that an action deletes
+abbrev pub left_by : List Service → Action → List Service
+left_by live (Delete id) = others live id
+left_by live other = live
