@@ -3,6 +3,7 @@ mod CanonicalItems
 mod Costs
 mod CopiedStatements
 mod Cuts
+mod DataPaths
 mod DeclarationWords
 mod DeclaredLines
 mod Grown
@@ -26,6 +27,7 @@ mod StepsLawful
 mod Texts
 mod Utf8
 mod WordCuts
+mod Work
 mod Shown
 mod WrittenBases
 mod WrittenPreamble

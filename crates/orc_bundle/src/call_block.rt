@@ -5,6 +5,7 @@ ghost use Rattle.orc_state.specs.declared.lawful.TheConstants.{MOST_WRITES};
 ghost use Rattle.orc_bundle.specs.Scripts.{after_base_put, after_base_remove, after_delete, after_end, after_literal, after_set, after_unset, after_write, an_action, behind_literal, call_end, is_call_full, with_literal};
 ghost use Rattle.orc_bundle.specs.inside.Lawful.{AreDeclared, AreSteps, decls_in};
 ghost use Rattle.orc_bundle.specs.inside.Readers.{Takes};
+ghost use Rattle.orc_bundle.specs.inside.Work.{work_on};
 
 use crate::bundle::ScriptStep;
 use crate::declarations::Declared;
@@ -15,11 +16,13 @@ use crate::places::{read_device_item, read_device_path};
 use crate::script::{Part, Script};
 use crate::words::cut;
 use orc_call::{Action, Call, MOST_ACTIONS};
-use orc_path::{is_identifier, is_long_name};
+use orc_io::Steps;
+use orc_path::{is_identifier_counted, is_long_name};
 use orc_state::{Rule, is_named_by};
 use orc_text::{Memory, Row, Text};
 use std::alloc::Global;
 use std::mem::replace;
+use std::sync::ledger::Ledger;
 
 impl Script {
     // Whether no action more can stand in the open call.
@@ -31,12 +34,18 @@ impl Script {
 
     // `literal NAME`, whose writes are to come.
     #[tactic(auto, unfolding(crate::specs::Scripts::after_literal))]
-    fn take_literal(&mut self, alloc: Global, name: &str) -> Result<(), LineFault>
+    fn take_literal<L: Ledger>(
+        &mut self,
+        alloc: Global,
+        name: &str,
+        work: &mut Steps<L>,
+    ) -> Result<(), LineFault>
         ensures takes { Takes (after_literal self.old name.now) self.new result }
         ensures lawful { (decls : Decls) (most : ℕ) → AreSteps decls most self.old
             → self.old.part ≡ Part.Call → OnOk result (AreSteps decls most self.new) }
+        ensures worked { work.new ≤ work.old + work_on name.now }
     {
-        if !is_identifier(name) || self.is_call_full() {
+        if !is_identifier_counted(name, work) || self.is_call_full() {
             return breaks(Rule::Line);
         }
         if is_long_name(name) {
@@ -54,12 +63,18 @@ impl Script {
 
     // `delete NAME`.
     #[tactic(auto, unfolding(crate::specs::Scripts::after_delete))]
-    fn take_delete(&mut self, alloc: Global, name: &str) -> Result<(), LineFault>
+    fn take_delete<L: Ledger>(
+        &mut self,
+        alloc: Global,
+        name: &str,
+        work: &mut Steps<L>,
+    ) -> Result<(), LineFault>
         ensures takes { Takes (after_delete self.old name.now) self.new result }
         ensures lawful { (decls : Decls) (most : ℕ) → AreSteps decls most self.old
             → self.old.part ≡ Part.Call → OnOk result (AreSteps decls most self.new) }
+        ensures worked { work.new ≤ work.old + work_on name.now }
     {
-        if !is_identifier(name) || self.is_call_full() {
+        if !is_identifier_counted(name, work) || self.is_call_full() {
             return breaks(Rule::Line);
         }
         if is_long_name(name) {
@@ -75,120 +90,137 @@ impl Script {
 
     // `set ITEM`.
     #[tactic(auto, unfolding(crate::specs::Scripts::after_set))]
-    fn take_set(&mut self, alloc: Global, declared: &Declared, rest: &str) -> Result<(), LineFault>
+    fn take_set<L: Ledger>(
+        &mut self,
+        alloc: Global,
+        declared: &Declared,
+        rest: &str,
+        work: &mut Steps<L>,
+    ) -> Result<(), LineFault>
         ensures takes { Takes (after_set declared.now self.old rest.now) self.new result }
         ensures lawful { (most : ℕ) → AreSteps (decls_in declared.now) most self.old
             → self.old.part ≡ Part.Call → OnOk result (AreSteps (decls_in declared.now) most self.new) }
+        ensures worked { work.new ≤ work.old + work_on rest.now }
     {
         if self.is_call_full() {
             return breaks(Rule::Line);
         }
-        let put = read_put(alloc, true, &declared.data_schema, false, rest)?;
+        let put = read_put(alloc, true, &declared.data_schema, false, rest, work)?;
         self.actions.push(Action::Set(put))?;
         Ok(())
     }
 
     // `unset PATH`.
     #[tactic(auto, unfolding(crate::specs::Scripts::after_unset))]
-    fn take_unset(
+    fn take_unset<L: Ledger>(
         &mut self,
         alloc: Global,
         declared: &Declared,
         rest: &str,
+        work: &mut Steps<L>,
     ) -> Result<(), LineFault>
         ensures takes { Takes (after_unset declared.now self.old rest.now) self.new result }
         ensures lawful { (most : ℕ) → AreSteps (decls_in declared.now) most self.old
             → self.old.part ≡ Part.Call → OnOk result (AreSteps (decls_in declared.now) most self.new) }
+        ensures worked { work.new ≤ work.old + work_on rest.now }
     {
         if self.is_call_full() || cut(rest).is_some() {
             return breaks(Rule::Line);
         }
-        let path = read_data_path(alloc, &declared.data_schema, rest)?;
+        let path = read_data_path(alloc, &declared.data_schema, rest, work)?;
         self.actions.push(Action::Unset(path))?;
         Ok(())
     }
 
     // `base D ITEM`.
     #[tactic(auto, unfolding(crate::specs::Scripts::after_base_put))]
-    fn take_base_put(
+    fn take_base_put<L: Ledger>(
         &mut self,
         alloc: Global,
         declared: &Declared,
         rest: &str,
+        work: &mut Steps<L>,
     ) -> Result<(), LineFault>
         requires { AreDeclared declared.now }
         ensures takes { Takes (after_base_put declared.now self.old rest.now) self.new result }
         ensures lawful { (most : ℕ) → AreSteps (decls_in declared.now) most self.old
             → self.old.part ≡ Part.Call → OnOk result (AreSteps (decls_in declared.now) most self.new) }
+        ensures worked { work.new ≤ work.old + work_on rest.now }
     {
         if self.is_call_full() {
             return breaks(Rule::Line);
         }
-        let put = read_device_item(alloc, declared, rest)?;
+        let put = read_device_item(alloc, declared, rest, work)?;
         self.actions.push(Action::BasePut(put))?;
         Ok(())
     }
 
     // `unbase D PATH`.
     #[tactic(auto, unfolding(crate::specs::Scripts::after_base_remove))]
-    fn take_base_remove(
+    fn take_base_remove<L: Ledger>(
         &mut self,
         alloc: Global,
         declared: &Declared,
         rest: &str,
+        work: &mut Steps<L>,
     ) -> Result<(), LineFault>
         requires { AreDeclared declared.now }
         ensures takes { Takes (after_base_remove declared.now self.old rest.now) self.new result }
         ensures lawful { (most : ℕ) → AreSteps (decls_in declared.now) most self.old
             → self.old.part ≡ Part.Call → OnOk result (AreSteps (decls_in declared.now) most self.new) }
+        ensures worked { work.new ≤ work.old + work_on rest.now }
     {
         if self.is_call_full() {
             return breaks(Rule::Line);
         }
-        let named = read_device_path(alloc, declared, rest)?;
+        let named = read_device_path(alloc, declared, rest, work)?;
         self.actions.push(Action::BaseRemove(named.0, named.1))?;
         Ok(())
     }
 
     // `write D ITEM`.
     #[tactic(auto, unfolding(crate::specs::Scripts::after_write))]
-    fn take_write(
+    fn take_write<L: Ledger>(
         &mut self,
         alloc: Global,
         declared: &Declared,
         rest: &str,
+        work: &mut Steps<L>,
     ) -> Result<(), LineFault>
         requires { AreDeclared declared.now }
         ensures takes { Takes (after_write declared.now self.old rest.now) self.new result }
         ensures lawful { (most : ℕ) → AreSteps (decls_in declared.now) most self.old → self.old.part ≡ Part.Literal
             → OnOk result (AreSteps (decls_in declared.now) (most + 1) self.new) }
+        ensures worked { work.new ≤ work.old + work_on rest.now }
     {
-        let write = read_device_item(alloc, declared, rest)?;
+        let write = read_device_item(alloc, declared, rest, work)?;
         self.writes.push(write)?;
         Ok(())
     }
 
     // An action of the open call.
     #[tactic(auto, unfolding(crate::specs::Scripts::an_action))]
-    pub(crate) fn take_action(
+    pub(crate) fn take_action<L: Ledger>(
         &mut self,
         alloc: Global,
         declared: &Declared,
         word: Keyword,
         rest: &str,
+        work: &mut Steps<L>,
     ) -> Result<(), LineFault>
         requires { AreDeclared declared.now }
         ensures takes { Takes (an_action word declared.now self.old rest.now) self.new result }
         ensures lawful { (most : ℕ) → AreSteps (decls_in declared.now) most self.old
             → self.old.part ≡ Part.Call → OnOk result (AreSteps (decls_in declared.now) most self.new) }
+        ensures worked { work.new ≤ work.old + work_on rest.now }
     {
         match word {
-            Keyword::Literal => self.take_literal(alloc, rest),
-            Keyword::Delete => self.take_delete(alloc, rest),
-            Keyword::Set => self.take_set(alloc, declared, rest),
-            Keyword::Unset => self.take_unset(alloc, declared, rest),
-            Keyword::Base => self.take_base_put(alloc, declared, rest),
-            Keyword::Unbase => self.take_base_remove(alloc, declared, rest),
+            Keyword::Literal => self.take_literal(alloc, rest, work),
+            Keyword::Delete => self.take_delete(alloc, rest, work),
+            Keyword::Set => self.take_set(alloc, declared, rest, work),
+            Keyword::Unset => self.take_unset(alloc, declared, rest, work),
+            Keyword::Base => self.take_base_put(alloc, declared, rest, work),
+            Keyword::Unbase => self.take_base_remove(alloc, declared, rest, work),
             _ => breaks(Rule::Line),
         }
     }
@@ -208,23 +240,25 @@ impl Script {
 
     // A line of more than one word of a literal, or the action behind it.
     #[tactic(auto, unfolding(crate::specs::Scripts::behind_literal))]
-    pub(crate) fn take_behind_literal(
+    pub(crate) fn take_behind_literal<L: Ledger>(
         &mut self,
         alloc: Global,
         declared: &Declared,
         word: Keyword,
         rest: &str,
+        work: &mut Steps<L>,
     ) -> Result<(), LineFault>
         requires { AreDeclared declared.now }
         ensures takes { Takes (behind_literal word declared.now self.old rest.now) self.new result }
         ensures lawful { (most : ℕ) → AreSteps (decls_in declared.now) most self.old → self.old.part ≡ Part.Literal
             → most ≤ MOST_WRITES → OnOk result (AreSteps (decls_in declared.now) (most + 1) self.new) }
+        ensures worked { work.new ≤ work.old + work_on rest.now }
     {
         match word {
-            Keyword::Write => self.take_write(alloc, declared, rest),
+            Keyword::Write => self.take_write(alloc, declared, rest, work),
             _ => {
                 self.close_literal(alloc)?;
-                self.take_action(alloc, declared, word, rest)
+                self.take_action(alloc, declared, word, rest, work)
             }
         }
     }

@@ -7,6 +7,7 @@ ghost use Rattle.orc_bundle.specs.Declarations.{nothing_declared, with_base, wit
 ghost use Rattle.orc_bundle.specs.inside.Readers.{Takes};
 ghost use Rattle.orc_bundle.specs.inside.Costs.{bytes_of_first, declared_looks_at};
 ghost use Rattle.orc_bundle.specs.inside.Lawful.{AreDeclared};
+ghost use Rattle.orc_bundle.specs.inside.Work.{block_work, work_on};
 ghost use Rattle.orc_bundle.specs.declared.bundle.TheConstants.{LARGEST_BUNDLE};
 
 use crate::fault::{LineFault, breaks};
@@ -19,7 +20,7 @@ use crate::schemas::built_in_schema;
 use crate::words::{cut, number_of, read_text};
 use orc_call::Put;
 use orc_io::Steps;
-use orc_path::{Path, is_identifier, is_long_name};
+use orc_path::{Path, is_identifier_counted, is_long_name};
 use orc_schema::Schema;
 use orc_state::{Device, MOST_DEVICES, Rule};
 use orc_text::{Memory, Row, Text};
@@ -174,14 +175,20 @@ impl Declared {
 
     // `device D plain` and `device D T`.
     #[tactic(auto, unfolding(crate::specs::Declarations::after_device))]
-    fn take_device(&mut self, alloc: Global, rest: &str) -> Result<(), LineFault>
+    fn take_device<L: Ledger>(
+        &mut self,
+        alloc: Global,
+        rest: &str,
+        work: &mut Steps<L>,
+    ) -> Result<(), LineFault>
         ensures takes { Takes (after_device self.old rest.now) self.new result }
         ensures lawful { AreDeclared self.old → OnOk result (AreDeclared self.new) }
+        ensures worked { work.new ≤ work.old + work_on rest.now }
     {
         let Some((name, kind)) = cut(rest) else {
             return breaks(Rule::Line);
         };
-        if !is_identifier(name) || !is_identifier(kind) {
+        if !is_identifier_counted(name, work) || !is_identifier_counted(kind, work) {
             return breaks(Rule::Line);
         }
         if is_long_name(name) || is_long_name(kind) {
@@ -211,15 +218,21 @@ impl Declared {
 
     // `base D ITEM`.
     #[tactic(auto, unfolding(crate::specs::Declarations::after_base))]
-    fn take_base(&mut self, alloc: Global, rest: &str) -> Result<(), LineFault>
+    fn take_base<L: Ledger>(
+        &mut self,
+        alloc: Global,
+        rest: &str,
+        work: &mut Steps<L>,
+    ) -> Result<(), LineFault>
         requires { self.old.names ≡ names_of self.old.devices }
         ensures takes { Takes (after_base self.old rest.now) self.new result }
         ensures lawful { AreDeclared self.old → OnOk result (AreDeclared self.new) }
+        ensures worked { work.new ≤ work.old + work_on rest.now }
     {
         let Some((name, item)) = cut(rest) else {
             return breaks(Rule::Line);
         };
-        if !is_identifier(name) {
+        if !is_identifier_counted(name, work) {
             return breaks(Rule::Line);
         }
         let is_long = is_long_name(name);
@@ -231,6 +244,7 @@ impl Declared {
             self.schema_named(&name, &plain),
             is_long,
             item,
+            work,
         )?;
         let Some(n) = self.names.place(&name) else {
             return breaks(Rule::Unknown);
@@ -241,10 +255,17 @@ impl Declared {
 
     // `rule D max LISTPATH N`, behind the word `max`.
     #[tactic(auto, unfolding(crate::specs::Declarations::after_max))]
-    fn take_max(&mut self, alloc: Global, name: &str, rest: &str) -> Result<(), LineFault>
+    fn take_max<L: Ledger>(
+        &mut self,
+        alloc: Global,
+        name: &str,
+        rest: &str,
+        work: &mut Steps<L>,
+    ) -> Result<(), LineFault>
         requires { self.old.names ≡ names_of self.old.devices }
         ensures takes { Takes (after_max self.old name.now rest.now) self.new result }
         ensures lawful { AreDeclared self.old → OnOk result (AreDeclared self.new) }
+        ensures worked { work.new ≤ work.old + work_on rest.now }
     {
         let Some((word, count)) = cut(rest) else {
             return breaks(Rule::Line);
@@ -255,7 +276,7 @@ impl Declared {
         let is_long = is_long_name(name);
         let name = Text::from_str(alloc, name)?;
         let plain = Schema::plain(alloc);
-        let path = read_list_path(alloc, self.schema_named(&name, &plain), is_long, word)?;
+        let path = read_list_path(alloc, self.schema_named(&name, &plain), is_long, word, work)?;
         let Some(n) = self.names.place(&name) else {
             return breaks(Rule::Unknown);
         };
@@ -265,15 +286,22 @@ impl Declared {
 
     // `rule D forbid PATH = VALUE`, behind the word `forbid`.
     #[tactic(auto, unfolding(crate::specs::Declarations::after_forbid))]
-    fn take_forbid(&mut self, alloc: Global, name: &str, rest: &str) -> Result<(), LineFault>
+    fn take_forbid<L: Ledger>(
+        &mut self,
+        alloc: Global,
+        name: &str,
+        rest: &str,
+        work: &mut Steps<L>,
+    ) -> Result<(), LineFault>
         requires { self.old.names ≡ names_of self.old.devices }
         ensures takes { Takes (after_forbid self.old name.now rest.now) self.new result }
         ensures lawful { AreDeclared self.old → OnOk result (AreDeclared self.new) }
+        ensures worked { work.new ≤ work.old + work_on rest.now }
     {
         let is_long = is_long_name(name);
         let name = Text::from_str(alloc, name)?;
         let plain = Schema::plain(alloc);
-        let leaf = read_forbidden(alloc, self.schema_named(&name, &plain), is_long, rest)?;
+        let leaf = read_forbidden(alloc, self.schema_named(&name, &plain), is_long, rest, work)?;
         let Some(n) = self.names.place(&name) else {
             return breaks(Rule::Unknown);
         };
@@ -282,58 +310,80 @@ impl Declared {
     }
 
     // A rule of the device of this name, by its kind.
-    fn take_rule_kind(&mut self, alloc: Global, name: &str, text: &str) -> Result<(), LineFault>
+    fn take_rule_kind<L: Ledger>(
+        &mut self,
+        alloc: Global,
+        name: &str,
+        text: &str,
+        work: &mut Steps<L>,
+    ) -> Result<(), LineFault>
         requires { self.old.names ≡ names_of self.old.devices }
         ensures takes { Takes (rule_kind self.old name.now (cut_at 32 text.now)) self.new result }
         ensures lawful { AreDeclared self.old → OnOk result (AreDeclared self.new) }
+        ensures worked { work.new ≤ work.old + work_on text.now }
     {
         match cut(text) {
-            Some(("max", rest)) => self.take_max(alloc, name, rest),
-            Some(("forbid", rest)) => self.take_forbid(alloc, name, rest),
+            Some(("max", rest)) => self.take_max(alloc, name, rest, work),
+            Some(("forbid", rest)) => self.take_forbid(alloc, name, rest, work),
             _ => breaks(Rule::Line),
         }
     }
 
     // `rule D max ..` and `rule D forbid ..`.
     #[tactic(auto, unfolding(crate::specs::Declarations::after_rule))]
-    fn take_rule(&mut self, alloc: Global, rest: &str) -> Result<(), LineFault>
+    fn take_rule<L: Ledger>(
+        &mut self,
+        alloc: Global,
+        rest: &str,
+        work: &mut Steps<L>,
+    ) -> Result<(), LineFault>
         requires { self.old.names ≡ names_of self.old.devices }
         ensures takes { Takes (after_rule self.old rest.now) self.new result }
         ensures lawful { AreDeclared self.old → OnOk result (AreDeclared self.new) }
+        ensures worked { work.new ≤ work.old + work_on rest.now }
     {
         let Some((name, text)) = cut(rest) else {
             return breaks(Rule::Line);
         };
-        if !is_identifier(name) {
+        if !is_identifier_counted(name, work) {
             return breaks(Rule::Line);
         }
-        self.take_rule_kind(alloc, name, text)
+        self.take_rule_kind(alloc, name, text, work)
     }
 
     // `data ITEM`.
     #[tactic(auto, unfolding(crate::specs::Declarations::after_data))]
-    fn take_data(&mut self, alloc: Global, rest: &str) -> Result<(), LineFault>
+    fn take_data<L: Ledger>(
+        &mut self,
+        alloc: Global,
+        rest: &str,
+        work: &mut Steps<L>,
+    ) -> Result<(), LineFault>
         ensures takes { Takes (after_data self.old rest.now) self.new result }
         ensures lawful { AreDeclared self.old → OnOk result (AreDeclared self.new) }
+        ensures worked { work.new ≤ work.old + work_on rest.now }
     {
-        let put = read_put(alloc, true, &self.data_schema, false, rest)?;
+        let put = read_put(alloc, true, &self.data_schema, false, rest, work)?;
         self.data.push(put)?;
         Ok(())
     }
 
     // `yang N`, with the bytes behind the line.
     #[tactic(auto, unfolding(crate::specs::Declarations::after_yang))]
-    fn take_yang<L: Ledger>(
+    fn take_yang<L: Ledger, M: Ledger>(
         &mut self,
         alloc: Global,
         rest: &str,
         later: &[u8],
         steps: &mut Steps<L>,
+        work: &mut Steps<M>,
     ) -> Result<(), LineFault>
         ensures takes { Takes (after_yang self.old rest.now (lines_of later.now)) self.new result }
         ensures lawful { AreDeclared self.old → OnOk result (AreDeclared self.new) }
         ensures counts { steps.old ≤ steps.new }
         ensures cost { steps.new ≤ steps.old + bytes_of_first (block_size (number_in rest.now)) (lines_of later.now) }
+        ensures worked { work.new ≤ work.old
+            + block_work (bytes_of_first (block_size (number_in rest.now)) (lines_of later.now)) }
     {
         let Some(count) = number_of(rest) else {
             return breaks(Rule::Line);
@@ -341,7 +391,7 @@ impl Declared {
         let Some(text) = block_of(alloc, later, count, steps)? else {
             return breaks(Rule::Line);
         };
-        let module = module_of(alloc, text.as_slice())?;
+        let module = module_of(alloc, text.as_slice(), work)?;
         if module.name.as_str() == "orc" || self.modules.has(&module.name) {
             return breaks(Rule::Duplicate);
         }
@@ -363,28 +413,31 @@ impl Declared {
 
     // A declaration of more than one word.
     #[tactic(auto, unfolding(crate::specs::Declarations::declaration, crate::specs::Declarations::taken_by))]
-    fn take_words<L: Ledger>(
+    fn take_words<L: Ledger, M: Ledger>(
         &mut self,
         alloc: Global,
         word: Keyword,
         rest: &str,
         later: &[u8],
         steps: &mut Steps<L>,
+        work: &mut Steps<M>,
     ) -> Result<(), LineFault>
         requires { self.old.names ≡ names_of self.old.devices }
         ensures takes { Takes (declaration word self.old rest.now (lines_of later.now)) self.new result }
         ensures lawful { AreDeclared self.old → OnOk result (AreDeclared self.new) }
         ensures counts { steps.old ≤ steps.new }
         ensures cost { steps.new ≤ steps.old + bytes_of_first (taken_by word rest.now) (lines_of later.now) }
+        ensures worked { work.new ≤ work.old + work_on rest.now
+            + block_work (bytes_of_first (taken_by word rest.now) (lines_of later.now)) }
     {
         match word {
-            Keyword::Device => self.take_device(alloc, rest),
-            Keyword::Datamodel => self.take_datamodel(alloc, rest),
-            Keyword::Devicetype => self.take_devicetype(alloc, rest),
-            Keyword::Rule => self.take_rule(alloc, rest),
-            Keyword::Base => self.take_base(alloc, rest),
-            Keyword::Data => self.take_data(alloc, rest),
-            Keyword::Yang => self.take_yang(alloc, rest, later, steps),
+            Keyword::Device => self.take_device(alloc, rest, work),
+            Keyword::Datamodel => self.take_datamodel(alloc, rest, work),
+            Keyword::Devicetype => self.take_devicetype(alloc, rest, work),
+            Keyword::Rule => self.take_rule(alloc, rest, work),
+            Keyword::Base => self.take_base(alloc, rest, work),
+            Keyword::Data => self.take_data(alloc, rest, work),
+            Keyword::Yang => self.take_yang(alloc, rest, later, steps, work),
             _ => breaks(Rule::Line),
         }
     }
@@ -403,37 +456,48 @@ impl Declared {
 
     // A line that is not skipped.
     #[tactic(auto, unfolding(crate::specs::Declarations::after_text))]
-    fn take_text<L: Ledger>(
+    fn take_text<L: Ledger, M: Ledger>(
         &mut self,
         alloc: Global,
         text: &str,
         later: &[u8],
         steps: &mut Steps<L>,
+        work: &mut Steps<M>,
     ) -> Result<(), LineFault>
         requires { self.old.names ≡ names_of self.old.devices }
         ensures takes { Takes (after_text self.old text.now (lines_of later.now)) self.new result }
         ensures lawful { AreDeclared self.old → OnOk result (AreDeclared self.new) }
         ensures counts { steps.old ≤ steps.new }
         ensures cost { steps.new ≤ steps.old + bytes_of_first (lines_taken text.now) (lines_of later.now) }
+        ensures worked { work.new ≤ work.old + work_on text.now
+            + block_work (bytes_of_first (lines_taken text.now) (lines_of later.now)) }
     {
         if self.section == Section::Header {
             return self.take_header(text);
         }
         match cut(text) {
-            Some((word, rest)) => self.take_words(alloc, keyword_of(word), rest, later, steps),
+            Some((word, rest)) => self.take_words(
+                alloc,
+                keyword_of(word),
+                rest,
+                later,
+                steps,
+                work,
+            ),
             None => self.take_word(keyword_of(text)),
         }
     }
 
     /// A line, with the bytes behind it. So many bytes stand in front of it.
     #[tactic(auto, unfolding(crate::specs::Declarations::declared_at))]
-    pub(crate) fn take<L: Ledger>(
+    pub(crate) fn take<L: Ledger, M: Ledger>(
         &mut self,
         alloc: Global,
         at: u64,
         line: &[u8],
         later: &[u8],
         steps: &mut Steps<L>,
+        work: &mut Steps<M>,
     ) -> Result<(), LineFault>
         requires room { at + length line.now < 2 ^ 63 }
         requires named { self.old.names ≡ names_of self.old.devices }
@@ -442,6 +506,8 @@ impl Declared {
         ensures small { OnOk result (at + length line.now ≤ LARGEST_BUNDLE) }
         ensures counts { steps.old ≤ steps.new }
         ensures cost { steps.new ≤ steps.old + declared_looks_at self.old line.now (lines_of later.now) }
+        ensures worked { work.new ≤ work.old + work_on line.now
+            + block_work (declared_looks_at self.old line.now (lines_of later.now)) }
     {
         if is_large(at, line) {
             return breaks(Rule::Size);
@@ -456,6 +522,6 @@ impl Declared {
         if is_skipped(text.as_bytes()) {
             return Ok(());
         }
-        self.take_text(alloc, text, later, steps)
+        self.take_text(alloc, text, later, steps, work)
     }
 }

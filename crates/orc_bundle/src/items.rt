@@ -1,7 +1,8 @@
 //! Items and where they stand.
-ghost use Rattle.std.specs.Prelude.{IsTrue, ◌≡◌, [], IfOk, IfSome, MatchOption, None, Some, false};
+ghost use Rattle.std.specs.Prelude.{IsTrue, ◌≡◌, ◌≤◌, ◌<◌, ◌+◌, ◌*◌, [], IfOk, IfSome, MatchOption, None, Some, false, length};
 ghost use Rattle.orc_path.specs.Alphabet.{is_value};
 ghost use Rattle.orc_path.specs.Reading.{path_of};
+ghost use Rattle.orc_path.specs.Texts.{path_text};
 ghost use Rattle.orc_path.specs.Values.{value_of};
 ghost use Rattle.orc_state.specs.Calls.{blank_item, is_data_path, is_forbid_rule, is_item_under, is_kept, is_list_path, is_put};
 ghost use Rattle.orc_bundle.specs.inside.Readers.{Reads};
@@ -9,25 +10,36 @@ ghost use Rattle.orc_bundle.specs.Items.{is_past_path, is_past_value, is_long_it
 ghost use Rattle.orc_schema.specs.Schemas.{SchemaTable};
 ghost use Rattle.orc_typed.specs.Typed.{canonical_path};
 ghost use Rattle.orc_typed.specs.Laws.{has_plain_text};
+ghost use Rattle.orc_typed.specs.Sizes.{item_size};
+ghost use Rattle.orc_bundle.specs.inside.Work.{path_bytes, work_on};
 
 use crate::fault::{LineFault, breaks};
-use crate::lists::{is_list_path, names_list};
+use crate::lists::{is_data_path, is_list_path, names_list};
 use crate::words::cut;
 use orc_call::Put;
-use orc_path::{Item, Path, PathFault, is_long_value, read_value, values_are_read};
+use orc_io::Steps;
+use orc_path::{Item, Path, PathFault, is_long_value, read_value_counted, values_are_read};
 use orc_schema::Schema;
-use orc_state::{Rule, is_data_path, is_kept};
+use orc_state::{Rule, is_kept};
 use orc_text::{Memory, Text};
 use orc_typed::{
-    canonical_is_typed, canonical_item, canonical_keeps, canonical_path, is_in_schema,
+    canonical_is_typed, canonical_item_counted, canonical_keeps, canonical_path_counted,
+    is_in_schema_counted,
 };
 use std::alloc::Global;
+use std::sync::ledger::Ledger;
 
 /// The path of a text, where it is one.
-pub(crate) fn read_path(alloc: Global, word: &str) -> Result<Option<Path>, Memory>
-    ensures { IfOk result (λ found. found ≡ path_of word.now) }
+pub(crate) fn read_path<L: Ledger>(
+    alloc: Global,
+    word: &str,
+    work: &mut Steps<L>,
+) -> Result<Option<Path>, Memory>
+    ensures value { IfOk result (λ found. found ≡ path_of word.now) }
+    ensures text { IfOk result (λ found. path_bytes found ≤ length word.now) }
+    ensures worked { work.new ≤ work.old + 2 * length word.now }
 {
-    match Path::parse(alloc, word) {
+    match Path::parse_counted(alloc, word, work) {
         Ok(path) => Ok(Some(path)),
         Err(PathFault::BadPath { .. }) => Ok(None),
         Err(PathFault::Memory) => Err(Memory),
@@ -35,20 +47,27 @@ pub(crate) fn read_path(alloc: Global, word: &str) -> Result<Option<Path>, Memor
 }
 
 // The value of a text, where it is one.
-fn value_in(alloc: Global, text: &str) -> Result<Option<Text>, Memory>
+fn value_in<L: Ledger>(
+    alloc: Global,
+    text: &str,
+    work: &mut Steps<L>,
+) -> Result<Option<Text>, Memory>
     ensures value { IfOk result (λ found. found ≡ value_of text.now) }
     ensures lawful { IfOk result (λ found. IfSome found (λ value. IsTrue (is_value value))) }
+    ensures size { IfOk result (λ found. IfSome found (λ value. length value ≤ length text.now)) }
+    ensures worked { work.new ≤ work.old + 2 * length text.now }
 {
     values_are_read();
-    read_value(alloc, text)
+    read_value_counted(alloc, text, work)
 }
 
 /// Whether a path passes a limit.
-pub(crate) fn is_past_path(path: &Option<Path>) -> bool
-    ensures { result ≡ is_past_path path.now }
+pub(crate) fn is_past_path<L: Ledger>(path: &Option<Path>, work: &mut Steps<L>) -> bool
+    ensures long { result ≡ is_past_path path.now }
+    ensures worked { work.new ≤ work.old + 2 * path_bytes path.now }
 {
     match path {
-        Some(path) => path.is_long(),
+        Some(path) => path.is_long_counted(work),
         None => false,
     }
 }
@@ -65,7 +84,8 @@ fn is_past_value(value: &Option<Text>) -> bool
 
 // What stands behind `=` and a space.
 fn after_mark(rest: &str) -> Option<&str>
-    ensures { MatchOption result (after_mark rest.now ≡ None) (λ value. after_mark rest.now ≡ Some value.now) }
+    ensures value { MatchOption result (after_mark rest.now ≡ None) (λ value. after_mark rest.now ≡ Some value.now) }
+    ensures shorter { IfSome result (λ value. length value.now < length rest.now) }
 {
     match cut(rest) {
         Some(("=", value)) => Some(value),
@@ -84,28 +104,41 @@ fn is_long_item(item: &Item) -> bool
 }
 
 /// Whether the path can carry such an item under the schema, whatever their texts.
-pub(crate) fn can_carry(schema: &Schema, path: &Path, item: &Item) -> bool
-    ensures { result ≡ can_carry schema.now path.now item.now }
+pub(crate) fn can_carry<L: Ledger>(
+    schema: &Schema,
+    path: &Path,
+    item: &Item,
+    work: &mut Steps<L>,
+) -> bool
+    ensures value { result ≡ can_carry schema.now path.now item.now }
+    ensures worked { work.new ≤ work.old + 2 * length (path_text path.now) }
 {
-    item.fits(path) && is_in_schema(schema, path, item)
+    item.fits(path) && is_in_schema_counted(schema, path, item, work)
 }
 
 // An item and where it stands, in canonical form.
-fn canonical_put(alloc: Global, schema: &Schema, path: &Path, item: &Item) -> Result<Put, LineFault>
+fn canonical_put<L: Ledger>(
+    alloc: Global,
+    schema: &Schema,
+    path: &Path,
+    item: &Item,
+    work: &mut Steps<L>,
+) -> Result<Put, LineFault>
     ensures reads { Reads (canonical_put schema.now path.now item.now) result }
     ensures lawful { IsTrue (can_carry schema.now path.now item.now) → IsTrue (has_plain_text item.now)
         → IfOk result (λ put. IsTrue (is_put schema.now put)) }
     ensures kept { IfOk result (λ put. is_kept put.path ≡ is_kept path.now) }
+    ensures worked { work.new ≤ work.old + 35 * length (path_text path.now) + 3 * item_size item.now + 2 }
 {
     canonical_is_typed();
     canonical_keeps();
-    let Some(own) = canonical_path(alloc, schema, path)? else {
+    let Some(own) = canonical_path_counted(alloc, schema, path, work)? else {
         return breaks(Rule::Value);
     };
-    let Some(own_item) = canonical_item(alloc, schema, path, item)? else {
+    let Some(own_item) = canonical_item_counted(alloc, schema, path, item, work)? else {
         return breaks(Rule::Value);
     };
-    if own.is_long() || is_long_item(&own_item) {
+    if own.is_long_counted(work) || is_long_item(&own_item) {
         return breaks(Rule::Size);
     }
     Ok(Put {
@@ -122,85 +155,91 @@ fn is_barred(of_data: bool, path: &Path) -> bool
 }
 
 // An entry, of the data or of a device.
-fn read_entry(
+fn read_entry<L: Ledger>(
     alloc: Global,
     of_data: bool,
     schema: &Schema,
     is_long: bool,
     word: &str,
+    work: &mut Steps<L>,
 ) -> Result<Put, LineFault>
     ensures reads { Reads (entry_of of_data schema.now is_long word.now) result }
     ensures lawful { IfOk result (λ put. IsTrue (is_put schema.now put)) }
     ensures free { IfOk result (λ put. is_barred of_data put.path ≡ false) }
+    ensures worked { work.new ≤ work.old + 43 * length word.now }
 {
     if word.is_empty() {
         return breaks(Rule::Line);
     }
-    let path = read_path(alloc, word)?;
-    if is_long || is_past_path(&path) {
+    let path = read_path(alloc, word, work)?;
+    if is_long || is_past_path(&path, work) {
         return breaks(Rule::Size);
     }
     let Some(path) = path else {
         return breaks(Rule::Path);
     };
-    if is_barred(of_data, &path) || !can_carry(schema, &path, &Item::Entry) {
+    if is_barred(of_data, &path) || !can_carry(schema, &path, &Item::Entry, work) {
         return breaks(Rule::Path);
     }
-    canonical_put(alloc, schema, &path, &Item::Entry)
+    canonical_put(alloc, schema, &path, &Item::Entry, work)
 }
 
 // A leaf and the text of its value.
-fn read_leaf(
+fn read_leaf<L: Ledger>(
     alloc: Global,
     of_data: bool,
     schema: &Schema,
     is_long: bool,
     word: &str,
     text: &str,
+    work: &mut Steps<L>,
 ) -> Result<Put, LineFault>
     ensures reads { Reads (leaf_of of_data schema.now is_long word.now text.now) result }
     ensures lawful { IfOk result (λ put. IsTrue (is_put schema.now put)) }
     ensures free { IfOk result (λ put. is_barred of_data put.path ≡ false) }
+    ensures worked { work.new ≤ work.old + 43 * length word.now + 5 * length text.now }
 {
     if word.is_empty() {
         return breaks(Rule::Line);
     }
-    let path = read_path(alloc, word)?;
-    let value = value_in(alloc, text)?;
-    if is_long || is_past_path(&path) || is_past_value(&value) {
+    let path = read_path(alloc, word, work)?;
+    let value = value_in(alloc, text, work)?;
+    if is_long || is_past_path(&path, work) || is_past_value(&value) {
         return breaks(Rule::Size);
     }
     let Some(path) = path else {
         return breaks(Rule::Path);
     };
-    if is_barred(of_data, &path) || !can_carry(schema, &path, &Item::Leaf(Text::new(alloc))) {
+    if is_barred(of_data, &path) || !can_carry(schema, &path, &Item::Leaf(Text::new(alloc)), work) {
         return breaks(Rule::Path);
     }
     let Some(value) = value else {
         return breaks(Rule::Value);
     };
-    canonical_put(alloc, schema, &path, &Item::Leaf(value))
+    canonical_put(alloc, schema, &path, &Item::Leaf(value), work)
 }
 
 /// An item line: a path, and behind it ` = ` and a value or nothing. It is stored in canonical form,
 /// as the schema has it. A name in front of it may be too long. Of the data, a line may not name what
 /// the orchestrator keeps itself.
-pub(crate) fn read_put(
+pub(crate) fn read_put<L: Ledger>(
     alloc: Global,
     of_data: bool,
     schema: &Schema,
     is_long: bool,
     text: &str,
+    work: &mut Steps<L>,
 ) -> Result<Put, LineFault>
     ensures reads { Reads (put_of of_data schema.now is_long text.now) result }
     ensures lawful { IfOk result (λ put. IsTrue (is_put schema.now put)) }
     ensures free { IfOk result (λ put. is_barred of_data put.path ≡ false) }
+    ensures worked { work.new + 2 * length text.now ≤ work.old + work_on text.now }
 {
     let Some((word, rest)) = cut(text) else {
-        return read_entry(alloc, of_data, schema, is_long, text);
+        return read_entry(alloc, of_data, schema, is_long, text, work);
     };
     match after_mark(rest) {
-        Some(value) => read_leaf(alloc, of_data, schema, is_long, word, value),
+        Some(value) => read_leaf(alloc, of_data, schema, is_long, word, value, work),
         None => breaks(Rule::Line),
     }
 }
@@ -216,49 +255,67 @@ pub(crate) fn blank_item(alloc: Global, path: &Path) -> Item
 }
 
 // A path of the data, in canonical form.
-fn stored_data_path(alloc: Global, schema: &Schema, path: &Path) -> Result<Path, LineFault>
+fn stored_data_path<L: Ledger>(
+    alloc: Global,
+    schema: &Schema,
+    path: &Path,
+    work: &mut Steps<L>,
+) -> Result<Path, LineFault>
     ensures reads { Reads (stored_data_path schema.now (canonical_path schema.now path.now)) result }
     ensures lawful { IfOk result (λ own. IsTrue (is_data_path schema.now own)) }
+    ensures worked { work.new ≤ work.old + 131 * length (path_text path.now) }
 {
-    let Some(own) = canonical_path(alloc, schema, path)? else {
+    let Some(own) = canonical_path_counted(alloc, schema, path, work)? else {
         return breaks(Rule::Value);
     };
-    if !is_data_path(alloc, schema, &own) {
+    if !is_data_path(alloc, schema, &own, work) {
         return breaks(Rule::Size);
     }
     Ok(own)
 }
 
 /// The path of a line `unset`: one of the data that can carry an item. It is stored in canonical form.
-pub(crate) fn read_data_path(alloc: Global, schema: &Schema, word: &str) -> Result<Path, LineFault>
+pub(crate) fn read_data_path<L: Ledger>(
+    alloc: Global,
+    schema: &Schema,
+    word: &str,
+    work: &mut Steps<L>,
+) -> Result<Path, LineFault>
     ensures reads { Reads (data_path_of schema.now word.now) result }
     ensures lawful { IfOk result (λ path. IsTrue (is_data_path schema.now path)) }
+    ensures worked { work.new + 2 * length word.now ≤ work.old + work_on word.now }
 {
     if word.is_empty() {
         return breaks(Rule::Line);
     }
-    let path = read_path(alloc, word)?;
-    if is_past_path(&path) {
+    let path = read_path(alloc, word, work)?;
+    if is_past_path(&path, work) {
         return breaks(Rule::Size);
     }
     let Some(path) = path else {
         return breaks(Rule::Path);
     };
-    if is_kept(&path) || !can_carry(schema, &path, &blank_item(alloc, &path)) {
+    if is_kept(&path) || !can_carry(schema, &path, &blank_item(alloc, &path), work) {
         return breaks(Rule::Path);
     }
-    stored_data_path(alloc, schema, &path)
+    stored_data_path(alloc, schema, &path, work)
 }
 
 // The path of a list, in canonical form.
-fn stored_list_path(alloc: Global, schema: &Schema, path: &Path) -> Result<Path, LineFault>
+fn stored_list_path<L: Ledger>(
+    alloc: Global,
+    schema: &Schema,
+    path: &Path,
+    work: &mut Steps<L>,
+) -> Result<Path, LineFault>
     ensures reads { Reads (stored_list_path schema.now (canonical_path schema.now path.now)) result }
     ensures lawful { IfOk result (λ own. IsTrue (is_list_path schema.now own)) }
+    ensures worked { work.new ≤ work.old + 131 * length (path_text path.now) }
 {
-    let Some(own) = canonical_path(alloc, schema, path)? else {
+    let Some(own) = canonical_path_counted(alloc, schema, path, work)? else {
         return breaks(Rule::Value);
     };
-    if !is_list_path(schema, &own) {
+    if !is_list_path(schema, &own, work) {
         return breaks(Rule::Size);
     }
     Ok(own)
@@ -266,29 +323,31 @@ fn stored_list_path(alloc: Global, schema: &Schema, path: &Path) -> Result<Path,
 
 /// The path of a list or a leaf-list, in a line `rule D max`. It is stored in canonical form. A name
 /// in front of it may be too long.
-pub(crate) fn read_list_path(
+pub(crate) fn read_list_path<L: Ledger>(
     alloc: Global,
     schema: &Schema,
     is_long: bool,
     word: &str,
+    work: &mut Steps<L>,
 ) -> Result<Path, LineFault>
     ensures reads { Reads (list_path_of schema.now is_long word.now) result }
     ensures lawful { IfOk result (λ path. IsTrue (is_list_path schema.now path)) }
+    ensures worked { work.new + 2 * length word.now ≤ work.old + work_on word.now }
 {
     if word.is_empty() {
         return breaks(Rule::Line);
     }
-    let path = read_path(alloc, word)?;
-    if is_long || is_past_path(&path) {
+    let path = read_path(alloc, word, work)?;
+    if is_long || is_past_path(&path, work) {
         return breaks(Rule::Size);
     }
     let Some(path) = path else {
         return breaks(Rule::Path);
     };
-    if !names_list(schema, &path) {
+    if !names_list(schema, &path, work) {
         return breaks(Rule::Path);
     }
-    stored_list_path(alloc, schema, &path)
+    stored_list_path(alloc, schema, &path, work)
 }
 
 // The path of a leaf, and its text.
@@ -306,14 +365,16 @@ fn leaf_in(path: Path, item: Item) -> Result<(Path, Text), LineFault>
 /// The leaf of a line `rule D forbid`, and the text that it may not have. A name in front of it may
 /// be too long.
 #[tactic(auto, unfolding(crate::specs::Items::forbidden_of))]
-pub(crate) fn read_forbidden(
+pub(crate) fn read_forbidden<L: Ledger>(
     alloc: Global,
     schema: &Schema,
     is_long: bool,
     text: &str,
+    work: &mut Steps<L>,
 ) -> Result<(Path, Text), LineFault>
     ensures reads { Reads (forbidden_of schema.now is_long text.now) result }
     ensures lawful { IfOk result (λ leaf. IsTrue (is_forbid_rule schema.now leaf)) }
+    ensures worked { work.new + 2 * length text.now ≤ work.old + work_on text.now }
 {
     let Some((word, rest)) = cut(text) else {
         return breaks(Rule::Line);
@@ -321,6 +382,6 @@ pub(crate) fn read_forbidden(
     let Some(value) = after_mark(rest) else {
         return breaks(Rule::Line);
     };
-    let put = read_leaf(alloc, false, schema, is_long, word, value)?;
+    let put = read_leaf(alloc, false, schema, is_long, word, value, work)?;
     leaf_in(put.path, put.item)
 }

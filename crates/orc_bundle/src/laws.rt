@@ -12,7 +12,9 @@ pub fn written_is_read()
     ensures { WrittenIsRead }
 {}
 
-/// Each spelling of a bundle that declares no modules is read as that bundle.
+/// Each spelling of a bundle is read as that bundle, behind any lines that declare modules, types of
+/// devices and the data schema: with comments and empty lines put in, and with carriage returns before
+/// line feeds.
 pub fn spelled_is_read()
     ensures { SpelledIsRead }
 {}

@@ -1,5 +1,5 @@
 //! The lines of bytes. A loop over lines counts a step for each byte that it looks at.
-ghost use Rattle.std.specs.Prelude.{◌≡◌, ◌<◌, ◌≤◌, ◌+◌, ◌^◌, ◌++◌, ◌∷◌, MatchOption, IfOk, None, Some, length, get_or, take, true};
+ghost use Rattle.std.specs.Prelude.{◌≡◌, ◌<◌, ◌≤◌, ◌+◌, ◌*◌, ◌^◌, ◌++◌, ◌∷◌, MatchOption, IfOk, IfSome, None, Some, length, get_or, take, true};
 ghost use Rattle.std.specs.List.{list_any};
 ghost use Rattle.orc_bundle.specs.Bundles.{lacks_header};
 ghost use Rattle.orc_bundle.specs.Lines.{lines_of, text_of, is_end, is_large, first_kept, is_settled, is_skipped, block_of, seen};
@@ -59,8 +59,10 @@ pub(crate) fn first_line<'a, L: Ledger>(
 }
 
 /// A line without its line feed and one carriage return in front of that.
+#[tactic(auto, using(crate::proofs::Work::text_within))]
 pub(crate) fn line_text(line: &[u8]) -> &[u8]
-    ensures { result.now ≡ text_of line.now }
+    ensures text { result.now ≡ text_of line.now }
+    ensures shorter { length result.now ≤ length line.now }
 {
     match line {
         [text @ .., b'\r', b'\n'] => text,
@@ -149,6 +151,9 @@ pub(crate) fn block_of<L: Ledger>(
     steps: &mut Steps<L>,
 ) -> Result<Option<Row<u8>>, Memory>
     ensures block { IfOk result (λ found. found ≡ block_of count (lines_of bytes.now)) }
+    // The last line may lack its line feed.
+    ensures size { IfOk result
+        (λ found. IfSome found (λ text. length text ≤ 2 * bytes_of_first count (lines_of bytes.now))) }
     ensures counts { steps.old ≤ steps.new }
     ensures cost { steps.new ≤ steps.old + bytes_of_first count (lines_of bytes.now) }
 {

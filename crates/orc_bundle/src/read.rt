@@ -10,6 +10,7 @@ ghost use Rattle.orc_bundle.specs.Scripts.{no_steps};
 ghost use Rattle.orc_bundle.specs.inside.Costs.{bytes_to, is_kept};
 ghost use Rattle.orc_bundle.specs.inside.Lawful.{AreDeclared, IsWithin, decls_in, left_of};
 ghost use Rattle.orc_bundle.specs.inside.Readers.{Declares, IsOpened, in_line};
+ghost use Rattle.orc_bundle.specs.inside.Work.{most_work, work_on};
 ghost use Rattle.orc_bundle.specs.declared.bundle.TheConstants.{LARGEST_BUNDLE};
 
 use crate::bundle::{Bundle, ScriptStep};
@@ -65,11 +66,12 @@ fn check_opening(alloc: Global, declared: &Declared, number: u64) -> Result<(), 
 }
 
 // Reads the declarations.
-fn read_declarations<'a, L: Ledger>(
+fn read_declarations<'a, L: Ledger, M: Ledger>(
     alloc: Global,
     bytes: &'a [u8],
     declared: &mut Declared,
     steps: &mut Steps<L>,
+    work: &mut Steps<M>,
 ) -> Result<Behind<'a>, BundleFault>
     requires nothing { declared.old ≡ nothing_declared }
     requires lawful { AreDeclared declared.old }
@@ -79,6 +81,7 @@ fn read_declarations<'a, L: Ledger>(
     ensures within { IfOk result (IsWithin bytes.now) }
     ensures cost { steps.new + bytes_to is_kept (lines_of bytes.now) + 2 * left_of result
         ≤ steps.old + 2 * length bytes.now }
+    ensures worked { work.new + most_work (left_of result) ≤ work.old + most_work (length bytes.now) }
     ensures counts { IfOk result (λ behind. steps.old + length bytes.now ≤ steps.new + length behind.later.now) }
 {
     let mut rest = bytes;
@@ -87,7 +90,7 @@ fn read_declarations<'a, L: Ledger>(
     'lines: while !rest.is_empty() {
         let (line, later) = first_line(rest, steps);
         number += 1;
-        if let Err(fault) = declared.take(alloc, at, line, later, steps) {
+        if let Err(fault) = declared.take(alloc, at, line, later, steps, work) {
             return Err(in_line(number, fault));
         }
         let begin = at;
@@ -113,13 +116,14 @@ fn read_declarations<'a, L: Ledger>(
 }
 
 // Reads the steps of the script, in front of which stand so many bytes and so many lines.
-fn read_steps<L: Ledger>(
+fn read_steps<L: Ledger, M: Ledger>(
     alloc: Global,
     declared: &Declared,
     at: u64,
     number: u64,
     bytes: &[u8],
     steps: &mut Steps<L>,
+    work: &mut Steps<M>,
 ) -> Result<Row<ScriptStep>, BundleFault>
     requires declared { AreDeclared declared.now }
     requires small { at ≤ LARGEST_BUNDLE }
@@ -129,6 +133,7 @@ fn read_steps<L: Ledger>(
     ensures lawful { IfOk result (λ steps. IsTrue (list_all (is_step (decls_in declared.now)) steps)) }
     ensures small { OnOk result (at + length bytes.now ≤ LARGEST_BUNDLE) }
     ensures cost { steps.new ≤ steps.old + 2 * length bytes.now }
+    ensures worked { work.new ≤ work.old + work_on bytes.now }
     ensures counts { OnOk result (steps.old + length bytes.now ≤ steps.new) }
 {
     let mut script = Script::new(alloc);
@@ -138,7 +143,7 @@ fn read_steps<L: Ledger>(
     'lines: while !rest.is_empty() {
         let (line, later) = first_line(rest, steps);
         number += 1;
-        if let Err(fault) = script.take(alloc, declared, at, line, later, steps) {
+        if let Err(fault) = script.take(alloc, declared, at, line, later, steps, work) {
             return Err(in_line(number, fault));
         }
         at += line.len() as u64;
@@ -186,15 +191,17 @@ fn header_rule<L: Ledger>(bytes: &[u8], steps: &mut Steps<L>) -> Rule
 }
 
 // The bundle of these bytes.
-fn read_seen<L: Ledger>(
+fn read_seen<L: Ledger, M: Ledger>(
     alloc: Global,
     bytes: &[u8],
     steps: &mut Steps<L>,
+    work: &mut Steps<M>,
 ) -> Result<Bundle, BundleFault>
     ensures gives { Gives (bundle_in bytes.now (lines_of bytes.now)) result }
     ensures lawful { IfOk result IsBundle }
     ensures small { OnOk result (length bytes.now ≤ LARGEST_BUNDLE) }
     ensures cost { steps.new ≤ steps.old + 2 * length bytes.now }
+    ensures worked { work.new ≤ work.old + most_work (length bytes.now) }
     ensures counts { OnOk result (steps.old + length bytes.now ≤ steps.new) }
 {
     if lacks_header(bytes, steps) {
@@ -204,7 +211,7 @@ fn read_seen<L: Ledger>(
         });
     }
     let mut declared = Declared::new(alloc)?;
-    let behind = read_declarations(alloc, bytes, &mut declared, steps)?;
+    let behind = read_declarations(alloc, bytes, &mut declared, steps, work)?;
     let text = text_of(alloc, &bytes[..behind.size])?;
     let names = row_of(alloc, &declared.names)?;
     let script = read_steps(
@@ -214,6 +221,7 @@ fn read_seen<L: Ledger>(
         behind.number,
         behind.later,
         steps,
+        work,
     )?;
     Ok(Bundle {
         decls: Decls {
@@ -229,20 +237,25 @@ fn read_seen<L: Ledger>(
 }
 
 // The bundle of bytes, where nothing is counted.
-fn read_uncounted<L: Ledger>(
+fn read_uncounted<L: Ledger, M: Ledger>(
     alloc: Global,
     bytes: &[u8],
     blank: Blank,
+    other: Blank,
 ) -> Result<Bundle, BundleFault>
     requires name { blank.name ≡ L.name }
     requires parts { blank.parts ≡ L.parts }
     requires some { 0 < blank.parts }
+    requires other_name { other.name ≡ M.name }
+    requires other_parts { other.parts ≡ M.parts }
+    requires other_some { 0 < other.parts }
     ensures gives { Gives (bundle_of bytes.now) result }
     ensures lawful { IfOk result IsBundle }
     ensures small { OnOk result (length bytes.now ≤ LARGEST_BUNDLE) }
 {
     let mut steps = Steps::<L>::new(blank);
-    read_counted(alloc, bytes, &mut steps)
+    let mut work = Steps::<M>::new(other);
+    read_counted(alloc, bytes, &mut steps, &mut work)
 }
 
 /// The bundle of these bytes, or the first line at fault, counted from 1, and the first rule that it
@@ -254,19 +267,30 @@ pub fn read_bundle(alloc: Global, bytes: &[u8]) -> Result<Bundle, BundleFault>
     ensures lawful { IfOk result IsBundle }
     ensures small { OnOk result (length bytes.now ≤ LARGEST_BUNDLE) }
 {
-    read_uncounted::<Brand>(alloc, bytes, Blank::new(1))
+    read_uncounted::<Brand, Brand>(alloc, bytes, Blank::new(1), Blank::new(1))
 }
 
-/// The same, with its steps counted. A step is a byte at which a loop over lines looks for a line
-/// feed. What else is done with a line looks at that line alone, or at the block behind it where it
-/// is `yang N`, and isn't counted; names are looked up by their hashes, and the declarations' bytes
-/// are copied once. Nor is counted what the schema of modules costs, since groupings that use one
-/// another double its nodes with each statement, nor what a look-up in it costs, nor where the
-/// declarations end whether the opening data and each base are valid.
-pub fn read_counted<L: Ledger>(
+/// The same, with its steps counted. A step of `steps` is a byte at which a loop over lines looks for
+/// a line feed. One of `work` is a byte or a character at which the readers of lines look, of words,
+/// paths, values and YANG statements, or a look-up: of a node in a schema or a number among ranges, by
+/// halves, so that it costs the logarithm of their number (20 comparisons in the largest schema, each
+/// of the names down to the node, at most 32), or of a name of an enumeration, by its hash.
+///
+/// Not counted is what is done with a line in one pass each: whether it is UTF-8, where a space or a
+/// colon stands, which number or first word a word is, how many characters a value has, whether names
+/// of modules are too long or `orc`, and copies. Not counted either are look-ups of other names by
+/// their hashes, a look through the 64 actions at most of an open call for the service of a line, one
+/// look at the names of a block's statements for their lengths, and one copy of the declarations' bytes.
+///
+/// What isn't bounded by the bytes is claimed nowhere: what the schema of modules costs, since each
+/// line `datamodel` or `devicetype` copies the statements that it names, and groupings that use one
+/// another double the nodes with each statement; nor, where the declarations end, whether the opening
+/// data and each base are valid.
+pub fn read_counted<L: Ledger, M: Ledger>(
     alloc: Global,
     bytes: &[u8],
     steps: &mut Steps<L>,
+    work: &mut Steps<M>,
 ) -> Result<Bundle, BundleFault>
     ensures gives { Gives (bundle_of bytes.now) result }
     ensures lawful { IfOk result IsBundle }
@@ -275,6 +299,8 @@ pub fn read_counted<L: Ledger>(
     // at least where a bundle is read.
     ensures cost { steps.new ≤ steps.old + 2 * length bytes.now }
     ensures counts { OnOk result (steps.old + length bytes.now ≤ steps.new) }
+    // The readers of lines do at most so much for each byte.
+    ensures worked { work.new ≤ work.old + 200 * length bytes.now }
 {
-    read_seen(alloc, seen(bytes), steps)
+    read_seen(alloc, seen(bytes), steps, work)
 }

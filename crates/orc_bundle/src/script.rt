@@ -5,6 +5,7 @@ ghost use Rattle.orc_bundle.specs.Lines.{lines_of};
 ghost use Rattle.orc_bundle.specs.Words.{first_word};
 ghost use Rattle.orc_bundle.specs.Scripts.{no_steps, is_full, is_caller_more, after_bare, after_show, after_json, after_meta, after_stop, after_call, after_step, a_step, bare_step, is_followed, words_at, word_at, scripted_at};
 ghost use Rattle.orc_bundle.specs.inside.Readers.{Takes};
+ghost use Rattle.orc_bundle.specs.inside.Work.{work_on};
 ghost use Rattle.orc_bundle.specs.inside.Costs.{scripted_looks_at, step_looks_at};
 ghost use Rattle.orc_bundle.specs.inside.Lawful.{AreDeclared, AreSteps, decls_in};
 ghost use Rattle.orc_state.specs.declared.declarations.Decls.{Decls};
@@ -22,7 +23,7 @@ use crate::places::read_device_node;
 use crate::words::{cut, first_word, number_of, read_text};
 use orc_call::{Action, DevicePut};
 use orc_io::Steps;
-use orc_path::{is_identifier, is_long_name};
+use orc_path::{is_identifier_counted, is_long_name};
 use orc_schema::Schema;
 use orc_state::Rule;
 use orc_text::{Row, Text};
@@ -113,13 +114,20 @@ impl Script {
 
     // `show D`.
     #[tactic(auto, unfolding(crate::specs::Scripts::after_show))]
-    fn take_show(&mut self, alloc: Global, declared: &Declared, rest: &str) -> Result<(), LineFault>
+    fn take_show<L: Ledger>(
+        &mut self,
+        alloc: Global,
+        declared: &Declared,
+        rest: &str,
+        work: &mut Steps<L>,
+    ) -> Result<(), LineFault>
         requires { AreDeclared declared.now }
         ensures takes { Takes (after_show declared.now self.old rest.now) self.new result }
         ensures lawful { (most : ℕ) → AreSteps (decls_in declared.now) most self.old
             → OnOk result (AreSteps (decls_in declared.now) most self.new) }
+        ensures worked { work.new ≤ work.old + work_on rest.now }
     {
-        if !is_identifier(rest) {
+        if !is_identifier_counted(rest, work) {
             return breaks(Rule::Line);
         }
         if is_long_name(rest) || self.is_full() {
@@ -135,13 +143,20 @@ impl Script {
 
     // `json D`.
     #[tactic(auto, unfolding(crate::specs::Scripts::after_json))]
-    fn take_json(&mut self, alloc: Global, declared: &Declared, rest: &str) -> Result<(), LineFault>
+    fn take_json<L: Ledger>(
+        &mut self,
+        alloc: Global,
+        declared: &Declared,
+        rest: &str,
+        work: &mut Steps<L>,
+    ) -> Result<(), LineFault>
         requires { AreDeclared declared.now }
         ensures takes { Takes (after_json declared.now self.old rest.now) self.new result }
         ensures lawful { (most : ℕ) → AreSteps (decls_in declared.now) most self.old
             → OnOk result (AreSteps (decls_in declared.now) most self.new) }
+        ensures worked { work.new ≤ work.old + work_on rest.now }
     {
-        if !is_identifier(rest) {
+        if !is_identifier_counted(rest, work) {
             return breaks(Rule::Line);
         }
         if is_long_name(rest) || self.is_full() {
@@ -161,13 +176,20 @@ impl Script {
 
     // `meta D PATH`.
     #[tactic(auto, unfolding(crate::specs::Scripts::after_meta))]
-    fn take_meta(&mut self, alloc: Global, declared: &Declared, rest: &str) -> Result<(), LineFault>
+    fn take_meta<L: Ledger>(
+        &mut self,
+        alloc: Global,
+        declared: &Declared,
+        rest: &str,
+        work: &mut Steps<L>,
+    ) -> Result<(), LineFault>
         requires { AreDeclared declared.now }
         ensures takes { Takes (after_meta declared.now self.old rest.now) self.new result }
         ensures lawful { (most : ℕ) → AreSteps (decls_in declared.now) most self.old
             → OnOk result (AreSteps (decls_in declared.now) most self.new) }
+        ensures worked { work.new ≤ work.old + work_on rest.now }
     {
-        let node = read_device_node(alloc, declared, self.is_full(), rest)?;
+        let node = read_device_node(alloc, declared, self.is_full(), rest, work)?;
         self.steps.push(ScriptStep::Meta(node.0, node.1))?;
         Ok(())
     }
@@ -200,10 +222,17 @@ impl Script {
 
     // `call C N`, followed or not.
     #[tactic(auto, unfolding(crate::specs::Scripts::after_call))]
-    fn take_call(&mut self, alloc: Global, rest: &str, followed: bool) -> Result<(), LineFault>
+    fn take_call<L: Ledger>(
+        &mut self,
+        alloc: Global,
+        rest: &str,
+        followed: bool,
+        work: &mut Steps<L>,
+    ) -> Result<(), LineFault>
         ensures takes { Takes (after_call self.old rest.now followed) self.new result }
         ensures lawful { (decls : Decls) (most : ℕ) → AreSteps decls most self.old
             → OnOk result (AreSteps decls most self.new) }
+        ensures worked { work.new ≤ work.old + work_on rest.now }
     {
         let Some((caller, number)) = cut(rest) else {
             return breaks(Rule::Line);
@@ -211,7 +240,7 @@ impl Script {
         let Some(number) = number_of(number) else {
             return breaks(Rule::Line);
         };
-        if !is_identifier(caller) {
+        if !is_identifier_counted(caller, work) {
             return breaks(Rule::Line);
         }
         let name = Text::from_str(alloc, caller)?;
@@ -231,25 +260,27 @@ impl Script {
 
     // A step of more than one word.
     #[tactic(auto, unfolding(crate::specs::Scripts::a_step))]
-    fn take_step(
+    fn take_step<L: Ledger>(
         &mut self,
         alloc: Global,
         declared: &Declared,
         word: Keyword,
         rest: &str,
         followed: bool,
+        work: &mut Steps<L>,
     ) -> Result<(), LineFault>
         requires { AreDeclared declared.now }
         ensures takes { Takes (a_step word declared.now self.old rest.now followed) self.new result }
         ensures lawful { (most : ℕ) → AreSteps (decls_in declared.now) most self.old
             → OnOk result (AreSteps (decls_in declared.now) most self.new) }
+        ensures worked { work.new ≤ work.old + work_on rest.now }
     {
         match word {
-            Keyword::Show => self.take_show(alloc, declared, rest),
-            Keyword::Json => self.take_json(alloc, declared, rest),
-            Keyword::Meta => self.take_meta(alloc, declared, rest),
+            Keyword::Show => self.take_show(alloc, declared, rest, work),
+            Keyword::Json => self.take_json(alloc, declared, rest, work),
+            Keyword::Meta => self.take_meta(alloc, declared, rest, work),
             Keyword::Stop => self.take_stop(rest),
-            Keyword::Call => self.take_call(alloc, rest, followed),
+            Keyword::Call => self.take_call(alloc, rest, followed, work),
             _ => breaks(Rule::Line),
         }
     }
@@ -273,13 +304,14 @@ impl Script {
 
     // A line of more than one word.
     #[tactic(auto, unfolding(crate::specs::Scripts::words_at))]
-    fn take_words(
+    fn take_words<L: Ledger>(
         &mut self,
         alloc: Global,
         declared: &Declared,
         word: Keyword,
         rest: &str,
         followed: bool,
+        work: &mut Steps<L>,
     ) -> Result<(), LineFault>
         requires { AreDeclared declared.now }
         ensures takes { Takes
@@ -287,11 +319,12 @@ impl Script {
             self.new result }
         ensures lawful { (most : ℕ) → AreSteps (decls_in declared.now) most self.old → most ≤ MOST_WRITES
             → OnOk result (AreSteps (decls_in declared.now) (most + 1) self.new) }
+        ensures worked { work.new ≤ work.old + work_on rest.now }
     {
         match self.part {
-            Part::Steps => self.take_step(alloc, declared, word, rest, followed),
-            Part::Call => self.take_action(alloc, declared, word, rest),
-            Part::Literal => self.take_behind_literal(alloc, declared, word, rest),
+            Part::Steps => self.take_step(alloc, declared, word, rest, followed, work),
+            Part::Call => self.take_action(alloc, declared, word, rest, work),
+            Part::Literal => self.take_behind_literal(alloc, declared, word, rest, work),
         }
     }
 
@@ -314,31 +347,33 @@ impl Script {
 
     // A line that is not skipped, with the bytes behind it.
     #[tactic(auto, unfolding(crate::specs::Scripts::after_step))]
-    fn take_text<L: Ledger>(
+    fn take_text<L: Ledger, M: Ledger>(
         &mut self,
         alloc: Global,
         declared: &Declared,
         text: &str,
         later: &[u8],
         steps: &mut Steps<L>,
+        work: &mut Steps<M>,
     ) -> Result<(), LineFault>
         requires { AreDeclared declared.now }
         ensures takes { Takes (after_step declared.now self.old text.now (lines_of later.now)) self.new result }
         ensures lawful { (most : ℕ) → AreSteps (decls_in declared.now) most self.old → most ≤ MOST_WRITES
             → OnOk result (AreSteps (decls_in declared.now) (most + 1) self.new) }
         ensures cost { steps.new ≡ steps.old + step_looks_at (keyword_of (first_word text.now)) (lines_of later.now) }
+        ensures worked { work.new ≤ work.old + work_on text.now }
     {
         let word = keyword_of(first_word(text));
         let followed = is_followed(word, later, steps);
         match cut(text) {
-            Some((_, rest)) => self.take_words(alloc, declared, word, rest, followed),
+            Some((_, rest)) => self.take_words(alloc, declared, word, rest, followed, work),
             None => self.take_word(alloc, word, followed),
         }
     }
 
     /// A line, with the bytes behind it. So many bytes stand in front of it.
     #[tactic(auto, unfolding(crate::specs::Scripts::scripted_at))]
-    pub(crate) fn take<L: Ledger>(
+    pub(crate) fn take<L: Ledger, M: Ledger>(
         &mut self,
         alloc: Global,
         declared: &Declared,
@@ -346,6 +381,7 @@ impl Script {
         line: &[u8],
         later: &[u8],
         steps: &mut Steps<L>,
+        work: &mut Steps<M>,
     ) -> Result<(), LineFault>
         requires room { at + length line.now < 2 ^ 63 }
         requires declared { AreDeclared declared.now }
@@ -355,6 +391,7 @@ impl Script {
         ensures small { OnOk result (at + length line.now ≤ LARGEST_BUNDLE) }
         ensures counts { steps.old ≤ steps.new }
         ensures cost { steps.new ≤ steps.old + scripted_looks_at line.now (lines_of later.now) }
+        ensures worked { work.new ≤ work.old + work_on line.now }
     {
         if is_large(at, line) {
             return breaks(Rule::Size);
@@ -365,6 +402,6 @@ impl Script {
         if is_skipped(text.as_bytes()) {
             return Ok(());
         }
-        self.take_text(alloc, declared, text, later, steps)
+        self.take_text(alloc, declared, text, later, steps, work)
     }
 }

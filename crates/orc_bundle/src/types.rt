@@ -1,5 +1,5 @@
 //! The lines that name modules, and the schemas of devices.
-ghost use Rattle.std.specs.Prelude.{◌≡◌, ◌++◌, IfOk, OnOk, Some, false, option_and_then, option_to_list, slice_get, suc};
+ghost use Rattle.std.specs.Prelude.{◌≡◌, ◌≤◌, ◌+◌, ◌++◌, IfOk, OnOk, Some, false, option_and_then, option_to_list, slice_get, suc};
 ghost use Rattle.std.specs.List.{list_all, list_any};
 ghost use Rattle.std.specs.Option.{option_copied};
 ghost use Rattle.orc_schema.specs.Schemas.{plain_table};
@@ -12,6 +12,7 @@ ghost use Rattle.orc_bundle.specs.Names.{is_among, place_of, with_name};
 ghost use Rattle.orc_bundle.specs.Declarations.{after_datamodel, after_devicetype, is_declared, module_named, modules_named, schema_place, schema_words};
 ghost use Rattle.orc_bundle.specs.inside.Readers.{Reads, Takes};
 ghost use Rattle.orc_bundle.specs.inside.Lawful.{AreDeclared};
+ghost use Rattle.orc_bundle.specs.inside.Work.{bytes_in, work_on};
 
 use crate::declarations::Declared;
 use crate::fault::{LineFault, breaks};
@@ -19,18 +20,28 @@ use crate::names::repeats;
 use crate::schemas::schema_of;
 use crate::statements::{copy, orc_module};
 use crate::words::words;
-use orc_path::{is_identifier, is_long_name};
+use orc_io::Steps;
+use orc_path::{is_identifier_counted, is_long_name};
 use orc_schema::Schema;
 use orc_state::{Device, Rule};
 use orc_text::{Memory, Row, Text};
 use orc_yang::Stmt;
 use std::alloc::Global;
+use std::sync::ledger::Ledger;
 
 // Whether all words are names.
-fn are_identifiers(words: &[Text]) -> bool
-    ensures { result ≡ list_all is_identifier words.now }
+fn are_identifiers<L: Ledger>(words: &[Text], work: &mut Steps<L>) -> bool
+    ensures identifiers { result ≡ list_all is_identifier words.now }
+    ensures worked { work.new ≤ work.old + bytes_in words.now }
 {
-    words.iter().all(|word| is_identifier(word.as_str()))
+    let mut rest = words;
+    while let [word, more @ ..] = rest {
+        if !is_identifier_counted(word.as_str(), work) {
+            return false;
+        }
+        rest = more;
+    }
+    true
 }
 
 // Whether one of them is longer than it may be.
@@ -112,18 +123,20 @@ impl Declared {
     }
 
     // The schema of the modules of these names. All the words are names, and one of them may be taken.
-    fn schema_words(
+    fn schema_words<L: Ledger>(
         &self,
         alloc: Global,
         words: &[Text],
         names: &[Text],
         is_double: bool,
+        work: &mut Steps<L>,
     ) -> Result<Schema, LineFault>
         ensures reads { Reads (schema_words self.now words.now names.now is_double) result }
         ensures new { OnOk result (is_double ≡ false) }
         ensures sound { IfOk result IsSound }
+        ensures worked { work.new ≤ work.old + bytes_in words.now }
     {
-        if !are_identifiers(words) {
+        if !are_identifiers(words, work) {
             return breaks(Rule::Line);
         }
         if has_long_name(words) {
@@ -144,14 +157,26 @@ impl Declared {
 
     /// `datamodel M M ..`.
     #[tactic(auto, unfolding(crate::specs::Declarations::after_datamodel))]
-    pub(crate) fn take_datamodel(&mut self, alloc: Global, rest: &str) -> Result<(), LineFault>
+    pub(crate) fn take_datamodel<L: Ledger>(
+        &mut self,
+        alloc: Global,
+        rest: &str,
+        work: &mut Steps<L>,
+    ) -> Result<(), LineFault>
         ensures takes { Takes (after_datamodel self.old rest.now) self.new result }
         ensures lawful { AreDeclared self.old → OnOk result (AreDeclared self.new) }
+        ensures worked { work.new ≤ work.old + work_on rest.now }
     {
-        let words = words(alloc, rest)?;
+        let words = words(alloc, rest, work)?;
         let names = with_name(alloc, &words, "orc")?;
         let is_double = self.has_data;
-        self.data_schema = self.schema_words(alloc, words.as_slice(), names.as_slice(), is_double)?;
+        self.data_schema = self.schema_words(
+            alloc,
+            words.as_slice(),
+            names.as_slice(),
+            is_double,
+            work,
+        )?;
         self.has_data = true;
         self.data = Row::new(alloc);
         Ok(())
@@ -159,11 +184,17 @@ impl Declared {
 
     /// `devicetype T M M ..`.
     #[tactic(auto, unfolding(crate::specs::Declarations::after_devicetype))]
-    pub(crate) fn take_devicetype(&mut self, alloc: Global, rest: &str) -> Result<(), LineFault>
+    pub(crate) fn take_devicetype<L: Ledger>(
+        &mut self,
+        alloc: Global,
+        rest: &str,
+        work: &mut Steps<L>,
+    ) -> Result<(), LineFault>
         ensures takes { Takes (after_devicetype self.old rest.now) self.new result }
         ensures lawful { AreDeclared self.old → OnOk result (AreDeclared self.new) }
+        ensures worked { work.new ≤ work.old + work_on rest.now }
     {
-        let words = words(alloc, rest)?;
+        let words = words(alloc, rest, work)?;
         let [name, names @ ..] = words.as_slice() else {
             return breaks(Rule::Line);
         };
@@ -171,7 +202,7 @@ impl Declared {
             return breaks(Rule::Line);
         }
         let is_double = self.types.has(name);
-        let schema = self.schema_words(alloc, words.as_slice(), names, is_double)?;
+        let schema = self.schema_words(alloc, words.as_slice(), names, is_double, work)?;
         self.types.add(name.copy(alloc)?)?;
         self.schemas.push(schema)?;
         Ok(())

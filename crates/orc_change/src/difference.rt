@@ -3,14 +3,14 @@ ghost use Rattle.std.specs.Prelude.{◌≡◌, ◌++◌, ◌↔◌, [], IfOk, On
 ghost use Rattle.std.specs.List.{list_all};
 ghost use Rattle.std.specs.Option.{option_copied};
 ghost use Rattle.orc_tree.specs.Changes.{applied, change_fits};
-ghost use Rattle.orc_tree.specs.Pages.{rows_of};
+ghost use Rattle.orc_tree.specs.Pages.{rows_of, chapters_rows};
 ghost use Rattle.orc_change.specs.Differences.{difference, has_item, removals, new_puts};
 ghost use Rattle.orc_change.specs.inside.Held.{AreHeld};
 
-use crate::likely::likely_place;
+use crate::likely::{Place, likely_place};
 use orc_path::{Item, Path};
 use orc_text::{Memory, Row};
-use orc_tree::{Change, ChangeSet, Page, Tree};
+use orc_tree::{Change, ChangeSet, Chapter, Page, Tree};
 use std::alloc::Global;
 use std::sync::Arc;
 
@@ -24,8 +24,8 @@ pub fn between(alloc: Global, from: &Tree, to: &Tree) -> Result<ChangeSet, Memor
     ensures fits { IfOk result (λ set. IsTrue (list_all change_fits set.changes)) }
 {
     let mut changes = Row::new(alloc);
-    push_removals(alloc, &mut changes, from.pages(), to)?;
-    push_puts(alloc, &mut changes, to.pages(), from)?;
+    push_removals(alloc, &mut changes, from.chapters(), to)?;
+    push_puts(alloc, &mut changes, to.chapters(), from)?;
     Ok(ChangeSet { changes })
 }
 
@@ -43,53 +43,93 @@ pub fn reverse(alloc: Global, set: &ChangeSet, before: &Tree) -> Result<ChangeSe
     between(alloc, &after, before)
 }
 
-// Adds a removal of each path of these pages at which a tree has no item.
+// Adds a removal of each path of these chapters at which a tree has no item.
 fn push_removals(
+    alloc: Global,
+    changes: &mut Row<Change>,
+    chapters: &[Arc<Chapter>],
+    to: &Tree,
+) -> Result<(), Memory>
+    ensures { OnOk result (changes.new ≡ changes.old ++ removals (chapters_rows chapters.now) to.now) }
+{
+    let mut at = Place::first();
+    for chapter in chapters {
+        at = push_removals_of(alloc, changes, chapter.pages.as_slice(), to, at)?;
+    }
+    Ok(())
+}
+
+// The same of the pages of one chapter, the first of which is likely to stand in the tree at a
+// place. It gives the place of the page behind them.
+fn push_removals_of(
     alloc: Global,
     changes: &mut Row<Change>,
     pages: &[Arc<Page>],
     to: &Tree,
-) -> Result<(), Memory>
+    first: Place,
+) -> Result<Place, Memory>
     ensures { OnOk result (changes.new ≡ changes.old ++ removals (rows_of pages.now) to.now) }
 {
-    let mut at: usize = 0;
+    let mut at = first;
     for page in pages {
         let rows = page.rows.as_slice();
-        at = likely_place(to.pages(), rows, at);
+        at = likely_place(to.chapters(), rows, at);
         push_absent(alloc, changes, rows, to, at)?;
-        at = at.saturating_add(1);
+        at = at.next();
+    }
+    Ok(at)
+}
+
+// Adds a put of each item of these chapters that a tree hasn't at its path.
+fn push_puts(
+    alloc: Global,
+    changes: &mut Row<Change>,
+    chapters: &[Arc<Chapter>],
+    from: &Tree,
+) -> Result<(), Memory>
+    ensures { OnOk result (changes.new ≡ changes.old ++ new_puts (chapters_rows chapters.now) from.now) }
+{
+    let mut at = Place::first();
+    for chapter in chapters {
+        at = push_puts_of(alloc, changes, chapter.pages.as_slice(), from, at)?;
     }
     Ok(())
 }
 
-// Adds a put of each item of these pages that a tree hasn't at its path.
-fn push_puts(
+// The same of the pages of one chapter, the first of which is likely to stand in the tree at a
+// place. It gives the place of the page behind them.
+fn push_puts_of(
     alloc: Global,
     changes: &mut Row<Change>,
     pages: &[Arc<Page>],
     from: &Tree,
-) -> Result<(), Memory>
+    first: Place,
+) -> Result<Place, Memory>
     ensures { OnOk result (changes.new ≡ changes.old ++ new_puts (rows_of pages.now) from.now) }
 {
-    let mut at: usize = 0;
+    let mut at = first;
     for page in pages {
         let rows = page.rows.as_slice();
-        at = likely_place(from.pages(), rows, at);
+        at = likely_place(from.chapters(), rows, at);
         push_new(alloc, changes, rows, from, at)?;
-        at = at.saturating_add(1);
+        at = at.next();
     }
-    Ok(())
+    Ok(at)
 }
 
 // Whether a tree's page at this place has these rows. It takes no memory.
-fn has_page(tree: &Tree, rows: &[(Path, Item)], at: usize) -> bool
+fn has_page(tree: &Tree, rows: &[(Path, Item)], at: Place) -> bool
     ensures { IsTrue result → AreHeld tree.now rows.now }
 {
-    let pages = tree.pages();
-    if at >= pages.len() {
+    let chapters = tree.chapters();
+    if at.chapter >= chapters.len() {
         return false;
     }
-    same_rows(pages[at].rows.as_slice(), rows)
+    let pages = chapters[at.chapter].pages.as_slice();
+    if at.page >= pages.len() {
+        return false;
+    }
+    same_rows(pages[at.page].rows.as_slice(), rows)
 }
 
 // Whether the rows are the same.
@@ -106,7 +146,7 @@ fn push_absent(
     changes: &mut Row<Change>,
     rows: &[(Path, Item)],
     to: &Tree,
-    at: usize,
+    at: Place,
 ) -> Result<(), Memory>
     ensures { OnOk result (changes.new ≡ changes.old ++ removals rows.now to.now) }
 {
@@ -140,7 +180,7 @@ fn push_new(
     changes: &mut Row<Change>,
     rows: &[(Path, Item)],
     from: &Tree,
-    at: usize,
+    at: Place,
 ) -> Result<(), Memory>
     ensures { OnOk result (changes.new ≡ changes.old ++ new_puts rows.now from.now) }
 {

@@ -1,10 +1,11 @@
 -- Paths that are entries of a list, step by step, and the entries among rows in order.
-use Rattle.std.proofs.Common.{◌≡◌, ℕ, ◌⊎◌, inl, inr, Bool, true, false, not, ◌&&◌, nat_eq, nat_lt, List, [], ◌∷◌, ◌++◌, length, refl, sym, ap, subst, ◌∙◌, arith}
+use Rattle.std.proofs.Common.{◌≡◌, ℕ, ◌⊎◌, inl, inr, Bool, true, false, not, ◌&&◌, nat_eq, nat_lt, ◌+◌, ◌-◌, ◌<◌, if◌then◌else◌, Some, None, List, [], ◌∷◌, ◌++◌, length, refl, sym, ap, subst, ◌∙◌, arith}
+use Rattle.std.specs.Prelude.{is_some}
 use Rattle.std.specs.Ordering.{is_lt}
 use Rattle.std.specs.Cmp.{both_ways}
 use Rattle.std.specs.Cmp.Lexicographic.{pointwise, bytes_decides}
 use Rattle.std.specs.FinMap.{is_sorted}
-use Rattle.std.proofs.lemmas.Bool.{false≢true, and_parts, and_from, ltb-true}
+use Rattle.std.proofs.lemmas.Bool.{false≢true, and_parts, and_from, ltb-true, ltb-false}
 use Rattle.orc_path.specs.Steps.{PathStep, has_keys, ends_in_keys}
 use Rattle.orc_path.specs.Order.{path_cmp, step_eq}
 use Rattle.orc_path.specs.Configurations.{list_of, is_entry_of}
@@ -13,7 +14,7 @@ use Rattle.orc_path.proofs.Equality.{step_eq_decides}
 use Rattle.orc_tree.specs.inside.Lists.{is_under, entries_of}
 use Rattle.orc_tree.proofs.Maps.{Rows}
 use Rattle.orc_tree.proofs.Listing.{no_entries, no_entry-root, list_has_no_keys, no_entries-past}
-use Rattle.orc_check.specs.inside.Lists.{is_keyed, enters, goes_on, is_past}
+use Rattle.orc_check.specs.inside.Lists.{is_keyed, enters, goes_on, is_past, count_down}
 
 same_head : {X : Type 0} (x y : X) (xs ys : List X) → x ∷ xs ≡ y ∷ ys → x ≡ y
 same_head x y xs ys e = cc
@@ -107,3 +108,23 @@ none_past list (row ∷ rows) more past s = on (ends list)
 
 pub below_none : (n : ℕ) → nat_lt n 0 ≡ false
 below_none n = not_true _ (λ h. let under = ltb-true n 0 h in omega arith)
+
+under_true : (a b : ℕ) → a < b → nat_lt a b ≡ true
+under_true a b l = on (nat_lt a b) refl
+  where
+    on : (t : Bool) → nat_lt a b ≡ t → nat_lt a b ≡ true
+    on true e = e
+    on false e = absurd (omega (arith, ltb-false a b e))
+
+-- what is left of a number less a count is under another one where the number is under both
+pub counted : (number count more left : ℕ) → Some left ≡ count_down number count → nat_lt left more ≡ nat_lt number (count + more)
+counted number count more left h = on (nat_lt number count) refl h
+  where
+    on : (t : Bool) → nat_lt number count ≡ t → Some left ≡ (if t then None else Some (number - count)) → nat_lt left more ≡ nat_lt number (count + more)
+    on true e h = absurd (false≢true (sym (ap is_some h)))
+    on false e h =
+        let within = ltb-false number count e in
+        let is : left ≡ number - count = cc in
+        both_ways (nat_lt left more) (nat_lt number (count + more))
+        (λ l. under_true number (count + more) (omega (arith, ltb-true left more l)))
+        (λ l. under_true left more (omega (arith, ltb-true number (count + more) l)))

@@ -12,3 +12,4 @@ mod Ascending
 mod Shared
 mod Listed
 mod Settled
+mod Running

@@ -4,3 +4,4 @@ pub mod Lists
 pub mod Named
 pub mod Lines
 pub mod Sharing
+pub mod Runs

@@ -1,19 +1,19 @@
 //! How many entries a list has. These rows and those below them stand together.
-ghost use Rattle.std.specs.Prelude.{◌≡◌, ◌++◌, length, nat_lt};
+ghost use Rattle.std.specs.Prelude.{◌≡◌, ◌++◌, length, nat_lt, IsTrue};
+ghost use Rattle.std.specs.FinMap.{is_sorted};
+ghost use Rattle.orc_path.specs.Order.{path_cmp};
 ghost use Rattle.orc_path.specs.Configurations.{is_entry_of};
-ghost use Rattle.orc_tree.specs.Pages.{rows_of, AreSized};
-ghost use Rattle.orc_tree.specs.inside.Places.{AreInOrder};
 ghost use Rattle.orc_tree.specs.inside.Lists.{entries_of};
 ghost use Rattle.orc_check.specs.Validity.{plain_steps, entry_count};
 ghost use Rattle.orc_check.specs.inside.Lists.{is_keyed, is_named, is_alone, enters, goes_on, is_past, count_down};
+ghost use Rattle.orc_check.specs.inside.Runs.{all_rows};
 
-use crate::lookup::page_for;
 use crate::order::{has_no_keys, is_plain, order_to, same_step};
+use crate::runs::{Runs, runs_from};
 use crate::spot::Spot;
 use orc_path::{Item, Path, Step};
 use orc_text::Text;
-use orc_tree::{Page, Tree};
-use std::sync::Arc;
+use orc_tree::Tree;
 
 // Whether the path is one step, with the name and keys.
 fn is_keyed(path: &[Step], name: &str) -> bool
@@ -142,7 +142,7 @@ fn starts_past(rows: &[(Path, Item)], steps: &[Step], names: &[Text]) -> bool
     }
 }
 
-// The number less one for each entry of the list among the rows of a page, or None where they are more.
+// The number less one for each entry of the list among rows, or None where they are more.
 fn count_down(rows: &[(Path, Item)], steps: &[Step], names: &[Text], number: u64) -> Option<u64>
     ensures { result ≡ count_down number (length (entries_of (steps.now ++ plain_steps names.now) rows.now)) }
 {
@@ -160,14 +160,13 @@ fn count_down(rows: &[(Path, Item)], steps: &[Step], names: &[Text], number: u64
     }
 }
 
-// Whether the list has more entries than the number among pages.
-fn has_more_among(pages: &[Arc<Page>], steps: &[Step], names: &[Text], number: u64) -> bool
-    requires sorted { AreInOrder pages.now }
-    ensures { result ≡ nat_lt number (length (entries_of (steps.now ++ plain_steps names.now) (rows_of pages.now))) }
+// Whether the list has more entries than the number among the rows of runs.
+fn has_more_among(runs: Runs<'_>, steps: &[Step], names: &[Text], number: u64) -> bool
+    requires { IsTrue (is_sorted path_cmp (all_rows runs)) }
+    ensures { result ≡ nat_lt number (length (entries_of (steps.now ++ plain_steps names.now) (all_rows runs.entry))) }
 {
     let mut left = number;
-    for page in pages {
-        let rows = page.rows.as_slice();
+    for rows in runs {
         if starts_past(rows, steps, names) {
             return false;
         }
@@ -179,30 +178,17 @@ fn has_more_among(pages: &[Arc<Page>], steps: &[Step], names: &[Text], number: u
     false
 }
 
-// Whether the list has more entries than the number.
-fn has_more_in<'a>(pages: &[Arc<Page>], steps: &'a [Step], names: &'a [Text], number: u64) -> bool
-    requires sorted { AreInOrder pages.now }
-    requires sized { AreSized pages.now }
-    ensures { result ≡ nat_lt number (length (entries_of (steps.now ++ plain_steps names.now) (rows_of pages.now))) }
+/// Whether the list at these steps with names behind them has more entries than the number. It takes
+/// no memory, and looks at the rows at and below these entries.
+pub(crate) fn has_more<'a>(tree: &Tree, steps: &'a [Step], names: &'a [Text], number: u64) -> bool
+    ensures { result ≡ nat_lt number (entry_count tree.now (steps.now ++ plain_steps names.now)) }
 {
-    if pages.is_empty() {
-        return false;
-    }
     let spot = Spot {
         steps,
         names,
         entry: None,
     };
-    let at = page_for(pages, &spot);
-    has_more_among(&pages[at..], steps, names, number)
-}
-
-/// Whether the list at these steps with names behind them has more entries than the number. It takes
-/// no memory, and looks at the rows at and below these entries.
-pub(crate) fn has_more(tree: &Tree, steps: &[Step], names: &[Text], number: u64) -> bool
-    ensures { result ≡ nat_lt number (entry_count tree.now (steps.now ++ plain_steps names.now)) }
-{
-    has_more_in(tree.pages(), steps, names, number)
+    has_more_among(runs_from(tree, &spot), steps, names, number)
 }
 
 /// Whether it has fewer.

@@ -19,6 +19,7 @@ mod reach;
 mod references;
 mod rows;
 mod rules;
+mod runs;
 mod sharing;
 mod sought;
 mod spot;

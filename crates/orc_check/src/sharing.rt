@@ -1,24 +1,22 @@
 //! The search for a value of a leafref's target among the rows that begin with the steps that both share.
 //! These stand together.
-ghost use Rattle.std.specs.Prelude.{◌≡◌, take};
+ghost use Rattle.std.specs.Prelude.{◌≡◌, take, IsTrue};
 ghost use Rattle.std.specs.List.{list_any};
-ghost use Rattle.std.specs.FinMap.{entries};
+ghost use Rattle.std.specs.FinMap.{entries, is_sorted};
 ghost use Rattle.orc_path.specs.Order.{path_cmp, is_prefix};
-ghost use Rattle.orc_tree.specs.Pages.{rows_of, AreSized};
-ghost use Rattle.orc_tree.specs.inside.Places.{AreInOrder};
 ghost use Rattle.orc_check.specs.Validity.{row_has};
+ghost use Rattle.orc_check.specs.inside.Runs.{all_rows};
 ghost use Rattle.orc_check.specs.inside.Sharing.{begins_past};
 
-use crate::lookup::page_for;
 use crate::order::same_step;
 use crate::references::{first_steps, row_has};
+use crate::runs::{Runs, runs_from};
 use crate::spot::Spot;
 use orc_path::{Item, Path, Step};
 use orc_schema::{Schema, Target};
 use orc_text::Text;
-use orc_tree::{Page, Tree};
+use orc_tree::Tree;
 use std::cmp::Ordering;
-use std::sync::Arc;
 
 // Whether a path begins with the steps.
 fn begins_with(steps: &[Step], path: &[Step]) -> bool
@@ -70,21 +68,20 @@ fn has_row_on(
     false
 }
 
-// Whether one of the rows of pages has.
+// Whether one of the rows of runs has.
 fn has_row_among(
     schema: &Schema,
     target: &Target,
     text: &Text,
     path: &[Step],
     steps: &[Step],
-    pages: &[Arc<Page>],
+    runs: Runs<'_>,
 ) -> bool
-    requires sorted { AreInOrder pages.now }
+    requires sorted { IsTrue (is_sorted path_cmp (all_rows runs)) }
     requires shared { steps.now ≡ take target.now.shared path.now }
-    ensures { result ≡ list_any (row_has schema.now target.now text.now path.now) (rows_of pages.now) }
+    ensures { result ≡ list_any (row_has schema.now target.now text.now path.now) (all_rows runs.entry) }
 {
-    for page in pages {
-        let rows = page.rows.as_slice();
+    for rows in runs {
         if begins_past(rows, steps) {
             return false;
         }
@@ -95,41 +92,22 @@ fn has_row_among(
     false
 }
 
-// The same: the pages in front of the steps are passed over by a search.
-fn has_row_in<'a>(
+/// Whether a row of the tree has the text as a value of the target, under the same entries as the path.
+/// It looks at the rows that begin with the steps of these entries.
+pub(crate) fn has_row<'a>(
     schema: &Schema,
+    tree: &Tree,
     target: &Target,
     text: &Text,
     path: &'a [Step],
-    pages: &[Arc<Page>],
 ) -> bool
-    requires sorted { AreInOrder pages.now }
-    requires sized { AreSized pages.now }
-    ensures { result ≡ list_any (row_has schema.now target.now text.now path.now) (rows_of pages.now) }
+    ensures { result ≡ list_any (row_has schema.now target.now text.now path.now) (entries tree.now) }
 {
-    if pages.is_empty() {
-        return false;
-    }
     let steps = first_steps(path, target.shared as usize);
     let spot = Spot {
         steps,
         names: &[],
         entry: None,
     };
-    let at = page_for(pages, &spot);
-    has_row_among(schema, target, text, path, steps, &pages[at..])
-}
-
-/// Whether a row of the tree has the text as a value of the target, under the same entries as the path.
-/// It looks at the rows that begin with the steps of these entries.
-pub(crate) fn has_row(
-    schema: &Schema,
-    tree: &Tree,
-    target: &Target,
-    text: &Text,
-    path: &[Step],
-) -> bool
-    ensures { result ≡ list_any (row_has schema.now target.now text.now path.now) (entries tree.now) }
-{
-    has_row_in(schema, target, text, path, tree.pages())
+    has_row_among(schema, target, text, path, steps, runs_from(tree, &spot))
 }

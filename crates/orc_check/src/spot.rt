@@ -6,7 +6,7 @@ ghost use Rattle.orc_check.specs.Validity.{plain_step, plain_steps};
 ghost use Rattle.orc_check.specs.inside.Lent.{keyed_step, spot_path};
 
 use crate::order::{order_steps, order_to};
-use orc_path::Step;
+use orc_path::{Item, Path, Step};
 use orc_text::Text;
 use std::cmp::Ordering;
 
@@ -124,12 +124,19 @@ fn order_entry_at(steps: &[Step], names: &[Text], entry: &Keyed<'_>, others: &[S
     }
 }
 
-/// A path in parts, and steps.
-pub(crate) fn order_spot(spot: &Spot<'_>, others: &[Step]) -> Ordering
+// A path in parts, and steps.
+fn order_spot(spot: &Spot<'_>, others: &[Step]) -> Ordering
     ensures { result ≡ path_cmp (spot_path spot.now) others.now }
 {
     match &spot.entry {
         Some(entry) => order_entry_at(spot.steps, spot.names, entry, others),
         None => order_to(spot.steps, spot.names, others),
     }
+}
+
+/// A path in parts, and that of a row.
+pub(crate) fn order_row(spot: &Spot<'_>, row: &(Path, Item)) -> Ordering
+    ensures { result ≡ path_cmp (spot_path spot.now) row.now.0 }
+{
+    order_spot(spot, row.0.steps.as_slice())
 }

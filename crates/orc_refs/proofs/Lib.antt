@@ -3,6 +3,7 @@ mod PathLaws
 mod TouchedLaws
 mod StoreLaws
 mod RowLaws
+mod PartLaws
 mod ShelfLaws
 mod ExactLaws
 mod SettledLaws

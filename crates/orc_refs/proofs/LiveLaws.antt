@@ -84,8 +84,15 @@ some_item None h = absurd (false≢true h)
 some_item (Some item) h = (item, refl)
 
 pub store_overlaid : StoreIsOverlay
-store_overlaid live base s is of apart = (same_config s.tree _ (λ p. at p (ids_at s p) refl), back)
+store_overlaid live base s is of apart = (same_config s.tree _ (λ p. at p (ids_at s p) refl), back, held)
   where
+    held : (id : List ℕ) (p : List PathStep) (item : Item) → live_writes live id p ≡ Some item → holds_id id (ids_at s p) ≡ true
+    held id p item writes = by (holds_id id (ids_at s p)) refl
+      where
+        by : (t : Bool) → holds_id id (ids_at s p) ≡ t → holds_id id (ids_at s p) ≡ true
+        by true k = k
+        by false k = absurd (none-some item (sym (cond-false _ _ _ k) ∙ of.writers id p ∙ writes))
+
     back : (id : List ℕ) (p : List PathStep) → holds_id id (ids_at s p) ≡ true → (item : Item) × (live_writes live id p ≡ Some item)
     back id p has =
         let there = some_item (get s.tree p) (is.covered p (λ e. false≢true (sym (ap (holds_id id) e) ∙ has))) in

@@ -35,7 +35,8 @@ pub record IsStoreOf (live : List Living) (base : Config) (store : Store) : Type
   pub over : store.base ≡ base
   pub writers : (id : List ℕ) (path : List PathStep) → written_by store id path ≡ live_writes live id path
 
--- The tree of a store is its base overlaid with what its services write, and its back pointers are those services.
+-- The tree of a store is its base overlaid with what its services write, and the back pointers of a path are exactly
+-- the services that write it.
 abbrev pub StoreIsOverlay : Type 0
 StoreIsOverlay =
     (live : List Living) (base : Config) (store : Store) → IsStore store → IsStoreOf live base store
@@ -43,3 +44,5 @@ StoreIsOverlay =
     → (store.tree ≡ overlaid (map (λ service. service.items) live) base)
     × ((id : List ℕ) (path : List PathStep) → IsTrue (holds_id id (ids_at store path))
     → (item : Item) × (live_writes live id path ≡ Some item))
+    × ((id : List ℕ) (path : List PathStep) (item : Item) → live_writes live id path ≡ Some item
+    → IsTrue (holds_id id (ids_at store path)))

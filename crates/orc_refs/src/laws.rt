@@ -3,7 +3,7 @@ ghost use Rattle.orc_refs.specs.Live.{StoreIsOverlay};
 ghost use Rattle.orc_refs.specs.Moves.{OneStore};
 
 /// The tree of a store is its base overlaid with what its services write, one after the other in
-/// any order, and its back pointers are those services.
+/// any order, and the back pointers of a path are exactly the services that write it.
 pub fn store_is_overlay()
     ensures { StoreIsOverlay }
 {}

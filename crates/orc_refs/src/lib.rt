@@ -10,11 +10,14 @@ mod backs;
 mod base;
 mod laws;
 mod moves;
+mod part;
 mod plan;
 mod planning;
+mod rack;
 mod refs;
 mod rival;
 mod settle;
+mod shelf;
 mod touched;
 
 pub use laws::{moves_lead_to_one_store, store_is_overlay};

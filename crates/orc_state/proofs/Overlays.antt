@@ -8,16 +8,16 @@ use Rattle.orc_path.specs.Steps.{PathStep}
 use Rattle.orc_path.specs.Configurations.{Config, overlay}
 use Rattle.orc_path.proofs.ConfigurationLaws.{same_config, get-overlay}
 use Rattle.orc_path.specs.declared.item.Item.{Item}
-use Rattle.orc_state.specs.States.{part, tree_due, overlay_all, config_of}
+use Rattle.orc_refs.specs.Live.{overlaid}
+use Rattle.orc_state.specs.States.{part, tree_due, config_of}
 use Rattle.orc_state.specs.Legal.{state_of}
 use Rattle.orc_state.specs.Laws.{AllAgree, IsOverlay, OverlayIsOne, OrderOfCreationIsFree}
 use Rattle.orc_state.specs.declared.state.Service.{Service}
-use Rattle.orc_state.specs.declared.declarations.Decls.{Decls}
 use Rattle.orc_state.proofs.Agreement.{living_agree, none_in_nil, first_in, later_in, in_cases}
 
 -- the overlay of services, one after the other, on a base
 abbrev laid : List Service → ℕ → Config → Config
-laid live d base = overlay_all (map (λ service. part service d) live) base
+laid live d base = overlaid (map (λ service. part service d) live) base
 
 -- where none of them writes, the base stays
 laid_elsewhere : (live : List Service) (d : ℕ) (base : Config) (p : List PathStep)

@@ -16,7 +16,7 @@ use Rattle.orc_call.specs.declared.call.Action.TheVariants.{Literal, Delete}
 use Rattle.orc_call.specs.declared.call.Call.{Call}
 use Rattle.orc_refs.specs.Live.{StoreIsOverlay, are_apart, overlaid}
 use Rattle.orc_refs.specs.Stores.{Store}
-use Rattle.orc_state.specs.States.{State, config_of, expansion, has_id, is_same_text, lives, name_of, others, overlay_all, part, tree_due}
+use Rattle.orc_state.specs.States.{State, config_of, expansion, has_id, is_same_text, lives, name_of, others, part, tree_due}
 use Rattle.orc_state.specs.Actions.{base_step, bases_after, data_after, is_named_by, live_after, name_each_once, names, new_services, touched}
 use Rattle.orc_state.specs.Clashes.{clash_at, clash_from}
 use Rattle.orc_state.specs.Next.{after, clash, existence, existence_of, invalid, refusal}
@@ -76,7 +76,7 @@ named_apart (x ∷ xs) d once =
 -- the tree of a store
 
 laid_same : (live : List Service) (d : ℕ) (base : Config)
-    → overlaid (map (λ a. a.items) (on_device live d)) base ≡ overlay_all (map (λ service. part service d) live) base
+    → overlaid (map (λ a. a.items) (on_device live d)) base ≡ overlaid (map (λ service. part service d) live) base
 laid_same [] d base = refl
 laid_same (x ∷ xs) d base = laid_same xs d (overlay (part x d) base)
 
@@ -92,7 +92,7 @@ tree-kept law state stores d store kept once bases is =
     let for = kept.each d store is in
     (law (on_device state.live d) store.base store for.sound for.of (named_apart state.live d once)).0
     ∙ laid_same state.live d store.base
-    ∙ sym (ap (overlay_all (map (λ service. part service d) state.live)) (ap (λ (l : List Config). config_of l d) bases ∙ based stores d store is))
+    ∙ sym (ap (overlaid (map (λ service. part service d) state.live)) (ap (λ (l : List Config). config_of l d) bases ∙ based stores d store is))
 
 -- changes
 

@@ -8,7 +8,8 @@ use Rattle.std.proofs.lemmas.Bool.{and_from}
 use Rattle.std.proofs.lemmas.List.Elements.{All-nil, All-cons, All-head, All-tail, All-append, All-filter, All-weaker}
 use Rattle.orc_path.specs.Configurations.{Config, IsConfig, drop_item, put_item}
 use Rattle.orc_path.proofs.ConfigurationLaws.{IsConfig-empty, IsConfig-put_item, IsConfig-drop_item, IsConfig-overlay}
-use Rattle.orc_state.specs.States.{is_same_text, declared_base, config_of, name_of, part, put_all, puts_on, expansion, opening, overlay_all}
+use Rattle.orc_refs.specs.Live.{overlaid}
+use Rattle.orc_state.specs.States.{is_same_text, declared_base, config_of, name_of, part, put_all, puts_on, expansion, opening}
 use Rattle.orc_state.specs.Actions.{bases_after, live_after, live_step, new_services, names}
 use Rattle.orc_state.specs.Next.{after}
 use Rattle.orc_state.specs.Histories.{fold_from}
@@ -76,7 +77,7 @@ abbrev WritesConfigs : Service → Type 0
 WritesConfigs service = All IsConfig service.parts
 
 overlaid_config : (live : List Service) (d : ℕ) (base : Config) → All WritesConfigs live → IsConfig base
-    → IsConfig (overlay_all (map (λ service. part service d) live) base)
+    → IsConfig (overlaid (map (λ service. part service d) live) base)
 overlaid_config [] d base h c = c
 overlaid_config (a ∷ rest) d base h c =
     overlaid_config rest d _ (All-tail WritesConfigs a rest h)

@@ -23,8 +23,9 @@ use Rattle.orc_call.specs.declared.call.Call.{Call}
 use Rattle.orc_call.specs.declared.call.Action.{Action}
 use Rattle.orc_call.specs.declared.call.Action.TheVariants.{Literal, BasePut, BaseRemove}
 use Rattle.orc_call.specs.declared.call.DevicePut.{DevicePut}
-use Rattle.orc_state.specs.States.{config_of, declared_base, expansion, is_same_text, name_of, names_of, opening, overlay_all, part, put_all, puts_on}
-use Rattle.orc_state.specs.Actions.{base_step, bases_after, live_after, live_step, new_services}
+use Rattle.orc_refs.specs.Live.{overlaid}
+use Rattle.orc_state.specs.States.{config_of, declared_base, expansion, is_same_text, name_of, names_of, opening, part, put_all, puts_on}
+use Rattle.orc_state.specs.Actions.{bases_after, live_after, live_step, new_services}
 use Rattle.orc_state.specs.Next.{after}
 use Rattle.orc_state.specs.Histories.{fold_from}
 use Rattle.orc_state.specs.Legal.{state_of}
@@ -248,7 +249,7 @@ module _ (decls : Decls) where
       (behind_typed call.actions state.live now live) (bases_typed call.actions state.bases now bases)
 
   overlaid_typed : (live : List Service) (d : ℕ) (base : Config) → All WritesTyped live → IsTypedUnder (own d) base
-      → IsTypedUnder (own d) (overlay_all (map (λ service. part service d) live) base)
+      → IsTypedUnder (own d) (overlaid (map (λ service. part service d) live) base)
   overlaid_typed [] d base h typed = typed
   overlaid_typed (a ∷ rest) d base h typed =
       overlaid_typed rest d (overlay (part a d) base) (All-tail WritesTyped a rest h)

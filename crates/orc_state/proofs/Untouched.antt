@@ -15,7 +15,8 @@ use Rattle.orc_call.specs.declared.answer.Answer.TheVariants.{Exists}
 use Rattle.orc_call.specs.declared.call.Action.{Action}
 use Rattle.orc_call.specs.declared.call.Action.TheVariants.{Literal, Delete, BasePut, BaseRemove}
 use Rattle.orc_call.specs.declared.call.DevicePut.{DevicePut}
-use Rattle.orc_state.specs.States.{config_of, expansion, has_id, is_same_text, lives, name_of, overlay_all, part, put_all, puts_on}
+use Rattle.orc_refs.specs.Live.{overlaid}
+use Rattle.orc_state.specs.States.{config_of, expansion, has_id, is_same_text, lives, name_of, part, put_all, puts_on}
 use Rattle.orc_state.specs.Actions.{base_step, bases_after, live_after, live_step, names, new_services}
 use Rattle.orc_state.specs.Next.{existence, existence_of}
 use Rattle.orc_state.specs.Touched.{is_held_by, is_touched_by, is_written_by}
@@ -33,7 +34,7 @@ module _ (d : ℕ) where
   Blank a = part a d ≡ empty
 
   abbrev laid : List Service → Config → Config
-  laid live base = overlay_all (map (λ service. part service d) live) base
+  laid live base = overlaid (map (λ service. part service d) live) base
 
   overlay-empty : (base : Config) → overlay empty base ≡ base
   overlay-empty base = same_config (overlay empty base) base (λ q. get-overlay empty base q ∙ ap (λ (o : Option Item). option_or o (get base q)) (get-empty path_cmp q))

@@ -6,10 +6,11 @@ use Rattle.std.specs.Cmp.Lexicographic.{pointwise}
 use Rattle.std.specs.FinMap.{empty}
 use Rattle.orc_path.specs.Steps.{PathStep}
 use Rattle.orc_path.specs.Items.{fits}
-use Rattle.orc_path.specs.Configurations.{Config, put_item, overlay}
+use Rattle.orc_path.specs.Configurations.{Config, put_item}
 use Rattle.orc_path.specs.declared.item.Item.TheVariants.{Entry}
 use Rattle.orc_call.specs.declared.call.Put.{Put}
 use Rattle.orc_call.specs.declared.call.DevicePut.{DevicePut}
+use Rattle.orc_refs.specs.Live.{overlaid}
 use Rattle.orc_state.specs.declared.declarations.Decls.{Decls}
 use Rattle.orc_state.specs.declared.declarations.Device.{Device}
 use Rattle.orc_state.specs.declared.state.Service.{Service}
@@ -103,14 +104,9 @@ opening decls = record {
 abbrev pub IsComplete : State → Type 0
 IsComplete state = All (λ service. length service.parts ≡ length state.bases) state.live
 
--- a base overlaid with configurations, one after the other
-abbrev pub overlay_all : List Config → Config → Config
-overlay_all [] base = base
-overlay_all (top ∷ tops) base = overlay_all tops (overlay top base)
-
 -- the tree that is due on a device: its base overlaid with the items that living services write
 abbrev pub tree_due : State → ℕ → Config
-tree_due state device = overlay_all (map (λ service. part service device) state.live) (config_of state.bases device)
+tree_due state device = overlaid (map (λ service. part service device) state.live) (config_of state.bases device)
 
 -- services by their names
 

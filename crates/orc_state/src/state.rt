@@ -169,13 +169,13 @@ impl State {
         alloc: Global,
         decls: &Decls,
         call: &Call,
-        data: Tree,
+        next_data: Tree,
     ) -> Result<Option<Answer>, Memory>
         requires fit { FitActions call.now.actions }
         requires once { IsTrue (name_each_once call.now.actions) }
         requires state { IsStateOf decls.now self.old }
         requires few { length decls.now.names < 2 ^ 32 }
-        requires behind { IsDataBehind decls.now self.old call.now (Ok «data») }
+        requires behind { IsDataBehind decls.now self.old call.now (Ok next_data) }
         ensures refusal { IfOk result (λ refused. refused ≡ refusal decls.now self.old call.now) }
         ensures done { result ≡ Ok None → self.new ≡ after decls.now self.old call.now }
         ensures refused { result ≢ Ok None → self.new ≡ self.old }
@@ -200,7 +200,7 @@ impl State {
                 remove_deleted(&mut self.live, actions);
                 let stores = mem::replace(&mut self.stores, Row::new(alloc)).into_vec();
                 self.stores = Row::from_vec(place(stores, changes.into_vec()));
-                self.data = data;
+                self.data = next_data;
                 Ok(None)
             }
             Err(answer) => Ok(Some(answer)),

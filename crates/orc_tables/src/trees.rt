@@ -9,7 +9,7 @@
 //! - `get ITEM`, `none PATH`: this item stands at its path, or none does
 //! - `keys LIST`, `keys LIST -> PATH, PATH`: these are the entries of a list
 //! - `rows ITEM, ITEM`, `walk ITEM, ITEM`: these are all items, lent or copied
-//! - `len N`, `pages N`: it has so many items or pages
+//! - `len N`, `pages N`, `chapters N`: it has so many items, pages or chapters
 //! - `copies N`: so many copies of its items are made, each anew
 //! - `equal`, `unequal`: it has the items of the other, or not
 use crate::fills::{Order, leaf_path};
@@ -141,7 +141,8 @@ impl Trees {
     fn counts(&self, word: &str, count: u64) -> Result<bool, Undone> {
         match word {
             "len" => Ok(self.tree.len() == count),
-            "pages" => Ok(self.tree.pages().len() as u64 == count),
+            "pages" => Ok(count_pages(&self.tree) == count),
+            "chapters" => Ok(self.tree.chapters().len() as u64 == count),
             "copies" => Ok(self.tree.walk(self.alloc)?.len() as u64 == count),
             _ => Err(Undone),
         }
@@ -204,6 +205,15 @@ fn add(shown: &mut String, alloc: Global, path: &Path, item: &Item) -> Result<()
     }
     push_item(shown, alloc, path, item)?;
     Ok(())
+}
+
+// How many pages a tree has.
+fn count_pages(tree: &Tree) -> u64 {
+    let mut count: u64 = 0;
+    for chapter in tree.chapters() {
+        count = count.saturating_add(chapter.pages.len() as u64);
+    }
+    count
 }
 
 // A copy of a value that other threads may have and share.

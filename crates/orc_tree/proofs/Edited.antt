@@ -11,17 +11,22 @@ use Rattle.orc_path.specs.Order.{path_cmp, is_prefix}
 use Rattle.orc_path.specs.Configurations.{Config, IsConfig, enter_all, is_removed_with, drop_item, insert_all}
 use Rattle.orc_path.specs.declared.item.Item.{Item}
 use Rattle.orc_path.specs.declared.item.Item.TheVariants.{Entry}
-use Rattle.orc_tree.specs.Pages.{rows_of, AreSized}
-use Rattle.orc_tree.specs.inside.Places.{ArePages}
+use Rattle.orc_tree.specs.Pages.{chapters_rows}
+use Rattle.orc_tree.specs.inside.Places.{AreLaid, AreChapters}
 use Rattle.orc_tree.specs.inside.Puts.{put_entries}
 use Rattle.orc_tree.specs.inside.Removal.{kept_of}
 use Rattle.orc_tree.proofs.Maps.{Rows, map_of, map_of-put, map_of-where_key, map_of-without, sorted-put, sorted-where_key}
-use Rattle.orc_tree.proofs.Paged.{Pages}
+use Rattle.orc_tree.proofs.Chaptered.{Chapters}
 
 -- what holds of both outcomes holds of what came
 pub either_way : {T E X : Type 0} (r : Result T E) (P : X → Type 0) (new a b : X) → OnOk r (new ≡ a) → OnErr r (new ≡ b) → P a → P b → P new
 either_way (Ok x) P new a b ok err pa pb = subst P (sym ok) pa
 either_way (Err e) P new a b ok err pa pb = subst P (sym err) pb
+
+-- what holds holds of an error
+pub OnErr-held : {T E : Type 0} (r : Result T E) {P : Type 0} → P → OnErr r P
+OnErr-held (Ok x) p = tt
+OnErr-held (Err e) p = p
 
 sorted-put_entries : (ws : List (List PathStep)) (rows : Rows) → is_sorted path_cmp rows ≡ true → is_sorted path_cmp (put_entries ws rows) ≡ true
 sorted-put_entries [] rows s = s
@@ -42,13 +47,13 @@ map_of-put_all q v ws rows s =
     map_of-put (put_entries ws rows) (put path_cmp q v (put_entries ws rows)) q v (sorted-put_entries ws rows s) (sorted-put_all q v ws rows s) refl
     ∙ ap (λ (m : Config). insert m q v) (map_of-put_entries ws rows s)
 
--- pages that hold what an edit made, or else what they held
-pub ArePages-edited : {T E : Type 0} (r : Result T E) (old new : Pages) (rows : Rows) (m : Config) → ArePages old → OnOk r (rows_of new ≡ rows) → OnErr r (rows_of new ≡ rows_of old)
-    → is_sorted path_cmp rows ≡ true → map_of rows ≡ m → IsConfig m → AreSized new → ArePages new
-ArePages-edited r old new rows m are ok err s e c sized = record {
-  sorted = either_way r (λ (x : Rows). is_sorted path_cmp x ≡ true) (rows_of new) rows (rows_of old) ok err s are.sorted;
-  config = either_way r (λ (x : Rows). IsConfig (map_of x)) (rows_of new) rows (rows_of old) ok err (subst IsConfig (sym e) c) are.config;
-  sized = sized;
+-- chapters that hold what an edit made, or else what they held
+pub AreChapters-edited : {T E : Type 0} (r : Result T E) (old new : Chapters) (rows : Rows) (m : Config) → AreChapters old → OnOk r (chapters_rows new ≡ rows) → OnErr r (chapters_rows new ≡ chapters_rows old)
+    → is_sorted path_cmp rows ≡ true → map_of rows ≡ m → IsConfig m → AreLaid new → AreChapters new
+AreChapters-edited r old new rows m are ok err s e c laid = record {
+  sorted = either_way r (λ (x : Rows). is_sorted path_cmp x ≡ true) (chapters_rows new) rows (chapters_rows old) ok err s are.sorted;
+  config = either_way r (λ (x : Rows). IsConfig (map_of x)) (chapters_rows new) rows (chapters_rows old) ok err (subst IsConfig (sym e) c) are.config;
+  laid = laid;
 }
 
 -- what removing a path leaves, as a map

@@ -1,12 +1,10 @@
--- Entries and an item that are put into one page.
-use Rattle.std.proofs.Common.{◌≡◌, ℕ, suc, ◌≤◌, Bool, true, false, ◌||◌, List, [], ◌∷◌, ◌++◌, length, take, drop, get_or, refl, sym, ap, subst, ◌∙◌, arith}
+-- Entries and an item that are put into one part.
+use Rattle.std.proofs.Common.{◌≡◌, ℕ, suc, ◌<◌, ◌≤◌, Bool, true, false, ◌||◌, ◌&&◌, List, [], ◌∷◌, ◌++◌, length, take, drop, get_or, refl, sym, ap, subst, ◌∙◌, arith}
 use Rattle.std.specs.Ordering.{is_lt, is_gt}
-use Rattle.std.specs.List.{All}
+use Rattle.std.specs.List.{flat_map, All}
 use Rattle.std.specs.Result.{OnOk, OnErr}
 use Rattle.std.specs.declared.result.Result.{Result}
 use Rattle.std.specs.declared.result.Result.TheVariants.{Ok, Err}
-use Rattle.std.specs.declared.alloc.Global.{Global}
-use Rattle.std.specs.declared.sync.Arc.{Arc}
 use Rattle.std.specs.declared.cmp.Ordering.{Ordering}
 use Rattle.std.specs.declared.cmp.Ordering.TheVariants.{Less, Equal, Greater}
 use Rattle.std.specs.FinMap.{put}
@@ -19,13 +17,11 @@ use Rattle.orc_path.specs.Order.{path_cmp}
 use Rattle.orc_path.proofs.PathOrder.{path_cmp_total}
 use Rattle.orc_path.specs.declared.item.Item.{Item}
 use Rattle.orc_path.specs.declared.item.Item.TheVariants.{Entry}
-use Rattle.orc_tree.specs.declared.page.Page.{Page}
-use Rattle.orc_tree.specs.Pages.{page_rows, rows_of}
-use Rattle.orc_tree.specs.inside.Places.{IsPageFor, above_all}
+use Rattle.orc_tree.specs.inside.Places.{IsPartFor, above_all}
 use Rattle.orc_tree.specs.inside.Puts.{put_entries, none_between, AreGaps}
 use Rattle.orc_tree.proofs.Maps.{Rows}
 use Rattle.orc_tree.proofs.Pieces.{gt_is, below_less, put_piece}
-use Rattle.orc_tree.proofs.Paged.{Pages, rows_of-at}
+use Rattle.orc_tree.proofs.Paged.{rows_of-at}
 
 -- each of the paths stands behind the rows in front and before those behind
 abbrev AreWithin : Rows → Rows → List (List PathStep) → Type 0
@@ -57,18 +53,35 @@ gap_within q front page behind w a b gap = (
   below_less path_cmp path_cmp_total w q behind gap.0 b,
 )
 
-pub put_all_in_page : (q : List PathStep) (v : Item) (ws : List (List PathStep)) (ps : Pages) (i : ℕ) (p : Arc Page Global) → IsPageFor q ps i → p ≡ get_or ps i p → AreGaps q (rows_of ps) ws
-    → put path_cmp q v (put_entries ws (rows_of ps)) ≡ rows_of (take i ps) ++ (put path_cmp q v (put_entries ws (page_rows p)) ++ rows_of (drop (suc i) ps))
-put_all_in_page q v ws ps i p for is gaps =
-    let front = rows_of (take i ps) in
-    let behind = rows_of (drop (suc i) ps) in
-    let parts : rows_of ps ≡ front ++ (page_rows p ++ behind) = rows_of-at ps i p for.within is in
+pub put_all_in_part : {E : Type 0} (f : E → Rows) (q : List PathStep) (v : Item) (ws : List (List PathStep)) (ps : List E) (i : ℕ) (p : E) → IsPartFor f q ps i → p ≡ get_or ps i p
+    → AreGaps q (flat_map f ps) ws
+    → put path_cmp q v (put_entries ws (flat_map f ps)) ≡ flat_map f (take i ps) ++ (put path_cmp q v (put_entries ws (f p)) ++ flat_map f (drop (suc i) ps))
+put_all_in_part f q v ws ps i p for is gaps =
+    let front = flat_map f (take i ps) in
+    let behind = flat_map f (drop (suc i) ps) in
+    let parts : flat_map f ps ≡ front ++ (f p ++ behind) = rows_of-at f ps i p for.within is in
     let within : AreWithin front behind ws =
-    All-weaker (λ w. (path_cmp w q ≡ Less) × (none_between w q (front ++ (page_rows p ++ behind)) ≡ true)) (λ w. (above_all w front ≡ true) × (below_all path_cmp w behind ≡ true))
-    (λ w gap. gap_within q front (page_rows p) behind w for.before for.behind gap) ws (subst (λ (r : Rows). AreGaps q r ws) parts gaps) in
+    All-weaker (λ w. (path_cmp w q ≡ Less) × (none_between w q (front ++ (f p ++ behind)) ≡ true)) (λ w. (above_all w front ≡ true) × (below_all path_cmp w behind ≡ true))
+    (λ w gap. gap_within q front (f p) behind w for.before for.behind gap) ws (subst (λ (r : Rows). AreGaps q r ws) parts gaps) in
     ap (λ (r : Rows). put path_cmp q v (put_entries ws r)) parts
-    ∙ ap (put path_cmp q v) (put_entries-piece ws front (page_rows p) behind within)
-    ∙ put_piece path_cmp path_cmp_total q v front (put_entries ws (page_rows p)) behind for.before for.behind
+    ∙ ap (put path_cmp q v) (put_entries-piece ws front (f p) behind within)
+    ∙ put_piece path_cmp path_cmp_total q v front (put_entries ws (f p)) behind for.before for.behind
+
+-- what has no row among all of them has none among those of a part
+gap_part : (q : List PathStep) (front part behind : Rows) (w : List PathStep) → (path_cmp w q ≡ Less) × (none_between w q (front ++ (part ++ behind)) ≡ true)
+    → (path_cmp w q ≡ Less) × (none_between w q part ≡ true)
+gap_part q front part behind w gap =
+    let test : List PathStep × Item → Bool = λ row. is_gt (path_cmp w row.0) || is_lt (path_cmp q row.0) in
+    let rest : (none_between w q part && none_between w q behind) ≡ true = sym (list_all-append test part behind) ∙ (and_parts _ _ (sym (list_all-append test front (part ++ behind)) ∙ gap.1)).1 in
+    (gap.0, (and_parts _ _ rest).0)
+
+pub gaps_in_part : {E : Type 0} (f : E → Rows) (q : List PathStep) (ws : List (List PathStep)) (ps : List E) (i : ℕ) (p : E) → i < length ps → p ≡ get_or ps i p
+    → AreGaps q (flat_map f ps) ws → AreGaps q (f p) ws
+gaps_in_part f q ws ps i p within is gaps =
+    let front = flat_map f (take i ps) in
+    let behind = flat_map f (drop (suc i) ps) in
+    All-weaker (λ w. (path_cmp w q ≡ Less) × (none_between w q (front ++ (f p ++ behind)) ≡ true)) (λ w. (path_cmp w q ≡ Less) × (none_between w q (f p) ≡ true))
+    (λ w gap. gap_part q front (f p) behind w gap) ws (subst (λ (r : Rows). AreGaps q r ws) (rows_of-at f ps i p within is) gaps)
 
 -- something stands where something was put
 put_some : (q : List PathStep) (v : Item) (rows : Rows) → 1 ≤ length (put path_cmp q v rows)

@@ -1,16 +1,14 @@
 -- What removing a path takes of rows in order, and what it leaves.
 use Rattle.std.proofs.Common.{◌≡◌, ℕ, suc, ◌+◌, ◌<◌, ◌≤◌, Bool, true, false, not, cond, List, [], ◌∷◌, ◌++◌, length, take, drop, get_or, refl, sym, ap, subst, ◌∙◌, arith}
-use Rattle.std.specs.List.{slice_range}
+use Rattle.std.specs.List.{slice_range, flat_map}
 use Rattle.std.specs.Ordering.{is_lt, is_gt, eq_by_cmp}
 use Rattle.std.specs.Cmp.{tied_itself}
-use Rattle.std.specs.declared.alloc.Global.{Global}
-use Rattle.std.specs.declared.sync.Arc.{Arc}
 use Rattle.std.specs.declared.cmp.Ordering.{Ordering}
 use Rattle.std.specs.declared.cmp.Ordering.TheVariants.{Less, Equal, Greater}
 use Rattle.std.specs.FinMap.{is_sorted}
 use Rattle.std.specs.FinMap.Entries.{below_all}
 use Rattle.std.proofs.lemmas.Bool.{false≢true, and_parts, and_from, cond-true}
-use Rattle.std.proofs.lemmas.List.{take-append-drop, drop_more}
+use Rattle.std.proofs.lemmas.List.{drop_more}
 use Rattle.std.proofs.lemmas.List.Folds.{drop_split}
 use Rattle.std.proofs.lemmas.List.Elements.{filter-append}
 use Rattle.orc_path.specs.Steps.{PathStep, ends_in_keys}
@@ -20,14 +18,12 @@ use Rattle.orc_path.specs.Configurations.{is_removed_with}
 use Rattle.orc_path.proofs.ConfigurationLaws.{same_path}
 use Rattle.orc_path.specs.declared.item.Item.{Item}
 use Rattle.orc_path.proofs.Extensions.{path_cmp-extension}
-use Rattle.orc_tree.specs.declared.page.Page.{Page}
-use Rattle.orc_tree.specs.Pages.{page_rows, rows_of, AreSized}
-use Rattle.orc_tree.specs.inside.Places.{IsPageFor, above_all}
+use Rattle.orc_tree.specs.inside.Places.{IsPartFor, above_all}
 use Rattle.orc_tree.specs.inside.Removal.{kept_of, all_kept, starts_taken}
 use Rattle.orc_tree.proofs.InOrder.{turned_by}
 use Rattle.orc_tree.proofs.Maps.{Rows}
 use Rattle.orc_tree.proofs.Pieces.{lt_is, below_behind, sorted_behind}
-use Rattle.orc_tree.proofs.Paged.{Pages, rows_of-append, rows_of-at}
+use Rattle.orc_tree.proofs.Paged.{HaveRows, rows_of-append, rows_of-at, rows_of-cut}
 use Rattle.orc_tree.proofs.Between.{prefix_between}
 
 pub kept_all : (p : List PathStep) (rows : Rows) → all_kept p rows ≡ true → kept_of p rows ≡ rows
@@ -84,50 +80,57 @@ kept_further p row (next ∷ rows) l k h =
     let parts = and_parts (is_lt (path_cmp row.0 next.0)) (below_all path_cmp row.0 rows) h in
     and_from _ _ (not_taken (is_removed_with p next.0) (λ t. false≢true (sym k ∙ taken_between p row.0 next.0 l (lt_is _ parts.0) t))) (kept_further p row rows l k parts.1)
 
-kept_behind : (p : List PathStep) (page rest : Rows) → is_sorted path_cmp (page ++ rest) ≡ true → below_all path_cmp p (page ++ rest) ≡ true → 1 ≤ length page → starts_taken p page ≡ false
-    → all_kept p (page ++ rest) ≡ true
+kept_behind : (p : List PathStep) (part rest : Rows) → is_sorted path_cmp (part ++ rest) ≡ true → below_all path_cmp p (part ++ rest) ≡ true → 1 ≤ length part → starts_taken p part ≡ false
+    → all_kept p (part ++ rest) ≡ true
 kept_behind p [] rest s b l t = absurd (omega arith)
-kept_behind p (row ∷ page) rest s b l t =
+kept_behind p (row ∷ part) rest s b l t =
     and_from _ _ (ap not t)
-    (kept_further p row (page ++ rest) (lt_is _ (and_parts (is_lt (path_cmp p row.0)) _ b).0) t (and_parts (below_all path_cmp row.0 (page ++ rest)) _ s).0)
+    (kept_further p row (part ++ rest) (lt_is _ (and_parts (is_lt (path_cmp p row.0)) _ b).0) t (and_parts (below_all path_cmp row.0 (part ++ rest)) _ s).0)
 
-pub all_kept-from : (p : List PathStep) (ps : Pages) (i end : ℕ) (page : Arc Page Global) → IsPageFor p ps i → is_sorted path_cmp (rows_of ps) ≡ true → AreSized ps
-    → i < end → end < length ps → page ≡ get_or ps end page → starts_taken p (page_rows page) ≡ false → all_kept p (rows_of (drop end ps)) ≡ true
-all_kept-from p ps i end page for s sized more within is t =
-    let parts : drop end ps ≡ page ∷ drop (end + 1) ps = drop_more ps end page within ∙ ap (λ (x : Arc Page Global). x ∷ drop (end + 1) ps) (sym is) in
-    let cut : rows_of ps ≡ rows_of (take end ps) ++ rows_of (drop end ps) = ap rows_of (sym (take-append-drop end ps)) ∙ rows_of-append (take end ps) (drop end ps) in
-    let sorted : is_sorted path_cmp (rows_of (drop end ps)) ≡ true = sorted_behind path_cmp path_cmp_total (rows_of (take end ps)) (rows_of (drop end ps)) (ap (is_sorted path_cmp) (sym cut) ∙ s) in
-    let rest : rows_of (drop (suc i) ps) ≡ rows_of (slice_range ps (suc i) end) ++ rows_of (drop end ps) =
-    ap rows_of (drop_split ps (suc i) end (omega arith)) ∙ rows_of-append (slice_range ps (suc i) end) (drop end ps) in
-    let below : below_all path_cmp p (rows_of (drop end ps)) ≡ true =
-    below_behind path_cmp path_cmp_total p (rows_of (slice_range ps (suc i) end)) (rows_of (drop end ps)) (ap (below_all path_cmp p) (sym rest) ∙ for.behind) in
-    let some : 1 ≤ length (page_rows page) = subst (λ (x : Arc Page Global). 1 ≤ length (page_rows x)) (sym is) (sized end page within).0 in
-    let cut_page : rows_of (drop end ps) ≡ page_rows page ++ rows_of (drop (end + 1) ps) = ap rows_of parts in
-    ap (all_kept p) cut_page
-    ∙ kept_behind p (page_rows page) (rows_of (drop (end + 1) ps)) (ap (is_sorted path_cmp) (sym cut_page) ∙ sorted) (ap (below_all path_cmp p) (sym cut_page) ∙ below) some t
+-- what takes the first row of parts takes that of the first of them, which has one
+pub taken_first : (p : List PathStep) (part rest : Rows) → 1 ≤ length part → starts_taken p (part ++ rest) ≡ starts_taken p part
+taken_first p [] rest l = absurd (omega arith)
+taken_first p (row ∷ part) rest l = refl
 
--- the rows before a path's page and those behind what it takes stay
-pub kept_span : (p : List PathStep) (ps : Pages) (i end : ℕ) → above_all p (rows_of (take i ps)) ≡ true → all_kept p (rows_of (drop end ps)) ≡ true → i ≤ end
-    → kept_of p (rows_of ps) ≡ rows_of (take i ps) ++ (kept_of p (rows_of (slice_range ps i end)) ++ rows_of (drop end ps))
-kept_span p ps i end before behind order =
-    let front = rows_of (take i ps) in
-    let span = rows_of (slice_range ps i end) in
-    let rest = rows_of (drop end ps) in
-    let cut : rows_of ps ≡ front ++ (span ++ rest) =
-    ap rows_of (sym (take-append-drop i ps)) ∙ rows_of-append (take i ps) (drop i ps)
-    ∙ ap (λ (r : Rows). front ++ r) (ap rows_of (drop_split ps i end order) ∙ rows_of-append (slice_range ps i end) (drop end ps)) in
-    ap (kept_of p) cut ∙ kept_of-append p front (span ++ rest)
-    ∙ ap (λ (r : Rows). r ++ kept_of p (span ++ rest)) (kept_all p front (kept_before p front before))
-    ∙ ap (λ (r : Rows). front ++ r) (kept_of-append p span rest ∙ ap (λ (r : Rows). kept_of p span ++ r) (kept_all p rest behind))
+module _ {E : Type 0} (f : E → Rows) where
+  pub all_kept-from : (p : List PathStep) (ps : List E) (i end : ℕ) (part : E) → IsPartFor f p ps i → is_sorted path_cmp (flat_map f ps) ≡ true → HaveRows f ps
+      → i < end → end < length ps → part ≡ get_or ps end part → starts_taken p (f part) ≡ false → all_kept p (flat_map f (drop end ps)) ≡ true
+  all_kept-from p ps i end part for s some more within is t =
+      let parts : drop end ps ≡ part ∷ drop (end + 1) ps = drop_more ps end part within ∙ ap (λ (x : E). x ∷ drop (end + 1) ps) (sym is) in
+      let sorted : is_sorted path_cmp (flat_map f (drop end ps)) ≡ true = sorted_behind path_cmp path_cmp_total (flat_map f (take end ps)) (flat_map f (drop end ps)) (ap (is_sorted path_cmp) (sym (rows_of-cut f ps end)) ∙ s) in
+      let rest : flat_map f (drop (suc i) ps) ≡ flat_map f (slice_range ps (suc i) end) ++ flat_map f (drop end ps) =
+      ap (λ (qs : List E). flat_map f qs) (drop_split ps (suc i) end (omega arith)) ∙ rows_of-append f (slice_range ps (suc i) end) (drop end ps) in
+      let below : below_all path_cmp p (flat_map f (drop end ps)) ≡ true =
+      below_behind path_cmp path_cmp_total p (flat_map f (slice_range ps (suc i) end)) (flat_map f (drop end ps)) (ap (below_all path_cmp p) (sym rest) ∙ for.behind) in
+      let long : 1 ≤ length (f part) = subst (λ (x : E). 1 ≤ length (f x)) (sym is) (some end part within) in
+      let cut_part : flat_map f (drop end ps) ≡ f part ++ flat_map f (drop (end + 1) ps) = ap (λ (qs : List E). flat_map f qs) parts in
+      ap (all_kept p) cut_part
+      ∙ kept_behind p (f part) (flat_map f (drop (end + 1) ps)) (ap (is_sorted path_cmp) (sym cut_part) ∙ sorted) (ap (below_all path_cmp p) (sym cut_part) ∙ below) long t
 
-pub kept_in_page : (p : List PathStep) (ps : Pages) (i : ℕ) (page : Arc Page Global) → IsPageFor p ps i → page ≡ get_or ps i page → all_kept p (rows_of (drop (suc i) ps)) ≡ true
-    → kept_of p (rows_of ps) ≡ rows_of (take i ps) ++ (kept_of p (page_rows page) ++ rows_of (drop (suc i) ps))
-kept_in_page p ps i page for is behind =
-    let front = rows_of (take i ps) in
-    let rest = rows_of (drop (suc i) ps) in
-    ap (kept_of p) (rows_of-at ps i page for.within is) ∙ kept_of-append p front (page_rows page ++ rest)
-    ∙ ap (λ (r : Rows). r ++ kept_of p (page_rows page ++ rest)) (kept_all p front (kept_before p front for.before))
-    ∙ ap (λ (r : Rows). front ++ r) (kept_of-append p (page_rows page) rest ∙ ap (λ (r : Rows). kept_of p (page_rows page) ++ r) (kept_all p rest behind))
+  pub rows_of-span : (ps : List E) (i end : ℕ) → i ≤ end → flat_map f ps ≡ flat_map f (take i ps) ++ (flat_map f (slice_range ps i end) ++ flat_map f (drop end ps))
+  rows_of-span ps i end order =
+      rows_of-cut f ps i
+      ∙ ap (λ (r : Rows). flat_map f (take i ps) ++ r) (ap (λ (qs : List E). flat_map f qs) (drop_split ps i end order) ∙ rows_of-append f (slice_range ps i end) (drop end ps))
+
+  -- the rows before a path's part and those behind what it takes stay
+  pub kept_span : (p : List PathStep) (ps : List E) (i end : ℕ) → above_all p (flat_map f (take i ps)) ≡ true → all_kept p (flat_map f (drop end ps)) ≡ true → i ≤ end
+      → kept_of p (flat_map f ps) ≡ flat_map f (take i ps) ++ (kept_of p (flat_map f (slice_range ps i end)) ++ flat_map f (drop end ps))
+  kept_span p ps i end before behind order =
+      let front = flat_map f (take i ps) in
+      let span = flat_map f (slice_range ps i end) in
+      let rest = flat_map f (drop end ps) in
+      ap (kept_of p) (rows_of-span ps i end order) ∙ kept_of-append p front (span ++ rest)
+      ∙ ap (λ (r : Rows). r ++ kept_of p (span ++ rest)) (kept_all p front (kept_before p front before))
+      ∙ ap (λ (r : Rows). front ++ r) (kept_of-append p span rest ∙ ap (λ (r : Rows). kept_of p span ++ r) (kept_all p rest behind))
+
+  pub kept_in_part : (p : List PathStep) (ps : List E) (i : ℕ) (part : E) → IsPartFor f p ps i → part ≡ get_or ps i part → all_kept p (flat_map f (drop (suc i) ps)) ≡ true
+      → kept_of p (flat_map f ps) ≡ flat_map f (take i ps) ++ (kept_of p (f part) ++ flat_map f (drop (suc i) ps))
+  kept_in_part p ps i part for is behind =
+      let front = flat_map f (take i ps) in
+      let rest = flat_map f (drop (suc i) ps) in
+      ap (kept_of p) (rows_of-at f ps i part for.within is) ∙ kept_of-append p front (f part ++ rest)
+      ∙ ap (λ (r : Rows). r ++ kept_of p (f part ++ rest)) (kept_all p front (kept_before p front for.before))
+      ∙ ap (λ (r : Rows). front ++ r) (kept_of-append p (f part) rest ∙ ap (λ (r : Rows). kept_of p (f part) ++ r) (kept_all p rest behind))
 
 kept_short : (p : List PathStep) (rows : Rows) → length (kept_of p rows) ≤ length rows
 kept_short p [] = omega arith
@@ -150,5 +153,5 @@ kept_whole p (row ∷ rows) h = on (is_removed_with p row.0) (λ e. kept_whole p
 pub kept_some : (p : List PathStep) (rows : Rows) (n : ℕ) → n ≡ length (kept_of p rows) → (n ≡ 0 → ⊥) → 1 ≤ length (kept_of p rows)
 kept_some p rows n e none = omega arith
 
-pub kept_at_most : (p : List PathStep) (rows : Rows) → length rows ≤ 64 → length (kept_of p rows) ≤ 64
+pub kept_at_most : (p : List PathStep) (rows : Rows) → length rows ≤ 32 → length (kept_of p rows) ≤ 32
 kept_at_most p rows l = omega (arith, kept_short p rows)

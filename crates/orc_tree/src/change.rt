@@ -110,7 +110,7 @@ fn applied_to(alloc: Global, tree: &Tree, changes: &[Change]) -> Result<Tree, Me
     drop_each(&mut new, changes)?;
     put_each(alloc, &mut new, changes)?;
     // What is read of a tree tells that it is a configuration.
-    let _pages = new.pages();
+    let _chapters = new.chapters();
     Ok(new)
 }
 

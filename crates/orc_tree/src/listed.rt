@@ -1,40 +1,42 @@
-//! Lists of pages, which copies of a tree share until one of them changes.
+//! Lists of chapters, which copies of a tree share until one of them changes.
 ghost use Rattle.std.specs.Prelude.{◌≡◌, IfOk, OnOk, OnErr};
-ghost use Rattle.orc_tree.specs.Pages.{rows_of, AreSized, list_pages, listed};
-ghost use Rattle.orc_tree.specs.inside.Places.{AreInOrder};
+ghost use Rattle.orc_tree.specs.Pages.{list_chapters, listed, chapters_rows};
+ghost use Rattle.orc_tree.specs.inside.Places.{AreChaptersInOrder, AreLaid};
 ghost use Rattle.orc_tree.specs.inside.Puts.{AreGaps, put_with};
 ghost use Rattle.orc_tree.specs.inside.Removal.{kept_of};
 
-use crate::insertion::put;
-use crate::page::{Page, PageList, share_pages};
-use crate::removal::remove;
+use crate::chapter::{Chapter, ChapterList, share_chapters};
+use crate::chapter_insertion::put_in_chapters;
+use crate::chapter_removal::remove_in_chapters;
 use orc_path::{Item, Path};
 use orc_text::Memory;
 use std::alloc::Global;
 use std::sync::Arc;
 
-// The pages of a list, where there is one.
-pub(crate) fn pages_in(list: &Option<Arc<PageList>>) -> &[Arc<Page>]
+// The chapters of a list, where there is one.
+pub(crate) fn chapters_in(list: &Option<Arc<ChapterList>>) -> &[Arc<Chapter>]
     ensures { result.now ≡ listed list.now }
 {
     match list {
-        Some(list) => list.pages.as_slice(),
+        Some(list) => list.chapters.as_slice(),
         None => &[],
     }
 }
 
-// The list of these pages.
+// The list of these chapters.
 pub(crate) fn new_list(
     alloc: Global,
-    pages: Vec<Arc<Page>>,
-) -> Result<Option<Arc<PageList>>, Memory>
-    ensures { IfOk result (λ list. listed list ≡ pages.items) }
+    chapters: Vec<Arc<Chapter>>,
+) -> Result<Option<Arc<ChapterList>>, Memory>
+    ensures { IfOk result (λ list. listed list ≡ chapters.items) }
 {
-    Ok(Some(Arc::new(alloc, PageList { pages })?))
+    Ok(Some(Arc::new(alloc, ChapterList { chapters })?))
 }
 
 // Another holder of the list.
-pub(crate) fn share_list(list: &Option<Arc<PageList>>) -> Result<Option<Arc<PageList>>, Memory>
+pub(crate) fn share_list(
+    list: &Option<Arc<ChapterList>>,
+) -> Result<Option<Arc<ChapterList>>, Memory>
     ensures { IfOk result (λ shared. listed shared ≡ listed list.now) }
 {
     match list {
@@ -44,7 +46,7 @@ pub(crate) fn share_list(list: &Option<Arc<PageList>>) -> Result<Option<Arc<Page
 }
 
 // Whether nobody else holds the list.
-fn is_own(list: &Option<Arc<PageList>>) -> bool {
+fn is_own(list: &Option<Arc<ChapterList>>) -> bool {
     match list {
         Some(list) => Arc::strong_count(list) == 1,
         None => false,
@@ -53,72 +55,74 @@ fn is_own(list: &Option<Arc<PageList>>) -> bool {
 
 // Makes a list that has other holders, or is none, one of its own. After want of memory it is as it
 // was.
-fn own_list(list: &mut Option<Arc<PageList>>, alloc: Global) -> Result<(), Memory>
-    requires { AreSized (listed list.old) }
-    ensures rows { rows_of (listed list.new) ≡ rows_of (listed list.old) }
-    ensures sized { AreSized (listed list.new) }
+fn own_list(list: &mut Option<Arc<ChapterList>>, alloc: Global) -> Result<(), Memory>
+    requires { AreLaid (listed list.old) }
+    ensures rows { chapters_rows (listed list.new) ≡ chapters_rows (listed list.old) }
+    ensures laid { AreLaid (listed list.new) }
 {
     if is_own(list) {
         return Ok(());
     }
-    let pages = share_pages(alloc, pages_in(list))?;
-    *list = new_list(alloc, pages)?;
+    let chapters = share_chapters(alloc, chapters_in(list))?;
+    *list = new_list(alloc, chapters)?;
     Ok(())
 }
 
-// Puts entries and an item into the pages of a list that has no other holder.
+// Puts entries and an item into the chapters of a list that has no other holder.
 fn put_owned(
-    list: &mut Arc<PageList>,
+    list: &mut Arc<ChapterList>,
     missing: Vec<Path>,
     path: Path,
     item: Item,
 ) -> Result<(), Memory>
-    requires sorted { AreInOrder (list_pages list.old) }
-    requires sized { AreSized (list_pages list.old) }
-    requires gaps { AreGaps path (rows_of (list_pages list.old)) missing.items }
+    requires sorted { AreChaptersInOrder (list_chapters list.old) }
+    requires laid { AreLaid (list_chapters list.old) }
+    requires gaps { AreGaps path (chapters_rows (list_chapters list.old)) missing.items }
     ensures ok { OnOk result
-        (rows_of (list_pages list.new) ≡ put_with missing.items path item (rows_of (list_pages list.old))) }
-    ensures err { OnErr result (rows_of (list_pages list.new) ≡ rows_of (list_pages list.old)) }
-    ensures sized { AreSized (list_pages list.new) }
+        (chapters_rows (list_chapters list.new)
+        ≡ put_with missing.items path item (chapters_rows (list_chapters list.old))) }
+    ensures err { OnErr result (chapters_rows (list_chapters list.new) ≡ chapters_rows (list_chapters list.old)) }
+    ensures laid { AreLaid (list_chapters list.new) }
 {
     match Arc::get_mut(list) {
-        Some(list) => put(&mut list.pages, missing, path, item),
+        Some(list) => put_in_chapters(&mut list.chapters, missing, path, item),
         // No list has another holder behind `own_list`.
         None => Err(Memory),
     }
 }
 
-// Takes a path and what is below it out of the pages of a list that has no other holder.
-fn remove_owned(list: &mut Arc<PageList>, path: &Path) -> Result<(), Memory>
-    requires sorted { AreInOrder (list_pages list.old) }
-    requires sized { AreSized (list_pages list.old) }
-    ensures ok { OnOk result (rows_of (list_pages list.new) ≡ kept_of path.now (rows_of (list_pages list.old))) }
-    ensures err { OnErr result (rows_of (list_pages list.new) ≡ rows_of (list_pages list.old)) }
-    ensures sized { AreSized (list_pages list.new) }
+// Takes a path and what is below it out of the chapters of a list that has no other holder.
+fn remove_owned(list: &mut Arc<ChapterList>, path: &Path) -> Result<(), Memory>
+    requires sorted { AreChaptersInOrder (list_chapters list.old) }
+    requires laid { AreLaid (list_chapters list.old) }
+    ensures ok { OnOk result
+        (chapters_rows (list_chapters list.new) ≡ kept_of path.now (chapters_rows (list_chapters list.old))) }
+    ensures err { OnErr result (chapters_rows (list_chapters list.new) ≡ chapters_rows (list_chapters list.old)) }
+    ensures laid { AreLaid (list_chapters list.new) }
 {
     match Arc::get_mut(list) {
-        Some(list) => remove(&mut list.pages, path),
+        Some(list) => remove_in_chapters(&mut list.chapters, path),
         // No list has another holder behind `own_list`.
         None => Err(Memory),
     }
 }
 
-// Puts entries and an item into the pages of a list, which is copied where it has other holders.
+// Puts entries and an item into the chapters of a list, which is copied where it has other holders.
 // After want of memory the rows are as they were.
 pub(crate) fn put_shared(
-    list: &mut Option<Arc<PageList>>,
+    list: &mut Option<Arc<ChapterList>>,
     alloc: Global,
     missing: Vec<Path>,
     path: Path,
     item: Item,
 ) -> Result<(), Memory>
-    requires sorted { AreInOrder (listed list.old) }
-    requires sized { AreSized (listed list.old) }
-    requires gaps { AreGaps path (rows_of (listed list.old)) missing.items }
+    requires sorted { AreChaptersInOrder (listed list.old) }
+    requires laid { AreLaid (listed list.old) }
+    requires gaps { AreGaps path (chapters_rows (listed list.old)) missing.items }
     ensures ok { OnOk result
-        (rows_of (listed list.new) ≡ put_with missing.items path item (rows_of (listed list.old))) }
-    ensures err { OnErr result (rows_of (listed list.new) ≡ rows_of (listed list.old)) }
-    ensures sized { AreSized (listed list.new) }
+        (chapters_rows (listed list.new) ≡ put_with missing.items path item (chapters_rows (listed list.old))) }
+    ensures err { OnErr result (chapters_rows (listed list.new) ≡ chapters_rows (listed list.old)) }
+    ensures laid { AreLaid (listed list.new) }
 {
     own_list(list, alloc)?;
     match list {
@@ -127,18 +131,18 @@ pub(crate) fn put_shared(
     }
 }
 
-// Takes a path and what is below it out of the pages of a list, which is copied where it has other
+// Takes a path and what is below it out of the chapters of a list, which is copied where it has other
 // holders. After want of memory the rows are as they were.
 pub(crate) fn remove_shared(
-    list: &mut Option<Arc<PageList>>,
+    list: &mut Option<Arc<ChapterList>>,
     alloc: Global,
     path: &Path,
 ) -> Result<(), Memory>
-    requires sorted { AreInOrder (listed list.old) }
-    requires sized { AreSized (listed list.old) }
-    ensures ok { OnOk result (rows_of (listed list.new) ≡ kept_of path.now (rows_of (listed list.old))) }
-    ensures err { OnErr result (rows_of (listed list.new) ≡ rows_of (listed list.old)) }
-    ensures sized { AreSized (listed list.new) }
+    requires sorted { AreChaptersInOrder (listed list.old) }
+    requires laid { AreLaid (listed list.old) }
+    ensures ok { OnOk result (chapters_rows (listed list.new) ≡ kept_of path.now (chapters_rows (listed list.old))) }
+    ensures err { OnErr result (chapters_rows (listed list.new) ≡ chapters_rows (listed list.old)) }
+    ensures laid { AreLaid (listed list.new) }
 {
     own_list(list, alloc)?;
     match list {

@@ -1,11 +1,14 @@
 //! The entries of one list among rows in path order. These rows and those below them stand
 //! together.
-ghost use Rattle.std.specs.Prelude.{◌≡◌, ◌∷◌, ◌++◌, [], IfOk};
-ghost use Rattle.orc_tree.specs.Pages.{rows_of, AreSized};
-ghost use Rattle.orc_tree.specs.inside.Places.{AreInOrder};
+ghost use Rattle.std.specs.Prelude.{◌≡◌, ◌<◌, ◌∷◌, ◌++◌, [], length, IfOk, IsTrue};
+ghost use Rattle.std.specs.FinMap.{is_sorted};
+ghost use Rattle.orc_path.specs.Order.{path_cmp};
+ghost use Rattle.orc_tree.specs.Pages.{rows_of, AreSized, chapters_rows};
+ghost use Rattle.orc_tree.specs.inside.Places.{AreInOrder, AreChaptersInOrder, AreLaid, IsRestFor};
 ghost use Rattle.orc_tree.specs.inside.Lists.{is_under, is_past, entries_of};
 
-use crate::lookup::page_for;
+use crate::chapter::Chapter;
+use crate::lookup::{chapter_for, page_for};
 use crate::page::Page;
 use crate::walk::Rows;
 use orc_path::{Path, Step};
@@ -34,20 +37,20 @@ fn is_past(front: &[Step], last: &Step, list: &Path, path: &Path) -> bool
     !is_under(front, last, path.steps.as_slice())
 }
 
-// Copies of the entries of the list of these steps among pages.
+// Copies of the entries of the list of these steps among the rows to come.
 fn entries_among(
     alloc: Global,
-    pages: &[Arc<Page>],
+    rows: Rows<'_>,
     front: &[Step],
     last: &Step,
     list: &Path,
 ) -> Result<Vec<Path>, Memory>
-    requires sorted { AreInOrder pages.now }
+    requires sorted { IsTrue (is_sorted path_cmp rows) }
     requires parts { list.now ≡ front.now ++ last.now ∷ [] }
-    ensures { IfOk result (λ found. found.items ≡ entries_of list.now (rows_of pages.now)) }
+    ensures { IfOk result (λ found. found.items ≡ entries_of list.now rows.entry) }
 {
     let mut found = Vec::new(alloc);
-    for row in Rows::new(pages) {
+    for row in rows {
         if is_past(front, last, list, &row.0) {
             return Ok(found);
         }
@@ -58,15 +61,40 @@ fn entries_among(
     Ok(found)
 }
 
+// The rows of chapters from the page on in which the row of the path of these steps stands, or else
+// would.
+fn rows_from<'a>(chapters: &'a [Arc<Chapter>], steps: &[Step]) -> Rows<'a>
+    requires sorted { AreChaptersInOrder chapters.now }
+    requires laid { AreLaid chapters.now }
+    requires some { 0 < length chapters.now }
+    ensures { IsRestFor steps.now (chapters_rows chapters.now) result }
+{
+    let at = chapter_for(chapters, steps);
+    let pages = chapters[at].pages.as_slice();
+    Rows::behind(pages_from(pages, steps), &chapters[at + 1..])
+}
+
+// The pages from the one on in which the row of the path of these steps stands, or else would.
+fn pages_from<'a>(pages: &'a [Arc<Page>], steps: &[Step]) -> &'a [Arc<Page>]
+    requires sorted { AreInOrder pages.now }
+    requires sized { AreSized pages.now }
+    ensures { IsRestFor steps.now (rows_of pages.now) (rows_of result.now) }
+{
+    if pages.is_empty() {
+        return pages;
+    }
+    &pages[page_for(pages, steps)..]
+}
+
 // Copies of the entries of a list, in path order.
 pub(crate) fn list_entries(
     alloc: Global,
-    pages: &[Arc<Page>],
+    chapters: &[Arc<Chapter>],
     list: &Path,
 ) -> Result<Vec<Path>, Memory>
-    requires sorted { AreInOrder pages.now }
-    requires sized { AreSized pages.now }
-    ensures { IfOk result (λ found. found.items ≡ entries_of list.now (rows_of pages.now)) }
+    requires sorted { AreChaptersInOrder chapters.now }
+    requires laid { AreLaid chapters.now }
+    ensures { IfOk result (λ found. found.items ≡ entries_of list.now (chapters_rows chapters.now)) }
 {
     let steps = list.steps.as_slice();
     let (last, front) = match steps.split_last() {
@@ -76,9 +104,8 @@ pub(crate) fn list_entries(
     if last.keys.len() > 0 {
         return Ok(Vec::new(alloc));
     }
-    if pages.is_empty() {
+    if chapters.is_empty() {
         return Ok(Vec::new(alloc));
     }
-    let at = page_for(pages, steps);
-    entries_among(alloc, &pages[at..], front, last, list)
+    entries_among(alloc, rows_from(chapters, steps), front, last, list)
 }

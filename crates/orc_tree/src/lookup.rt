@@ -1,11 +1,12 @@
-//! The search for a path among pages.
+//! The search for a path among chapters, and among the pages of one.
 ghost use Rattle.std.specs.Prelude.{◌≡◌, ◌<◌, length, IsTrue};
 ghost use Rattle.std.specs.Option.{option_copied};
 ghost use Rattle.std.specs.FinMap.{find, is_sorted};
 ghost use Rattle.orc_path.specs.Order.{path_cmp};
-ghost use Rattle.orc_tree.specs.Pages.{rows_of, AreSized};
-ghost use Rattle.orc_tree.specs.inside.Places.{AreInOrder, IsPageFor, starts_behind};
+ghost use Rattle.orc_tree.specs.Pages.{rows_of, AreSized, chapters_rows};
+ghost use Rattle.orc_tree.specs.inside.Places.{AreInOrder, AreChaptersInOrder, AreLaid, IsPageFor, IsChapterFor, starts_behind};
 
+use crate::chapter::Chapter;
 use crate::page::Page;
 use crate::sorted::{order, search};
 use orc_path::{Item, Path, Step};
@@ -54,7 +55,7 @@ fn item_in<'a>(rows: &'a [(Path, Item)], steps: &[Step]) -> Option<&'a Item>
 }
 
 // The item at the path of these steps among pages, if there is one. It takes no memory.
-pub(crate) fn find_item<'a>(pages: &'a [Arc<Page>], steps: &[Step]) -> Option<&'a Item>
+fn item_among<'a>(pages: &'a [Arc<Page>], steps: &[Step]) -> Option<&'a Item>
     requires sorted { AreInOrder pages.now }
     requires sized { AreSized pages.now }
     ensures { option_copied result ≡ find path_cmp steps.now (rows_of pages.now) }
@@ -63,4 +64,51 @@ pub(crate) fn find_item<'a>(pages: &'a [Arc<Page>], steps: &[Step]) -> Option<&'
         return None;
     }
     item_in(pages[page_for(pages, steps)].rows.as_slice(), steps)
+}
+
+// Whether the first row of pages comes behind the path of these steps.
+fn first_behind(pages: &[Arc<Page>], steps: &[Step]) -> bool
+    requires { AreSized pages.now }
+    ensures { result ≡ starts_behind steps.now (rows_of pages.now) }
+{
+    match pages.first() {
+        Some(page) => starts_behind(page.rows.as_slice(), steps),
+        None => false,
+    }
+}
+
+// The chapter in which the row of the path of these steps stands, or else would. It halves the
+// chapters with each comparison.
+pub(crate) fn chapter_for(chapters: &[Arc<Chapter>], steps: &[Step]) -> usize
+    requires sorted { AreChaptersInOrder chapters.now }
+    requires laid { AreLaid chapters.now }
+    requires some { 0 < length chapters.now }
+    ensures { IsChapterFor steps.now chapters.now result }
+{
+    let mut low = 0;
+    let mut high = chapters.len();
+    while low + 1 < high {
+        let middle = low + (high - low) / 2;
+        if first_behind(chapters[middle].pages.as_slice(), steps) {
+            high = middle;
+        } else {
+            low = middle;
+        }
+    }
+    low
+}
+
+// The item at the path of these steps among chapters, if there is one. It takes no memory.
+pub(crate) fn find_item<'a>(chapters: &'a [Arc<Chapter>], steps: &[Step]) -> Option<&'a Item>
+    requires sorted { AreChaptersInOrder chapters.now }
+    requires laid { AreLaid chapters.now }
+    ensures { option_copied result ≡ find path_cmp steps.now (chapters_rows chapters.now) }
+{
+    if chapters.is_empty() {
+        return None;
+    }
+    item_among(
+        chapters[chapter_for(chapters, steps)].pages.as_slice(),
+        steps,
+    )
 }

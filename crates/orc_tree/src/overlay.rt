@@ -1,45 +1,35 @@
-//! The items of some pages set in others.
+//! The items of some chapters set in others.
 ghost use Rattle.std.specs.Prelude.{◌≡◌, OnOk};
 ghost use Rattle.orc_path.specs.Configurations.{insert_all};
-ghost use Rattle.orc_tree.specs.Pages.{rows_of, AreSized, pages_map};
-ghost use Rattle.orc_tree.specs.inside.Places.{AreInOrder};
+ghost use Rattle.orc_tree.specs.Pages.{chapters_rows, chapters_map};
+ghost use Rattle.orc_tree.specs.inside.Places.{AreChaptersInOrder, AreLaid};
 
-use crate::insertion::put;
-use crate::page::Page;
-use orc_path::{Item, Path};
+use crate::chapter::Chapter;
+use crate::chapter_insertion::put_in_chapters;
+use crate::walk::Rows;
 use orc_text::Memory;
 use std::sync::Arc;
 
-// Sets each of these rows in pages.
-fn lay_rows(pages: &mut Vec<Arc<Page>>, rows: &[(Path, Item)]) -> Result<(), Memory>
-    requires sorted { AreInOrder pages.old.items }
-    requires sized { AreSized pages.old.items }
-    ensures laid { OnOk result (pages_map pages.new.items ≡ insert_all rows.now (pages_map pages.old.items)) }
-    ensures sorted { OnOk result (AreInOrder pages.new.items) }
-    ensures sized { AreSized pages.new.items }
+// Sets each of the rows of some chapters in others.
+pub(crate) fn lay_chapters(
+    chapters: &mut Vec<Arc<Chapter>>,
+    top: &[Arc<Chapter>],
+) -> Result<(), Memory>
+    requires sorted { AreChaptersInOrder chapters.old.items }
+    requires laid { AreLaid chapters.old.items }
+    ensures set { OnOk result
+        (chapters_map chapters.new.items ≡ insert_all (chapters_rows top.now) (chapters_map chapters.old.items)) }
+    ensures sorted { OnOk result (AreChaptersInOrder chapters.new.items) }
+    ensures laid { AreLaid chapters.new.items }
 {
-    let alloc = *pages.allocator();
-    for row in rows {
-        put(
-            pages,
+    let alloc = *chapters.allocator();
+    for row in Rows::new(top) {
+        put_in_chapters(
+            chapters,
             Vec::new(alloc),
             row.0.copy(alloc)?,
             row.1.copy(alloc)?,
         )?;
-    }
-    Ok(())
-}
-
-// Sets each of the rows of some pages in others.
-pub(crate) fn lay_pages(pages: &mut Vec<Arc<Page>>, top: &[Arc<Page>]) -> Result<(), Memory>
-    requires sorted { AreInOrder pages.old.items }
-    requires sized { AreSized pages.old.items }
-    ensures laid { OnOk result (pages_map pages.new.items ≡ insert_all (rows_of top.now) (pages_map pages.old.items)) }
-    ensures sorted { OnOk result (AreInOrder pages.new.items) }
-    ensures sized { AreSized pages.new.items }
-{
-    for page in top {
-        lay_rows(pages, page.rows.as_slice())?;
     }
     Ok(())
 }

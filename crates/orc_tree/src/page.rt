@@ -1,6 +1,5 @@
 //! Pages: runs of rows in path order that trees share.
-ghost use Rattle.std.specs.Prelude.{◌≡◌, ◌++◌, IfOk, OnOk, length};
-ghost use Rattle.orc_text.specs.Counts.{capped};
+ghost use Rattle.std.specs.Prelude.{◌≡◌, ◌++◌, [], IfOk, OnOk};
 ghost use Rattle.orc_tree.specs.Pages.{page_rows, rows_of, AreSized};
 
 use orc_path::{Item, Path};
@@ -9,7 +8,7 @@ use std::alloc::Global;
 use std::sync::Arc;
 
 /// The most rows of a page of a tree.
-pub const PAGE_ROWS: usize = 64;
+pub const PAGE_ROWS: usize = 32;
 
 /// 1 to `PAGE_ROWS` rows of a tree in path order, each a path with its item.
 #[derive(Debug, Drop)]
@@ -32,12 +31,6 @@ impl Copied for Page {
     fn copied(&self, alloc: Global) -> Result<Page, Memory> {
         self.copy(alloc)
     }
-}
-
-// The pages of a tree, which stand behind one owner that its copies share.
-#[derive(Debug, Drop)]
-pub(crate) struct PageList {
-    pub(crate) pages: Vec<Arc<Page>>,
 }
 
 // Adds copies of rows at the end.
@@ -64,17 +57,6 @@ pub(crate) fn copy_rows(alloc: Global, rows: &[(Path, Item)]) -> Result<Vec<(Pat
     Ok(copies)
 }
 
-// How many rows pages have, or the largest 64-bit number where they have more.
-pub(crate) fn count_rows(pages: &[Arc<Page>]) -> u64
-    ensures { result ≡ capped (length (rows_of pages.now)) }
-{
-    let mut count: u64 = 0;
-    for page in pages {
-        count = count.saturating_add(page.rows.len() as u64);
-    }
-    count
-}
-
 // Makes a page that has other holders a copy of its own, so that it may be changed. After want of
 // memory it is as it was.
 pub(crate) fn own(alloc: Global, page: &mut Arc<Page>) -> Result<(), Memory>
@@ -86,6 +68,20 @@ pub(crate) fn own(alloc: Global, page: &mut Arc<Page>) -> Result<(), Memory>
     Ok(())
 }
 
+// Adds other holders of pages at the end.
+pub(crate) fn push_shared(out: &mut Vec<Arc<Page>>, pages: &[Arc<Page>]) -> Result<(), Memory>
+    requires sized { AreSized pages.now }
+    requires old { AreSized out.old.items }
+    ensures rows { OnOk result (rows_of out.new.items ≡ rows_of out.old.items ++ rows_of pages.now) }
+    ensures sized { AreSized out.new.items }
+{
+    out.reserve(pages.len())?;
+    for page in pages {
+        out.push(Arc::try_clone(page)?)?;
+    }
+    Ok(())
+}
+
 // Another list of the same pages.
 pub(crate) fn share_pages(alloc: Global, pages: &[Arc<Page>]) -> Result<Vec<Arc<Page>>, Memory>
     requires { AreSized pages.now }
@@ -93,9 +89,6 @@ pub(crate) fn share_pages(alloc: Global, pages: &[Arc<Page>]) -> Result<Vec<Arc<
     ensures sized { IfOk result (λ shared. AreSized shared.items) }
 {
     let mut shared = Vec::new(alloc);
-    shared.reserve(pages.len())?;
-    for page in pages {
-        shared.push(Arc::try_clone(page)?)?;
-    }
+    push_shared(&mut shared, pages)?;
     Ok(shared)
 }

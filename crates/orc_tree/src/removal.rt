@@ -15,7 +15,7 @@ use std::mem;
 use std::sync::Arc;
 
 // How many rows two neighbouring pages have at most that become one after a removal.
-const JOINED_ROWS: usize = 32;
+const JOINED_ROWS: usize = 16;
 
 // Whether removing a path takes another one.
 fn takes(path: &Path, other: &Path) -> bool
@@ -96,7 +96,7 @@ fn drop_within(page: &mut Arc<Page>, alloc: Global, path: &Path) -> Result<(), M
 }
 
 // Whether removing the path takes the first of some rows.
-fn starts_taken(rows: &[(Path, Item)], path: &Path) -> bool
+pub(crate) fn starts_taken(rows: &[(Path, Item)], path: &Path) -> bool
     ensures { result ≡ starts_taken path.now rows.now }
 {
     match rows.first() {

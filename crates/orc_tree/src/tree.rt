@@ -7,15 +7,15 @@ ghost use Rattle.orc_text.specs.Counts.{capped};
 ghost use Rattle.orc_path.specs.Items.{fits};
 ghost use Rattle.orc_path.specs.Configurations.{IsConfig, put_item, drop_item, overlay, is_entry_of};
 ghost use Rattle.orc_tree.specs.Changes.{applied, change_fits};
-ghost use Rattle.orc_tree.specs.Pages.{rows_of, AreSized};
+ghost use Rattle.orc_tree.specs.Pages.{rows_of, pages_of, AreSized, AreFilled};
 
 use crate::change::{ChangeSet, apply_to};
-use crate::listed::{new_list, pages_in, put_shared, remove_shared, share_list};
+use crate::chapter::{Chapter, ChapterList, share_chapters};
+use crate::listed::{chapters_in, new_list, put_shared, remove_shared, share_list};
 use crate::lists::list_entries;
 use crate::lookup::find_item;
-use crate::overlay::lay_pages;
-use crate::page::{Page, PageList, count_rows, push_copies, share_pages};
-use crate::walk::{Rows, same_rows};
+use crate::overlay::lay_chapters;
+use crate::walk::{Rows, count_all, same_rows};
 use crate::ways::missing_ways;
 use orc_path::{Item, Path};
 use orc_text::{Copied, Memory};
@@ -24,26 +24,27 @@ use std::marker::Model;
 use std::sync::Arc;
 
 /// A configuration: a finite map from paths to items in which every entry on the way to a path is
-/// present. Its rows stand in pages, which copies of the tree share until one of them changes.
+/// present. Its rows stand in pages, and these in chapters, both of which copies of the tree share
+/// until one of them changes.
 #[derive(Debug, Drop)]
 pub struct Tree {
     alloc: Global,
-    list: Option<Arc<PageList>>,
+    list: Option<Arc<ChapterList>>,
 }
 
 impl Model for Tree {
     ghost use Rattle.orc_path.specs.Codes.{config_code};
     ghost use Rattle.orc_path.specs.Configurations.{Config};
-    ghost use Rattle.orc_tree.specs.Pages.{pages_map, listed};
-    ghost use Rattle.orc_tree.specs.inside.Places.{ArePages};
+    ghost use Rattle.orc_tree.specs.Pages.{listed, chapters_map};
+    ghost use Rattle.orc_tree.specs.inside.Places.{AreChapters};
 
     ghost Value = { Config };
 
     ghost coded = { config_code };
 
-    ghost view = { λ tree. pages_map (listed tree.list) };
+    ghost view = { λ tree. chapters_map (listed tree.list) };
 
-    ghost invariant = { λ tree. ArePages (listed tree.list) };
+    ghost invariant = { λ tree. AreChapters (listed tree.list) };
 }
 
 impl Tree {
@@ -59,19 +60,19 @@ impl Tree {
         ensures item { option_copied result ≡ get self.now path.now }
         ensures config { IsConfig self.now }
     {
-        find_item(pages_in(&self.list), path.steps.as_slice())
+        find_item(chapters_in(&self.list), path.steps.as_slice())
     }
 
     /// Sets the item at a path, and adds the entries on its way that are missing. It costs a search
-    /// for each entry on the way and an edit of one page. After want of memory the tree is as it
-    /// was.
+    /// for each entry on the way and an edit of one page. Where copies hold the list of chapters,
+    /// the chapter or the page, these are copied first. After want of memory the tree is as it was.
     pub fn set(&mut self, path: Path, item: Item) -> Result<(), Memory>
         requires fits { IsTrue (fits path item) }
         ensures ok { OnOk result (self.new ≡ put_item self.old path item) }
         ensures err { OnErr result (self.new ≡ self.old) }
         ensures config { IsConfig self.new }
     {
-        let missing = missing_ways(self.alloc, pages_in(&self.list), &path)?;
+        let missing = missing_ways(self.alloc, chapters_in(&self.list), &path)?;
         put_shared(&mut self.list, self.alloc, missing, path, item)
     }
 
@@ -86,21 +87,21 @@ impl Tree {
     }
 
     /// Sets each item of another tree, so that this one is overlaid with it. It costs a list of the
-    /// pages, and for each of the other tree's items a copy, a search and an edit of one page.
+    /// chapters, and for each of the other tree's items a copy, a search and an edit of one page.
     /// After want of memory the tree is as it was.
     pub fn overlay_with(&mut self, top: &Tree) -> Result<(), Memory>
         ensures ok { OnOk result (self.new ≡ overlay top.now self.old) }
         ensures err { OnErr result (self.new ≡ self.old) }
         ensures config { IsConfig self.new }
     {
-        let mut pages = share_pages(self.alloc, pages_in(&self.list))?;
-        lay_pages(&mut pages, pages_in(&top.list))?;
-        self.list = new_list(self.alloc, pages)?;
+        let mut chapters = share_chapters(self.alloc, chapters_in(&self.list))?;
+        lay_chapters(&mut chapters, chapters_in(&top.list))?;
+        self.list = new_list(self.alloc, chapters)?;
         Ok(())
     }
 
     /// Applies changes: first the removals among them, and then what they put, each item with the
-    /// entries on its way that are missing. It costs a list of the pages, and for each change what
+    /// entries on its way that are missing. It costs a list of the chapters, and for each change what
     /// `remove` or `set` costs. After want of memory the tree is as it was.
     pub fn apply(&mut self, set: &ChangeSet) -> Result<(), Memory>
         requires fits { IsTrue (list_all change_fits set.now.changes) }
@@ -123,7 +124,7 @@ impl Tree {
         ensures keys { IfOk result (λ paths. paths.items ≡ filter (is_entry_of list.now) (keys self.now)) }
         ensures config { IsConfig self.now }
     {
-        list_entries(alloc, pages_in(&self.list), list)
+        list_entries(alloc, chapters_in(&self.list), list)
     }
 
     /// How many items there are, or the largest 64-bit number where there are more. It takes no
@@ -131,24 +132,25 @@ impl Tree {
     pub fn len(&self) -> u64
         ensures { result ≡ capped (length (entries self.now)) }
     {
-        count_rows(pages_in(&self.list))
+        count_all(chapters_in(&self.list))
     }
 
     /// Whether there is no item.
     pub fn is_empty(&self) -> bool
         ensures { IsTrue result ↔ (self.now ≡ empty) }
     {
-        pages_in(&self.list).is_empty()
+        chapters_in(&self.list).is_empty()
     }
 
-    /// The pages: their rows, one after another, are the paths with their items, in path order. It
-    /// takes no memory.
-    pub fn pages(&self) -> &[Arc<Page>]
-        ensures rows { rows_of result.now ≡ entries self.now }
-        ensures sized { AreSized result.now }
+    /// The chapters: the rows of their pages, one after another, are the paths with their items, in
+    /// path order. It takes no memory.
+    pub fn chapters(&self) -> &[Arc<Chapter>]
+        ensures rows { rows_of (pages_of result.now) ≡ entries self.now }
+        ensures sized { AreSized (pages_of result.now) }
+        ensures filled { AreFilled result.now }
         ensures config { IsConfig self.now }
     {
-        pages_in(&self.list)
+        chapters_in(&self.list)
     }
 
     /// The paths with their items, in path order, lent one after another. It takes no memory.
@@ -156,7 +158,7 @@ impl Tree {
         ensures rows { result ≡ entries self.now }
         ensures config { IsConfig self.now }
     {
-        Rows::new(pages_in(&self.list))
+        Rows::new(chapters_in(&self.list))
     }
 
     /// Copies of the paths with their items, in path order.
@@ -165,14 +167,15 @@ impl Tree {
         ensures config { IsConfig self.now }
     {
         let mut rows = Vec::new(alloc);
-        for page in pages_in(&self.list) {
-            push_copies(alloc, &mut rows, page.rows.as_slice())?;
+        for row in self.rows() {
+            rows.push((row.0.copy(alloc)?, row.1.copy(alloc)?))?;
         }
         Ok(rows)
     }
 
-    /// An equal tree, which holds the same list of pages. It costs a counter; the first change of one
-    /// of the two copies the list, and each change the page that it touches.
+    /// An equal tree, which holds the same list of chapters. It costs a counter. The first change of
+    /// one of the two copies the list, the first in a chapter the chapter, and the first in a page
+    /// the page: a counter for each chapter, one for each page of the chapter, and the page's rows.
     pub fn copy(&self, alloc: Global) -> Result<Tree, Memory>
         ensures equal { IfOk result (λ tree. tree ≡ self.now) }
         ensures config { IsConfig self.now }
@@ -185,7 +188,7 @@ impl Tree {
     pub fn equals(&self, other: &Tree) -> bool
         ensures { IsTrue result ↔ (self.now ≡ other.now) }
     {
-        same_rows(pages_in(&self.list), pages_in(&other.list))
+        same_rows(chapters_in(&self.list), chapters_in(&other.list))
     }
 }
 

@@ -4,47 +4,48 @@ ghost use Rattle.std.specs.FinMap.{find};
 ghost use Rattle.orc_path.specs.Order.{path_cmp};
 ghost use Rattle.orc_path.specs.Steps.{is_path};
 ghost use Rattle.orc_path.specs.Configurations.{has_keys_at, enter_all, ways};
-ghost use Rattle.orc_tree.specs.Pages.{rows_of, AreSized, pages_map};
-ghost use Rattle.orc_tree.specs.inside.Places.{AreInOrder, ArePages};
+ghost use Rattle.orc_tree.specs.Pages.{chapters_rows, chapters_map};
+ghost use Rattle.orc_tree.specs.inside.Places.{AreChaptersInOrder, AreLaid, AreChapters};
 ghost use Rattle.orc_tree.specs.inside.Puts.{AreGaps};
 
+use crate::chapter::Chapter;
 use crate::lookup::find_item;
-use crate::page::Page;
 use orc_path::{Path, Step};
 use orc_text::Memory;
 use std::alloc::Global;
 use std::sync::Arc;
 
 // Whether the step at a place has keys and the path up to it has no row.
-fn is_missing(pages: &[Arc<Page>], steps: &[Step], at: usize) -> bool
-    requires sorted { AreInOrder pages.now }
-    requires sized { AreSized pages.now }
+fn is_missing(chapters: &[Arc<Chapter>], steps: &[Step], at: usize) -> bool
+    requires sorted { AreChaptersInOrder chapters.now }
+    requires laid { AreLaid chapters.now }
     requires within { at < length steps.now }
     ensures { result
         ≡ (has_keys_at steps.now at
-        && is_none (find path_cmp (take (at + 1) steps.now) (rows_of pages.now))) }
+        && is_none (find path_cmp (take (at + 1) steps.now) (chapters_rows chapters.now))) }
 {
     let step = &steps[at];
-    step.keys.len() > 0 && find_item(pages, &steps[..at + 1]).is_none()
+    step.keys.len() > 0 && find_item(chapters, &steps[..at + 1]).is_none()
 }
 
 // Copies of the entries on the way to a path that have no row, the shorter ones first. To enter
 // these is to enter all on the way.
 pub(crate) fn missing_ways(
     alloc: Global,
-    pages: &[Arc<Page>],
+    chapters: &[Arc<Chapter>],
     path: &Path,
 ) -> Result<Vec<Path>, Memory>
-    requires { ArePages pages.now }
+    requires { AreChapters chapters.now }
     ensures entered { IfOk result
-        (λ missing. enter_all missing.items (pages_map pages.now) ≡ enter_all (ways path.now) (pages_map pages.now)) }
-    ensures gaps { IfOk result (λ missing. AreGaps path.now (rows_of pages.now) missing.items) }
+        (λ missing. enter_all missing.items (chapters_map chapters.now)
+        ≡ enter_all (ways path.now) (chapters_map chapters.now)) }
+    ensures gaps { IfOk result (λ missing. AreGaps path.now (chapters_rows chapters.now) missing.items) }
     ensures path { IsTrue (is_path path.now) }
 {
     let mut missing = Vec::new(alloc);
     let steps = path.steps.as_slice();
     for at in 0..steps.len().saturating_sub(1) {
-        if is_missing(pages, steps, at) {
+        if is_missing(chapters, steps, at) {
             missing.push(path.first_steps(alloc, at + 1)?)?;
         }
     }

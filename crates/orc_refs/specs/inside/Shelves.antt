@@ -1,4 +1,4 @@
--- The shelves that a store's back pointers stand on.
+-- The shelves that a store's back pointers stand on, and the racks of these.
 use Rattle.std.specs.Prelude.{◌≤◌, ℕ, suc, ◌<◌, Bool, false, not, List, [], ◌∷◌, map, length, take, drop, IsTrue}
 use Rattle.std.specs.Arc.{arc_value}
 use Rattle.std.specs.List.{flat_map, list_all, All}
@@ -9,9 +9,10 @@ use Rattle.std.specs.declared.alloc.Global.{Global}
 use Rattle.std.specs.declared.sync.Arc.{Arc}
 use Rattle.orc_path.specs.Steps.{PathStep}
 use Rattle.orc_path.specs.Order.{path_cmp}
-use Rattle.orc_refs.specs.declared.backs.Back.{Back}
-use Rattle.orc_refs.specs.declared.backs.Shelf.{Shelf}
-use Rattle.orc_refs.specs.declared.backs.ShelfList.{ShelfList}
+use Rattle.orc_refs.specs.declared.shelf.Back.{Back}
+use Rattle.orc_refs.specs.declared.shelf.Shelf.{Shelf}
+use Rattle.orc_refs.specs.declared.rack.Rack.{Rack}
+use Rattle.orc_refs.specs.declared.backs.RackList.{RackList}
 
 -- a path with the ids of the services that write it
 abbrev pub back_row : Arc Back Global → List PathStep × List (List ℕ)
@@ -29,13 +30,21 @@ shelf_rows shelf = back_rows (arc_value shelf).rows.items
 abbrev pub rows_on : List (Arc Shelf Global) → List (List PathStep × List (List ℕ))
 rows_on shelves = flat_map shelf_rows shelves
 
--- the shelves of a list of shelves that stores share
-abbrev pub list_shelves : Arc ShelfList Global → List (Arc Shelf Global)
-list_shelves list = (arc_value list).shelves.items
+-- the shelves of a rack
+abbrev pub rack_shelves : Arc Rack Global → List (Arc Shelf Global)
+rack_shelves rack = (arc_value rack).shelves.items
 
--- the rows of shelves stand in path order, each path once
-abbrev pub AreOrdered : List (Arc Shelf Global) → Type 0
-AreOrdered shelves = IsTrue (is_sorted path_cmp (rows_on shelves))
+-- the rows of a rack
+abbrev pub rack_rows : Arc Rack Global → List (List PathStep × List (List ℕ))
+rack_rows rack = rows_on (rack_shelves rack)
+
+-- the rows of racks, one rack after another
+abbrev pub rows_in : List (Arc Rack Global) → List (List PathStep × List (List ℕ))
+rows_in racks = flat_map rack_rows racks
+
+-- the racks of a list of racks that stores share
+abbrev pub list_racks : Arc RackList Global → List (Arc Rack Global)
+list_racks list = (arc_value list).racks.items
 
 -- a shelf has a row
 abbrev pub HasRow : Arc Shelf Global → Type 0
@@ -45,10 +54,27 @@ HasRow shelf = 1 ≤ length (shelf_rows shelf)
 abbrev pub AreSome : List (Arc Shelf Global) → Type 0
 AreSome shelves = All HasRow shelves
 
--- the rows of the shelves stand in path order, each path once, and no shelf is empty
-pub record AreShelved (shelves : List (Arc Shelf Global)) : Type 0 where
-  pub sorted : AreOrdered shelves
+-- there is a shelf, and none of the shelves is empty
+pub record HaveRows (shelves : List (Arc Shelf Global)) : Type 0 where
+  pub some : 1 ≤ length shelves
   pub full : AreSome shelves
+
+-- a rack has a shelf, and none of its shelves is empty
+abbrev pub IsFull : Arc Rack Global → Type 0
+IsFull rack = HaveRows (rack_shelves rack)
+
+-- each of the racks is so
+abbrev pub AreFull : List (Arc Rack Global) → Type 0
+AreFull racks = All IsFull racks
+
+-- rows stand in path order, each path once
+abbrev pub AreOrdered : List (List PathStep × List (List ℕ)) → Type 0
+AreOrdered rows = IsTrue (is_sorted path_cmp rows)
+
+-- the rows of the racks stand in path order, each path once, and no rack and no shelf is empty
+pub record AreRacked (racks : List (Arc Rack Global)) : Type 0 where
+  pub sorted : AreOrdered (rows_in racks)
+  pub full : AreFull racks
 
 -- each of the rows comes before the path
 abbrev pub all_before : List PathStep → List (List PathStep × List (List ℕ)) → Bool
@@ -59,11 +85,13 @@ abbrev pub starts_behind : List PathStep → List (List PathStep × List (List �
 starts_behind path [] = false
 starts_behind path (row ∷ rows) = is_lt (path_cmp path row.0)
 
--- the rows of the shelves before that one come before the path, and those of the shelves after it behind the path
-pub record IsShelfFor (path : List PathStep) (shelves : List (Arc Shelf Global)) (at : ℕ) : Type 0 where
-  pub within : at < length shelves
-  pub before : IsTrue (all_before path (rows_on (take at shelves)))
-  pub behind : IsTrue (below_all path_cmp path (rows_on (drop (suc at) shelves)))
+-- Of parts, which have rows (shelves, racks): the rows of the parts before that one come before the path, and those of
+-- the parts after it behind the path.
+pub record IsPartFor {X : Type 0} (rows : X → List (List PathStep × List (List ℕ))) (path : List PathStep)
+    (parts : List X) (at : ℕ) : Type 0 where
+  pub within : at < length parts
+  pub before : IsTrue (all_before path (flat_map rows (take at parts)))
+  pub behind : IsTrue (below_all path_cmp path (flat_map rows (drop (suc at) parts)))
 
 -- rows with one in the place of that of its path; one without ids takes the row away
 abbrev pub set_row

@@ -1,7 +1,7 @@
--- A tree's pages, and a path's page among them.
-use Rattle.std.specs.Prelude.{ℕ, suc, ◌<◌, Bool, false, List, [], ◌∷◌, length, take, drop, IsTrue}
+-- A tree's chapters and their pages, and a path's place among them.
+use Rattle.std.specs.Prelude.{◌≡◌, ℕ, suc, ◌<◌, ◌≤◌, Bool, false, List, [], ◌∷◌, ◌++◌, length, take, drop, IsTrue}
 use Rattle.std.specs.Ordering.{is_gt, is_lt}
-use Rattle.std.specs.List.{list_all}
+use Rattle.std.specs.List.{list_all, flat_map, All}
 use Rattle.std.specs.FinMap.{is_sorted}
 use Rattle.std.specs.FinMap.Entries.{below_all}
 use Rattle.std.specs.declared.alloc.Global.{Global}
@@ -11,17 +11,30 @@ use Rattle.orc_path.specs.Order.{path_cmp}
 use Rattle.orc_path.specs.Configurations.{IsConfig}
 use Rattle.orc_path.specs.declared.item.Item.{Item}
 use Rattle.orc_tree.specs.declared.page.Page.{Page}
-use Rattle.orc_tree.specs.Pages.{rows_of, pages_map, AreSized}
+use Rattle.orc_tree.specs.declared.chapter.Chapter.{Chapter}
+use Rattle.orc_tree.specs.Pages.{page_rows, rows_of, chapter_pages, chapter_rows, chapters_rows, chapters_map, AreSized}
 
 -- the rows of pages stand in path order, each path once
 abbrev pub AreInOrder : List (Arc Page Global) → Type 0
 AreInOrder pages = IsTrue (is_sorted path_cmp (rows_of pages))
 
--- the pages are sized, their rows stand in path order, each path once, and the rows' map is a configuration
-pub record ArePages (pages : List (Arc Page Global)) : Type 0 where
-  pub sorted : AreInOrder pages
-  pub config : IsConfig (pages_map pages)
-  pub sized : AreSized pages
+-- the rows of chapters stand in path order, each path once
+abbrev pub AreChaptersInOrder : List (Arc Chapter Global) → Type 0
+AreChaptersInOrder chapters = IsTrue (is_sorted path_cmp (chapters_rows chapters))
+
+-- a chapter's pages are sized, and it has a row
+abbrev pub IsLaid : Arc Chapter Global → Type 0
+IsLaid chapter = AreSized (chapter_pages chapter) × (1 ≤ length (chapter_rows chapter))
+
+-- each of the chapters is so
+abbrev pub AreLaid : List (Arc Chapter Global) → Type 0
+AreLaid chapters = All IsLaid chapters
+
+-- the chapters' rows stand in path order, each path once, and the rows' map is a configuration
+pub record AreChapters (chapters : List (Arc Chapter Global)) : Type 0 where
+  pub sorted : AreChaptersInOrder chapters
+  pub config : IsConfig (chapters_map chapters)
+  pub laid : AreLaid chapters
 
 -- each of the rows comes before the path
 abbrev pub above_all : List PathStep → List (List PathStep × Item) → Bool
@@ -32,8 +45,24 @@ abbrev pub starts_behind : List PathStep → List (List PathStep × Item) → Bo
 starts_behind path [] = false
 starts_behind path (row ∷ rows) = is_lt (path_cmp path row.0)
 
--- the rows of the pages before that one come before the path, and those of the pages after it behind the path
-pub record IsPageFor (path : List PathStep) (pages : List (Arc Page Global)) (at : ℕ) : Type 0 where
-  pub within : at < length pages
-  pub before : IsTrue (above_all path (rows_of (take at pages)))
-  pub behind : IsTrue (below_all path_cmp path (rows_of (drop (suc at) pages)))
+-- the rows of the parts before that one come before the path, and those of the parts after it behind the path
+pub record IsPartFor
+    {E : Type 0} (rows : E → List (List PathStep × Item)) (path : List PathStep) (parts : List E) (at : ℕ)
+    : Type 0 where
+  pub within : at < length parts
+  pub before : IsTrue (above_all path (flat_map rows (take at parts)))
+  pub behind : IsTrue (below_all path_cmp path (flat_map rows (drop (suc at) parts)))
+
+-- the page is the path's among pages
+abbrev pub IsPageFor : List PathStep → List (Arc Page Global) → ℕ → Type 0
+IsPageFor path pages at = IsPartFor page_rows path pages at
+
+-- the chapter is the path's among chapters
+abbrev pub IsChapterFor : List PathStep → List (Arc Chapter Global) → ℕ → Type 0
+IsChapterFor path chapters at = IsPartFor chapter_rows path chapters at
+
+-- the rest of the rows, in front of which only rows stand that come before the path
+pub record IsRestFor (path : List PathStep) (whole rest : List (List PathStep × Item)) : Type 0 where
+  pub front : List (List PathStep × Item)
+  pub parts : whole ≡ front ++ rest
+  pub before : IsTrue (above_all path front)

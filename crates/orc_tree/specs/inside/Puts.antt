@@ -11,7 +11,8 @@ use Rattle.orc_path.specs.Order.{path_cmp}
 use Rattle.orc_path.specs.declared.item.Item.{Item}
 use Rattle.orc_path.specs.declared.item.Item.TheVariants.{Entry}
 use Rattle.orc_tree.specs.declared.page.Page.{Page}
-use Rattle.orc_tree.specs.Pages.{rows_of}
+use Rattle.orc_tree.specs.declared.chapter.Chapter.{Chapter}
+use Rattle.orc_tree.specs.Pages.{rows_of, chapters_rows}
 
 -- with an entry at each of these paths
 abbrev pub put_entries : List (List PathStep) → List (List PathStep × Item) → List (List PathStep × Item)
@@ -27,6 +28,11 @@ put_with missing path item rows = put path_cmp path item (put_entries missing ro
 abbrev pub rows_with
     : List (Arc Page Global) → ℕ → ℕ → List (List PathStep × Item) → List (List PathStep × Item)
 rows_with pages from to rows = rows_of (take from pages) ++ (rows ++ rows_of (drop to pages))
+
+-- the rows of chapters with other rows in the place of those of the chapters from one up to another
+abbrev pub chapters_with
+    : List (Arc Chapter Global) → ℕ → ℕ → List (List PathStep × Item) → List (List PathStep × Item)
+chapters_with chapters from to rows = chapters_rows (take from chapters) ++ (rows ++ chapters_rows (drop to chapters))
 
 -- no row stands from the way up to the path
 abbrev pub none_between : List PathStep → List PathStep → List (List PathStep × Item) → Bool

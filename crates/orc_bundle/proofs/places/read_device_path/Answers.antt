@@ -5,6 +5,6 @@ use Rattle.orc_bundle.proofs.Lawful.{path_there}
 use Rattle.orc_bundle.proofs.places.read_device_path.Goals as goal
 
 pub returns-clause-lawful : goal.returns-clause-lawful
-returns-clause-lawful c =
+returns-clause-lawful g c =
     path_there c.args.declared.now c.in_ok-device.device c.in_ok-path.path c.requires (sym c.if-not-has.ensures)
     (subst (λ (s : SchemaTable). is_path_under s c.in_ok-path.path ≡ true) c.schema_named-schema.ensures c.in_ok-path.ensures.lawful)

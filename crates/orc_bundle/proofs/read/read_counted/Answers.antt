@@ -23,3 +23,8 @@ pub returns-clause-counts : goal.returns-clause-counts
 returns-clause-counts g c =
     both_ok c.read_seen.result _ _ _ (seen_counts c.args.bytes.now c.seen.result.now c.args.steps.now c.read_seen.new.steps c.seen.ensures)
     c.read_seen.ensures.small c.read_seen.ensures.counts
+
+pub returns-clause-worked : goal.returns-clause-worked
+returns-clause-worked g c =
+    let size = ap length c.seen.ensures ∙ length-take (LARGEST_BUNDLE + 1) c.args.bytes.now in
+    let worked = c.read_seen.ensures.worked in omega arith

@@ -50,6 +50,7 @@ lines-preserved g c =
       goes,
       omega arith,
       (let least = inv.7 in let more = c.take.ensures.counts in omega arith),
+      (let worked = c.take.ensures.worked in let before = inv.8 in omega arith),
     )
 
 pub returns-in-Err-clause-cost : goal.returns-in-Err-clause-cost
@@ -174,3 +175,56 @@ returns-in_err-check_opening-2-clause-cost g c =
     let left = none_left c.from_residual-in_err-check_opening-2.result c.from_residual-in_err-check_opening-2.ensures.0 in
     let ahead = ahead_declared_within c.lines.declared c.lines.rest.now in
     let so_far = c.lines.invariant.6 in omega arith
+
+-- what is worked
+
+pub returns-in-Err-clause-worked : goal.returns-in-Err-clause-worked
+returns-in-Err-clause-worked g c =
+    let line = c.first_line.result.0.now in
+    let later = c.first_line.result.1.now in
+    let bytes : length c.lines.rest.now ≡ length line + length later =
+    ap (λ (x : List ℕ). length x) c.first_line.ensures.parts ∙ length-append line later in
+    let worked = c.take.ensures.worked in
+    let looks = declared_within c.lines.declared line later in
+    let ahead = ahead_declared_within c.lines.declared c.lines.rest.now in
+    let so_far = c.lines.invariant.8 in omega arith
+
+pub returns-then-eq-clause-worked : goal.returns-then-eq-clause-worked
+returns-then-eq-clause-worked g c =
+    let line = c.first_line.result.0.now in
+    let later = c.first_line.result.1.now in
+    let new = c.take.new.self in
+    let bytes : length c.lines.rest.now ≡ length line + length later =
+    ap (λ (x : List ℕ). length x) c.first_line.ensures.parts ∙ length-append line later in
+    let pays = declared_pays c.lines.declared new c.lines.at line (lines_of later) c.lines.invariant.5 c.in_default.ensures.takes in
+    let none : ahead_declared new (lines_of later) ≡ 0 = script_ahead new.section new.skip (lines_of later) (sym c.eq.ensures ∙ c.if-eq.true) in
+    let is = ap (ahead_declared c.lines.declared) c.first_line.ensures.lines in
+    let worked = c.take.ensures.worked in
+    let so_far = c.lines.invariant.8 in omega arith
+
+pub returns-clause-worked : goal.returns-clause-worked
+returns-clause-worked g c =
+    let none : length c.lines.rest.now ≡ 0 = eqb-true (length c.lines.rest.now) 0 (sym c.is_empty.ensures ∙ c.lines-test.false) in
+    let ahead = ahead_declared_within c.lines.declared c.lines.rest.now in
+    let so_far = c.lines.invariant.8 in omega arith
+
+pub returns-in_err-check_opening-clause-worked : goal.returns-in_err-check_opening-clause-worked
+returns-in_err-check_opening-clause-worked g c =
+    let line = c.first_line.result.0.now in
+    let later = c.first_line.result.1.now in
+    let new = c.take.new.self in
+    let bytes : length c.lines.rest.now ≡ length line + length later =
+    ap (λ (x : List ℕ). length x) c.first_line.ensures.parts ∙ length-append line later in
+    let pays = declared_pays c.lines.declared new c.lines.at line (lines_of later) c.lines.invariant.5 c.in_default.ensures.takes in
+    let none : ahead_declared new (lines_of later) ≡ 0 = script_ahead new.section new.skip (lines_of later) (sym c.eq.ensures ∙ c.if-eq.true) in
+    let left = none_left c.from_residual.result c.from_residual.ensures.0 in
+    let is = ap (ahead_declared c.lines.declared) c.first_line.ensures.lines in
+    let worked = c.take.ensures.worked in
+    let so_far = c.lines.invariant.8 in omega arith
+
+pub returns-in_err-check_opening-2-clause-worked : goal.returns-in_err-check_opening-2-clause-worked
+returns-in_err-check_opening-2-clause-worked g c =
+    let none : length c.lines.rest.now ≡ 0 = eqb-true (length c.lines.rest.now) 0 (sym c.is_empty.ensures ∙ c.lines-test.false) in
+    let left = none_left c.from_residual-in_err-check_opening-2.result c.from_residual-in_err-check_opening-2.ensures.0 in
+    let ahead = ahead_declared_within c.lines.declared c.lines.rest.now in
+    let so_far = c.lines.invariant.8 in omega arith

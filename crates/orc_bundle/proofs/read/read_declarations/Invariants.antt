@@ -3,6 +3,7 @@ use Rattle.orc_bundle.specs.Lines.{lines_of}
 use Rattle.orc_bundle.specs.Bundles.{declarations_of, is_script}
 use Rattle.orc_bundle.specs.inside.Costs.{ahead_declared, bytes_to, is_kept}
 use Rattle.orc_bundle.specs.inside.Lawful.{AreDeclared}
+use Rattle.orc_bundle.specs.inside.Work.{block_work, most_work}
 use Rattle.orc_bundle.specs.declared.bundle.TheConstants.{LARGEST_BUNDLE}
 use Rattle.orc_bundle.proofs.read.read_declarations.Given as goal
 
@@ -18,6 +19,7 @@ invariant-lines g l =
     × (l.steps + bytes_to is_kept (lines_of l.bytes) + 2 * length l.rest
     ≤ l.initial.steps + 2 * length l.bytes + ahead_declared l.declared (lines_of l.rest))
     × (l.initial.steps + length l.bytes ≤ l.steps + length l.rest)
+    × (l.work + most_work (length l.rest) ≤ l.initial.work + most_work (length l.bytes) + block_work (ahead_declared l.declared (lines_of l.rest)))
 
 abbrev pub decreases-lines : goal.decreases-lines
 decreases-lines g l = length l.rest

@@ -32,6 +32,7 @@ lines-preserved g c =
           let pays = scripted_pays d c.lines.script c.lines.at line (lines_of later) c.take.new.self c.in_default.ensures.takes in
           let so_far = inv.5 in omega arith),
       (let least = inv.6 in let more = c.take.ensures.counts in let line_steps = c.first_line.ensures.cost in omega arith),
+      (let before = inv.7 in let worked = c.take.ensures.worked in omega arith),
     )
 
 pub returns-in-Err-clause-cost : goal.returns-in-Err-clause-cost
@@ -45,3 +46,12 @@ returns-in-Err-clause-cost g c =
     let looks = scripted_within line later in
     let ahead = ahead_scripted_within c.lines.script.part c.lines.rest.now in
     let so_far = c.lines.invariant.5 in omega arith
+
+pub returns-in-Err-clause-worked : goal.returns-in-Err-clause-worked
+returns-in-Err-clause-worked g c =
+    let line = c.first_line.result.0.now in
+    let later = c.first_line.result.1.now in
+    let bytes : length c.lines.rest.now ≡ length line + length later =
+    ap (λ (x : List ℕ). length x) c.first_line.ensures.parts ∙ length-append line later in
+    let worked = c.take.ensures.worked in
+    let so_far = c.lines.invariant.7 in omega arith

@@ -4,6 +4,7 @@ use Rattle.orc_bundle.specs.Bundles.{script_steps}
 use Rattle.orc_bundle.specs.Scripts.{no_steps}
 use Rattle.orc_bundle.specs.inside.Costs.{ahead_scripted}
 use Rattle.orc_bundle.specs.inside.Lawful.{AreSteps, decls_in}
+use Rattle.orc_bundle.specs.inside.Work.{work_on}
 use Rattle.orc_bundle.specs.declared.bundle.TheConstants.{LARGEST_BUNDLE}
 use Rattle.orc_bundle.proofs.read.read_steps.Given as goal
 
@@ -17,6 +18,7 @@ invariant-lines g l =
     × AreSteps (decls_in l.declared) l.number l.script
     × (l.steps + 2 * length l.rest ≤ l.initial.steps + 2 * length l.bytes + ahead_scripted l.script.part (lines_of l.rest))
     × (l.initial.steps + length l.bytes ≤ l.steps + length l.rest)
+    × (l.work + work_on l.rest ≤ l.initial.work + work_on l.bytes)
 
 abbrev pub decreases-lines : goal.decreases-lines
 decreases-lines g l = length l.rest

@@ -1,15 +1,16 @@
 use Rattle.std.proofs.Common.{◌≡◌, ◌++◌, ap, ◌∙◌}
-use Rattle.orc_tree.specs.Pages.{page_rows}
+use Rattle.orc_tree.specs.Pages.{rows_of, chapter_pages, chapter_rows}
 use Rattle.orc_tree.proofs.Maps.{Rows}
+use Rattle.orc_tree.proofs.Paged.{Pages}
 use Rattle.orc_change.specs.Differences.{removals}
 use Rattle.orc_change.proofs.Exact.{removals-append}
-use Rattle.orc_change.proofs.Walked.{page_more}
+use Rattle.orc_change.proofs.Walked.{part_more}
 use Rattle.orc_change.proofs.difference.push_removals.Goals as goal
 
-pub loop-page-preserved : goal.loop-page-preserved
-loop-page-preserved c =
+pub loop-chapter-preserved : goal.loop-chapter-preserved
+loop-chapter-preserved c =
     let other = c.args.to.now in
-    let page = c.page-item.result in
-    let rows_are : c.as_slice-rows.result.now ≡ page_rows page = c.as_slice-rows.ensures ∙ ap (λ p. p.rows) c.deref.ensures in
-    page_more (λ (rows : Rows). removals rows other) (removals-append other) c.args.pages.now c.loop-page.page-index page c.loop-page.changes _ _ c.loop-page-test.true c.page-item.is
-    (c.in_ok-push_absent.ensures ∙ ap (λ (rows : Rows). c.loop-page.changes ++ removals rows other) rows_are) c.loop-page.invariant
+    let chapter = c.chapter-item.result in
+    let pages_are : c.as_slice.result.now ≡ chapter_pages chapter = c.as_slice.ensures ∙ ap (λ x. x.pages) c.deref.ensures in
+    part_more chapter_rows (λ (rows : Rows). removals rows other) (removals-append other) c.args.chapters.now c.loop-chapter.chapter-index chapter c.loop-chapter.changes _ _ c.loop-chapter-test.true c.chapter-item.is
+    (c.in_ok-at.ensures ∙ ap (λ (ps : Pages). c.loop-chapter.changes ++ removals (rows_of ps) other) pages_are) c.loop-chapter.invariant

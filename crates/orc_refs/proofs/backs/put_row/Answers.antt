@@ -1,28 +1,32 @@
-use Rattle.std.proofs.Common.{◌≡◌, ◌+◌, ◌++◌, take, drop, ap, subst, ◌∙◌}
+use Rattle.std.proofs.Common.{◌≡◌, ◌++◌, true, take, drop, ap, sym, subst, ◌∙◌}
 use Rattle.std.specs.FinMap.{is_sorted}
 use Rattle.std.proofs.lemmas.Result.{on_ok_weaker}
 use Rattle.orc_path.specs.Order.{path_cmp}
-use Rattle.orc_refs.specs.declared.backs.Shelf.{Shelf}
-use Rattle.orc_refs.specs.inside.Shelves.{IsShelfFor, back_rows, rows_on, set_row, shelf_rows}
+use Rattle.orc_refs.specs.inside.Shelves.{AreFull, IsPartFor, rack_rows, rows_in, set_row}
+use Rattle.orc_refs.proofs.PartLaws.{sorted_part}
 use Rattle.orc_refs.proofs.RowLaws.{BackRows}
-use Rattle.orc_refs.proofs.ShelfLaws.{Shelves, set_row-on_shelf, sorted_shelf}
+use Rattle.orc_refs.proofs.ShelfLaws.{Racks, full-some, set_row-on_part}
 use Rattle.orc_refs.proofs.backs.put_row.Goals as goal
 
-pub with_row-requires-2 : goal.with_row-requires-2
-with_row-requires-2 c =
-    let shelves = c.args.shelves.now.items in
-    let for : IsShelfFor c.args.path shelves c.shelf_for-at.result = subst (λ (ps : Shelves). IsShelfFor c.args.path ps c.shelf_for-at.result) c.as_slice.ensures.value c.shelf_for-at.ensures in
-    let rows_are : back_rows c.as_slice-2.result.now ≡ shelf_rows c.index.result.now = ap back_rows c.as_slice-2.ensures.value ∙ ap (λ (s : Shelf). back_rows s.rows.items) c.deref.ensures in
-    ap (is_sorted path_cmp) rows_are ∙ sorted_shelf shelves c.shelf_for-at.result c.index.result.now c.requires.sorted for.within c.index.ensures
+pub part_for-at-requires-clause-full : goal.part_for-at-requires-clause-full
+part_for-at-requires-clause-full c = full-some c.as_slice.result.now (subst AreFull (sym c.as_slice.ensures.value) c.requires.full)
+
+pub put_on-requires-2-clause-sorted : goal.put_on-requires-2-clause-sorted
+put_on-requires-2-clause-sorted c =
+    let racks = c.args.racks.now.items in
+    let at = c.part_for-at.result in
+    let for : IsPartFor rack_rows c.args.path racks at = subst (λ (ps : Racks). IsPartFor rack_rows c.args.path ps at) c.as_slice.ensures.value c.part_for-at.ensures in
+    subst (λ (r : BackRows). is_sorted path_cmp r ≡ true) (sym c.in_ok-shelves.ensures.rows) (sorted_part rack_rows racks at c.remove.result c.requires.sorted for.within c.remove.ensures.value)
 
 pub returns-clause-rows : goal.returns-clause-rows
 returns-clause-rows c =
-    let shelves = c.args.shelves.now.items in
-    let at = c.shelf_for-at.result in
-    let for : IsShelfFor c.args.path shelves at = subst (λ (ps : Shelves). IsShelfFor c.args.path ps at) c.as_slice.ensures.value c.shelf_for-at.ensures in
-    let rows_are : back_rows c.as_slice-2.result.now ≡ shelf_rows c.index.result.now = ap back_rows c.as_slice-2.ensures.value ∙ ap (λ (s : Shelf). back_rows s.rows.items) c.deref.ensures in
-    on_ok_weaker c.replace.result
+    let racks = c.args.racks.now.items in
+    let rest = c.remove.new.self.items in
+    let at = c.part_for-at.result in
+    let for : IsPartFor rack_rows c.args.path racks at = subst (λ (ps : Racks). IsPartFor rack_rows c.args.path ps at) c.as_slice.ensures.value c.part_for-at.ensures in
+    on_ok_weaker c.insert_shelves-2.result
     (λ is. is
-    ∙ ap (λ (r : BackRows). rows_on (take at shelves) ++ (r ++ rows_on (drop (at + 1) shelves))) (c.in_ok-rows.ensures ∙ ap (set_row c.args.path c.args.ids) rows_are)
-    ∙ set_row-on_shelf c.args.path c.args.ids shelves at c.index.result.now for c.index.ensures)
-    c.replace.ensures.rows
+    ∙ ap (λ (r : BackRows). rows_in (take at rest) ++ (r ++ rows_in (drop at rest))) (c.in_ok-put_on-2.ensures.rows ∙ ap (set_row c.args.path c.args.ids) c.in_ok-shelves.ensures.rows)
+    ∙ ap (λ (ps : Racks). rows_in (take at ps) ++ (set_row c.args.path c.args.ids (rack_rows c.remove.result) ++ rows_in (drop at ps))) c.remove.ensures.items
+    ∙ set_row-on_part rack_rows c.args.path c.args.ids racks at c.remove.result for c.remove.ensures.value)
+    c.insert_shelves-2.ensures.rows

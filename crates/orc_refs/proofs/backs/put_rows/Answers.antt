@@ -3,7 +3,7 @@ use Rattle.std.specs.Vec.Iter.{into_iter_items}
 use Rattle.std.specs.FinMap.{from_sorted, is_sorted}
 use Rattle.orc_path.specs.Order.{path_cmp}
 use Rattle.orc_refs.specs.inside.Plans.{with_rows}
-use Rattle.orc_refs.specs.inside.Shelves.{rows_on, set_row}
+use Rattle.orc_refs.specs.inside.Shelves.{rows_in, set_row}
 use Rattle.orc_refs.proofs.RowLaws.{BackRows}
 use Rattle.orc_refs.proofs.ShelfLaws.{map_of-set_row, sorted-set_row}
 use Rattle.orc_refs.proofs.backs.put_rows.Goals as goal
@@ -13,10 +13,10 @@ loop-path-preserved g c =
     let path = c.in-Some.path in
     let ids = c.in-Some.ids in
     let rest = into_iter_items c.next.new.self in
-    let old = rows_on c.loop-path.shelves.items in
+    let old = rows_in c.loop-path.racks.items in
     let taken = c.in-Some.ensures.steps in
     let first : into_iter_items c.loop-path.path-iterator ≡ (path, ids) ∷ rest = taken.0 in
-    let put : rows_on c.put_row.new.shelves.items ≡ set_row path ids old = c.in_ok-put_row.ensures.rows in
+    let put : rows_in c.put_row.new.racks.items ≡ set_row path ids old = c.in_ok-put_row.ensures.rows in
     record {
       sorted = subst (λ (r : BackRows). is_sorted path_cmp r ≡ true) (sym put) (sorted-set_row path ids old c.loop-path.invariant.sorted);
       full = c.in_ok-put_row.ensures.full;

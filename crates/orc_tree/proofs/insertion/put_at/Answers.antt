@@ -6,25 +6,25 @@ use Rattle.orc_path.specs.Order.{path_cmp}
 use Rattle.orc_tree.specs.Pages.{page_rows, rows_of}
 use Rattle.orc_tree.specs.inside.Puts.{put_entries}
 use Rattle.orc_tree.proofs.Maps.{Rows}
-use Rattle.orc_tree.proofs.Paged.{sorted_page, rows_of-at, rows_of-changed, AreSized-set}
-use Rattle.orc_tree.proofs.Gaps.{put_all_in_page, some_after}
+use Rattle.orc_tree.proofs.Paged.{sorted_part, rows_of-at, rows_of-changed, AreSized-set}
+use Rattle.orc_tree.proofs.Gaps.{put_all_in_part, some_after}
 use Rattle.orc_tree.proofs.insertion.put_at.Goals as goal
 
 pub put_within-requires : goal.put_within-requires
 put_within-requires c = record {
-  sorted = sorted_page c.args.pages.now.items c.args.at c.index_mut.result.now c.requires.sorted c.requires.page.within c.index_mut.ensures.value;
+  sorted = sorted_part page_rows c.args.pages.now.items c.args.at c.index_mut.result.now c.requires.sorted c.requires.page.within c.index_mut.ensures.value;
 }
 
 pub returns-then-len-lt-PAGE_ROWS-clause-ok : goal.returns-then-len-lt-PAGE_ROWS-clause-ok
 returns-then-len-lt-PAGE_ROWS-clause-ok c =
     on_ok_weaker c.put_within.result
-    (λ is. rows_of-changed c.args.pages.now.items c.args.at c.put_within.new.page _ c.requires.page.within is ∙ sym (put_all_in_page c.args.path c.args.item c.args.missing.items c.args.pages.now.items c.args.at c.index_mut.result.now c.requires.page c.index_mut.ensures.value c.requires.gaps))
+    (λ is. rows_of-changed page_rows c.args.pages.now.items c.args.at c.put_within.new.page _ c.requires.page.within is ∙ sym (put_all_in_part page_rows c.args.path c.args.item c.args.missing.items c.args.pages.now.items c.args.at c.index_mut.result.now c.requires.page c.index_mut.ensures.value c.requires.gaps))
     c.put_within.ensures.ok
 
 pub returns-then-len-lt-PAGE_ROWS-clause-err : goal.returns-then-len-lt-PAGE_ROWS-clause-err
 returns-then-len-lt-PAGE_ROWS-clause-err c =
     on_err_weaker c.put_within.result
-    (λ is. rows_of-changed c.args.pages.now.items c.args.at c.put_within.new.page _ c.requires.page.within is ∙ sym (rows_of-at c.args.pages.now.items c.args.at c.index_mut.result.now c.requires.page.within c.index_mut.ensures.value))
+    (λ is. rows_of-changed page_rows c.args.pages.now.items c.args.at c.put_within.new.page _ c.requires.page.within is ∙ sym (rows_of-at page_rows c.args.pages.now.items c.args.at c.index_mut.result.now c.requires.page.within c.index_mut.ensures.value))
     c.put_within.ensures.err
 
 pub returns-then-len-lt-PAGE_ROWS-clause-sized : goal.returns-then-len-lt-PAGE_ROWS-clause-sized
@@ -45,7 +45,7 @@ returns-then-len-lt-PAGE_ROWS-clause-sized c =
 pub put_apart-requires-clause-sorted : goal.put_apart-requires-clause-sorted
 put_apart-requires-clause-sorted c =
     subst (λ (r : Rows). is_sorted path_cmp r ≡ true) (sym (c.in_ok-rows.ensures ∙ c.as_slice.ensures ∙ ap (λ p. p.rows) c.deref-2.ensures))
-    (sorted_page c.args.pages.now.items c.args.at c.index-2.result.now c.requires.sorted c.requires.page.within c.index-2.ensures)
+    (sorted_part page_rows c.args.pages.now.items c.args.at c.index-2.result.now c.requires.sorted c.requires.page.within c.index-2.ensures)
 
 pub returns-clause-ok : goal.returns-clause-ok
 returns-clause-ok c =
@@ -57,5 +57,5 @@ returns-clause-ok c =
     (λ laid. laid
     ∙ ap (λ n. rows_of (take at pages) ++ (put path_cmp c.args.path c.args.item (put_entries c.args.missing.items c.in_ok-rows.rows.items) ++ rows_of (drop n pages))) next
     ∙ ap (λ (r : Rows). rows_of (take at pages) ++ (put path_cmp c.args.path c.args.item (put_entries c.args.missing.items r) ++ rows_of (drop (suc at) pages))) rows_are
-    ∙ sym (put_all_in_page c.args.path c.args.item c.args.missing.items pages at c.index-2.result.now c.requires.page c.index-2.ensures c.requires.gaps))
+    ∙ sym (put_all_in_part page_rows c.args.path c.args.item c.args.missing.items pages at c.index-2.result.now c.requires.page c.index-2.ensures c.requires.gaps))
     c.put_apart.ensures.ok

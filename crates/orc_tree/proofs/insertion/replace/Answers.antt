@@ -1,6 +1,6 @@
 use Rattle.std.proofs.Common.{◌≡◌, ◌++◌, take, drop, ap, sym, subst, ◌∙◌}
 use Rattle.std.specs.List.{splice}
-use Rattle.orc_tree.specs.Pages.{rows_of, AreSized}
+use Rattle.orc_tree.specs.Pages.{page_rows, rows_of, AreSized}
 use Rattle.orc_tree.proofs.Maps.{Rows}
 use Rattle.orc_tree.proofs.Paged.{rows_of-splice, AreSized-splice}
 use Rattle.orc_tree.proofs.Spliced.{spliced}
@@ -13,7 +13,7 @@ laid c =
 
 pub returns-clause-ok : goal.returns-clause-ok
 returns-clause-ok c =
-    ap rows_of (laid c) ∙ rows_of-splice c.args.pages.now.items c.in_ok-new.new.items c.args.from c.args.to
+    ap rows_of (laid c) ∙ rows_of-splice page_rows c.args.pages.now.items c.in_ok-new.new.items c.args.from c.args.to
     ∙ ap (λ (r : Rows). rows_of (take c.args.from c.args.pages.now.items) ++ (r ++ rows_of (drop c.args.to c.args.pages.now.items))) c.in_ok-new.ensures.rows
 
 pub returns-clause-sized : goal.returns-clause-sized

@@ -7,8 +7,8 @@ pub returns-in_err-part-clause-rows : goal.returns-in_err-part-clause-rows
 returns-in_err-part-clause-rows c =
     let pages = c.reserve.new.self.items in
     let within : c.args.at < length pages = subst (λ (ps : Pages). c.args.at < length ps) (sym c.reserve.ensures.items) c.requires.within in
-    rows_of-changed pages c.args.at c.part.new.page _ within c.in_err-part.ensures.err
-    ∙ sym (rows_of-at pages c.args.at c.index_mut.result.now within c.index_mut.ensures.value) ∙ ap rows_of c.reserve.ensures.items
+    rows_of-changed page_rows pages c.args.at c.part.new.page _ within c.in_err-part.ensures.err
+    ∙ sym (rows_of-at page_rows pages c.args.at c.index_mut.result.now within c.index_mut.ensures.value) ∙ ap rows_of c.reserve.ensures.items
 
 pub returns-clause-rows : goal.returns-clause-rows
 returns-clause-rows c =
@@ -29,10 +29,10 @@ returns-clause-sized c =
     let page = c.index_mut.result.now in
     let front = c.part.new.page in
     let behind = c.part.new.behind in
-    let full : length (page_rows page) ≡ 64 =
+    let full : length (page_rows page) ≡ 32 =
     ap (λ p. length (page_rows p)) (c.index_mut.ensures.value ∙ ap (λ (ps : Pages). get_or ps at page) c.reserve.ensures.items) ∙ c.requires.full page in
-    let half : length (page_rows front) ≡ 32 = c.in_ok-part.ensures.len in
-    let rest : length (page_rows behind) ≡ 32 = half_left (page_rows page) (page_rows front) (page_rows behind) c.in_ok-part.ensures.ok full half in
+    let half : length (page_rows front) ≡ 16 = c.in_ok-part.ensures.len in
+    let rest : length (page_rows behind) ≡ 16 = half_left (page_rows page) (page_rows front) (page_rows behind) c.in_ok-part.ensures.ok full half in
     let sized : AreSized pages = subst AreSized (sym c.reserve.ensures.items) c.requires.sized in
     subst AreSized (sym c.in-Ok.ensures.items)
     (AreSized-insert (set pages at front) (at + 1) behind (AreSized-set pages at front sized (omega (arith, half)) (omega (arith, half))) (omega (arith, rest)) (omega (arith, rest)))

@@ -3,7 +3,7 @@ use Rattle.std.specs.FinMap.Entries.{below_all}
 use Rattle.orc_path.specs.Order.{path_cmp}
 use Rattle.orc_tree.specs.Pages.{page_rows, rows_of}
 use Rattle.orc_tree.specs.inside.Places.{starts_behind}
-use Rattle.orc_tree.proofs.Paged.{behind_page, before_page}
+use Rattle.orc_tree.proofs.Paged.{behind_part, before_part, AreSized-some}
 use Rattle.orc_tree.proofs.lookup.page_for.Goals as goal
 
 pub loop-low-preserved-then-starts_behind : goal.loop-low-preserved-then-starts_behind
@@ -18,7 +18,7 @@ loop-low-preserved-then-starts_behind c =
       order = omega arith;
       within = omega arith;
       before = c.loop-low.invariant.before;
-      behind = behind_page c.args.steps.now pages middle page c.requires.sorted within c.index-pages-middle.is behind;
+      behind = behind_part page_rows c.args.steps.now pages middle page c.requires.sorted within c.index-pages-middle.is behind;
     }
 
 pub loop-low-preserved : goal.loop-low-preserved
@@ -31,7 +31,7 @@ loop-low-preserved c =
     record {
       order = omega arith;
       within = c.loop-low.invariant.within;
-      before = before_page c.args.steps.now pages middle page c.requires.sorted c.requires.sized within c.index-pages-middle.is
+      before = before_part page_rows c.args.steps.now pages middle page c.requires.sorted (AreSized-some pages c.requires.sized) within c.index-pages-middle.is
           (ap (starts_behind c.args.steps.now) (sym rows_are) ∙ sym c.starts_behind.ensures ∙ c.if-starts_behind.false);
       behind = c.loop-low.invariant.behind;
     }

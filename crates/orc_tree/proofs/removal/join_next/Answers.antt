@@ -20,5 +20,5 @@ returns-clause-rows c =
     either_way c.replace.result (λ (r : Rows). r ≡ rows_of pages) (rows_of c.replace.new.pages.items) (rows_with pages at (at + 2) c.push_copies.new.out.items) (rows_of pages)
     c.replace.ensures.ok (on_err_weaker c.replace.result (λ e. ap rows_of e) c.replace.ensures.err)
     (ap (rows_with pages at (at + 2)) both
-    ∙ rows_of-two pages at left right (omega (arith, c.if-at-len-2.false, c.len.ensures)) c.index-3.ensures c.index-4.ensures)
+    ∙ rows_of-two page_rows pages at left right (omega (arith, c.if-at-len-2.false, c.len.ensures)) c.index-3.ensures c.index-4.ensures)
     refl

@@ -1,7 +1,7 @@
 use Rattle.std.proofs.Common.{◌≡◌, ◌++◌, take, drop, ap, sym, ◌∙◌, arith}
 use Rattle.std.specs.List.{slice_range}
 use Rattle.std.proofs.lemmas.Result.{on_ok_weaker}
-use Rattle.orc_tree.specs.Pages.{rows_of}
+use Rattle.orc_tree.specs.Pages.{page_rows, rows_of}
 use Rattle.orc_tree.specs.inside.Removal.{kept_of}
 use Rattle.orc_tree.proofs.Maps.{Rows}
 use Rattle.orc_tree.proofs.Paged.{Pages}
@@ -19,5 +19,5 @@ returns-clause-ok c =
     on_ok_weaker c.replace.result
     (λ laid. laid
     ∙ ap (λ (r : Rows). rows_of (take at pages) ++ (r ++ rows_of (drop end pages))) rows_are
-    ∙ sym (kept_span p pages at end c.requires.page.before c.requires.kept (omega (arith, c.requires.order))))
+    ∙ sym (kept_span page_rows p pages at end c.requires.page.before c.requires.kept (omega (arith, c.requires.order))))
     c.replace.ensures.ok

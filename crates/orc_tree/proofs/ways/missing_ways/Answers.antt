@@ -5,7 +5,7 @@ use Rattle.std.proofs.lemmas.Bool.{and_parts}
 use Rattle.orc_path.specs.Steps.{PathStep}
 use Rattle.orc_path.specs.Order.{path_cmp}
 use Rattle.orc_path.specs.Configurations.{has_keys_at, enter_all, ways_up_to}
-use Rattle.orc_tree.specs.Pages.{rows_of}
+use Rattle.orc_tree.specs.Pages.{chapters_rows}
 use Rattle.orc_tree.specs.inside.Puts.{AreGaps}
 use Rattle.orc_tree.proofs.Maps.{map_of, get-of_rows}
 use Rattle.orc_tree.proofs.Entering.{missing_more, missing_none}
@@ -17,7 +17,7 @@ pub loop-at-preserved : goal.loop-at-preserved
 loop-at-preserved c =
     let p = c.args.path.now in
     let at = c.loop-at.at in
-    let rows = rows_of c.args.pages.now in
+    let rows = chapters_rows c.args.chapters.now in
     let is_steps : c.as_slice-steps.result.now ≡ p = c.as_slice-steps.ensures ∙ c.path.view_is in
     let within : at < length p = omega (arith, c.saturating_sub-at-end.ensures, ap length is_steps) in
     let more : at + 1 < length p = omega (arith, c.saturating_sub-at-end.ensures, ap length is_steps) in

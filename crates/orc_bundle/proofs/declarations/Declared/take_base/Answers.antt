@@ -7,7 +7,7 @@ use Rattle.orc_bundle.proofs.SchemaPlaces.{schema_placed}
 use Rattle.orc_bundle.proofs.declarations.Declared.take_base.Goals as goal
 
 pub returns-clause-lawful : goal.returns-clause-lawful
-returns-clause-lawful c = λ declared.
+returns-clause-lawful g c = λ declared.
     let d = c.args.self.now in
     let n = c.in-Some-place.n in
     let put = c.in_ok-put.put in

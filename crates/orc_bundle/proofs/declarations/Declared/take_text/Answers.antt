@@ -13,7 +13,7 @@ returns-in-Some-clause-takes g c =
     let d = c.args.self.now in
     let later = lines_of c.args.later.now in
     subst (λ (r : Result Declared Rule). Takes r c.take_words.new.self c.take_words.result)
-    (sym (some_words d c.args.text.now later c.in-Some.word.now c.in-Some.rest.now (not_header d.section (sym c.eq.ensures ∙ c.if-eq.false)) c.in-Some.ensures
+    (sym (some_words d c.args.text.now later c.in-Some.word.now c.in-Some.rest.now (not_header d.section (sym c.eq.ensures ∙ c.if-eq.false)) c.in-Some.ensures.parts
     ∙ ap (λ (k : Keyword). declaration k d c.in-Some.rest.now later) (sym c.keyword_of.ensures)))
     c.take_words.ensures.takes
 
@@ -21,6 +21,6 @@ pub returns-in-None-clause-takes : goal.returns-in-None-clause-takes
 returns-in-None-clause-takes g c =
     let d = c.args.self.now in
     subst (λ (r : Result Declared Rule). Takes r c.take_word.new.self c.take_word.result)
-    (sym (no_words d c.args.text.now (lines_of c.args.later.now) (not_header d.section (sym c.eq.ensures ∙ c.if-eq.false)) c.in-None.ensures
+    (sym (no_words d c.args.text.now (lines_of c.args.later.now) (not_header d.section (sym c.eq.ensures ∙ c.if-eq.false)) c.in-None.ensures.parts
     ∙ ap (λ (k : Keyword). bare_declaration k d) (sym c.keyword_of-in-None.ensures)))
     c.take_word.ensures.takes

@@ -7,7 +7,7 @@ use Rattle.orc_bundle.proofs.Placed.{step_more, typed_step}
 use Rattle.orc_bundle.proofs.script.Script.take_json.Goals as goal
 
 pub returns-clause-lawful : goal.returns-clause-lawful
-returns-clause-lawful c = λ most so_far.
+returns-clause-lawful g c = λ most so_far.
     let d = c.args.declared.now in
     let name = c.in_ok-name.name in
     let typed : (schema_named d.schemas d.devices name).plain ≡ false =

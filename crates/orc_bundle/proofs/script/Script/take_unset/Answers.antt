@@ -5,6 +5,6 @@ use Rattle.orc_bundle.proofs.CallLines.{acted}
 use Rattle.orc_bundle.proofs.script.Script.take_unset.Goals as goal
 
 pub returns-clause-lawful : goal.returns-clause-lawful
-returns-clause-lawful c = λ most so_far here.
+returns-clause-lawful g c = λ most so_far here.
     acted (decls_in c.args.declared.now) most c.args.self.now so_far here (Unset c.in_ok-path.path) c.push.new.self (sym c.if-is_call_full.ensures)
     c.in_ok-path.ensures.lawful refl c.in_ok-push.ensures.ok

@@ -1,4 +1,4 @@
-use Rattle.std.proofs.Common.{◌≡◌, ◌∙◌}
+use Rattle.std.proofs.Common.{◌∙◌}
 use Rattle.orc_state.proofs.Placing.{tree-of}
 use Rattle.orc_state.proofs.state.State.tree_due.Goals as goal
 

@@ -1,16 +1,17 @@
 use Rattle.std.proofs.Common.{ap, sym, ◌∙◌}
 use Rattle.std.specs.FinMap.{entries}
 use Rattle.orc_path.specs.Configurations.{Config}
-use Rattle.orc_tree.specs.Pages.{rows_of, listed}
+use Rattle.orc_tree.specs.Pages.{listed, chapters_rows}
 use Rattle.orc_tree.proofs.Maps.{map_of, entries-of_rows}
+use Rattle.orc_tree.proofs.Chaptered.{Chapters}
 use Rattle.orc_tree.proofs.tree.Tree.equals.Goals as goal
 
 pub returns : goal.returns
 returns c =
-    let left = ap rows_of c.pages_in.ensures in
-    let right = ap rows_of c.pages_in-2.ensures in (
+    let left = ap (λ (cs : Chapters). chapters_rows cs) c.chapters_in.ensures in
+    let right = ap (λ (cs : Chapters). chapters_rows cs) c.chapters_in-2.ensures in (
       λ h. sym c.self.view_is ∙ ap map_of (sym left ∙ c.same_rows.ensures.0 h ∙ right) ∙ c.other.view_is,
-      λ e. c.same_rows.ensures.1 (left ∙ sym (entries-of_rows (rows_of (listed c.self.inside.list)) c.self.invariant.sorted)
+      λ e. c.same_rows.ensures.1 (left ∙ sym (entries-of_rows (chapters_rows (listed c.self.inside.list)) c.self.invariant.sorted)
           ∙ ap (λ (m : Config). entries m) (c.self.view_is ∙ e ∙ sym c.other.view_is)
-          ∙ entries-of_rows (rows_of (listed c.other.inside.list)) c.other.invariant.sorted ∙ sym right),
+          ∙ entries-of_rows (chapters_rows (listed c.other.inside.list)) c.other.invariant.sorted ∙ sym right),
     )

@@ -3,18 +3,19 @@ use Rattle.std.specs.FinMap.{entries, is_sorted}
 use Rattle.orc_path.specs.Order.{path_cmp}
 use Rattle.orc_path.specs.Configurations.{Config, IsConfig, insert_all}
 use Rattle.orc_path.proofs.ConfigurationLaws.{IsConfig-overlay}
-use Rattle.orc_tree.specs.Pages.{rows_of, AreSized, listed}
+use Rattle.orc_tree.specs.Pages.{listed, chapters_rows}
+use Rattle.orc_tree.specs.inside.Places.{AreLaid}
 use Rattle.orc_tree.proofs.Maps.{Rows, map_of, entries-of_rows}
-use Rattle.orc_tree.proofs.Paged.{Pages}
+use Rattle.orc_tree.proofs.Chaptered.{Chapters}
 use Rattle.orc_tree.proofs.tree.Tree.overlay_with.Goals as goal
 
 pub returns-clause-ok : goal.returns-clause-ok
 returns-clause-ok c =
-    ap (λ (ps : Pages). map_of (rows_of ps)) c.in_ok-self-inside.ensures
-    ∙ c.in_ok-lay_pages.ensures.laid
-    ∙ ap (λ (es : Rows). insert_all es (map_of (rows_of c.in_ok-pages.pages.items)))
-    (ap rows_of c.pages_in-2.ensures ∙ sym (entries-of_rows (rows_of (listed c.top.inside.list)) c.top.invariant.sorted) ∙ ap (λ (m : Config). entries m) c.top.view_is)
-    ∙ ap (λ (r : Rows). insert_all (entries c.args.top.now) (map_of r)) (c.in_ok-pages.ensures.rows ∙ ap rows_of c.pages_in.ensures)
+    ap (λ (cs : Chapters). map_of (chapters_rows cs)) c.in_ok-self-inside.ensures
+    ∙ c.in_ok-lay_chapters.ensures.set
+    ∙ ap (λ (es : Rows). insert_all es (map_of (chapters_rows c.in_ok-chapters.chapters.items)))
+    (ap (λ (cs : Chapters). chapters_rows cs) c.chapters_in-2.ensures ∙ sym (entries-of_rows (chapters_rows (listed c.top.inside.list)) c.top.invariant.sorted) ∙ ap (λ (m : Config). entries m) c.top.view_is)
+    ∙ ap (λ (r : Rows). insert_all (entries c.args.top.now) (map_of r)) (c.in_ok-chapters.ensures.rows ∙ ap (λ (cs : Chapters). chapters_rows cs) c.chapters_in.ensures)
     ∙ ap (insert_all (entries c.args.top.now)) c.self.view_is
 
 pub returns-clause-config : goal.returns-clause-config
@@ -24,7 +25,7 @@ returns-clause-config c =
 
 pub invariant_of-self : goal.invariant_of-self
 invariant_of-self c = record {
-  sorted = ap (λ (ps : Pages). is_sorted path_cmp (rows_of ps)) c.in_ok-self-inside.ensures ∙ c.in_ok-lay_pages.ensures.sorted;
+  sorted = ap (λ (cs : Chapters). is_sorted path_cmp (chapters_rows cs)) c.in_ok-self-inside.ensures ∙ c.in_ok-lay_chapters.ensures.sorted;
   config = returns-clause-config c;
-  sized = subst AreSized (sym c.in_ok-self-inside.ensures) c.lay_pages.ensures.sized;
+  laid = subst AreLaid (sym c.in_ok-self-inside.ensures) c.lay_chapters.ensures.laid;
 }

@@ -1,5 +1,0 @@
-use Rattle.std.specs.Prelude.{length}
-use Rattle.orc_bundle.proofs.lists.+are_canonical_steps.Given as goal
-
-abbrev pub decreases-are_canonical_steps : goal.decreases-are_canonical_steps
-decreases-are_canonical_steps l = length l.steps.now

@@ -1,0 +1,92 @@
+-- What a service holds is a configuration, and what a store knows of it.
+use Rattle.std.proofs.Common.{◌≡◌, ℕ, ◌+◌, ◌*◌, ◌≤◌, length, Bool, true, false, cond, T, List, [], ◌∷◌, map, Some, None, refl, sym, ap, subst, ◌∙◌, is_some, arith}
+use Rattle.std.specs.declared.option.Option.{Option}
+use Rattle.std.specs.Option.{option_map_or}
+use Rattle.std.specs.Ordering.{eq_by_cmp}
+use Rattle.std.specs.Cmp.Lexicographic.{nat_list_eq_equiv}
+use Rattle.std.specs.FinMap.{find, get, entries, entries_sorted, get-entries, get-empty, empty, is_sorted}
+use Rattle.orc_path.specs.Steps.{PathStep}
+use Rattle.orc_path.specs.Order.{path_cmp}
+use Rattle.orc_path.specs.Configurations.{Config, IsConfig, is_entry}
+use Rattle.orc_path.specs.declared.item.Item.{Item}
+use Rattle.orc_path.specs.declared.item.Item.TheVariants.{Entry, Leaf}
+use Rattle.orc_call.specs.declared.call.Put.{Put}
+use Rattle.orc_refs.specs.Stores.{Store, empty_store, written_by}
+use Rattle.orc_refs.specs.Moves.{AreWhole, BringWhole, IsMoved, StartAt, are_distinct, count_moved, put_at, rows_in}
+use Rattle.orc_refs.specs.Ids.{is_id, holds_id}
+use Rattle.orc_refs.specs.declared.moves.Move.{Move}
+use Rattle.orc_refs.specs.declared.moves.BaseEdit.{BaseEdit}
+use Rattle.orc_store_tables.specs.Holdings.{Writes, holding}
+
+abbrev put_in : List PathStep × Item → Put
+put_in row = record { path = row.0; item = row.1 }
+
+at_rows : (rows : List (List PathStep × Item)) (path : List PathStep) → put_at (map put_in rows) path ≡ find path_cmp path rows
+at_rows [] path = refl
+at_rows (row ∷ rows) path = ap (cond (eq_by_cmp path_cmp path row.0) (Some row.1)) (at_rows rows path)
+
+at_holding : (config : Config) (path : List PathStep) → put_at (holding config) path ≡ get config path
+at_holding config path = at_rows (entries config) path ∙ sym (get-entries config path)
+
+rows_back : (rows : List (List PathStep × Item)) → rows_in (map put_in rows) ≡ rows
+rows_back [] = refl
+rows_back (row ∷ rows) = ap (λ later. row ∷ later) (rows_back rows)
+
+is_so : (b : Bool) → T b → b ≡ true
+is_so true h = refl
+is_so false h = absurd h
+
+entry_there : (found : Option Item) → is_entry found ≡ true → found ≡ Some Entry
+entry_there None h = cc
+entry_there (Some Entry) h = refl
+entry_there (Some (Leaf text)) h = cc
+
+-- the items of a configuration are whole
+pub holding_whole : (config : Config) (items : List Put) → IsConfig config → items ≡ holding config → AreWhole items
+holding_whole config items is same = subst AreWhole (sym same) (record {
+  sorted = ap (is_sorted path_cmp) (rows_back (entries config)) ∙ is_so _ (entries_sorted config);
+  fit = λ path item h. is.fit path item (sym (at_holding config path) ∙ h);
+  ways = λ path way some is_way.
+      at_holding config way ∙ entry_there (get config way) (is.ways path way (sym (ap is_some (at_holding config path)) ∙ some) is_way);
+})
+
+-- where no service writes, each holds nothing
+pub nothing_held : (store : Store) (base : Config) (id : List ℕ) → store ≡ empty_store base → Writes store id []
+nothing_held store base id same = subst (λ (s : Store). Writes s id []) (sym same) (λ path. sym (on path (get empty path) (get-empty path_cmp path)))
+  where
+    on : (path : List PathStep) (found : Option (List (List ℕ))) → found ≡ None
+        → cond (holds_id id (option_map_or (λ (ids : List (List ℕ)). ids) found [])) (get base path) None ≡ None
+    on path found is = ap (λ (o : Option (List (List ℕ))). cond (holds_id id (option_map_or (λ (ids : List (List ℕ)). ids) o [])) (get base path) None) is
+
+-- the move of one service meets what a store asks
+pub one_starts : (store : Store) (id : List ℕ) (held next : List Put) (moves : List Move) → moves ≡ record { service = id; old = held; new = next } ∷ []
+    → Writes store id held → StartAt store moves
+one_starts store id held next moves same writes = subst (StartAt store) (sym same) (writes, tt)
+
+pub one_distinct : (id : List ℕ) (held next : List Put) (moves : List Move) → moves ≡ record { service = id; old = held; new = next } ∷ [] → are_distinct moves ≡ true
+one_distinct id held next moves same = ap are_distinct same
+
+pub one_whole : (id : List ℕ) (held next : List Put) (moves : List Move) → moves ≡ record { service = id; old = held; new = next } ∷ [] → AreWhole next → BringWhole moves
+one_whole id held next moves same whole = subst BringWhole (sym same) (whole, tt)
+
+one_count : (id : List ℕ) (held next : List Put) (moves : List Move) → moves ≡ record { service = id; old = held; new = next } ∷ [] → count_moved moves ≡ length held + length next
+one_count id held next moves same =
+    let count : count_moved moves ≡ length held + length next + 0 = ap count_moved same in
+    omega (arith, count)
+
+-- the bound on a store's steps, over the items
+pub one_bound : (id : List ℕ) (held next : List Put) (moves : List Move) (before after : ℕ) → moves ≡ record { service = id; old = held; new = next } ∷ []
+    → after ≤ before + 2 * count_moved moves → after ≤ before + 2 * (length held + length next)
+one_bound id held next moves before after same few = omega (arith, few, one_count id held next moves same)
+
+same_id : (id : List ℕ) → is_id id id ≡ true
+same_id id = nat_list_eq_equiv.refl id
+
+-- behind its move a service writes exactly what the move brings
+pub moved_holds : (before after : Store) (id : List ℕ) (held next : List Put) (moves : List Move) (edits : List BaseEdit)
+    → moves ≡ record { service = id; old = held; new = next } ∷ [] → IsMoved before moves edits after → Writes after id next
+moved_holds before after id held next moves edits same moved =
+    on (subst (λ (m : List Move). IsMoved before m edits after) same moved)
+  where
+    on : IsMoved before (record { service = id; old = held; new = next } ∷ []) edits after → Writes after id next
+    on one path = sym (one.written id path ∙ ap (λ t. cond t (put_at next path) (written_by before id path)) (same_id id))

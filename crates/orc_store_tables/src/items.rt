@@ -1,0 +1,123 @@
+//! Configurations of few leaves, their items, and stores in which services write them.
+ghost use Rattle.std.specs.Prelude.{◌≡◌, ◌+◌, ◌*◌, ◌≤◌, [], ◌∷◌, IfOk, OnOk, length};
+ghost use Rattle.orc_refs.specs.Moves.{AreWhole};
+ghost use Rattle.orc_store_tables.specs.Holdings.{Writes, holding};
+
+use crate::undone::Undone;
+use orc_call::Put;
+use orc_io::Steps;
+use orc_path::{Item, Path};
+use orc_refs::{Move, Refs};
+use orc_text::{Memory, Row, Text};
+use orc_tree::{ChangeSet, Tree};
+use std::alloc::Global;
+use std::sync::ledger::Ledger;
+
+// Sets the leaf at a path, with the entries on its way.
+pub(crate) fn set_leaf(
+    alloc: Global,
+    tree: &mut Tree,
+    path: &str,
+    value: &str,
+) -> Result<(), Undone> {
+    let path = Path::parse(alloc, path)?;
+    let item = Item::Leaf(Text::from_str(alloc, value)?);
+    if !item.fits(&path) {
+        return Err(Undone);
+    }
+    tree.set(path, item)?;
+    Ok(())
+}
+
+// The configuration of one leaf and the entries on its way.
+pub(crate) fn tree_with(alloc: Global, path: &str, value: &str) -> Result<Tree, Undone> {
+    let mut tree = Tree::new(alloc);
+    set_leaf(alloc, &mut tree, path, value)?;
+    Ok(tree)
+}
+
+// The items of a configuration.
+fn holding(alloc: Global, tree: &Tree) -> Result<Row<Put>, Memory>
+    ensures items { IfOk result (λ items. items ≡ holding tree.now) }
+    ensures whole { IfOk result AreWhole }
+{
+    let mut items = Row::new(alloc);
+    for row in tree.rows() {
+        let path = row.0.copy(alloc)?;
+        let item = row.1.copy(alloc)?;
+        items.push(Put { path, item })?;
+    }
+    Ok(items)
+}
+
+// The items of the configuration of one leaf and the entries on its way.
+pub(crate) fn holding_with(alloc: Global, path: &str, value: &str) -> Result<Row<Put>, Undone>
+    ensures { IfOk result AreWhole }
+{
+    let tree = tree_with(alloc, path, value)?;
+    Ok(holding(alloc, &tree)?)
+}
+
+// The move of a service from the items that it holds to the next ones.
+fn one_move(
+    alloc: Global,
+    service: &Text,
+    held: Row<Put>,
+    next: &Row<Put>,
+) -> Result<Row<Move>, Memory>
+    ensures { IfOk result (λ moves. moves ≡ record { service = service.now; old = held; new = next.now } ∷ []) }
+{
+    let service = service.copy(alloc)?;
+    let new = next.copy(alloc)?;
+    let mut moves = Row::new(alloc);
+    moves.push(Move {
+        service,
+        old: held,
+        new,
+    })?;
+    Ok(moves)
+}
+
+// The store of a device on which no service writes, and so not this one.
+pub(crate) fn unwritten(alloc: Global, base: Tree, service: &Text) -> Result<Refs, Memory>
+    ensures { IfOk result (λ refs. Writes refs service.now []) }
+{
+    let _ = service;
+    let refs = Refs::new(alloc, base)?;
+    Ok(refs)
+}
+
+// Moves a service from the items that it holds to the next ones, and gives what changes.
+pub(crate) fn bring<L: Ledger>(
+    alloc: Global,
+    refs: &mut Refs,
+    service: &Text,
+    held: Row<Put>,
+    next: &Row<Put>,
+    steps: &mut Steps<L>,
+) -> Result<ChangeSet, Undone>
+    requires holds { Writes refs.old service.now held }
+    requires whole { AreWhole next.now }
+    ensures holds { OnOk result (Writes refs.new service.now next.now) }
+    ensures steps { steps.new ≤ steps.old + 2 * (length held + length next.now) }
+{
+    let moves = one_move(alloc, service, held, next)?;
+    let set = refs.apply(alloc, moves.as_slice(), &[], steps)?;
+    Ok(set)
+}
+
+// The same for a service that holds nothing.
+pub(crate) fn bring_first<L: Ledger>(
+    alloc: Global,
+    refs: &mut Refs,
+    service: &Text,
+    next: &Row<Put>,
+    steps: &mut Steps<L>,
+) -> Result<ChangeSet, Undone>
+    requires nothing { Writes refs.old service.now [] }
+    requires whole { AreWhole next.now }
+    ensures holds { OnOk result (Writes refs.new service.now next.now) }
+    ensures steps { steps.new ≤ steps.old + 2 * length next.now }
+{
+    bring(alloc, refs, service, Row::new(alloc), next, steps)
+}

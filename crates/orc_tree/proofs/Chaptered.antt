@@ -1,0 +1,56 @@
+-- The rows of chapters, and of the pages that stand in them.
+use Rattle.std.proofs.Common.{◌≡◌, ◌==◌, ℕ, ◌≤◌, Bool, false, List, [], ◌∷◌, ◌++◌, length, get_or, refl, sym, ap, subst, ◌∙◌, arith}
+use Rattle.std.specs.List.{splice}
+use Rattle.std.specs.declared.alloc.Global.{Global}
+use Rattle.std.specs.declared.sync.Arc.{Arc}
+use Rattle.std.proofs.lemmas.Bool.{false≢true}
+use Rattle.std.proofs.lemmas.List.{length-append}
+use Rattle.std.proofs.lemmas.List.Elements.{All-append, All-head, All-tail, All-take, All-drop}
+use Rattle.orc_tree.specs.declared.chapter.Chapter.{Chapter}
+use Rattle.orc_tree.specs.Pages.{page_rows, rows_of, chapter_pages, pages_of, IsSized, AreSized, AreFilled, chapter_rows, chapters_rows}
+use Rattle.orc_tree.specs.inside.Places.{IsLaid, AreLaid, AreChapters}
+use Rattle.orc_tree.proofs.Maps.{Rows, IsConfig-nil}
+use Rattle.orc_tree.proofs.Paged.{Pages, HaveRows, rows_of-append}
+
+abbrev pub Chapters : Type 0
+Chapters = List (Arc Chapter Global)
+
+-- the rows of chapters are those of their pages
+pub chapters_rows-pages : (cs : Chapters) → rows_of (pages_of cs) ≡ chapters_rows cs
+chapters_rows-pages [] = refl
+chapters_rows-pages (c ∷ cs) = rows_of-append page_rows (chapter_pages c) (pages_of cs) ∙ ap (λ (r : Rows). chapter_rows c ++ r) (chapters_rows-pages cs)
+
+pub AreLaid-some : (cs : Chapters) → AreLaid cs → HaveRows chapter_rows cs
+AreLaid-some cs laid = λ k d l. (laid k d l).1
+
+pub AreLaid-sized : (cs : Chapters) → AreLaid cs → AreSized (pages_of cs)
+AreLaid-sized [] laid = λ k d l. absurd (omega arith)
+AreLaid-sized (c ∷ cs) laid =
+    All-append IsSized (chapter_pages c) (pages_of cs) (All-head IsLaid c cs laid).0 (AreLaid-sized cs (All-tail IsLaid c cs laid))
+
+pub AreLaid-splice : (cs new : Chapters) (from to : ℕ) → AreLaid cs → AreLaid new → AreLaid (splice cs from to new)
+AreLaid-splice cs new from to laid made = All-append IsLaid _ _ (All-take IsLaid from cs laid) (All-append IsLaid _ _ made (All-drop IsLaid to cs laid))
+
+-- a list that isn't empty has an element
+pub some_from_test : {X : Type 0} (xs : List X) (b : Bool) → b ≡ (length xs == 0) → b ≡ false → 1 ≤ length xs
+some_from_test [] b is h = absurd (false≢true (sym h ∙ is))
+some_from_test (x ∷ xs) b is h = omega arith
+
+pub some_page : (ps : Pages) → 1 ≤ length (rows_of ps) → 1 ≤ length ps
+some_page [] l = absurd (omega arith)
+some_page (p ∷ ps) l = omega arith
+
+pub some_rows : (ps : Pages) → AreSized ps → 1 ≤ length ps → 1 ≤ length (rows_of ps)
+some_rows [] sized l = absurd (omega arith)
+some_rows (p ∷ ps) sized l = omega (arith, (All-head IsSized p ps sized).0, length-append (page_rows p) (rows_of ps))
+
+pub AreLaid-filled : (cs : Chapters) → AreLaid cs → AreFilled cs
+AreLaid-filled cs laid = λ k d l. some_page (chapter_pages (get_or cs k d)) (laid k d l).1
+
+-- a chapter of sized pages, at least one
+pub IsLaid-made : (c : Arc Chapter Global) (ps : Pages) → chapter_pages c ≡ ps → AreSized ps → 1 ≤ length ps → IsLaid c
+IsLaid-made c ps is sized some =
+    (subst AreSized (sym is) sized, subst (λ (qs : Pages). 1 ≤ length (rows_of qs)) (sym is) (some_rows ps sized some))
+
+pub AreChapters-nil : AreChapters []
+AreChapters-nil = record { sorted = refl; config = IsConfig-nil; laid = λ k d l. absurd (omega arith) }

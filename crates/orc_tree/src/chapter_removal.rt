@@ -1,0 +1,146 @@
+//! The removal of a path, with all below it where it ends in keys, from chapters.
+ghost use Rattle.std.specs.Prelude.{◌≡◌, ◌≤◌, ◌<◌, ◌+◌, ◌==◌, drop, length, vec_len, IfOk, OnOk, OnErr, IsTrue};
+ghost use Rattle.orc_tree.specs.Pages.{chapter_pages, rows_of, AreSized, chapter_rows, chapters_rows};
+ghost use Rattle.orc_tree.specs.inside.Places.{AreInOrder, AreChaptersInOrder, AreLaid, IsChapterFor};
+ghost use Rattle.orc_tree.specs.inside.Removal.{kept_of, all_kept, starts_taken};
+
+use crate::chapter::{Chapter, own_chapter};
+use crate::layout::{join_chapters, replace_chapters, share_run};
+use crate::lookup::chapter_for;
+use crate::page::Page;
+use crate::removal::{remove, starts_taken};
+use orc_path::Path;
+use orc_text::{Memory, Row};
+use std::alloc::Global;
+use std::mem;
+use std::sync::Arc;
+
+// Takes the path and what is below it out of a chapter, and says whether no page is left. After
+// want of memory its rows are as they were.
+fn remove_within(chapter: &mut Chapter, alloc: Global, path: &Path) -> Result<bool, Memory>
+    requires sorted { AreInOrder chapter.old.pages }
+    requires sized { AreSized chapter.old.pages }
+    ensures ok { OnOk result (rows_of chapter.new.pages ≡ kept_of path.now (rows_of chapter.old.pages)) }
+    ensures err { OnErr result (rows_of chapter.new.pages ≡ rows_of chapter.old.pages) }
+    ensures sized { AreSized chapter.new.pages }
+    ensures left { IfOk result (λ none. none ≡ (length chapter.new.pages == 0)) }
+{
+    let mut pages = mem::replace(&mut chapter.pages, Row::new(alloc)).into_vec();
+    let done = remove(&mut pages, path);
+    chapter.pages = Row::from_vec(pages);
+    done?;
+    Ok(chapter.pages.is_empty())
+}
+
+// The same behind the owner of the chapter.
+fn remove_from(chapter: &mut Arc<Chapter>, alloc: Global, path: &Path) -> Result<bool, Memory>
+    requires sorted { AreInOrder (chapter_pages chapter.old) }
+    requires sized { AreSized (chapter_pages chapter.old) }
+    ensures ok { OnOk result (chapter_rows chapter.new ≡ kept_of path.now (chapter_rows chapter.old)) }
+    ensures err { OnErr result (chapter_rows chapter.new ≡ chapter_rows chapter.old) }
+    ensures sized { AreSized (chapter_pages chapter.new) }
+    ensures left { IfOk result (λ none. none ≡ (length (chapter_pages chapter.new) == 0)) }
+{
+    own_chapter(alloc, chapter)?;
+    match Arc::get_mut(chapter) {
+        Some(chapter) => remove_within(chapter, alloc, path),
+        // No chapter has another holder behind `own_chapter`.
+        None => Err(Memory),
+    }
+}
+
+// Whether removing the path takes the first row of pages.
+fn first_taken(pages: &[Arc<Page>], path: &Path) -> bool
+    requires { AreSized pages.now }
+    ensures { result ≡ starts_taken path.now (rows_of pages.now) }
+{
+    match pages.first() {
+        Some(page) => starts_taken(page.rows.as_slice(), path),
+        None => false,
+    }
+}
+
+// The first chapter behind a path's own whose rows all stay where the path is removed.
+fn end_of_run(chapters: &[Arc<Chapter>], at: usize, path: &Path) -> usize
+    requires place { IsChapterFor path.now chapters.now at }
+    requires sorted { AreChaptersInOrder chapters.now }
+    requires laid { AreLaid chapters.now }
+    ensures behind { at < result }
+    ensures within { result ≤ length chapters.now }
+    ensures kept { IsTrue (all_kept path.now (chapters_rows (drop result chapters.now))) }
+{
+    for end in at + 1..chapters.len() {
+        if !first_taken(chapters[end].pages.as_slice(), path) {
+            return end;
+        }
+    }
+    chapters.len()
+}
+
+// Takes the path and what is below it out of its chapter, where all of it stands there. A chapter
+// of which nothing is left goes.
+fn remove_at_chapter(chapters: &mut Vec<Arc<Chapter>>, at: usize, path: &Path) -> Result<(), Memory>
+    requires place { IsChapterFor path.now chapters.old.items at }
+    requires sorted { AreChaptersInOrder chapters.old.items }
+    requires laid { AreLaid chapters.old.items }
+    requires kept { IsTrue (all_kept path.now (chapters_rows (drop (at + 1) chapters.old.items))) }
+    ensures ok { OnOk result (chapters_rows chapters.new.items ≡ kept_of path.now (chapters_rows chapters.old.items)) }
+    ensures err { OnErr result (chapters_rows chapters.new.items ≡ chapters_rows chapters.old.items) }
+    ensures laid { AreLaid chapters.new.items }
+{
+    let alloc = *chapters.allocator();
+    let none = remove_from(&mut chapters[at], alloc, path)?;
+    if none {
+        chapters.remove(at);
+        return Ok(());
+    }
+    Ok(())
+}
+
+// Takes the path and what is below it out of the chapters from its own one up to the first one
+// whose rows all stay. After want of memory the rows are as they were.
+fn remove_run(
+    chapters: &mut Vec<Arc<Chapter>>,
+    at: usize,
+    end: usize,
+    path: &Path,
+) -> Result<(), Memory>
+    requires place { IsChapterFor path.now chapters.old.items at }
+    requires sorted { AreChaptersInOrder chapters.old.items }
+    requires laid { AreLaid chapters.old.items }
+    requires order { at < end }
+    requires within { end ≤ vec_len chapters.old }
+    requires kept { IsTrue (all_kept path.now (chapters_rows (drop end chapters.old.items))) }
+    ensures ok { OnOk result (chapters_rows chapters.new.items ≡ kept_of path.now (chapters_rows chapters.old.items)) }
+    ensures err { OnErr result (chapters_rows chapters.new.items ≡ chapters_rows chapters.old.items) }
+    ensures laid { AreLaid chapters.new.items }
+{
+    if end == at + 1 {
+        return remove_at_chapter(chapters, at, path);
+    }
+    let mut pages = share_run(*chapters.allocator(), &chapters[at..end])?;
+    remove(&mut pages, path)?;
+    replace_chapters(chapters, at, end, pages)
+}
+
+// Takes the path and what is below it out of the chapters, and joins what is left where it is
+// little. After want of memory the rows are as they were.
+pub(crate) fn remove_in_chapters(
+    chapters: &mut Vec<Arc<Chapter>>,
+    path: &Path,
+) -> Result<(), Memory>
+    requires sorted { AreChaptersInOrder chapters.old.items }
+    requires laid { AreLaid chapters.old.items }
+    ensures ok { OnOk result (chapters_rows chapters.new.items ≡ kept_of path.now (chapters_rows chapters.old.items)) }
+    ensures err { OnErr result (chapters_rows chapters.new.items ≡ chapters_rows chapters.old.items) }
+    ensures laid { AreLaid chapters.new.items }
+{
+    if chapters.is_empty() {
+        return Ok(());
+    }
+    let at = chapter_for(chapters.as_slice(), path.steps.as_slice());
+    let end = end_of_run(chapters.as_slice(), at, path);
+    remove_run(chapters, at, end, path)?;
+    join_chapters(chapters, at);
+    Ok(())
+}
