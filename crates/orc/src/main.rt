@@ -7,8 +7,8 @@ mod sentences;
 
 use crate::file::journal_file;
 use crate::sentences::sentence;
-use orc_bundle::explanation;
 use orc_disk::{Disk, FileDisk, MemDisk};
+use orc_explain::explanation;
 use orc_io::{KeptSource, StdSink, StdSource};
 use orc_run::{Stop, orchestrate, status};
 use orc_text::{Memory, Text};

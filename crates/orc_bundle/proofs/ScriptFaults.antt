@@ -5,12 +5,13 @@ use Rattle.std.proofs.lemmas.Result.{err_from_is_err_and}
 use Rattle.orc_state.specs.declared.fault.BundleFault.{BundleFault}
 use Rattle.orc_state.specs.declared.fault.BundleFault.TheVariants.{At, Memory}
 use Rattle.orc_state.specs.declared.rule.Rule.{Rule}
-use Rattle.orc_bundle.specs.Answers.{Gives}
-use Rattle.orc_bundle.specs.Bundles.{Front, bundle_in, declarations_of, decls_of, header_rule, lacks_header, script_of}
-use Rattle.orc_bundle.specs.Declarations.{nothing_declared}
-use Rattle.orc_bundle.specs.Rules.{on_ok}
+use Rattle.orc_lines.specs.Answers.{Gives}
+use Rattle.orc_declarations.specs.Declarations.{Front, declarations_of, nothing_declared}
+use Rattle.orc_bundle.specs.Bundles.{bundle_in, decls_of, header_rule, script_of}
+use Rattle.orc_lines.specs.Lines.{lacks_header}
+use Rattle.orc_lines.specs.Rules.{on_ok}
 use Rattle.orc_bundle.specs.declared.bundle.Bundle.{Bundle}
-use Rattle.orc_bundle.specs.declared.bundle.ScriptStep.{ScriptStep}
+use Rattle.orc_script.specs.declared.step.ScriptStep.{ScriptStep}
 
 abbrev at_fault : (X : Type 0) → BundleFault → Result X BundleFault
 at_fault X fault = Err fault

@@ -1,11 +1,11 @@
 -- A skipped line changes nothing.
 use Rattle.std.proofs.Common.{◌≡◌, ℕ, List, Ok, refl, true, false}
 use Rattle.std.specs.Str.{is_utf8}
-use Rattle.orc_bundle.specs.Declarations.{declared_at}
-use Rattle.orc_bundle.specs.Lines.{is_large, is_skipped, text_of}
-use Rattle.orc_bundle.specs.Scripts.{scripted_at}
-use Rattle.orc_bundle.specs.declared.declarations.Declared.{Declared}
-use Rattle.orc_bundle.specs.declared.script.Script.{Script}
+use Rattle.orc_declarations.specs.Declarations.{declared_at}
+use Rattle.orc_lines.specs.Lines.{is_large, is_skipped, text_of}
+use Rattle.orc_script.specs.Scripts.{scripted_at}
+use Rattle.orc_lines.specs.declared.declared.Declared.{Declared}
+use Rattle.orc_script.specs.declared.script.Script.{Script}
 
 -- a line, in front of which stand so many bytes, is empty or a comment, UTF-8, and passes no limit
 pub record IsPassed (at : ℕ) (line : List ℕ) : Type 0 where

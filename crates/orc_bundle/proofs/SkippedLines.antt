@@ -7,27 +7,27 @@ use Rattle.std.proofs.lemmas.Bool.{false≢true, le-leb, lt-leb, le-ltb, or_from
 use Rattle.std.proofs.lemmas.List.{take_all}
 use Rattle.orc_state.specs.declared.rule.Rule.{Rule}
 use Rattle.orc_state.specs.declared.rule.Rule.TheVariants as rule
-use Rattle.orc_bundle.specs.Bundles.{Front, bundle_in, bundle_of, declarations_of, decls_of, decls_with, header_rule, is_script, lacks_header, on_line, opened, script_of, script_steps}
-use Rattle.orc_bundle.specs.Declarations.{after_header, after_text, after_yang, declaration, declaration_words, declared_at, is_header, is_opening, is_taken, lines_taken, nothing_declared, taken_by, words_take, with_module}
-use Rattle.orc_bundle.specs.Keywords.{keyword_of}
+use Rattle.orc_declarations.specs.Declarations.{Front, declarations_of, is_script, opened, after_header, after_text, after_yang, declaration, declaration_words, declared_at, is_header, is_opening, is_taken, lines_taken, nothing_declared, taken_by, words_take, with_module}
+use Rattle.orc_bundle.specs.Bundles.{bundle_in, bundle_of, decls_of, header_rule, script_of}
+use Rattle.orc_lines.specs.Lawful.{decls_with}
+use Rattle.orc_lines.specs.Lines.{lacks_header, as_line, block_of, first_kept, is_end, is_large, is_skipped, lines_of, text_of}
+use Rattle.orc_lines.specs.Rules.{on_line, checked, on_ok, or_rule}
+use Rattle.orc_script.specs.Scripts.{script_steps, after_step, is_followed, no_steps, scripted_at, step_words}
+use Rattle.orc_lines.specs.Keywords.{keyword_of}
 use Rattle.orc_bundle.specs.Laws.{IsSkipped, SkippedLinesChangeNothing, left_of_block, meaning_of, moved_behind}
-use Rattle.orc_bundle.specs.Lines.{as_line, block_of, first_kept, is_end, is_large, is_skipped, lines_of, text_of}
-use Rattle.orc_bundle.specs.Modules.{module_of}
-use Rattle.orc_bundle.specs.Rules.{checked, on_ok, or_rule}
-use Rattle.orc_bundle.specs.Scripts.{after_step, is_followed, no_steps, scripted_at, step_words}
-use Rattle.orc_bundle.specs.Words.{cut_at, first_word, is_text, number_in}
+use Rattle.orc_declarations.specs.Modules.{module_of}
+use Rattle.orc_lines.specs.Words.{cut_at, first_word, is_text, number_in}
 use Rattle.orc_bundle.specs.declared.bundle.Bundle.{Bundle}
-use Rattle.orc_bundle.specs.declared.bundle.ScriptStep.{ScriptStep}
-use Rattle.orc_bundle.specs.declared.bundle.TheConstants.{LARGEST_BUNDLE}
-use Rattle.orc_bundle.specs.declared.lines.TheConstants.{LONGEST_LINE}
-use Rattle.orc_bundle.specs.declared.declarations.Declared.{Declared}
-use Rattle.orc_bundle.specs.declared.keyword.Keyword.{Keyword}
-use Rattle.orc_bundle.specs.declared.keyword.Keyword.TheVariants as keyword
-use Rattle.orc_bundle.specs.declared.script.Script.{Script}
-use Rattle.orc_bundle.proofs.Costs.{all_bytes, bytes_in}
-use Rattle.orc_bundle.proofs.DeclaredLines.{Declares, declared, declares, headed, in_a_block, over, scripted}
-use Rattle.orc_bundle.proofs.Keywords.{skipped_no_end, text_is}
-use Rattle.orc_bundle.proofs.Rules.{err}
+use Rattle.orc_script.specs.declared.step.ScriptStep.{ScriptStep}
+use Rattle.orc_lines.specs.declared.lines.TheConstants.{LARGEST_BUNDLE, LONGEST_LINE}
+use Rattle.orc_lines.specs.declared.declared.Declared.{Declared}
+use Rattle.orc_lines.specs.declared.keyword.Keyword.{Keyword}
+use Rattle.orc_lines.specs.declared.keyword.Keyword.TheVariants as keyword
+use Rattle.orc_script.specs.declared.script.Script.{Script}
+use Rattle.orc_lines.proofs.Costs.{all_bytes, bytes_in}
+use Rattle.orc_declarations.proofs.DeclaredLines.{Declares, declared, declares, headed, in_a_block, over, scripted}
+use Rattle.orc_lines.proofs.Keywords.{skipped_no_end, text_is}
+use Rattle.orc_lines.proofs.Rules.{err}
 use Rattle.orc_bundle.proofs.Skipped.{IsPassed, declarations, script}
 
 -- bytes

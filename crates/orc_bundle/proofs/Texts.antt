@@ -22,7 +22,7 @@ use Rattle.orc_text.proofs.Plain.{plain_parts}
 use Rattle.orc_schema.specs.Schemas.{SchemaTable}
 use Rattle.orc_typed.specs.Typed.{is_typed}
 use Rattle.orc_state.specs.Calls.{is_item_at, is_item_under, is_lawful_item, is_lawful_name}
-use Rattle.orc_bundle.proofs.Numbers.{own}
+use Rattle.orc_lines.proofs.Numbers.{own}
 
 -- no line feed and no carriage return
 abbrev pub is_line_byte : ℕ → Bool

@@ -11,11 +11,11 @@ use Rattle.orc_schema.specs.Schemas.{SchemaTable}
 use Rattle.orc_state.specs.Calls.{is_data_item, is_device, is_device_under, is_forbid_rule, is_lawful_name, is_max_rule, is_put, schema_in}
 use Rattle.orc_state.specs.declared.declarations.Device.{Device}
 use Rattle.orc_state.specs.declared.declarations.TheConstants.{MOST_DEVICES}
-use Rattle.orc_bundle.specs.Declarations.{schema_place}
+use Rattle.orc_declarations.specs.Declarations.{schema_place}
 use Rattle.orc_bundle.specs.Laws.{Preamble, preamble_alone, is_kind}
-use Rattle.orc_bundle.specs.Names.{is_among}
+use Rattle.orc_lines.specs.Names.{is_among}
 use Rattle.orc_bundle.specs.Written.{base_line, data_line, device_lines, forbid_line, max_line}
-use Rattle.orc_bundle.specs.declared.declarations.Declared.{Declared}
+use Rattle.orc_lines.specs.declared.declared.Declared.{Declared}
 use Rattle.orc_bundle.proofs.Texts.{IsLawfulName, lawful_name, lawful_under}
 use Rattle.orc_bundle.proofs.WrittenDeclarations.{Fronts, one_declaration}
 use Rattle.orc_bundle.proofs.WrittenDevices.{at_data, at_devices, base_read, base_text, data_read, data_text, device_line, device_read, device_text, forbid_read, forbid_text, max_read, max_text, new_device, same_back, schema_last}

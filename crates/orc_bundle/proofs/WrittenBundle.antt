@@ -16,19 +16,21 @@ use Rattle.orc_state.specs.declared.declarations.Device.{Device}
 use Rattle.orc_state.specs.declared.declarations.TheConstants.{MOST_DEVICES}
 use Rattle.orc_state.specs.declared.rule.Rule.{Rule}
 use Rattle.orc_state.specs.declared.rule.Rule.TheVariants as rule
-use Rattle.orc_bundle.specs.Bundles.{Front, IsBundle, bundle_in, bundle_of, declarations_of, decls_of, decls_with, header_rule, is_script, is_step, lacks_header, script_of, script_steps}
-use Rattle.orc_bundle.specs.Declarations.{built_in_schema, is_opening, nothing_declared, taken_by}
-use Rattle.orc_bundle.specs.Keywords.{keyword_of}
+use Rattle.orc_declarations.specs.Declarations.{Front, declarations_of, is_script, built_in_schema, is_opening, nothing_declared, taken_by}
+use Rattle.orc_bundle.specs.Bundles.{IsBundle, bundle_in, bundle_of, decls_of, header_rule, script_of}
+use Rattle.orc_lines.specs.Lawful.{decls_with}
+use Rattle.orc_script.specs.Steps.{is_step}
+use Rattle.orc_lines.specs.Lines.{lacks_header, as_line, lines_of, seen, text_of}
+use Rattle.orc_script.specs.Scripts.{script_steps, no_steps}
+use Rattle.orc_lines.specs.Keywords.{keyword_of}
 use Rattle.orc_bundle.specs.Laws.{FollowPreamble, ArePlain, Preamble, IsPreamble, SpelledIsRead, WrittenIsRead, preamble_alone, is_kind}
-use Rattle.orc_bundle.specs.Lines.{as_line, lines_of, seen, text_of}
-use Rattle.orc_bundle.specs.Rules.{on_ok}
-use Rattle.orc_bundle.specs.Scripts.{no_steps}
+use Rattle.orc_lines.specs.Rules.{on_ok}
 use Rattle.orc_bundle.specs.Written.{AreLinesOf, IsLineOf, IsSpelling, bundle_text, data_line, declared_lines, device_lines, none, one, plain_kind, script_lines, text_of_lines}
 use Rattle.orc_bundle.specs.declared.bundle.Bundle.{Bundle}
-use Rattle.orc_bundle.specs.declared.bundle.ScriptStep.{ScriptStep}
-use Rattle.orc_bundle.specs.declared.bundle.TheConstants.{LARGEST_BUNDLE}
-use Rattle.orc_bundle.specs.declared.declarations.Declared.{Declared}
-use Rattle.orc_bundle.specs.declared.declarations.Section.TheVariants as section
+use Rattle.orc_script.specs.declared.step.ScriptStep.{ScriptStep}
+use Rattle.orc_lines.specs.declared.lines.TheConstants.{LARGEST_BUNDLE}
+use Rattle.orc_lines.specs.declared.declared.Declared.{Declared}
+use Rattle.orc_lines.specs.declared.declared.Section.TheVariants as section
 use Rattle.orc_bundle.proofs.Texts.{part_known}
 use Rattle.orc_bundle.proofs.WrittenBases.{AreKnown, data_lines_read, devices_read, known_devices}
 use Rattle.orc_bundle.proofs.WrittenCalls.{AreNamed}

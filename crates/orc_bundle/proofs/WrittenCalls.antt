@@ -21,24 +21,24 @@ use Rattle.orc_state.specs.Calls.{blank_item, device_named, is_action, is_base_p
 use Rattle.orc_state.specs.declared.lawful.TheConstants.{MOST_WRITES}
 use Rattle.orc_state.specs.declared.rule.Rule.{Rule}
 use Rattle.orc_state.specs.declared.rule.Rule.TheVariants as rule
-use Rattle.orc_bundle.specs.Bundles.{decls_with}
-use Rattle.orc_bundle.specs.declared.declarations.Declared.{Declared}
-use Rattle.orc_bundle.specs.Items.{data_path_of, put_of}
-use Rattle.orc_bundle.specs.Keywords.{keyword_of}
-use Rattle.orc_bundle.specs.Lines.{is_settled}
-use Rattle.orc_bundle.specs.Names.{is_among}
-use Rattle.orc_bundle.specs.Rules.{on_ok}
-use Rattle.orc_bundle.specs.Places.{device_item_of, device_item_words, device_path_of, device_path_words}
-use Rattle.orc_bundle.specs.Scripts.{after_base_put, after_base_remove, after_delete, after_end, after_literal, after_set, after_step, after_unset, after_write, an_action, behind_literal, call_end, is_followed, with_action, with_write, word_at, words_at}
-use Rattle.orc_bundle.specs.Words.{cut_at}
+use Rattle.orc_lines.specs.Lawful.{decls_with}
+use Rattle.orc_lines.specs.declared.declared.Declared.{Declared}
+use Rattle.orc_lines.specs.Items.{data_path_of, put_of}
+use Rattle.orc_lines.specs.Keywords.{keyword_of}
+use Rattle.orc_lines.specs.Lines.{is_settled}
+use Rattle.orc_lines.specs.Names.{is_among}
+use Rattle.orc_lines.specs.Rules.{on_ok}
+use Rattle.orc_script.specs.Places.{device_item_of, device_item_words, device_path_of, device_path_words}
+use Rattle.orc_script.specs.Scripts.{after_base_put, after_base_remove, after_delete, after_end, after_literal, after_set, after_step, after_unset, after_write, an_action, behind_literal, call_end, is_followed, with_action, with_write, word_at, words_at}
+use Rattle.orc_lines.specs.Words.{cut_at}
 use Rattle.orc_bundle.specs.Written.{AreLinesOf, lines_of_action, line_of_write}
-use Rattle.orc_bundle.specs.declared.bundle.ScriptStep.{ScriptStep}
-use Rattle.orc_bundle.specs.declared.bundle.ScriptStep.TheVariants.{Serve}
-use Rattle.orc_bundle.specs.declared.script.Script.{Script}
-use Rattle.orc_bundle.specs.declared.script.Part.TheVariants as part
-use Rattle.orc_bundle.proofs.LinesOf.{untrue}
+use Rattle.orc_script.specs.declared.step.ScriptStep.{ScriptStep}
+use Rattle.orc_script.specs.declared.step.ScriptStep.TheVariants.{Serve}
+use Rattle.orc_script.specs.declared.script.Script.{Script}
+use Rattle.orc_script.specs.declared.script.Part.TheVariants as part
+use Rattle.orc_lines.proofs.LinesOf.{untrue}
 use Rattle.orc_bundle.proofs.Texts.{IsLawfulAt, IsLawfulName, IsWord, item_short, lawful_at, lawful_name, lawful_under, part_append, part_known, part_of_item, part_of_word, path_short, word_of_path}
-use Rattle.orc_bundle.proofs.Lawful.{named_same}
+use Rattle.orc_script.proofs.Lawful.{named_same}
 use Rattle.orc_bundle.proofs.WrittenDevices.{base_text, data_again, same_back}
 use Rattle.orc_bundle.proofs.WrittenItems.{base_path_again, carrying, data_path_again, item_again}
 use Rattle.orc_bundle.proofs.WrittenLines.{IsText, cut_alone, cut_word}

@@ -3,16 +3,15 @@ use Rattle.std.proofs.Common.{◌≡◌, ℕ, ◌≤◌, ◌+◌, Bool, true, fa
 use Rattle.std.specs.Str.{is_utf8}
 use Rattle.orc_state.specs.declared.rule.Rule.{Rule}
 use Rattle.orc_state.specs.declared.rule.Rule.TheVariants as rule
-use Rattle.orc_bundle.specs.Bundles.{Front, declarations_of, is_script, on_line, opened}
-use Rattle.orc_bundle.specs.Declarations.{after_script, after_text, bare_declaration, declared_at, in_open_block, is_opening}
-use Rattle.orc_bundle.specs.Keywords.{keyword_of}
-use Rattle.orc_bundle.specs.Lines.{is_skipped, text_of}
-use Rattle.orc_bundle.specs.declared.bundle.TheConstants.{LARGEST_BUNDLE}
-use Rattle.orc_bundle.specs.declared.declarations.Declared.{Declared}
-use Rattle.orc_bundle.specs.declared.declarations.Section.TheVariants as section
+use Rattle.orc_declarations.specs.Declarations.{Front, declarations_of, is_script, opened, after_script, after_text, bare_declaration, declared_at, in_open_block, is_opening}
+use Rattle.orc_lines.specs.Rules.{on_line}
+use Rattle.orc_lines.specs.Keywords.{keyword_of}
+use Rattle.orc_lines.specs.Lines.{is_skipped, text_of}
+use Rattle.orc_lines.specs.declared.lines.TheConstants.{LARGEST_BUNDLE, LONGEST_LINE}
+use Rattle.orc_lines.specs.declared.declared.Declared.{Declared}
+use Rattle.orc_lines.specs.declared.declared.Section.TheVariants as section
 use Rattle.std.proofs.lemmas.Str.{is_utf8-from_IsUtf8}
 use Rattle.orc_bundle.specs.Written.{AreLinesOf, IsLineOf, none, one, skipped}
-use Rattle.orc_bundle.specs.declared.lines.TheConstants.{LONGEST_LINE}
 use Rattle.orc_bundle.proofs.Skipped.{declarations}
 use Rattle.orc_bundle.proofs.Texts.{part_known}
 use Rattle.orc_bundle.proofs.WrittenLines.{IsText, not_large}

@@ -20,17 +20,17 @@ use Rattle.orc_state.specs.declared.declarations.Device.{Device}
 use Rattle.orc_state.specs.declared.declarations.TheConstants.{MOST_DEVICES}
 use Rattle.orc_state.specs.declared.rule.Rule.{Rule}
 use Rattle.orc_state.specs.declared.rule.Rule.TheVariants as rule
-use Rattle.orc_bundle.specs.Declarations.{after_base, after_data, after_device, after_forbid, after_header, after_max, after_rule, after_text, base_words, built_in_schema, changed_at, declaration, device_words, max_words, nothing_declared, rule_line, schema_place, with_base, with_device, with_forbid, with_max}
-use Rattle.orc_bundle.specs.Items.{put_of}
-use Rattle.orc_bundle.specs.Keywords.{keyword_of}
-use Rattle.orc_bundle.specs.Names.{is_among, place_of}
+use Rattle.orc_declarations.specs.Declarations.{after_base, after_data, after_device, after_forbid, after_header, after_max, after_rule, after_text, base_words, built_in_schema, changed_at, declaration, device_words, max_words, nothing_declared, rule_line, schema_place, with_base, with_device, with_forbid, with_max}
+use Rattle.orc_lines.specs.Items.{put_of}
+use Rattle.orc_lines.specs.Keywords.{keyword_of}
+use Rattle.orc_lines.specs.Names.{is_among, place_of}
 use Rattle.orc_bundle.specs.Laws.{Preamble, preamble_alone}
-use Rattle.orc_bundle.specs.Rules.{on_ok, or_rule}
-use Rattle.orc_bundle.specs.Words.{cut_at}
+use Rattle.orc_lines.specs.Rules.{on_ok, or_rule}
+use Rattle.orc_lines.specs.Words.{cut_at}
 use Rattle.orc_bundle.specs.Written.{base_line, data_line, forbid_line, max_line}
-use Rattle.orc_bundle.specs.declared.declarations.Declared.{Declared}
-use Rattle.orc_bundle.proofs.LinesOf.{untrue}
-use Rattle.orc_bundle.proofs.Rules.{ok}
+use Rattle.orc_lines.specs.declared.declared.Declared.{Declared}
+use Rattle.orc_lines.proofs.LinesOf.{untrue}
+use Rattle.orc_lines.proofs.Rules.{ok}
 use Rattle.orc_bundle.proofs.Texts.{IsLawfulAt, IsLawfulName, IsWord, item_short, lawful_under, number_short, part_append, part_known, part_of_item, part_of_word, path_short, word_of_number, word_of_path}
 use Rattle.orc_bundle.proofs.WrittenItems.{forbidden_again, item_again, list_path_again}
 use Rattle.orc_bundle.proofs.WrittenLines.{IsText, cut_word, number_again}

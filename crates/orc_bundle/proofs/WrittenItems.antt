@@ -20,11 +20,11 @@ use Rattle.orc_schema.specs.Schemas.{SchemaTable, kind_at_path, node_at, path_na
 use Rattle.orc_typed.specs.Typed.{are_canonical_keys, are_canonical_steps, canonical_item, canonical_keys, canonical_path, canonical_steps, canonical_text, has_canonical_keys, is_canonical_text, is_canonical_value, is_in_schema, is_typed, kinds_at, stand}
 use Rattle.orc_typed.proofs.Kept.{own_of_typed}
 use Rattle.orc_state.specs.Calls.{blank_item, has_entries, is_data_path, is_item_at, is_item_under, is_kept, is_list_path, is_path_under}
-use Rattle.orc_bundle.specs.Items.{can_carry, data_path_of, forbidden_of, forbidden_words, is_barred, is_past_path, is_past_value, item_words, leaf_of, list_path_of, names_list, put_of}
-use Rattle.orc_bundle.proofs.CanonicalItems.{carries_same}
-use Rattle.orc_bundle.specs.Places.{base_path_of, is_no_word, is_node_path, names_node, node_path_of}
-use Rattle.orc_bundle.specs.Words.{cut_at}
-use Rattle.orc_bundle.proofs.LinesOf.{untrue}
+use Rattle.orc_lines.specs.Items.{can_carry, data_path_of, forbidden_of, forbidden_words, is_barred, is_past_path, is_past_value, item_words, leaf_of, list_path_of, names_list, put_of}
+use Rattle.orc_lines.proofs.CanonicalItems.{carries_same}
+use Rattle.orc_script.specs.Places.{base_path_of, is_no_word, is_node_path, names_node, node_path_of}
+use Rattle.orc_lines.specs.Words.{cut_at}
+use Rattle.orc_lines.proofs.LinesOf.{untrue}
 use Rattle.orc_bundle.proofs.Texts.{IsLawfulAt, IsWord, lawful_at, lawful_value, word_of_path}
 use Rattle.orc_bundle.proofs.WrittenLines.{cut_alone, cut_word}
 

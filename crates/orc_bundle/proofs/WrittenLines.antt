@@ -8,15 +8,14 @@ use Rattle.std.proofs.lemmas.Bool.{and_parts, and_from, or_from, le-ltb, lt-ltb}
 use Rattle.std.proofs.lemmas.Fmt.{decimal_digit, decimal_nonempty, first_decimal, digits_decimal, digits_value-decimal}
 use Rattle.std.proofs.lemmas.List.{reverse-append, reverse-reverse}
 use Rattle.std.proofs.lemmas.List.Folds.{list_all-append}
-use Rattle.orc_bundle.specs.Lines.{as_line, first_kept, is_large, is_settled, is_skipped, lines_of, text_of, without_end, without_return}
-use Rattle.orc_bundle.specs.Words.{cut_at, is_number, is_padded, is_text, number_in}
+use Rattle.orc_lines.specs.Lines.{as_line, first_kept, is_large, is_settled, is_skipped, lines_of, text_of, without_end, without_return}
+use Rattle.orc_lines.specs.Words.{cut_at, is_number, is_padded, is_text, number_in}
 use Rattle.orc_bundle.specs.Written.{AreLinesOf, IsLineOf, none, one, skipped}
-use Rattle.orc_bundle.specs.declared.bundle.TheConstants.{LARGEST_BUNDLE}
-use Rattle.orc_bundle.specs.declared.lines.TheConstants.{LONGEST_LINE}
-use Rattle.orc_bundle.specs.inside.Blocks.{lacks}
-use Rattle.orc_bundle.proofs.Cuts.{cut_none, cut_some}
-use Rattle.orc_bundle.proofs.LinesOf.{line_found, untrue}
-use Rattle.orc_bundle.proofs.Numbers.{own}
+use Rattle.orc_lines.specs.declared.lines.TheConstants.{LARGEST_BUNDLE, LONGEST_LINE}
+use Rattle.orc_lines.specs.inside.Blocks.{lacks}
+use Rattle.orc_lines.proofs.Cuts.{cut_none, cut_some}
+use Rattle.orc_lines.proofs.LinesOf.{line_found, untrue}
+use Rattle.orc_lines.proofs.Numbers.{own}
 use Rattle.orc_bundle.proofs.Texts.{IsPart, IsWord, all_so, is_line_byte, is_word_byte}
 
 -- lines

@@ -4,15 +4,14 @@ use Rattle.std.specs.Option.{is_none}
 use Rattle.std.proofs.lemmas.Bool.{false≢true}
 use Rattle.orc_state.specs.declared.rule.Rule.{Rule}
 use Rattle.orc_state.specs.declared.rule.Rule.TheVariants as rule
-use Rattle.orc_bundle.specs.Bundles.{declarations_of, is_script, lacks_header, opened}
-use Rattle.orc_bundle.specs.Declarations.{declared_at, lines_taken}
+use Rattle.orc_declarations.specs.Declarations.{declarations_of, is_script, opened, declared_at, lines_taken}
+use Rattle.orc_lines.specs.Lines.{lacks_header, block_of, first_kept, is_skipped, text_of}
 use Rattle.orc_bundle.specs.Laws.{declared_by, left_of_block}
-use Rattle.orc_bundle.specs.Lines.{block_of, first_kept, is_skipped, text_of}
-use Rattle.orc_bundle.specs.Words.{is_text}
-use Rattle.orc_bundle.specs.declared.bundle.TheConstants.{LARGEST_BUNDLE}
-use Rattle.orc_bundle.specs.declared.declarations.Declared.{Declared}
-use Rattle.orc_bundle.proofs.Keywords.{text_is}
-use Rattle.orc_bundle.proofs.Rules.{on_ok_ok, passed, same_ok}
+use Rattle.orc_lines.specs.Words.{is_text}
+use Rattle.orc_lines.specs.declared.lines.TheConstants.{LARGEST_BUNDLE}
+use Rattle.orc_lines.specs.declared.declared.Declared.{Declared}
+use Rattle.orc_lines.proofs.Keywords.{text_is}
+use Rattle.orc_lines.proofs.Rules.{on_ok_ok, passed, same_ok}
 use Rattle.orc_bundle.proofs.SkippedLines.{block_same, declared_same, left_behind, left_here}
 use Rattle.orc_bundle.proofs.WrittenDeclarations.{bytes_of, on_front}
 

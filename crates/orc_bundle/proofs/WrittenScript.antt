@@ -6,27 +6,25 @@ use Rattle.std.proofs.lemmas.Bool.{lt-leb}
 use Rattle.orc_state.specs.Calls.{schema_named}
 use Rattle.orc_state.specs.declared.rule.Rule.{Rule}
 use Rattle.orc_state.specs.declared.rule.Rule.TheVariants as rule
-use Rattle.orc_bundle.specs.Bundles.{on_line, script_steps}
-use Rattle.orc_bundle.specs.Keywords.{keyword_of}
-use Rattle.orc_bundle.specs.Lines.{is_skipped, text_of}
-use Rattle.orc_bundle.specs.Names.{place_of}
-use Rattle.orc_bundle.specs.Scripts.{a_step, after_json, after_meta, after_show, after_step, after_stop, bare_step, is_full, scripted_at, stop_words, with_step, word_at, words_at}
+use Rattle.orc_lines.specs.Rules.{on_line, on_ok}
+use Rattle.orc_script.specs.Scripts.{script_steps, a_step, after_json, after_meta, after_show, after_step, after_stop, bare_step, is_full, scripted_at, stop_words, with_step, word_at, words_at}
+use Rattle.orc_lines.specs.Keywords.{keyword_of}
+use Rattle.orc_lines.specs.Lines.{is_skipped, text_of}
+use Rattle.orc_lines.specs.Names.{place_of}
 use Rattle.orc_path.specs.Limits.{is_long_path}
 use Rattle.orc_path.specs.Steps.{PathStep, is_path}
 use Rattle.orc_path.specs.Texts.{path_text}
-use Rattle.orc_bundle.specs.Places.{device_node_of, device_node_words, is_node_path}
-use Rattle.orc_bundle.specs.Rules.{on_ok}
-use Rattle.orc_bundle.specs.Words.{cut_at}
-use Rattle.orc_bundle.specs.declared.declarations.Declared.{Declared}
-use Rattle.orc_bundle.specs.declared.bundle.ScriptStep.{ScriptStep}
-use Rattle.orc_bundle.specs.declared.bundle.ScriptStep.TheVariants.{Show, Json, Meta, Data, Settle, Stop, StopAt, Recover, History}
-use Rattle.orc_bundle.specs.declared.bundle.TheConstants.{LARGEST_BUNDLE}
-use Rattle.orc_bundle.specs.declared.script.Script.{Script}
-use Rattle.orc_bundle.specs.declared.script.Part.TheVariants as part
-use Rattle.orc_bundle.specs.declared.script.TheConstants.{MOST_STEPS}
+use Rattle.orc_script.specs.Places.{device_node_of, device_node_words, is_node_path}
+use Rattle.orc_lines.specs.Words.{cut_at}
+use Rattle.orc_lines.specs.declared.declared.Declared.{Declared}
+use Rattle.orc_script.specs.declared.step.ScriptStep.{ScriptStep}
+use Rattle.orc_script.specs.declared.step.ScriptStep.TheVariants.{Show, Json, Meta, Data, Settle, Stop, StopAt, Recover, History}
+use Rattle.orc_lines.specs.declared.lines.TheConstants.{LARGEST_BUNDLE, LONGEST_LINE}
+use Rattle.orc_script.specs.declared.script.Script.{Script}
+use Rattle.orc_script.specs.declared.script.Part.TheVariants as part
+use Rattle.orc_script.specs.declared.script.TheConstants.{MOST_STEPS}
 use Rattle.std.proofs.lemmas.Str.{is_utf8-from_IsUtf8}
 use Rattle.orc_bundle.specs.Written.{AreLinesOf, IsLineOf, none, one, skipped}
-use Rattle.orc_bundle.specs.declared.lines.TheConstants.{LONGEST_LINE}
 use Rattle.orc_bundle.proofs.Skipped.{script}
 use Rattle.orc_bundle.proofs.Texts.{is_line_byte, IsLawfulName, number_short, part_append, part_known, part_of_word, path_short, word_of_number, word_of_path}
 use Rattle.orc_bundle.proofs.WrittenDeclarations.{bytes_of}

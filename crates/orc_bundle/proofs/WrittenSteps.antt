@@ -10,20 +10,21 @@ use Rattle.orc_state.specs.States.{is_same_text, name_of}
 use Rattle.orc_state.specs.Calls.{is_action, is_call, is_lawful_name, schema_named}
 use Rattle.orc_state.specs.declared.declarations.Decls.{Decls}
 use Rattle.orc_state.specs.declared.rule.Rule.{Rule}
-use Rattle.orc_bundle.specs.Bundles.{are_settled, begins_settled, callers_behind, decls_with, is_step}
-use Rattle.orc_bundle.specs.declared.declarations.Declared.{Declared}
-use Rattle.orc_bundle.specs.Keywords.{keyword_of}
-use Rattle.orc_bundle.specs.Lines.{is_end, is_settled, text_of}
-use Rattle.orc_bundle.specs.Names.{is_among, place_of, with_name}
-use Rattle.orc_bundle.specs.Scripts.{a_step, after_call, after_step, call_words, is_caller_more, is_followed, words_at}
-use Rattle.orc_bundle.specs.Places.{is_node_path}
-use Rattle.orc_bundle.specs.Words.{cut_at, is_text}
+use Rattle.orc_script.specs.Steps.{are_settled, begins_settled, callers_behind, is_step}
+use Rattle.orc_lines.specs.Lawful.{decls_with}
+use Rattle.orc_lines.specs.declared.declared.Declared.{Declared}
+use Rattle.orc_lines.specs.Keywords.{keyword_of}
+use Rattle.orc_lines.specs.Lines.{is_end, is_settled, text_of}
+use Rattle.orc_lines.specs.Names.{is_among, place_of, with_name}
+use Rattle.orc_script.specs.Scripts.{a_step, after_call, after_step, call_words, is_caller_more, is_followed, words_at}
+use Rattle.orc_script.specs.Places.{is_node_path}
+use Rattle.orc_lines.specs.Words.{cut_at, is_text}
 use Rattle.orc_bundle.specs.Written.{AreLinesOf, lines_of_action, step_lines}
-use Rattle.orc_bundle.specs.declared.bundle.ScriptStep.{ScriptStep}
-use Rattle.orc_bundle.specs.declared.bundle.ScriptStep.TheVariants.{Show, Json, Meta, Data, Serve, Settle, Stop, StopAt, Recover, History}
-use Rattle.orc_bundle.specs.declared.script.Script.{Script}
-use Rattle.orc_bundle.specs.declared.script.TheConstants.{MOST_CALLERS, MOST_STEPS}
-use Rattle.orc_bundle.proofs.LinesOf.{untrue}
+use Rattle.orc_script.specs.declared.step.ScriptStep.{ScriptStep}
+use Rattle.orc_script.specs.declared.step.ScriptStep.TheVariants.{Show, Json, Meta, Data, Serve, Settle, Stop, StopAt, Recover, History}
+use Rattle.orc_script.specs.declared.script.Script.{Script}
+use Rattle.orc_script.specs.declared.script.TheConstants.{MOST_CALLERS, MOST_STEPS}
+use Rattle.orc_lines.proofs.LinesOf.{untrue}
 use Rattle.orc_bundle.proofs.Texts.{IsLawfulName, lawful_name, number_short, part_append, part_known, part_of_word, word_of_number}
 use Rattle.orc_bundle.proofs.WrittenCalls.{AreNamed, call_read, opened}
 use Rattle.orc_bundle.proofs.WrittenDevices.{same_name}

@@ -16,17 +16,18 @@ use Rattle.orc_state.specs.Calls.{is_action, is_data_item, is_forbid_rule, is_la
 use Rattle.orc_state.specs.declared.declarations.Decls.{Decls}
 use Rattle.orc_state.specs.declared.declarations.Device.{Device}
 use Rattle.orc_state.specs.declared.lawful.TheConstants.{MOST_WRITES}
-use Rattle.orc_bundle.specs.Bundles.{decls_with, is_step}
-use Rattle.orc_bundle.specs.declared.declarations.Declared.{Declared}
+use Rattle.orc_lines.specs.Lawful.{decls_with}
+use Rattle.orc_script.specs.Steps.{is_step}
+use Rattle.orc_lines.specs.declared.declared.Declared.{Declared}
 use Rattle.orc_bundle.specs.Laws.{Preamble}
 use Rattle.orc_bundle.specs.Written.{base_line, data_line, device_lines, forbid_line, line_of_write, lines_of_action, max_line, step_lines}
-use Rattle.orc_bundle.specs.declared.bundle.ScriptStep.{ScriptStep}
-use Rattle.orc_bundle.specs.declared.bundle.ScriptStep.TheVariants.{Show, Json, Meta, Data, Serve, Settle, Stop, StopAt, Recover, History}
+use Rattle.orc_script.specs.declared.step.ScriptStep.{ScriptStep}
+use Rattle.orc_script.specs.declared.step.ScriptStep.TheVariants.{Show, Json, Meta, Data, Serve, Settle, Stop, StopAt, Recover, History}
 use Rattle.orc_bundle.proofs.Texts.{IsLawfulName, is_line_byte, lawful_name, lawful_under}
 use Rattle.orc_bundle.proofs.WrittenBases.{AreKnown}
 use Rattle.orc_bundle.proofs.WrittenCalls.{AreNamed, base_path_known, delete_text, literal_text, set_text, unbase_text, unset_text, write_known, write_text}
 use Rattle.orc_bundle.proofs.WrittenDevices.{base_text, data_text, device_line, device_text, forbid_text, max_text}
-use Rattle.orc_bundle.specs.Places.{is_node_path}
+use Rattle.orc_script.specs.Places.{is_node_path}
 use Rattle.orc_bundle.proofs.WrittenItems.{node_known}
 use Rattle.orc_bundle.proofs.WrittenLines.{IsText}
 use Rattle.orc_bundle.proofs.WrittenScript.{json_text, meta_text, show_text, stop_at_text}

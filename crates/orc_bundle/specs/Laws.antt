@@ -11,17 +11,16 @@ use Rattle.orc_state.specs.declared.declarations.Decls.{Decls}
 use Rattle.orc_state.specs.declared.declarations.Device.{Device}
 use Rattle.orc_state.specs.declared.rule.Rule.{Rule}
 use Rattle.orc_state.specs.declared.rule.Rule.TheVariants as rule
-use Rattle.orc_bundle.specs.Bundles.{IsBundle, bundle_of, is_script, lacks_header}
-use Rattle.orc_bundle.specs.Declarations.{built_in_schema, declared_at, lines_taken, nothing_declared, schema_place}
-use Rattle.orc_bundle.specs.Lines.{is_skipped, lines_of, text_of}
-use Rattle.orc_bundle.specs.Rules.{on_ok}
-use Rattle.orc_bundle.specs.Words.{is_text}
+use Rattle.orc_bundle.specs.Bundles.{IsBundle, bundle_of}
+use Rattle.orc_declarations.specs.Declarations.{is_script, built_in_schema, declared_at, lines_taken, nothing_declared, schema_place}
+use Rattle.orc_lines.specs.Lines.{lacks_header, is_skipped, lines_of, text_of}
+use Rattle.orc_lines.specs.Rules.{on_ok}
+use Rattle.orc_lines.specs.Words.{is_text}
 use Rattle.orc_bundle.specs.Written.{AreLinesOf, IsSpelling, bundle_text, declared_text}
 use Rattle.orc_bundle.specs.declared.bundle.Bundle.{Bundle}
-use Rattle.orc_bundle.specs.declared.bundle.TheConstants.{LARGEST_BUNDLE}
-use Rattle.orc_bundle.specs.declared.declarations.Declared.{Declared}
-use Rattle.orc_bundle.specs.declared.declarations.Section.TheVariants as section
-use Rattle.orc_bundle.specs.declared.lines.TheConstants.{LONGEST_LINE}
+use Rattle.orc_lines.specs.declared.lines.TheConstants.{LARGEST_BUNDLE, LONGEST_LINE}
+use Rattle.orc_lines.specs.declared.declared.Declared.{Declared}
+use Rattle.orc_lines.specs.declared.declared.Section.TheVariants as section
 
 -- a line is empty or a comment, UTF-8, and not too long
 pub record IsSkipped (line : List ℕ) : Type 0 where

@@ -1,17 +1,3 @@
-pub mod Rules
-pub mod Lines
-pub mod Words
-pub mod Keywords
-pub mod Names
-pub mod Items
-pub mod Places
-pub mod Modules
-pub mod Schemas
-pub mod Declarations
-pub mod Scripts
 pub mod Bundles
-pub mod Answers
-pub mod Explanations
 pub mod Written
 pub mod Laws
-pub mod inside

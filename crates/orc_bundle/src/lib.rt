@@ -4,29 +4,11 @@
 #![tactic(auto)]
 
 mod bundle;
-mod call_block;
-mod declarations;
-mod explanations;
-mod fault;
-mod items;
-mod keyword;
 mod laws;
-mod lines;
-mod lists;
-mod module;
-mod names;
-mod opening;
-mod places;
 mod read;
-mod schemas;
-mod script;
-mod statements;
-mod types;
-mod words;
 
-pub use bundle::{Bundle, LARGEST_BUNDLE, ScriptStep};
-pub use explanations::explanation;
+pub use bundle::Bundle;
 pub use laws::{skipped_lines_change_nothing, spelled_is_read, written_is_read};
-pub use lines::LONGEST_LINE;
+pub use orc_lines::{LARGEST_BUNDLE, LONGEST_LINE};
+pub use orc_script::{MOST_CALLERS, MOST_STEPS, ScriptStep};
 pub use read::{read_bundle, read_counted};
-pub use script::{MOST_CALLERS, MOST_STEPS};

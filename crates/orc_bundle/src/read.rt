@@ -1,156 +1,24 @@
-//! Reading of a bundle line by line.
-ghost use Rattle.std.specs.Prelude.{◌≡◌, ◌<◌, ◌≤◌, ◌+◌, ◌*◌, ◌^◌, IfOk, OnOk, IsTrue, length};
-ghost use Rattle.std.specs.List.{list_all, IsDistinct};
+//! Reading of a bundle.
+ghost use Rattle.std.specs.Prelude.{◌≡◌, ◌<◌, ◌≤◌, ◌+◌, ◌*◌, ◌^◌, IfOk, OnOk, length};
+ghost use Rattle.std.specs.List.{IsDistinct};
 ghost use Rattle.orc_state.specs.States.{is_same_text};
-ghost use Rattle.orc_bundle.specs.Lines.{lines_of, seen};
-ghost use Rattle.orc_bundle.specs.Bundles.{IsBundle, bundle_in, bundle_of, declarations_of, header_rule, is_step, script_steps};
-ghost use Rattle.orc_bundle.specs.Answers.{Gives};
-ghost use Rattle.orc_bundle.specs.Declarations.{is_opening, nothing_declared};
-ghost use Rattle.orc_bundle.specs.Scripts.{no_steps};
-ghost use Rattle.orc_bundle.specs.inside.Costs.{bytes_to, is_kept};
-ghost use Rattle.orc_bundle.specs.inside.Lawful.{AreDeclared, IsWithin, decls_in, left_of};
-ghost use Rattle.orc_bundle.specs.inside.Readers.{Declares, IsOpened, in_line};
-ghost use Rattle.orc_bundle.specs.inside.Work.{most_work, work_on};
-ghost use Rattle.orc_bundle.specs.declared.bundle.TheConstants.{LARGEST_BUNDLE};
+ghost use Rattle.orc_lines.specs.Lines.{lines_of, seen};
+ghost use Rattle.orc_bundle.specs.Bundles.{IsBundle, bundle_in, bundle_of, header_rule};
+ghost use Rattle.orc_declarations.specs.Declarations.{nothing_declared};
+ghost use Rattle.orc_lines.specs.Answers.{Gives};
+ghost use Rattle.orc_lines.specs.Work.{most_work};
+ghost use Rattle.orc_lines.specs.declared.lines.TheConstants.{LARGEST_BUNDLE};
 
-use crate::bundle::{Bundle, ScriptStep};
-use crate::declarations::{Declared, Section};
-use crate::fault::LineFault;
-use crate::lines::{first_line, is_large, lacks_header, line_text, seen};
-use crate::names::Names;
-use crate::opening::is_opening;
-use crate::script::Script;
-use crate::words::read_text;
+use crate::bundle::Bundle;
+use orc_declarations::{nothing_declared, read_declarations};
 use orc_io::Steps;
+use orc_lines::{Names, first_line, is_large, lacks_header, line_text, read_text, seen};
+use orc_script::read_steps;
 use orc_state::{BundleFault, Decls, Rule};
 use orc_text::{Memory, Row, Text};
 use std::alloc::Global;
 use std::marker::Brand;
 use std::sync::ledger::{Blank, Ledger};
-
-/// What is left where the declarations end.
-#[derive(Drop)]
-pub struct Behind<'a> {
-    /// The bytes in front of the line `script`, or all of them where there is none.
-    pub size: usize,
-    /// The bytes and the lines in front of the script.
-    pub at: u64,
-    pub number: u64,
-    /// The bytes of the script.
-    pub later: &'a [u8],
-}
-
-// What a fault of the line of this number is.
-fn in_line(number: u64, fault: LineFault) -> BundleFault
-    ensures { result ≡ in_line number fault }
-{
-    match fault {
-        LineFault::Breaks(rule) => BundleFault::At { line: number, rule },
-        LineFault::Memory => BundleFault::Memory,
-    }
-}
-
-// That the opening data is valid and each device accepts its base, where the declarations end in the
-// line of this number.
-fn check_opening(alloc: Global, declared: &Declared, number: u64) -> Result<(), BundleFault>
-    requires { AreDeclared declared.now }
-    ensures { IsOpened declared.now number result }
-{
-    if is_opening(alloc, declared)? {
-        return Ok(());
-    }
-    Err(BundleFault::At {
-        line: number,
-        rule: Rule::Opening,
-    })
-}
-
-// Reads the declarations.
-fn read_declarations<'a, L: Ledger, M: Ledger>(
-    alloc: Global,
-    bytes: &'a [u8],
-    declared: &mut Declared,
-    steps: &mut Steps<L>,
-    work: &mut Steps<M>,
-) -> Result<Behind<'a>, BundleFault>
-    requires nothing { declared.old ≡ nothing_declared }
-    requires lawful { AreDeclared declared.old }
-    ensures answer { Declares (declarations_of declared.old 0 0 (lines_of bytes.now)) declared.new result }
-    ensures lawful { OnOk result (AreDeclared declared.new) }
-    ensures opened { OnOk result (IsTrue (is_opening declared.new)) }
-    ensures within { IfOk result (IsWithin bytes.now) }
-    ensures cost { steps.new + bytes_to is_kept (lines_of bytes.now) + 2 * left_of result
-        ≤ steps.old + 2 * length bytes.now }
-    ensures worked { work.new + most_work (left_of result) ≤ work.old + most_work (length bytes.now) }
-    ensures counts { IfOk result (λ behind. steps.old + length bytes.now ≤ steps.new + length behind.later.now) }
-{
-    let mut rest = bytes;
-    let mut at = 0;
-    let mut number = 0;
-    'lines: while !rest.is_empty() {
-        let (line, later) = first_line(rest, steps);
-        number += 1;
-        if let Err(fault) = declared.take(alloc, at, line, later, steps, work) {
-            return Err(in_line(number, fault));
-        }
-        let begin = at;
-        at += line.len() as u64;
-        rest = later;
-        if declared.section == Section::Script {
-            check_opening(alloc, declared, number)?;
-            return Ok(Behind {
-                size: begin as usize,
-                at,
-                number,
-                later,
-            });
-        }
-    }
-    check_opening(alloc, declared, number + 1)?;
-    Ok(Behind {
-        size: bytes.len(),
-        at,
-        number,
-        later: rest,
-    })
-}
-
-// Reads the steps of the script, in front of which stand so many bytes and so many lines.
-fn read_steps<L: Ledger, M: Ledger>(
-    alloc: Global,
-    declared: &Declared,
-    at: u64,
-    number: u64,
-    bytes: &[u8],
-    steps: &mut Steps<L>,
-    work: &mut Steps<M>,
-) -> Result<Row<ScriptStep>, BundleFault>
-    requires declared { AreDeclared declared.now }
-    requires small { at ≤ LARGEST_BUNDLE }
-    requires lines { number ≤ at }
-    requires room { at + length bytes.now < 2 ^ 63 }
-    ensures answer { Gives (script_steps declared.now no_steps at number (lines_of bytes.now)) result }
-    ensures lawful { IfOk result (λ steps. IsTrue (list_all (is_step (decls_in declared.now)) steps)) }
-    ensures small { OnOk result (at + length bytes.now ≤ LARGEST_BUNDLE) }
-    ensures cost { steps.new ≤ steps.old + 2 * length bytes.now }
-    ensures worked { work.new ≤ work.old + work_on bytes.now }
-    ensures counts { OnOk result (steps.old + length bytes.now ≤ steps.new) }
-{
-    let mut script = Script::new(alloc);
-    let mut rest = bytes;
-    let mut at = at;
-    let mut number = number;
-    'lines: while !rest.is_empty() {
-        let (line, later) = first_line(rest, steps);
-        number += 1;
-        if let Err(fault) = script.take(alloc, declared, at, line, later, steps, work) {
-            return Err(in_line(number, fault));
-        }
-        at += line.len() as u64;
-        rest = later;
-    }
-    Ok(script.steps)
-}
 
 // The bytes of the declarations.
 fn text_of(alloc: Global, bytes: &[u8]) -> Result<Row<u8>, Memory>
@@ -210,7 +78,7 @@ fn read_seen<L: Ledger, M: Ledger>(
             rule: header_rule(bytes, steps),
         });
     }
-    let mut declared = Declared::new(alloc)?;
+    let mut declared = nothing_declared(alloc)?;
     let behind = read_declarations(alloc, bytes, &mut declared, steps, work)?;
     let text = text_of(alloc, &bytes[..behind.size])?;
     let names = row_of(alloc, &declared.names)?;

@@ -1,6 +1,7 @@
 mod IdsLaws
 mod PathLaws
 mod TouchedLaws
+mod MarkLaws
 mod StoreLaws
 mod RowLaws
 mod PartLaws

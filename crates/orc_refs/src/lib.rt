@@ -9,6 +9,7 @@
 mod backs;
 mod base;
 mod laws;
+mod mark;
 mod moves;
 mod part;
 mod plan;

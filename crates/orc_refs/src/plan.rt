@@ -1,15 +1,18 @@
 //! What moves come to at the paths that they touch.
-ghost use Rattle.std.specs.Prelude.{◌≡◌, ◌+◌, ◌≤◌, ◌++◌, ◌∷◌, [], OnOk, IfOk, IfErr, Ok, true, IsTrue, length};
+ghost use Rattle.std.specs.Prelude.{◌≡◌, ◌+◌, ◌≤◌, ◌++◌, ◌∷◌, [], List, OnOk, IfOk, IfErr, Ok, true, IsTrue, length};
 ghost use Rattle.std.specs.Option.{option_copied};
 ghost use Rattle.std.specs.FinMap.{from_sorted, is_sorted};
 ghost use Rattle.orc_path.specs.Order.{path_cmp};
+ghost use Rattle.orc_path.specs.Steps.{PathStep};
 ghost use Rattle.orc_refs.specs.Moves.{BringWhole};
 ghost use Rattle.orc_refs.specs.inside.Settling.{all_bring, ids_after, item_after};
+ghost use Rattle.orc_refs.specs.inside.Marks.{brings_at, brought_in, paths_in, shown};
 ghost use Rattle.orc_refs.specs.inside.Plans.{HasCause, all_agree, come, gone, puts_due, removals_due, rows_due};
 
 use crate::backs::Backs;
+use crate::mark::Brought;
 use crate::rival::rival;
-use crate::settle::{all_bring, any_stays, first_brought, has_item, ids_after};
+use crate::settle::{all_are, any_stays, first_of, has_item, ids_after};
 use crate::{Move, RefsFault};
 use orc_io::Steps;
 use orc_path::{Item, Path};
@@ -37,7 +40,7 @@ pub(crate) struct Place<'a> {
 
 // A store as moves find it, with the base once it is edited.
 #[derive(Clone, Copy)]
-pub(crate) struct Parts<'a> {
+pub(crate) struct Held<'a> {
     pub(crate) backs: &'a Backs,
     pub(crate) tree: &'a Tree,
     pub(crate) base: &'a Tree,
@@ -63,9 +66,10 @@ impl Plan {
         alloc: Global,
         moves: &[Move],
         path: &Path,
+        brought: &[Brought<'_>],
         found: &Place<'_>,
     ) -> Result<bool, Memory>
-        requires whole { BringWhole moves.now }
+        requires { shown brought.now ≡ brings_at moves.now path.now }
         ensures agree { IfOk result (λ agree. agree
             ≡ all_bring moves.now path.now
             (item_after moves.now path.now found.now.ids.now (option_copied found.now.here)
@@ -83,11 +87,11 @@ impl Plan {
             (option_copied found.now.base))
             path.now }
     {
-        let after = item_after(moves, path, found);
-        if !all_bring(moves, path, after) {
+        let after = item_after(moves, path, brought, found);
+        if !all_are(brought, after) {
             return Ok(false);
         }
-        let ids = ids_after(alloc, moves, path, found.ids)?;
+        let ids = ids_after(alloc, moves, brought, found.ids)?;
         self.rows.push((path.copy(alloc)?, Row::from_vec(ids)))?;
         self.change(alloc, path, found.here, after)?;
         Ok(true)
@@ -125,8 +129,13 @@ impl Plan {
 }
 
 // The item that stands at a path once the moves are done.
-fn item_after<'a>(moves: &'a [Move], path: &Path, found: &Place<'a>) -> Option<&'a Item>
-    requires whole { BringWhole moves.now }
+fn item_after<'a>(
+    moves: &[Move],
+    path: &Path,
+    brought: &[Brought<'a>],
+    found: &Place<'a>,
+) -> Option<&'a Item>
+    requires { shown brought.now ≡ brings_at moves.now path.now }
     ensures { option_copied result
         ≡ item_after moves.now path.now found.now.ids.now (option_copied found.now.here)
         (option_copied found.now.base) }
@@ -134,36 +143,38 @@ fn item_after<'a>(moves: &'a [Move], path: &Path, found: &Place<'a>) -> Option<&
     if any_stays(moves, found.ids) {
         return found.here;
     }
-    match first_brought(moves, path) {
+    match first_of(brought) {
         Some(item) => Some(item),
         None => found.base,
     }
 }
 
-// What the moves come to at the paths that they touch. It visits each of these paths once.
+// What the moves come to at the paths that they touch, where each path has what they bring there. It
+// visits each of these paths once.
 pub(crate) fn plan_of<L: Ledger>(
     alloc: Global,
     moves: &[Move],
-    store: &Parts<'_>,
-    touched: &[(Path, ())],
+    store: &Held<'_>,
+    touched: &[(Path, Vec<Brought<'_>>)],
     steps: &mut Steps<L>,
 ) -> Result<Plan, RefsFault>
     requires backs { IsTrue (is_sorted path_cmp store.now.backs.now) }
     requires paths { IsTrue (is_sorted path_cmp touched.now) }
     requires whole { BringWhole moves.now }
+    requires brings { (p : List PathStep) → brought_in touched.now p ≡ brings_at moves.now p }
     ensures clash { IfErr result (HasCause (from_sorted store.now.backs.now) store.now.tree.now store.now.base.now
-        moves.now touched.now) }
+        moves.now (paths_in touched.now)) }
     ensures rows { IfOk result
-        (λ plan. plan.rows ≡ rows_due (from_sorted store.now.backs.now) moves.now touched.now) }
+        (λ plan. plan.rows ≡ rows_due (from_sorted store.now.backs.now) moves.now (paths_in touched.now)) }
     ensures removals { IfOk result
         (λ plan. plan.removals ≡ removals_due (from_sorted store.now.backs.now) store.now.tree.now store.now.base.now
-        moves.now touched.now) }
+        moves.now (paths_in touched.now)) }
     ensures puts { IfOk result
         (λ plan. plan.puts ≡ puts_due (from_sorted store.now.backs.now) store.now.tree.now store.now.base.now
-        moves.now touched.now) }
+        moves.now (paths_in touched.now)) }
     ensures agree { IfOk result
         (λ plan. IsTrue (all_agree (from_sorted store.now.backs.now) store.now.tree.now store.now.base.now
-        moves.now touched.now)) }
+        moves.now (paths_in touched.now))) }
     ensures steps { steps.new ≤ steps.old + length touched.now }
 {
     let mut plan = Plan::new(alloc);
@@ -175,7 +186,7 @@ pub(crate) fn plan_of<L: Ledger>(
             here: store.tree.get(path),
             base: store.base.get(path),
         };
-        if !plan.settle(alloc, moves, path, &found)? {
+        if !plan.settle(alloc, moves, path, row.1.as_slice(), &found)? {
             let path = path.copy(alloc)?;
             let other = rival(alloc, moves, &path, &found)?;
             return Err(RefsFault::Clash { path, other });

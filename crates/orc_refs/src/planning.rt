@@ -1,9 +1,10 @@
 //! Moves and edits of the base prepared and put in place. All that can be refused is refused before
 //! anything is changed.
-ghost use Rattle.std.specs.Prelude.{◌≡◌, ◌+◌, ◌*◌, ◌<◌, ◌≤◌, ◌++◌, IsErr, IfErr, IfOk, OnOk, OnErr, IsTrue, length, vec_len};
+ghost use Rattle.std.specs.Prelude.{◌≡◌, ◌+◌, ◌*◌, ◌<◌, ◌≤◌, ◌++◌, List, IsErr, IfErr, IfOk, OnOk, OnErr, IsTrue, length, vec_len};
 ghost use Rattle.std.specs.List.{list_all};
 ghost use Rattle.std.specs.FinMap.{from_sorted, is_sorted};
 ghost use Rattle.orc_path.specs.Order.{path_cmp};
+ghost use Rattle.orc_path.specs.Steps.{PathStep};
 ghost use Rattle.orc_path.specs.Configurations.{IsConfig};
 ghost use Rattle.orc_tree.specs.Changes.{applied, change_fits};
 ghost use Rattle.orc_change.specs.Differences.{difference};
@@ -11,11 +12,13 @@ ghost use Rattle.orc_refs.specs.Stores.{store_of, written_by};
 ghost use Rattle.orc_refs.specs.Moves.{BringWhole, IsMoved, LeadsTo, StartAt, are_distinct, count_moved, edit_fits, edited, writes_after};
 ghost use Rattle.orc_refs.specs.Clashes.{IsCause};
 ghost use Rattle.orc_refs.specs.inside.Kept.{AreKept};
+ghost use Rattle.orc_refs.specs.inside.Marks.{brings_at, brought_in, paths_in};
 ghost use Rattle.orc_refs.specs.inside.Plans.{HasCause, IsPlanned, all_agree, changes_due, planned_store, rows_due, with_rows};
 
 use crate::backs::Backs;
 use crate::base::{NewBase, new_base};
-use crate::plan::{Parts, Plan, plan_of};
+use crate::mark::Brought;
+use crate::plan::{Held, Plan, plan_of};
 use crate::touched::touched;
 use crate::{BaseEdit, Move, RefsFault};
 use orc_io::Steps;
@@ -44,28 +47,29 @@ pub(crate) struct Prepared {
 // What is due at these paths. It visits each of them once.
 fn due_at<L: Ledger>(
     alloc: Global,
-    store: &Parts<'_>,
+    store: &Held<'_>,
     moves: &[Move],
-    paths: &[(Path, ())],
+    touched: &[(Path, Vec<Brought<'_>>)],
     steps: &mut Steps<L>,
 ) -> Result<Due, RefsFault>
     requires backs { IsTrue (is_sorted path_cmp store.now.backs.now) }
-    requires paths { IsTrue (is_sorted path_cmp paths.now) }
+    requires paths { IsTrue (is_sorted path_cmp touched.now) }
     requires whole { BringWhole moves.now }
+    requires brings { (p : List PathStep) → brought_in touched.now p ≡ brings_at moves.now p }
     ensures changes { IfOk result
         (λ due. due.set.changes ≡ changes_due (from_sorted store.now.backs.now) store.now.tree.now
-        store.now.base.now moves.now paths.now) }
+        store.now.base.now moves.now (paths_in touched.now)) }
     ensures rows { IfOk result
-        (λ due. due.rows ≡ rows_due (from_sorted store.now.backs.now) moves.now paths.now) }
+        (λ due. due.rows ≡ rows_due (from_sorted store.now.backs.now) moves.now (paths_in touched.now)) }
     ensures agree { IfOk result
         (λ due. IsTrue (all_agree (from_sorted store.now.backs.now) store.now.tree.now store.now.base.now
-        moves.now paths.now)) }
+        moves.now (paths_in touched.now))) }
     ensures clash { IfErr result (HasCause (from_sorted store.now.backs.now) store.now.tree.now store.now.base.now
-        moves.now paths.now) }
-    ensures steps { steps.new ≤ steps.old + length paths.now }
+        moves.now (paths_in touched.now)) }
+    ensures steps { steps.new ≤ steps.old + length touched.now }
 {
     // A `match` and no `?`, so that the proof has the fault by its name.
-    let plan = match plan_of(alloc, moves, store, paths, steps) {
+    let plan = match plan_of(alloc, moves, store, touched, steps) {
         Ok(plan) => plan,
         Err(fault) => return Err(fault),
     };
@@ -104,7 +108,7 @@ fn due_on<L: Ledger>(
     ensures steps { steps.new ≤ steps.old + (count_moved moves.now + length (difference base.now edited.now)) }
 {
     let paths = touched(alloc, moves, changes)?;
-    let store = Parts {
+    let store = Held {
         backs,
         tree,
         base: edited,

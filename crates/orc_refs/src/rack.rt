@@ -11,10 +11,11 @@ use orc_text::{Memory, Row, Text};
 use std::alloc::Global;
 use std::sync::Arc;
 
-// The most shelves of a rack. A change costs a counter for each of them, and one for each rack.
+// Of more shelves two racks are made. A change costs a counter for each shelf of a rack, and one for
+// each rack.
 const RACK_SHELVES: usize = 64;
 
-// 1 to `RACK_SHELVES` shelves, the rows of each before those of the next.
+// Shelves, one at least, the rows of each before those of the next.
 #[derive(Drop)]
 pub(crate) struct Rack {
     pub(crate) shelves: Vec<Arc<Shelf>>,

@@ -6,30 +6,29 @@ ghost use Rattle.std.specs.FinMap.{is_sorted};
 ghost use Rattle.orc_path.specs.Order.{path_cmp};
 ghost use Rattle.orc_change.specs.Differences.{has_item};
 ghost use Rattle.orc_refs.specs.Moves.{BringWhole, is_moved, put_at, rows_in};
-ghost use Rattle.orc_refs.specs.inside.Settling.{all_bring, enter_id, first_brought, ids_after, staying};
+ghost use Rattle.orc_refs.specs.inside.Marks.{all_are, entered, first_of, shown};
+ghost use Rattle.orc_refs.specs.inside.Settling.{enter_id, first_brought, staying};
 
 use crate::Move;
+use crate::mark::Brought;
 use orc_call::Put;
 use orc_path::{Item, Path};
 use orc_text::{Memory, Text};
 use std::alloc::Global;
 use std::cmp::Ordering;
 
-// The ids of the services that write a path once the moves are done.
+// Those of the ids that no move names, and the ids of the services to which items are brought.
 pub(crate) fn ids_after(
     alloc: Global,
     moves: &[Move],
-    path: &Path,
+    brought: &[Brought<'_>],
     ids: &[Text],
 ) -> Result<Vec<Text>, Memory>
-    requires whole { BringWhole moves.now }
-    ensures { IfOk result (λ after. after.items ≡ ids_after moves.now path.now ids.now) }
+    ensures { IfOk result (λ after. after.items ≡ entered (shown brought.now) (staying moves.now ids.now)) }
 {
     let mut after = staying(alloc, moves, ids)?;
-    for m in moves {
-        if put_at(m.new.as_slice(), path).is_some() {
-            enter_id(alloc, &mut after, &m.service)?;
-        }
+    for b in brought {
+        enter_id(alloc, &mut after, b.service)?;
     }
     Ok(after)
 }
@@ -113,19 +112,23 @@ pub(crate) fn first_brought<'a>(moves: &'a [Move], path: &Path) -> Option<&'a It
     None
 }
 
-// Whether each move that brings an item to a path brings this one.
-pub(crate) fn all_bring(moves: &[Move], path: &Path, item: Option<&Item>) -> bool
-    requires whole { BringWhole moves.now }
-    ensures { result ≡ all_bring moves.now path.now (option_copied item.entry) }
+// The first item that is brought.
+pub(crate) fn first_of<'a>(brought: &[Brought<'a>]) -> Option<&'a Item>
+    ensures { option_copied result ≡ first_of (shown brought.now) }
 {
-    for m in moves {
-        match put_at(m.new.as_slice(), path) {
-            Some(brought) => {
-                if !has_item(item, brought) {
-                    return false;
-                }
-            }
-            None => {}
+    match brought {
+        [first, ..] => Some(first.item),
+        [] => None,
+    }
+}
+
+// Whether each item that is brought is this one.
+pub(crate) fn all_are(brought: &[Brought<'_>], item: Option<&Item>) -> bool
+    ensures { result ≡ all_are (shown brought.now) (option_copied item.entry) }
+{
+    for b in brought {
+        if !has_item(item, b.item) {
+            return false;
         }
     }
     true

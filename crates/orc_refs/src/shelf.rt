@@ -13,7 +13,7 @@ use std::alloc::Global;
 use std::cmp::Ordering;
 use std::sync::Arc;
 
-// The most rows of a shelf. A change costs a counter for each of them.
+// Of more rows two shelves are made. A change costs a counter for each row of a shelf.
 const SHELF_ROWS: usize = 32;
 
 // The ids of the services that write a path.
@@ -23,7 +23,7 @@ pub(crate) struct Back {
     pub(crate) ids: Row<Text>,
 }
 
-// 1 to `SHELF_ROWS` rows in path order.
+// Rows in path order, one at least.
 #[derive(Drop)]
 pub(crate) struct Shelf {
     pub(crate) rows: Vec<Arc<Back>>,

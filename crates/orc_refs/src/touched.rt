@@ -1,88 +1,96 @@
-//! The paths that moves and edits of the base touch.
-ghost use Rattle.std.specs.Prelude.{◌≡◌, ◌+◌, ◌≤◌, ◌||◌, List, OnOk, IfOk, IsTrue, is_some, length, vec_len};
+//! The paths that moves and edits of the base touch, each with what moves bring there.
+ghost use Rattle.std.specs.Prelude.{◌≡◌, ◌+◌, ◌≤◌, ◌++◌, ◌||◌, List, OnOk, IfOk, IsTrue, is_some, length, vec_len};
 ghost use Rattle.std.specs.FinMap.{find, is_sorted};
 ghost use Rattle.orc_path.specs.Steps.{PathStep};
 ghost use Rattle.orc_path.specs.Order.{path_cmp};
-ghost use Rattle.orc_refs.specs.Moves.{count_moved};
-ghost use Rattle.orc_refs.specs.inside.Settling.{changed_path, changes_touch, has_path, moves_touch};
+ghost use Rattle.orc_refs.specs.Moves.{BringWhole, count_moved};
+ghost use Rattle.orc_refs.specs.inside.Marks.{AreRowsOf, IsEntered, brings_at, brought_in, given, read, read_one, shown};
+ghost use Rattle.orc_refs.specs.inside.Settling.{changes_touch, moves_touch};
 
 use crate::Move;
-use orc_call::Put;
+use crate::mark::{Brought, Mark, all_marks, in_order};
 use orc_path::Path;
 use orc_text::Memory;
-use orc_tree::{Change, put_row};
+use orc_tree::{Change, search};
 use std::alloc::Global;
 
 // The paths of all items that the moves take or bring and of these changes, each once, in path
-// order.
-pub(crate) fn touched(
+// order, with what the moves bring there. It sorts them, and searches for each.
+pub(crate) fn touched<'a>(
     alloc: Global,
-    moves: &[Move],
-    changes: &[Change],
-) -> Result<Vec<(Path, ())>, Memory>
+    moves: &'a [Move],
+    changes: &'a [Change],
+) -> Result<Vec<(Path, Vec<Brought<'a>>)>, Memory>
+    requires whole { BringWhole moves.now }
     ensures sorted { IfOk result (λ rows. IsTrue (is_sorted path_cmp rows.items)) }
     ensures paths { IfOk result (λ rows. (p : List PathStep)
         → is_some (find path_cmp p rows.items) ≡ (changes_touch changes.now p || moves_touch moves.now p)) }
+    ensures brings { IfOk result (λ rows. (p : List PathStep)
+        → brought_in rows.items p ≡ brings_at moves.now p) }
     ensures len { IfOk result (λ rows. vec_len rows ≤ count_moved moves.now + length changes.now) }
 {
-    let mut rows = moved_paths(alloc, moves)?;
-    push_changed(alloc, &mut rows, changes)?;
+    let marks = all_marks(alloc, changes, moves)?;
+    let sorted = in_order(marks)?;
+    let rows = rows_of(alloc, sorted.as_slice())?;
     Ok(rows)
 }
 
-// The paths of all items that the moves take or bring.
-fn moved_paths(alloc: Global, moves: &[Move]) -> Result<Vec<(Path, ())>, Memory>
-    ensures sorted { IfOk result (λ rows. IsTrue (is_sorted path_cmp rows.items)) }
-    ensures paths { IfOk result (λ rows. (p : List PathStep)
-        → is_some (find path_cmp p rows.items) ≡ moves_touch moves.now p) }
-    ensures len { IfOk result (λ rows. vec_len rows ≤ count_moved moves.now) }
+// A row for each path that has marks.
+fn rows_of<'a>(alloc: Global, marks: &[Mark<'a>]) -> Result<Vec<(Path, Vec<Brought<'a>>)>, Memory>
+    ensures rows { IfOk result (λ rows. AreRowsOf (read marks.now) rows.items) }
+    ensures len { IfOk result (λ rows. vec_len rows ≤ length marks.now) }
 {
     let mut rows = Vec::new(alloc);
-    for m in moves {
-        push_paths(alloc, &mut rows, m.old.as_slice())?;
-        push_paths(alloc, &mut rows, m.new.as_slice())?;
+    for mark in marks {
+        enter(alloc, &mut rows, mark)?;
     }
     Ok(rows)
 }
 
-// Adds the paths of these items.
-fn push_paths(alloc: Global, rows: &mut Vec<(Path, ())>, puts: &[Put]) -> Result<(), Memory>
+// Enters a mark in the row of its path, or as a row of its own.
+fn enter<'a>(
+    alloc: Global,
+    rows: &mut Vec<(Path, Vec<Brought<'a>>)>,
+    mark: &Mark<'a>,
+) -> Result<(), Memory>
     requires { IsTrue (is_sorted path_cmp rows.old.items) }
-    ensures sorted { IsTrue (is_sorted path_cmp rows.new.items) }
-    ensures paths { OnOk result ((p : List PathStep)
-        → is_some (find path_cmp p rows.new.items)
-        ≡ (has_path puts.now p || is_some (find path_cmp p rows.old.items))) }
-    ensures len { vec_len rows.new ≤ vec_len rows.old + length puts.now }
+    ensures rows { OnOk result (IsEntered (read_one mark.now) rows.old.items rows.new.items) }
+    ensures len { vec_len rows.new ≤ vec_len rows.old + 1 }
 {
-    for put in puts {
-        rows.reserve(1)?;
-        put_row(rows, put.path.copy(alloc)?, ());
+    let path = mark.path;
+    match search(rows.as_slice(), path.steps.as_slice()) {
+        Ok(at) => {
+            give(&mut rows[at].1, mark)?;
+            Ok(())
+        }
+        Err(at) => {
+            let row = row_of(alloc, mark)?;
+            rows.insert(at, row)?;
+            Ok(())
+        }
     }
-    Ok(())
 }
 
-// The path of a change.
-fn changed_path(change: &Change) -> &Path
-    ensures { result.now ≡ changed_path change.now }
+// The row of one mark.
+fn row_of<'a>(alloc: Global, mark: &Mark<'a>) -> Result<(Path, Vec<Brought<'a>>), Memory>
+    ensures path { IfOk result (λ row. row.0 ≡ mark.now.path.now) }
+    ensures list { IfOk result (λ row. shown row.1.items ≡ given mark.now.brought) }
 {
-    match change {
-        Change::Put(path, _) => path,
-        Change::Remove(path) => path,
-    }
+    let mut list = Vec::new(alloc);
+    give(&mut list, mark)?;
+    let path = mark.path.copy(alloc)?;
+    Ok((path, list))
 }
 
-// Adds the paths of these changes.
-fn push_changed(alloc: Global, rows: &mut Vec<(Path, ())>, changes: &[Change]) -> Result<(), Memory>
-    requires { IsTrue (is_sorted path_cmp rows.old.items) }
-    ensures sorted { IsTrue (is_sorted path_cmp rows.new.items) }
-    ensures paths { OnOk result ((p : List PathStep)
-        → is_some (find path_cmp p rows.new.items)
-        ≡ (changes_touch changes.now p || is_some (find path_cmp p rows.old.items))) }
-    ensures len { vec_len rows.new ≤ vec_len rows.old + length changes.now }
+// Adds what a mark brings.
+fn give<'a>(list: &mut Vec<Brought<'a>>, mark: &Mark<'a>) -> Result<(), Memory>
+    ensures { OnOk result (shown list.new.items ≡ shown list.old.items ++ given mark.now.brought) }
 {
-    for change in changes {
-        rows.reserve(1)?;
-        put_row(rows, changed_path(change).copy(alloc)?, ());
+    match mark.brought {
+        Some(brought) => {
+            list.push(brought)?;
+            Ok(())
+        }
+        None => Ok(()),
     }
-    Ok(())
 }

@@ -28,7 +28,7 @@ use Rattle.orc_state.specs.Legal.{IsLegal, IsDue, state_of}
 use Rattle.orc_state.specs.declared.declarations.Decls.{Decls}
 use Rattle.orc_state.specs.States.{State}
 use Rattle.orc_state.proofs.Legality.{legal_more}
-use Rattle.orc_bundle.specs.declared.bundle.ScriptStep.TheVariants.{Serve}
+use Rattle.orc_script.specs.declared.step.ScriptStep.TheVariants.{Serve}
 use Rattle.orc_run.specs.Views.{View, Decodes, IsKept, Rests, Outlives}
 use Rattle.orc_run.specs.Commits.{AppendsUpTo, Commits, commit_end, commit_text, intent_of, is_named, is_up_behind, journal_at, known_by, known_then, pending_then}
 use Rattle.orc_run.specs.Steps.{Breaks, EndsBecause, Serves}

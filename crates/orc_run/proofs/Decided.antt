@@ -6,7 +6,7 @@ use Rattle.orc_disk.specs.Meanings.{DiskMeaning}
 use Rattle.orc_state.specs.declared.rule.Rule.{Rule}
 use Rattle.orc_bundle.specs.Bundles.{bundle_of}
 use Rattle.orc_bundle.specs.declared.bundle.Bundle.{Bundle}
-use Rattle.orc_bundle.specs.declared.bundle.TheConstants.{LARGEST_BUNDLE}
+use Rattle.orc_lines.specs.declared.lines.TheConstants.{LARGEST_BUNDLE}
 use Rattle.orc_run.specs.Decided.{BytesDecide, EndsDecided}
 use Rattle.orc_run.specs.Ends.{EndsAs, EndsBy, GivesBundle, GivesFirst, GivesFault, Outside}
 use Rattle.orc_run.specs.declared.stop.Done.{Done}

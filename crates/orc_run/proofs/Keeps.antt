@@ -14,8 +14,8 @@ use Rattle.orc_disk.specs.Meanings.{DiskMeaning}
 use Rattle.orc_run.specs.Runs.StepsDone.{begun, one_more}
 use Rattle.orc_run.specs.Ends.IsSubsequence.{none, skip, take}
 use Rattle.orc_state.specs.declared.declarations.Decls.{Decls}
-use Rattle.orc_bundle.specs.declared.bundle.ScriptStep.{ScriptStep}
-use Rattle.orc_bundle.specs.declared.bundle.ScriptStep.TheVariants as step
+use Rattle.orc_script.specs.declared.step.ScriptStep.{ScriptStep}
+use Rattle.orc_script.specs.declared.step.ScriptStep.TheVariants as step
 use Rattle.orc_run.specs.declared.stop.Stop.{Stop}
 
 calls_in-append : (steps more : List ScriptStep) → calls_in (steps ++ more) ≡ calls_in steps ++ calls_in more

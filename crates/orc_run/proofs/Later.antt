@@ -5,8 +5,8 @@ use Rattle.orc_disk.specs.Meanings.{DiskMeaning}
 use Rattle.orc_disk.specs.Moments.{LeavesOnly}
 use Rattle.orc_disk.proofs.Moments.{joined, weaker}
 use Rattle.orc_state.specs.declared.declarations.Decls.{Decls}
-use Rattle.orc_bundle.specs.declared.bundle.ScriptStep.{ScriptStep}
-use Rattle.orc_bundle.specs.declared.bundle.ScriptStep.TheVariants as step
+use Rattle.orc_script.specs.declared.step.ScriptStep.{ScriptStep}
+use Rattle.orc_script.specs.declared.step.ScriptStep.TheVariants as step
 use Rattle.orc_run.specs.Views.{View, IsKept, Outlives, Rests}
 use Rattle.orc_run.specs.Commits.{known_then}
 use Rattle.orc_run.specs.Ends.{HoldsFrom, IsPrefix, RunsUntil}

@@ -15,7 +15,7 @@ use Rattle.orc_run.specs.Opening.{IsOpened}
 use Rattle.orc_print.specs.Printed.{recovered_line}
 use Rattle.orc_state.specs.Legal.{AreDistinct}
 use Rattle.orc_state.specs.declared.declarations.Decls.{Decls}
-use Rattle.orc_bundle.specs.declared.bundle.ScriptStep.{ScriptStep}
+use Rattle.orc_script.specs.declared.step.ScriptStep.{ScriptStep}
 use Rattle.orc_run.specs.Views.{View, HasHistory}
 use Rattle.orc_run.specs.Runs.{StepsDone}
 use Rattle.orc_run.specs.Ends.{RunsUntil, Starts}

@@ -14,8 +14,8 @@ use Rattle.orc_run.specs.Steps.{Breaks, Does, EndsBecause, FailsToRecover}
 use Rattle.orc_run.specs.inside.Controllers.{view_of, IsSound, StepsTo, Wants, StepResult, ends_run}
 use Rattle.orc_disk.specs.Meanings.{DiskMeaning}
 use Rattle.orc_state.specs.declared.declarations.Decls.{Decls}
-use Rattle.orc_bundle.specs.declared.bundle.ScriptStep.{ScriptStep}
-use Rattle.orc_bundle.specs.declared.bundle.ScriptStep.TheVariants.{Recover, StopAt}
+use Rattle.orc_script.specs.declared.step.ScriptStep.{ScriptStep}
+use Rattle.orc_script.specs.declared.step.ScriptStep.TheVariants.{Recover, StopAt}
 use Rattle.orc_run.specs.declared.controller.Controller.{Controller}
 use Rattle.orc_run.specs.declared.stop.Stop.{Stop}
 use Rattle.orc_run.specs.declared.stop.Stop.TheVariants as ending

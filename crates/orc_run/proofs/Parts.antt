@@ -2,7 +2,7 @@
 use Rattle.std.proofs.Common.{◌≡◌, ◌⊎◌, ℕ, List, [], ◌∷◌, ◌++◌, inl, inr, refl, sym, ap, ◌∙◌, subst, append_assoc, append-nil}
 use Rattle.orc_disk.specs.Meanings.{DiskMeaning}
 use Rattle.orc_state.specs.declared.declarations.Decls.{Decls}
-use Rattle.orc_bundle.specs.declared.bundle.ScriptStep.{ScriptStep}
+use Rattle.orc_script.specs.declared.step.ScriptStep.{ScriptStep}
 use Rattle.orc_run.specs.Views.{View}
 use Rattle.orc_run.specs.Steps.{Does}
 use Rattle.orc_run.specs.Runs.{StepsDone}

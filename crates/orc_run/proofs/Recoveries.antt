@@ -23,7 +23,7 @@ use Rattle.orc_run.specs.Opening.{IsIllegal, IsOpened, IsRefused, IsRefusedAtOnc
 use Rattle.orc_disk.specs.Meanings.{DiskMeaning}
 use Rattle.orc_print.specs.Printed.{recovered_line}
 use Rattle.orc_state.specs.declared.declarations.Decls.{Decls}
-use Rattle.orc_bundle.specs.declared.bundle.ScriptStep.TheVariants as step
+use Rattle.orc_script.specs.declared.step.ScriptStep.TheVariants as step
 use Rattle.orc_run.specs.declared.controller.Controller.{Controller}
 use Rattle.orc_run.specs.declared.stop.Stop.{Stop}
 use Rattle.orc_run.specs.declared.stop.Stop.TheVariants as ending

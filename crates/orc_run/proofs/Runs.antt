@@ -15,7 +15,7 @@ use Rattle.orc_run.specs.inside.Halts.{Leads, Halts, Finishes}
 use Rattle.orc_disk.specs.Meanings.{DiskMeaning}
 use Rattle.orc_run.specs.Runs.StepsDone.{begun, one_more}
 use Rattle.orc_state.specs.declared.declarations.Decls.{Decls}
-use Rattle.orc_bundle.specs.declared.bundle.ScriptStep.{ScriptStep}
+use Rattle.orc_script.specs.declared.step.ScriptStep.{ScriptStep}
 use Rattle.orc_run.specs.declared.stop.Done.{Done}
 use Rattle.orc_run.specs.declared.stop.Stop.{Stop}
 use Rattle.orc_run.specs.declared.stop.Stop.TheVariants as ending

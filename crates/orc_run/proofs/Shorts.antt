@@ -2,11 +2,11 @@
 use Rattle.std.proofs.Common.{◌≡◌, ◌≤◌, ◌<◌, ◌+◌, ◌^◌, ℕ, Bool, true, false, cond, List, Result, Ok, Err, length, refl, subst, arith}
 use Rattle.std.proofs.lemmas.List.{length-take}
 use Rattle.orc_bundle.specs.declared.bundle.Bundle.{Bundle}
-use Rattle.orc_bundle.specs.declared.bundle.TheConstants.{LARGEST_BUNDLE}
-use Rattle.orc_bundle.specs.Bundles.{bundle_in, bundle_of, declarations_of, header_rule, lacks_header, script_of}
-use Rattle.orc_bundle.specs.Declarations.{nothing_declared}
-use Rattle.orc_bundle.specs.Lines.{lines_of, seen}
-use Rattle.orc_bundle.specs.Rules.{on_ok}
+use Rattle.orc_lines.specs.declared.lines.TheConstants.{LARGEST_BUNDLE}
+use Rattle.orc_bundle.specs.Bundles.{bundle_in, bundle_of, header_rule, script_of}
+use Rattle.orc_declarations.specs.Declarations.{declarations_of, nothing_declared}
+use Rattle.orc_lines.specs.Lines.{lacks_header, lines_of, seen}
+use Rattle.orc_lines.specs.Rules.{on_ok}
 
 -- answers of a known type
 abbrev ok : (X E : Type 0) → X → Result X E

@@ -5,9 +5,10 @@ use Rattle.std.proofs.lemmas.List.{length-take-le}
 use Rattle.orc_io.specs.Counts.{Rose}
 use Rattle.std.specs.Io.KnownBytes.{Consumes}
 use Rattle.orc_io.specs.Pieces.{GivesUpTo}
-use Rattle.orc_bundle.specs.declared.bundle.TheConstants.{LARGEST_BUNDLE}
+use Rattle.orc_lines.specs.declared.lines.TheConstants.{LARGEST_BUNDLE}
 use Rattle.orc_disk.specs.Moments.{LeavesOnly}
-use Rattle.orc_bundle.specs.Bundles.{is_step, IsBundle}
+use Rattle.orc_script.specs.Steps.{is_step}
+use Rattle.orc_bundle.specs.Bundles.{IsBundle}
 use Rattle.orc_print.specs.Printed.{recovered_line}
 use Rattle.orc_run.specs.Views.{View, HasHistory}
 use Rattle.orc_run.specs.Steps.{EndsBecause}
@@ -22,7 +23,7 @@ use Rattle.orc_state.specs.declared.rule.Rule.{Rule}
 use Rattle.orc_run.specs.inside.Halts.{greeting, Finishes, GreetsAndFinishes}
 use Rattle.orc_disk.specs.Meanings.{DiskMeaning}
 use Rattle.orc_bundle.specs.declared.bundle.Bundle.{Bundle}
-use Rattle.orc_bundle.specs.declared.bundle.ScriptStep.{ScriptStep}
+use Rattle.orc_script.specs.declared.step.ScriptStep.{ScriptStep}
 use Rattle.orc_run.specs.declared.controller.Controller.{Controller}
 use Rattle.orc_state.specs.declared.declarations.Decls.{Decls}
 use Rattle.orc_run.specs.declared.stop.Done.{Done}

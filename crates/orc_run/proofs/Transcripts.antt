@@ -15,8 +15,8 @@ use Rattle.orc_state.specs.States.{tree_due, name_of}
 use Rattle.orc_state.specs.Legal.{state_of, AnswersAtOnce, AreDistinct, IsDue}
 use Rattle.orc_state.specs.declared.declarations.Decls.{Decls}
 use Rattle.orc_print.specs.Printed.{answer_line, data_text, history_text, recovered_line, tree_text}
-use Rattle.orc_bundle.specs.declared.bundle.ScriptStep.{ScriptStep}
-use Rattle.orc_bundle.specs.declared.bundle.ScriptStep.TheVariants as step
+use Rattle.orc_script.specs.declared.step.ScriptStep.{ScriptStep}
+use Rattle.orc_script.specs.declared.step.ScriptStep.TheVariants as step
 use Rattle.orc_run.specs.Views.{View}
 use Rattle.orc_run.specs.Commits.{AppendsUpTo, Commits, commit_end, commit_text}
 use Rattle.orc_run.specs.Steps.{Breaks, Does, PrintsJson, PrintsMeta, Recovers, Serves}

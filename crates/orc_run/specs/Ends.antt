@@ -14,11 +14,11 @@ use Rattle.orc_run.specs.Views.{View, Decodes, HasHistory, Rests}
 use Rattle.orc_run.specs.Steps.{Does}
 use Rattle.orc_run.specs.Runs.{StepsDone, EndsAtStep}
 use Rattle.orc_run.specs.Opening.{IsOpenedAs, IsRefused, IsRefusedBecause, MayBeOpening}
-use Rattle.orc_bundle.specs.declared.bundle.TheConstants.{LARGEST_BUNDLE}
+use Rattle.orc_lines.specs.declared.lines.TheConstants.{LARGEST_BUNDLE}
 use Rattle.orc_bundle.specs.declared.bundle.Bundle.{Bundle}
-use Rattle.orc_bundle.specs.declared.bundle.ScriptStep.{ScriptStep}
-use Rattle.orc_bundle.specs.declared.bundle.ScriptStep.TheVariants.{Serve}
-use Rattle.orc_bundle.specs.declared.bundle.ScriptStep.TheVariants as step
+use Rattle.orc_script.specs.declared.step.ScriptStep.{ScriptStep}
+use Rattle.orc_script.specs.declared.step.ScriptStep.TheVariants.{Serve}
+use Rattle.orc_script.specs.declared.step.ScriptStep.TheVariants as step
 use Rattle.orc_state.specs.declared.declarations.Decls.{Decls}
 use Rattle.orc_run.specs.declared.stop.Done.{Done}
 use Rattle.orc_run.specs.declared.stop.Stop.{Stop}

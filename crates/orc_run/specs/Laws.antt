@@ -7,9 +7,8 @@ use Rattle.orc_journal.specs.Journals.{magic, gated, is_closed, closing_gate}
 use Rattle.orc_journal.specs.declared.entry.Entry.{Entry}
 use Rattle.orc_journal.specs.declared.entry.Entry.TheVariants.{Intent, Decide, Abort, Settled}
 use Rattle.orc_path.specs.declared.limits.TheConstants.{NAME_LEN, PATH_STEPS, STEP_KEYS, PATH_LEN, VALUE_LEN}
-use Rattle.orc_bundle.specs.declared.bundle.TheConstants.{LARGEST_BUNDLE}
-use Rattle.orc_bundle.specs.declared.lines.TheConstants.{LONGEST_LINE}
-use Rattle.orc_bundle.specs.declared.script.TheConstants.{MOST_CALLERS, MOST_STEPS}
+use Rattle.orc_lines.specs.declared.lines.TheConstants.{LARGEST_BUNDLE, LONGEST_LINE}
+use Rattle.orc_script.specs.declared.script.TheConstants.{MOST_CALLERS, MOST_STEPS}
 use Rattle.orc_state.specs.declared.declarations.TheConstants.{MOST_DEVICES}
 use Rattle.orc_state.specs.declared.lawful.TheConstants.{MOST_WRITES}
 use Rattle.orc_run.specs.declared.opening.TheConstants.{LARGEST_JOURNAL}

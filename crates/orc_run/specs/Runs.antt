@@ -4,8 +4,8 @@ use Rattle.orc_disk.specs.Meanings.{DiskMeaning}
 use Rattle.orc_run.specs.Views.{View, Outlives}
 use Rattle.orc_run.specs.Steps.{Does, Breaks, EndsBecause, FailsToRecover}
 use Rattle.orc_state.specs.declared.declarations.Decls.{Decls}
-use Rattle.orc_bundle.specs.declared.bundle.ScriptStep.{ScriptStep}
-use Rattle.orc_bundle.specs.declared.bundle.ScriptStep.TheVariants.{Recover}
+use Rattle.orc_script.specs.declared.step.ScriptStep.{ScriptStep}
+use Rattle.orc_script.specs.declared.step.ScriptStep.TheVariants.{Recover}
 use Rattle.orc_run.specs.declared.stop.Stop.{Stop}
 
 module _ {D : Type 0} (meaning : DiskMeaning D) where

@@ -6,8 +6,8 @@ use Rattle.orc_call.specs.declared.call.Call.{Call}
 use Rattle.orc_disk.specs.Meanings.{DiskMeaning}
 use Rattle.orc_state.specs.Legal.{AreDistinct}
 use Rattle.orc_state.specs.declared.declarations.Decls.{Decls}
-use Rattle.orc_bundle.specs.declared.bundle.ScriptStep.{ScriptStep}
-use Rattle.orc_bundle.specs.declared.bundle.ScriptStep.TheVariants.{StopAt}
+use Rattle.orc_script.specs.declared.step.ScriptStep.{ScriptStep}
+use Rattle.orc_script.specs.declared.step.ScriptStep.TheVariants.{StopAt}
 use Rattle.orc_run.specs.Views.{View}
 use Rattle.orc_run.specs.Runs.{StepsDone, EndsAtStep}
 use Rattle.orc_run.specs.Ends.{DiskRun}

@@ -3,7 +3,7 @@ ghost use Rattle.std.specs.Prelude.{[], ◌≤◌, ◌<◌, ◌^◌, List, ℕ, 
 ghost use Rattle.std.specs.List.{list_all};
 ghost use Rattle.std.specs.Io.KnownBytes.{Appends};
 ghost use Rattle.orc_io.specs.Counts.{Rose};
-ghost use Rattle.orc_bundle.specs.Bundles.{is_step};
+ghost use Rattle.orc_script.specs.Steps.{is_step};
 ghost use Rattle.orc_state.specs.Declarations.{AreDecls};
 ghost use Rattle.orc_run.specs.Views.{Outlives};
 ghost use Rattle.orc_run.specs.Steps.{Does};

@@ -3,13 +3,13 @@ ghost use Rattle.std.specs.Prelude.{[], Ok, ◌≡◌, ◌<◌, ◌^◌, false, 
 ghost use Rattle.orc_schema.specs.Sound as schema;
 ghost use Rattle.orc_state.specs.States.{tree_due, name_of};
 ghost use Rattle.orc_state.specs.Calls.{is_call};
-ghost use Rattle.orc_bundle.specs.Bundles.{is_step};
+ghost use Rattle.orc_script.specs.Steps.{is_step};
 ghost use Rattle.orc_state.specs.Legal.{state_of};
 ghost use Rattle.orc_state.specs.Declarations.{AreDecls};
 ghost use Rattle.orc_print.specs.Printed.{data_text, history_text, tree_text};
 ghost use Rattle.orc_run.specs.Steps.{PrintsJson, PrintsMeta, device_schema};
 ghost use Rattle.orc_run.specs.inside.Controllers.{known_of, view_of, CanDo, GoesOn, IsSound, StepsTo, Wants};
-ghost use Rattle.orc_bundle.specs.declared.bundle.ScriptStep.{ScriptStep};
+ghost use Rattle.orc_script.specs.declared.step.ScriptStep.{ScriptStep};
 
 use crate::Stop;
 use crate::controller::{Controller, LastStep};

@@ -20,15 +20,15 @@ use Rattle.orc_run.specs.Views.{View, Rests, Outlives}
 use Rattle.orc_run.specs.Steps.{Does, Breaks, EndsBecause, FailsToRecover}
 use Rattle.orc_disk.specs.Meanings.{DiskMeaning}
 use Rattle.orc_state.specs.declared.declarations.Decls.{Decls}
-use Rattle.orc_bundle.specs.declared.bundle.ScriptStep.{ScriptStep}
-use Rattle.orc_bundle.specs.declared.bundle.ScriptStep.TheVariants.{Recover}
+use Rattle.orc_script.specs.declared.step.ScriptStep.{ScriptStep}
+use Rattle.orc_script.specs.declared.step.ScriptStep.TheVariants.{Recover}
 use Rattle.orc_run.specs.declared.serving.Served.{Served}
 use Rattle.orc_run.specs.declared.stop.Stop.{Stop}
 use Rattle.orc_run.specs.declared.stop.Stop.TheVariants as ending
 use Rattle.orc_run.specs.declared.controller.Controller.{Controller}
 use Rattle.orc_run.specs.declared.controller.LastStep.{LastStep}
 use Rattle.orc_state.specs.Declarations.{AreDecls}
-use Rattle.orc_bundle.specs.Bundles.{is_step}
+use Rattle.orc_script.specs.Steps.{is_step}
 use Rattle.std.specs.List.{list_all}
 
 -- what it knows as committed, and what it was committing

@@ -12,7 +12,7 @@ use Rattle.orc_run.specs.Steps.{Serves, Breaks, EndsBecause}
 use Rattle.orc_run.specs.inside.Pasts.{IsBehind}
 use Rattle.orc_disk.specs.Meanings.{DiskMeaning}
 use Rattle.orc_state.specs.declared.declarations.Decls.{Decls}
-use Rattle.orc_bundle.specs.declared.bundle.ScriptStep.TheVariants as step
+use Rattle.orc_script.specs.declared.step.ScriptStep.TheVariants as step
 use Rattle.orc_run.specs.declared.commit.Stage.{Stage}
 use Rattle.orc_run.specs.declared.commit.Stage.TheVariants.{Intent, Decide, Settled}
 use Rattle.orc_run.specs.declared.controller.Controller.{Controller}

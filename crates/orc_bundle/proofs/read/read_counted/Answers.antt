@@ -1,8 +1,8 @@
 use Rattle.std.proofs.Common.{◌≡◌, ◌≤◌, ◌+◌, ℕ, List, length, ap, ◌∙◌, arith}
 use Rattle.std.proofs.lemmas.List.{length-take}
-use Rattle.orc_bundle.specs.Lines.{seen}
-use Rattle.orc_bundle.specs.declared.bundle.TheConstants.{LARGEST_BUNDLE}
-use Rattle.orc_bundle.proofs.Lawful.{both_ok, on_ok_more}
+use Rattle.orc_lines.specs.Lines.{seen}
+use Rattle.orc_lines.specs.declared.lines.TheConstants.{LARGEST_BUNDLE}
+use Rattle.orc_lines.proofs.Lawful.{both_ok, on_ok_more}
 use Rattle.orc_bundle.proofs.read.read_counted.Goals as goal
 
 seen_small : (bytes looked : List ℕ) → looked ≡ seen bytes → length looked ≤ LARGEST_BUNDLE → length bytes ≤ LARGEST_BUNDLE

@@ -1,22 +1,24 @@
 use Rattle.std.proofs.Common.{◌≡◌, ℕ, List, [], true, arith, ap, sym, subst, ◌∙◌}
 use Rattle.std.specs.List.{list_all}
-use Rattle.orc_bundle.specs.Bundles.{declarations_of, decls_with, is_step}
-use Rattle.orc_bundle.specs.Lines.{lines_of}
-use Rattle.orc_bundle.specs.declared.declarations.Declared.{Declared}
-use Rattle.orc_bundle.specs.inside.Costs.{is_kept}
-use Rattle.orc_bundle.specs.inside.Readers.{front_of}
-use Rattle.orc_bundle.proofs.Costs.{to_bytes}
-use Rattle.orc_bundle.proofs.Grown.{settled_script}
-use Rattle.orc_bundle.proofs.Opened.{lawful_decls}
+use Rattle.orc_declarations.specs.Declarations.{declarations_of}
+use Rattle.orc_lines.specs.Lawful.{decls_with}
+use Rattle.orc_script.specs.Steps.{is_step}
+use Rattle.orc_lines.specs.Lines.{lines_of}
+use Rattle.orc_lines.specs.declared.declared.Declared.{Declared}
+use Rattle.orc_lines.specs.Costs.{is_kept_line}
+use Rattle.orc_declarations.specs.Answers.{front_left}
+use Rattle.orc_lines.proofs.Costs.{to_bytes}
+use Rattle.orc_script.proofs.Grown.{settled_script}
+use Rattle.orc_declarations.proofs.Opened.{lawful_decls}
 use Rattle.orc_bundle.proofs.ScriptFaults.{script_fault}
-use Rattle.orc_bundle.proofs.StepsLawful.{steps_same}
+use Rattle.orc_script.proofs.StepsLawful.{steps_same}
 use Rattle.orc_bundle.proofs.read.read_seen.Goals as goal
 
 pub returns-then-lacks_header-clause-cost : goal.returns-then-lacks_header-clause-cost
 returns-then-lacks_header-clause-cost g c =
     let one = c.lacks_header.ensures.cost in
     let two = c.header_rule.ensures.cost in
-    let within = to_bytes is_kept c.args.bytes.now in omega arith
+    let within = to_bytes is_kept_line c.args.bytes.now in omega arith
 
 pub returns-clause-lawful : goal.returns-clause-lawful
 returns-clause-lawful g c =
@@ -45,11 +47,11 @@ returns-clause-counts g c =
 pub returns-in_err-declared-clause-cost : goal.returns-in_err-declared-clause-cost
 returns-in_err-declared-clause-cost g c =
     let one = c.lacks_header.ensures.cost in
-    let within = to_bytes is_kept c.args.bytes.now in omega arith
+    let within = to_bytes is_kept_line c.args.bytes.now in omega arith
 
 pub returns-in_err-script-clause-gives : goal.returns-in_err-script-clause-gives
 returns-in_err-script-clause-gives g c =
     let lines = lines_of c.args.bytes.now in
-    script_fault c.args.bytes.now lines (front_of c.read_declarations.new.declared c.in_ok-behind.behind) _ c.in_err-script.field-0.0
+    script_fault c.args.bytes.now lines (front_left c.read_declarations.new.declared c.in_ok-behind.behind) _ c.in_err-script.field-0.0
     c.from_residual-in_err-script.ensures.1 (sym c.if-lacks_header.ensures.lacks)
     (ap (λ (d : Declared). declarations_of d 0 0 lines) (sym c.in_ok-declared.ensures.nothing) ∙ c.in_ok-behind.ensures.answer) c.in_err-script.ensures.answer

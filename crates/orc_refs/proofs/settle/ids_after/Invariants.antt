@@ -1,7 +1,8 @@
 use Rattle.std.proofs.Common.{◌≡◌, drop}
-use Rattle.orc_refs.specs.inside.Settling.{brought, ids_after}
+use Rattle.orc_refs.specs.inside.Marks.{entered, shown}
+use Rattle.orc_refs.specs.inside.Settling.{staying}
 use Rattle.orc_refs.proofs.settle.ids_after.Given as goal
 
--- to bring what is left gives the whole
-abbrev pub invariant-loop-m : goal.invariant-loop-m
-invariant-loop-m l = brought (drop l.m-index l.moves) l.path l.after.items ≡ ids_after l.moves l.path l.ids
+-- to enter what is left gives the whole
+abbrev pub invariant-loop-b : goal.invariant-loop-b
+invariant-loop-b l = entered (shown (drop l.b-index l.brought)) l.after.items ≡ entered (shown l.brought) (staying l.moves l.ids)

@@ -1,7 +1,7 @@
 use Rattle.std.proofs.Common.{[], ◌++◌, sym, arith}
 use Rattle.std.proofs.lemmas.List.{take_all}
 use Rattle.orc_state.proofs.Fits.{list_all-read}
-use Rattle.orc_bundle.specs.Bundles.{is_step}
+use Rattle.orc_script.specs.Steps.{is_step}
 use Rattle.orc_io.proofs.Fronts.{Appends-trans}
 use Rattle.orc_run.specs.inside.Controllers.{view_of}
 use Rattle.orc_run.specs.Runs.StepsDone.{begun}

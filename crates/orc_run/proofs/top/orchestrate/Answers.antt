@@ -3,7 +3,7 @@ use Rattle.std.proofs.Common.{Some, Err, List, map, refl, sym, subst, ap, ◌∙
 use Rattle.std.specs.String.{string_bytes}
 use Rattle.std.specs.declared.option.Option.{Option}
 use Rattle.orc_bundle.specs.Bundles.{IsBundle}
-use Rattle.orc_bundle.specs.declared.bundle.ScriptStep.{ScriptStep}
+use Rattle.orc_script.specs.declared.step.ScriptStep.{ScriptStep}
 use Rattle.orc_run.specs.Ends.{EndsBy, Outside}
 use Rattle.orc_run.specs.declared.stop.Ended.{Ended}
 use Rattle.orc_run.specs.declared.stop.Stop.TheVariants as ending

@@ -3,7 +3,7 @@ use Rattle.std.specs.Bool.{if◌then◌else◌}
 use Rattle.orc_state.specs.Legal.{state_of}
 use Rattle.orc_print.specs.Printed.{data_text}
 use Rattle.orc_run.specs.inside.Controllers.{known_of}
-use Rattle.orc_bundle.specs.declared.bundle.ScriptStep.TheVariants.{Data}
+use Rattle.orc_script.specs.declared.step.ScriptStep.TheVariants.{Data}
 use Rattle.orc_run.proofs.Outcomes.{AreLaws, only_prints}
 use Rattle.orc_run.proofs.controller.Controller.data.Goals as goal
 

@@ -2,7 +2,7 @@ use Rattle.std.proofs.Common.{◌≡◌, codes, refl}
 use Rattle.std.specs.Bool.{if◌then◌else◌}
 use Rattle.orc_print.specs.Printed.{history_text}
 use Rattle.orc_run.specs.inside.Controllers.{known_of}
-use Rattle.orc_bundle.specs.declared.bundle.ScriptStep.TheVariants.{History}
+use Rattle.orc_script.specs.declared.step.ScriptStep.TheVariants.{History}
 use Rattle.orc_run.proofs.Outcomes.{AreLaws, only_prints}
 use Rattle.orc_run.proofs.controller.Controller.history.Goals as goal
 

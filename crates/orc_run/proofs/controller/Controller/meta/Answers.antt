@@ -2,7 +2,7 @@ use Rattle.std.proofs.Common.{refl}
 use Rattle.orc_state.specs.Legal.{state_of}
 use Rattle.orc_run.specs.Steps.{PrintsMeta}
 use Rattle.orc_run.specs.inside.Controllers.{known_of}
-use Rattle.orc_bundle.specs.declared.bundle.ScriptStep.TheVariants.{Meta}
+use Rattle.orc_script.specs.declared.step.ScriptStep.TheVariants.{Meta}
 use Rattle.orc_run.proofs.Outcomes.{AreLaws, only_prints}
 use Rattle.orc_run.proofs.controller.Controller.meta.Goals as goal
 

@@ -1,5 +1,5 @@
 use Rattle.std.proofs.Common.{refl}
-use Rattle.orc_bundle.specs.declared.bundle.ScriptStep.TheVariants.{Settle}
+use Rattle.orc_script.specs.declared.step.ScriptStep.TheVariants.{Settle}
 use Rattle.orc_run.specs.inside.Controllers.{view_of}
 use Rattle.orc_run.proofs.Outcomes.{AreLaws, goes_on}
 use Rattle.orc_run.proofs.controller.Controller.settled.Goals as goal

@@ -3,7 +3,7 @@ use Rattle.orc_state.specs.States.{tree_due, name_of}
 use Rattle.orc_state.specs.Legal.{state_of}
 use Rattle.orc_print.specs.Printed.{tree_text}
 use Rattle.orc_run.specs.inside.Controllers.{known_of}
-use Rattle.orc_bundle.specs.declared.bundle.ScriptStep.TheVariants.{Show}
+use Rattle.orc_script.specs.declared.step.ScriptStep.TheVariants.{Show}
 use Rattle.orc_run.proofs.Outcomes.{AreLaws, only_prints}
 use Rattle.orc_run.proofs.controller.Controller.show.Goals as goal
 

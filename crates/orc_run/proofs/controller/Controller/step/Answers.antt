@@ -2,9 +2,9 @@
 use Rattle.std.proofs.Common.{not, nat_lt, length, IsTrue, sym, subst, ltb-true}
 use Rattle.std.specs.Cmp.{first_so, second_so}
 use Rattle.std.proofs.lemmas.Bool.{not-true}
-use Rattle.orc_bundle.specs.Bundles.{is_step}
+use Rattle.orc_script.specs.Steps.{is_step}
 use Rattle.orc_run.specs.Steps.{device_schema}
-use Rattle.orc_bundle.specs.declared.bundle.ScriptStep.{ScriptStep}
+use Rattle.orc_script.specs.declared.step.ScriptStep.{ScriptStep}
 use Rattle.orc_run.specs.inside.Controllers.{view_of, StepsTo}
 use Rattle.orc_run.proofs.controller.Controller.step.Goals as goal
 

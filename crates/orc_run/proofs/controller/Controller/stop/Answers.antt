@@ -1,6 +1,6 @@
 use Rattle.std.proofs.Common.{Err, ap, refl, sym, subst, ◌∙◌}
 use Rattle.orc_run.specs.inside.Controllers.{view_of, StepsTo, StepResult}
-use Rattle.orc_bundle.specs.declared.bundle.ScriptStep.TheVariants.{Stop}
+use Rattle.orc_script.specs.declared.step.ScriptStep.TheVariants.{Stop}
 use Rattle.orc_run.proofs.Outcomes.{AreLaws, goes_on, ends_wanting}
 use Rattle.orc_run.proofs.Soundness.{stopped, stopped-sound}
 use Rattle.orc_run.proofs.controller.Controller.stop.Goals as goal

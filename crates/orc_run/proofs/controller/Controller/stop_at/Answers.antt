@@ -1,6 +1,6 @@
 use Rattle.std.proofs.Common.{Bool, ap, refl, sym}
 use Rattle.std.specs.Bool.{if◌then◌else◌}
-use Rattle.orc_bundle.specs.declared.bundle.ScriptStep.TheVariants.{StopAt}
+use Rattle.orc_script.specs.declared.step.ScriptStep.TheVariants.{StopAt}
 use Rattle.orc_run.specs.inside.Controllers.{view_of}
 use Rattle.orc_run.proofs.Outcomes.{AreLaws, arms, goes_on}
 use Rattle.orc_run.proofs.controller.Controller.stop_at.Goals as goal

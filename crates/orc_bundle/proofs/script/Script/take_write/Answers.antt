@@ -1,7 +1,0 @@
-use Rattle.orc_bundle.specs.inside.Lawful.{decls_in}
-use Rattle.orc_bundle.proofs.Lawful.{written}
-use Rattle.orc_bundle.proofs.script.Script.take_write.Goals as goal
-
-pub returns-clause-lawful : goal.returns-clause-lawful
-returns-clause-lawful g c = λ most so_far here.
-    written (decls_in c.args.declared.now) most c.args.self.now c.in_ok-write.write c.push.new.self so_far here c.in_ok-write.ensures.lawful c.in_ok-push.ensures.ok

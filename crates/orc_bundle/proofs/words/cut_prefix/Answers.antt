@@ -1,6 +1,0 @@
-use Rattle.std.proofs.Common.{arith}
-use Rattle.orc_bundle.proofs.Cuts.{cut_parts}
-use Rattle.orc_bundle.proofs.words.cut_prefix.Goals as goal
-
-pub returns : goal.returns
-returns c = cut_parts 58 _ _ (omega arith) c.split_once.ensures.cases

@@ -1,0 +1,116 @@
+-- Where the declarations end, and what is lawful there.
+use Rattle.std.proofs.Common.{◌≡◌, ◌+◌, ℕ, suc, Bool, true, cond, List, [], ◌∷◌, length, Option, Some, None, Result, Ok, Err, refl, ap, sym, ◌∙◌, subst, arith, if◌then◌else◌}
+use Rattle.std.specs.List.{All, IsDistinct, list_all}
+use Rattle.std.specs.Option.{is_none}
+use Rattle.std.specs.Result.{IsErr, IsErrAnd}
+use Rattle.std.proofs.lemmas.Result.{err_from_is_err_and}
+use Rattle.std.proofs.lemmas.Bool.{and_parts, false≢true}
+use Rattle.std.proofs.lemmas.List.Sums.{AllPass-from_list_all}
+use Rattle.orc_check.specs.Validity.{Breach, broken_of}
+use Rattle.orc_state.specs.Calls.{is_lawful_name}
+use Rattle.orc_state.specs.Declarations.{AreDecls, accepts_base}
+use Rattle.orc_state.specs.States.{is_same_text, names_of, opening_data}
+use Rattle.orc_state.specs.declared.declarations.Device.{Device}
+use Rattle.orc_state.specs.declared.fault.BundleFault.{BundleFault}
+use Rattle.orc_state.specs.declared.fault.BundleFault.TheVariants.{At, Memory}
+use Rattle.orc_state.specs.declared.rule.Rule.{Rule}
+use Rattle.orc_state.specs.declared.rule.Rule.TheVariants as rule
+use Rattle.orc_state.proofs.Declared.{names-lawful}
+use Rattle.orc_declarations.specs.Declarations.{Front, declarations_of, is_script, opened, declared_at, is_opening}
+use Rattle.orc_lines.specs.Lawful.{decls_with, AreDeclared}
+use Rattle.orc_lines.specs.Rules.{on_line}
+use Rattle.orc_lines.specs.Lines.{lines_of}
+use Rattle.orc_lines.specs.declared.declared.Declared.{Declared}
+use Rattle.orc_declarations.specs.declared.read.Behind.{Behind}
+use Rattle.orc_declarations.specs.Answers.{left_of, Declares, IsOpened}
+
+-- what the opening asks
+
+-- the names of declared devices are lawful
+pub lawful_names : (d : Declared) → AreDeclared d → All (λ name. is_lawful_name name ≡ true) d.names
+lawful_names d known =
+    subst (λ (names : List (List ℕ)). All (λ name. is_lawful_name name ≡ true) names) (sym known.named)
+    (AllPass-from_list_all is_lawful_name (names_of d.devices) (names-lawful d.schemas d.devices known.devices))
+
+-- where the declarations end
+
+abbrev fault_at : ℕ → Rule → Result Front (ℕ × Rule)
+fault_at line rule = Err (line, rule)
+
+abbrev front_at : Front → Result Front (ℕ × Rule)
+front_at front = Ok front
+
+abbrev at_fault : BundleFault → Result Behind BundleFault
+at_fault fault = Err fault
+
+abbrev opens_not : BundleFault → Result (Unit {0}) BundleFault
+opens_not fault = Err fault
+
+pub is_opened : (n : ℕ) (front : Front) → is_opening front.declared ≡ true → opened n front ≡ Ok front
+is_opened n front h = ap (λ (b : Bool). cond b (front_at front) (fault_at n rule.Opening)) h
+
+-- the opening is at fault, and so is the line where the declarations end
+pub opening_fault : (answer : Result Front (ℕ × Rule)) (n : ℕ) (front : Front) (fault : BundleFault) → answer ≡ opened n front
+    → IsOpened front.declared n (opens_not fault) → Declares answer front.declared (at_fault fault)
+opening_fault answer n front Memory is h = tt
+opening_fault answer n front (At line broken) is h =
+    is ∙ ap (λ (b : Bool). cond b (front_at front) (fault_at n rule.Opening)) h.0
+    ∙ ap (λ (l : ℕ). fault_at l rule.Opening) (sym h.1) ∙ ap (λ (r : Rule). fault_at line r) (sym h.2)
+
+-- it is handed on
+pub handed_on : (r : Result Behind BundleFault) (answer : Result Front (ℕ × Rule)) (n : ℕ) (front : Front) (fault : BundleFault)
+    → IsErrAnd r (λ y. y ≡ fault) → answer ≡ opened n front → IsOpened front.declared n (opens_not fault) → Declares answer front.declared r
+handed_on r answer n front fault handed is h =
+    let p = err_from_is_err_and r handed in
+    let same : r ≡ at_fault fault = p.1 ∙ ap at_fault p.2 in
+    subst (λ (x : Result Behind BundleFault). Declares answer front.declared x) (sym same) (opening_fault answer n front fault is h)
+
+-- no byte is left then
+pub none_left : (r : Result Behind BundleFault) → IsErr r → left_of r ≡ 0
+none_left (Ok behind) h = absurd (false≢true h)
+none_left (Err fault) h = refl
+
+-- behind the line `script`
+pub ends_script : (d e : Declared) (at n : ℕ) (line : List ℕ) (later : List (List ℕ)) → declared_at d at line later ≡ Ok e → is_script e.section ≡ true
+    → declarations_of d at n (line ∷ later) ≡ opened (n + 1) (record { declared = e; size = at; at = at + length line; number = n + 1; later = later })
+ends_script d e at n line later takes here =
+    ap (λ (r : Result Declared Rule). on_line (n + 1) r (λ x.
+    if is_script x.section
+    then opened (n + 1) (record { declared = x; size = at; at = at + length line; number = n + 1; later = later })
+    else declarations_of x (at + length line) (n + 1) later)) takes
+    ∙ ap (λ (b : Bool). cond b (opened (n + 1) (record { declared = e; size = at; at = at + length line; number = n + 1; later = later }))
+    (declarations_of e (at + length line) (n + 1) later)) here
+
+-- or behind the last line
+pub ends_text : (answer : Result Front (ℕ × Rule)) (d : Declared) (at n size : ℕ) (rest : List ℕ) → answer ≡ declarations_of d at n (lines_of rest)
+    → length rest ≡ 0 → at + length rest ≡ size
+    → answer ≡ opened (n + 1) (record { declared = d; size = size; at = at; number = n; later = lines_of rest })
+ends_text answer d at n size [] is none same =
+    let last : at ≡ size = omega arith in
+    is ∙ ap (λ (k : ℕ). opened (n + 1) (record { declared = d; size = k; at = at; number = n; later = [] })) last
+ends_text answer d at n size (b ∷ bs) is none same = absurd (omega arith)
+
+-- what is lawful there
+
+none_broken : (o : Option Breach) → is_none o ≡ true → o ≡ None
+none_broken None h = refl
+none_broken (Some b) h = absurd (false≢true h)
+
+names_size : (ds : List Device) → length (names_of ds) ≡ length ds
+names_size [] = refl
+names_size (d ∷ ds) = ap suc (names_size ds)
+
+pub lawful_decls : (d : Declared) (text : List ℕ) (names : List (List ℕ)) → AreDeclared d → is_opening d ≡ true → names ≡ d.names
+    → IsDistinct is_same_text d.names → AreDecls (record (decls_with text d) { names = names })
+lawful_decls d text names known opens same distinct =
+    let parts = and_parts (is_none (broken_of d.data_schema (opening_data d.names d.data))) (list_all (accepts_base d.schemas) d.devices) opens in
+    subst (λ (ns : List (List ℕ)). AreDecls (record (decls_with text d) { names = ns })) (sym same) (record {
+      named = known.named;
+      plain = known.plain;
+      devices = known.devices;
+      few = (let one = ap length known.named in let two = names_size d.devices in let three = known.few in omega arith);
+      distinct = distinct;
+      items = known.items;
+      valid = none_broken (broken_of d.data_schema (opening_data d.names d.data)) parts.0;
+      accepted = parts.1;
+    })

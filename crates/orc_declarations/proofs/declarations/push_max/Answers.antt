@@ -1,0 +1,12 @@
+use Rattle.std.proofs.Common.{sym, ◌++◌, ◌∷◌, []}
+use Rattle.orc_state.specs.declared.declarations.Device.{Device}
+use Rattle.orc_declarations.proofs.Lawful.{pushed_max, past_all}
+use Rattle.orc_declarations.proofs.declarations.push_max.Goals as goal
+
+pub returns-then-n-devices : goal.returns-then-n-devices
+returns-then-n-devices c =
+    pushed_max c.args.n c.args.devices.now c.index-devices-n.result c.push.result c.if-n-devices.true c.args.limit c.push.new.self c.push.ensures.ok
+
+pub returns-else-n-devices : goal.returns-else-n-devices
+returns-else-n-devices c =
+    sym (past_all c.args.n (λ (e : Device). record e { max = e.max ++ c.args.limit ∷ [] }) c.args.devices.now c.if-n-devices.false)

@@ -1,0 +1,47 @@
+-- What the reader of declarations answers.
+use Rattle.std.specs.Prelude.{◌≡◌, ℕ, true, false, Result, ◌≤◌, ◌+◌, List, length}
+use Rattle.std.specs.declared.result.Result.TheVariants.{Ok, Err}
+use Rattle.orc_state.specs.declared.rule.Rule.{Rule}
+use Rattle.orc_state.specs.declared.rule.Rule.TheVariants as rule
+use Rattle.orc_state.specs.declared.fault.BundleFault.{BundleFault}
+use Rattle.orc_state.specs.declared.fault.BundleFault.TheVariants as bundle
+use Rattle.orc_lines.specs.declared.fault.LineFault.TheVariants.{Memory}
+use Rattle.orc_declarations.specs.Declarations.{Front, is_opening}
+use Rattle.orc_lines.specs.Lines.{lines_of}
+use Rattle.orc_lines.specs.declared.declared.Declared.{Declared}
+use Rattle.orc_declarations.specs.declared.read.Behind.{Behind}
+use Rattle.orc_lines.specs.declared.lines.TheConstants.{LARGEST_BUNDLE}
+
+-- what is left where the declarations end
+abbrev pub front_left : Declared → Behind → Front
+front_left d behind = record {
+  declared = d;
+  size = behind.size;
+  at = behind.at;
+  number = behind.number;
+  later = lines_of behind.later.now;
+}
+
+-- what is answered where the declarations end in the line of this number
+abbrev pub IsOpened : {T : Type 0} → Declared → ℕ → Result T BundleFault → Type 0
+IsOpened d number (Ok _) = is_opening d ≡ true
+IsOpened d number (Err (bundle.At line broken)) = (is_opening d ≡ false) × (line ≡ number) × (broken ≡ rule.Opening)
+IsOpened d number (Err bundle.Memory) = Unit {0}
+
+-- what the reader of all declarations answers
+abbrev pub Declares : Result Front (ℕ × Rule) → Declared → Result Behind BundleFault → Type 0
+Declares answer new (Ok behind) = answer ≡ Ok (front_left new behind)
+Declares answer new (Err (bundle.At line rule)) = answer ≡ Err (line, rule)
+Declares answer new (Err bundle.Memory) = Unit {0}
+
+-- the bytes behind the declarations; none where they are at fault
+abbrev pub left_of : {E : Type 0} → Result Behind E → ℕ
+left_of (Ok behind) = length behind.later.now
+left_of (Err fault) = 0
+
+-- the parts of the bytes where the declarations end
+pub record EndsWithin (bytes : List ℕ) (behind : Behind) : Type 0 where
+  pub size : behind.size ≤ length bytes
+  pub rest : behind.at + length behind.later.now ≡ length bytes
+  pub number : behind.number ≤ behind.at
+  pub small : behind.at ≤ LARGEST_BUNDLE

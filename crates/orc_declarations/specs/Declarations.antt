@@ -1,0 +1,327 @@
+-- What each form of a declaration makes of what was declared so far.
+use Rattle.std.specs.Prelude.{ℕ, zero, suc, Bool, true, false, not, ◌&&◌, ◌||◌, ◌-◌, nat_le, nat_lt, List, [], ◌∷◌, ◌++◌, codes, length, slice_get, Option, Result, is_none, is_some, option_and_then, option_map, option_to_list, if◌then◌else◌, ◌+◌}
+use Rattle.std.specs.declared.option.Option.TheVariants.{None, Some}
+use Rattle.std.specs.declared.result.Result.TheVariants.{Ok, Err}
+use Rattle.std.specs.List.{flat_map, list_all, list_any}
+use Rattle.std.specs.Option.{option_map_or}
+use Rattle.std.specs.Str.{is_utf8}
+use Rattle.orc_path.specs.Alphabet.{is_identifier}
+use Rattle.orc_path.specs.Limits.{is_long_name}
+use Rattle.orc_call.specs.declared.call.Put.{Put}
+use Rattle.orc_path.specs.Steps.{PathStep}
+use Rattle.orc_check.specs.Validity.{broken_of}
+use Rattle.orc_schema.specs.Schemas.{SchemaTable, plain_table}
+use Rattle.orc_state.specs.Calls.{schema_named}
+use Rattle.orc_state.specs.Declarations.{accepts_base}
+use Rattle.orc_state.specs.States.{opening_data}
+use Rattle.orc_state.specs.declared.declarations.Device.{Device}
+use Rattle.orc_state.specs.declared.declarations.TheConstants.{MOST_DEVICES}
+use Rattle.orc_state.specs.declared.rule.Rule.{Rule}
+use Rattle.orc_state.specs.declared.rule.Rule.TheVariants as rule
+use Rattle.orc_lines.specs.Rules.{checked, or_rule, on_ok}
+use Rattle.orc_lines.specs.Lines.{block_of, is_large, is_skipped, text_of}
+use Rattle.orc_lines.specs.Words.{cut_at, is_text, number_in, words_of}
+use Rattle.orc_lines.specs.Keywords.{keyword_of}
+use Rattle.orc_lines.specs.Names.{is_among, place_of, repeats, with_name}
+use Rattle.orc_lines.specs.Items.{forbidden_of, list_path_of, put_of}
+use Rattle.orc_declarations.specs.Modules.{orc_module, module_of}
+use Rattle.orc_declarations.specs.Schemas.{schema_or_rule}
+use Rattle.orc_yang.specs.declared.statement.Stmt.{Stmt}
+use Rattle.orc_lines.specs.declared.keyword.Keyword.{Keyword}
+use Rattle.orc_lines.specs.declared.keyword.Keyword.TheVariants as keyword
+use Rattle.orc_lines.specs.declared.declared.Declared.{Declared}
+use Rattle.orc_declarations.specs.declared.module.Module.{Module}
+use Rattle.orc_lines.specs.declared.declared.Section.{Section}
+use Rattle.orc_lines.specs.declared.declared.Section.TheVariants as section
+use Rattle.orc_lines.specs.Rules.{on_line}
+
+-- the schema of modules that make one, else the plain one
+abbrev pub schema_or_plain : Result SchemaTable Rule → SchemaTable
+schema_or_plain (Ok schema) = schema
+schema_or_plain (Err rule) = plain_table
+
+-- the schema of the built-in module alone
+abbrev pub built_in_schema : SchemaTable
+built_in_schema = schema_or_plain (schema_or_rule (orc_module ∷ []))
+
+-- nothing is declared, and the header is due
+abbrev pub nothing_declared : Declared
+nothing_declared = record {
+  section = section.Header;
+  skip = 0;
+  modules = [];
+  statements = [];
+  has_data = false;
+  types = [];
+  schemas = plain_table ∷ [];
+  names = [];
+  devices = [];
+  data_schema = built_in_schema;
+  «data» = [];
+}
+
+-- the forms
+
+-- `orc 1`
+unfoldable pub after_header : Declared → List ℕ → Result Declared Rule
+after_header d text =
+    checked ((not (is_text text (codes "orc 1")), rule.Header) ∷ []) (Ok (record d { section = section.Declarations }))
+
+-- the statement of a module that is declared or built in
+abbrev pub module_named : Declared → List ℕ → Option Stmt
+module_named d name =
+    if is_text name (codes "orc")
+    then Some orc_module else option_and_then (slice_get d.statements) (place_of d.modules name)
+
+abbrev pub is_declared : Declared → List ℕ → Bool
+is_declared d name = is_some (module_named d name)
+
+-- the statements of the modules of these names
+abbrev pub modules_named : Declared → List (List ℕ) → List Stmt
+modules_named d names = flat_map (λ name. option_to_list (module_named d name)) names
+
+-- the schema of the modules of these names; all the words are names, and one of them may be taken
+abbrev pub schema_words : Declared → List (List ℕ) → List (List ℕ) → Bool → Result SchemaTable Rule
+schema_words d words names is_double =
+    checked (
+    (not (list_all is_identifier words), rule.Line)
+    ∷ (list_any is_long_name words, rule.Size)
+    ∷ (not (list_all (is_declared d) names), rule.Unknown)
+    ∷ (is_double, rule.Duplicate)
+    ∷ (repeats names, rule.Schema)
+    ∷ [])
+    (schema_or_rule (modules_named d names))
+
+-- `datamodel M M ..`; the built-in module is always one of them. No item of the data stands above this line, since a
+-- line may name no path of the built-in module.
+unfoldable pub after_datamodel : Declared → List ℕ → Result Declared Rule
+after_datamodel d rest =
+    on_ok (schema_words d (words_of rest) (with_name (words_of rest) (codes "orc")) d.has_data) (λ schema.
+    Ok (record d { has_data = true; data_schema = schema; «data» = [] }))
+
+-- a type of devices, and its schema
+abbrev pub with_type : Declared → List ℕ → SchemaTable → Declared
+with_type d name schema = record d { types = d.types ++ name ∷ []; schemas = d.schemas ++ schema ∷ [] }
+
+-- `devicetype T M M ..`
+abbrev pub type_words : Declared → List (List ℕ) → Result Declared Rule
+type_words d [] = Err rule.Line
+type_words d (name ∷ []) = Err rule.Line
+type_words d (name ∷ first ∷ later) =
+    on_ok (schema_words d (name ∷ first ∷ later) (first ∷ later) (is_among d.types name)) (λ schema.
+    Ok (with_type d name schema))
+
+unfoldable pub after_devicetype : Declared → List ℕ → Result Declared Rule
+after_devicetype d rest = type_words d (words_of rest)
+
+-- the place of the schema of devices of a kind: the plain one stands in front, and behind it those of the types
+abbrev pub schema_place : Declared → List ℕ → Option ℕ
+schema_place d kind = if is_text kind (codes "plain") then Some 0 else option_map suc (place_of d.types kind)
+
+-- a device that has no item yet
+abbrev pub with_device : Declared → List ℕ → ℕ → Declared
+with_device d name place = record d {
+  names = d.names ++ name ∷ [];
+  devices = d.devices ++ (record { name = name; schema = place; base = []; max = []; forbid = [] }) ∷ [];
+}
+
+-- `device D plain` and `device D T`
+abbrev pub device_words : Declared → Option (List ℕ × List ℕ) → Result Declared Rule
+device_words d None = Err rule.Line
+device_words d (Some words) =
+    checked (
+    (not (is_identifier words.0) || not (is_identifier words.1), rule.Line)
+    ∷ (is_long_name words.0 || is_long_name words.1, rule.Size)
+    ∷ (not (is_among d.names words.0) && nat_le MOST_DEVICES (length d.names), rule.Size)
+    ∷ [])
+    (or_rule (schema_place d words.1) rule.Unknown (λ place.
+    checked ((is_among d.names words.0, rule.Duplicate) ∷ [])
+    (Ok (with_device d words.0 place))))
+
+unfoldable pub after_device : Declared → List ℕ → Result Declared Rule
+after_device d rest = device_words d (cut_at 32 rest)
+
+-- the device of a number is changed
+abbrev pub changed_at : ℕ → (Device → Device) → List Device → List Device
+changed_at n change [] = []
+changed_at zero change (device ∷ devices) = change device ∷ devices
+changed_at (suc n) change (device ∷ devices) = device ∷ changed_at n change devices
+
+-- its base has one item more
+abbrev pub with_base : ℕ → Put → List Device → List Device
+with_base n put = changed_at n (λ device. record device { base = device.base ++ put ∷ [] })
+
+-- `base D ITEM`
+abbrev pub base_words : Declared → Option (List ℕ × List ℕ) → Result Declared Rule
+base_words d None = Err rule.Line
+base_words d (Some words) =
+    checked ((not (is_identifier words.0), rule.Line) ∷ [])
+    (on_ok (put_of false (schema_named d.schemas d.devices words.0) (is_long_name words.0) words.1) (λ put.
+    or_rule (place_of d.names words.0) rule.Unknown (λ n.
+    Ok (record d { devices = with_base n put d.devices }))))
+
+unfoldable pub after_base : Declared → List ℕ → Result Declared Rule
+after_base d rest = base_words d (cut_at 32 rest)
+
+-- it has one rule more: a list's path, and the most entries that it may have
+abbrev pub with_max : ℕ → List PathStep × ℕ → List Device → List Device
+with_max n limit = changed_at n (λ device. record device { max = device.max ++ limit ∷ [] })
+
+-- or a leaf's path, and a text that it may not have
+abbrev pub with_forbid : ℕ → List PathStep × List ℕ → List Device → List Device
+with_forbid n leaf = changed_at n (λ device. record device { forbid = device.forbid ++ leaf ∷ [] })
+
+-- `rule D max LISTPATH N`, behind the word `max`
+abbrev pub max_words : Declared → List ℕ → Option (List ℕ × List ℕ) → Result Declared Rule
+max_words d name None = Err rule.Line
+max_words d name (Some words) =
+    or_rule (number_in words.1) rule.Line (λ count.
+    on_ok (list_path_of (schema_named d.schemas d.devices name) (is_long_name name) words.0) (λ path.
+    or_rule (place_of d.names name) rule.Unknown (λ n.
+    Ok (record d { devices = with_max n (path, count) d.devices }))))
+
+unfoldable pub after_max : Declared → List ℕ → List ℕ → Result Declared Rule
+after_max d name rest = max_words d name (cut_at 32 rest)
+
+-- `rule D forbid PATH = VALUE`, behind the word `forbid`
+unfoldable pub after_forbid : Declared → List ℕ → List ℕ → Result Declared Rule
+after_forbid d name rest =
+    on_ok (forbidden_of (schema_named d.schemas d.devices name) (is_long_name name) rest) (λ leaf.
+    or_rule (place_of d.names name) rule.Unknown (λ n.
+    Ok (record d { devices = with_forbid n leaf d.devices })))
+
+-- a rule of the device of this name, by its kind
+abbrev pub rule_kind : Declared → List ℕ → Option (List ℕ × List ℕ) → Result Declared Rule
+rule_kind d name None = Err rule.Line
+rule_kind d name (Some words) =
+    if is_text words.0 (codes "max") then after_max d name words.1 else
+    if is_text words.0 (codes "forbid") then after_forbid d name words.1 else Err rule.Line
+
+abbrev pub rule_line : Declared → Option (List ℕ × List ℕ) → Result Declared Rule
+rule_line d None = Err rule.Line
+rule_line d (Some words) =
+    checked ((not (is_identifier words.0), rule.Line) ∷ []) (rule_kind d words.0 (cut_at 32 words.1))
+
+-- `rule D max ..` and `rule D forbid ..`
+unfoldable pub after_rule : Declared → List ℕ → Result Declared Rule
+after_rule d rest = rule_line d (cut_at 32 rest)
+
+-- `data ITEM`
+unfoldable pub after_data : Declared → List ℕ → Result Declared Rule
+after_data d rest =
+    on_ok (put_of true d.data_schema false rest) (λ put. Ok (record d { «data» = d.data ++ put ∷ [] }))
+
+-- a module of this name can't be declared: it is, or is built in
+abbrev pub is_taken : Declared → List ℕ → Bool
+is_taken d name = is_text name (codes "orc") || is_among d.modules name
+
+-- a module, with so many lines
+abbrev pub with_module : Declared → ℕ → Module → Declared
+with_module d n m = record d {
+  modules = d.modules ++ m.name ∷ [];
+  statements = d.statements ++ m.statement ∷ [];
+  skip = n;
+}
+
+-- `yang N`, with the lines behind it
+unfoldable pub after_yang : Declared → List ℕ → List (List ℕ) → Result Declared Rule
+after_yang d rest later =
+    or_rule (number_in rest) rule.Line (λ n.
+    or_rule (block_of n later) rule.Line (λ text.
+    on_ok (module_of text) (λ m.
+    checked ((is_taken d m.name, rule.Duplicate) ∷ [])
+    (Ok (with_module d n m)))))
+
+-- how many lines a line takes for its block: `yang N` takes N, any other none
+abbrev pub block_size : Option ℕ → ℕ
+block_size number = option_map_or (λ n. n) number 0
+
+unfoldable pub taken_by : Keyword → List ℕ → ℕ
+taken_by keyword.Yang rest = block_size (number_in rest)
+taken_by _ rest = 0
+
+abbrev pub words_take : Option (List ℕ × List ℕ) → ℕ
+words_take None = 0
+words_take (Some words) = taken_by (keyword_of words.0) words.1
+
+abbrev pub lines_taken : List ℕ → ℕ
+lines_taken text = words_take (cut_at 32 text)
+
+-- `script`
+unfoldable pub after_script : Declared → Result Declared Rule
+after_script d = Ok (record d { section = section.Script })
+
+-- which forms stand where
+
+-- of more than one word
+unfoldable pub declaration : Keyword → Declared → List ℕ → List (List ℕ) → Result Declared Rule
+declaration keyword.Device d rest later = after_device d rest
+declaration keyword.Datamodel d rest later = after_datamodel d rest
+declaration keyword.Devicetype d rest later = after_devicetype d rest
+declaration keyword.Rule d rest later = after_rule d rest
+declaration keyword.Base d rest later = after_base d rest
+declaration keyword.Data d rest later = after_data d rest
+declaration keyword.Yang d rest later = after_yang d rest later
+declaration _ d rest later = Err rule.Line
+
+-- of one word
+unfoldable pub bare_declaration : Keyword → Declared → Result Declared Rule
+bare_declaration keyword.Script d = after_script d
+bare_declaration _ d = Err rule.Line
+
+abbrev pub declaration_words : Declared → List ℕ → List (List ℕ) → Option (List ℕ × List ℕ) → Result Declared Rule
+declaration_words d text later None = bare_declaration (keyword_of text) d
+declaration_words d text later (Some words) = declaration (keyword_of words.0) d words.1 later
+
+abbrev pub is_header : Section → Bool
+is_header section.Header = true
+is_header _ = false
+
+-- a line that is not skipped
+unfoldable pub after_text : Declared → List ℕ → List (List ℕ) → Result Declared Rule
+after_text d text later =
+    if is_header d.section then after_header d text else declaration_words d text later (cut_at 32 text)
+
+-- a line of a block is passed over
+abbrev pub in_open_block : Declared → Result Declared Rule → Result Declared Rule
+in_open_block d other = if nat_lt 0 d.skip then Ok (record d { skip = d.skip - 1 }) else other
+
+-- a line with the lines behind it; so many bytes stand in front of it
+unfoldable pub declared_at : Declared → ℕ → List ℕ → List (List ℕ) → Result Declared Rule
+declared_at d at line later =
+    checked ((is_large at line, rule.Size) ∷ [])
+    (in_open_block d (
+    checked ((not (is_utf8 (text_of line)), rule.Utf8) ∷ [])
+    (if is_skipped (text_of line) then Ok d else after_text d (text_of line) later)))
+
+-- where the declarations end: the opening data is valid, and each device accepts its base
+abbrev pub is_opening : Declared → Bool
+is_opening d =
+    is_none (broken_of d.data_schema (opening_data d.names d.data)) && list_all (accepts_base d.schemas) d.devices
+
+-- What was declared: the bytes in front of the line `script`, or all where there is none; the bytes and the lines in
+-- front of the script, and its lines.
+pub record Front : Type 0 where
+  pub declared : Declared
+  pub size : ℕ
+  pub at : ℕ
+  pub number : ℕ
+  pub later : List (List ℕ)
+
+-- the line `script` was read
+abbrev pub is_script : Section → Bool
+is_script section.Script = true
+is_script _ = false
+
+-- The declarations end in the line of this number, or behind the last one.
+abbrev pub opened : ℕ → Front → Result Front (ℕ × Rule)
+opened n front = if is_opening front.declared then Ok front else Err (n, rule.Opening)
+
+-- the declarations in lines, in front of which stand so many bytes and so many lines
+abbrev pub declarations_of : Declared → ℕ → ℕ → List (List ℕ) → Result Front (ℕ × Rule)
+declarations_of d at n [] = opened (n + 1) (record { declared = d; size = at; at = at; number = n; later = [] })
+declarations_of d at n (line ∷ later) =
+    on_line (n + 1) (declared_at d at line later) (λ e.
+    if is_script e.section
+    then opened (n + 1) (record { declared = e; size = at; at = at + length line; number = n + 1; later = later })
+    else declarations_of e (at + length line) (n + 1) later)

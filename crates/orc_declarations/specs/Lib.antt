@@ -1,0 +1,5 @@
+pub mod Modules
+pub mod Schemas
+pub mod Declarations
+pub mod Answers
+pub mod inside

@@ -1,0 +1,28 @@
+-- What faults of statements and of modules are.
+use Rattle.orc_state.specs.declared.rule.Rule.TheVariants as rule
+use Rattle.orc_yang.specs.declared.fault.YangFault.{YangFault}
+use Rattle.orc_yang.specs.declared.fault.YangFault.TheVariants as yang
+use Rattle.orc_schema.specs.declared.fault.SchemaFault.{SchemaFault}
+use Rattle.orc_schema.specs.declared.fault.SchemaFault.TheVariants as schema
+use Rattle.orc_lines.specs.declared.fault.LineFault.{LineFault}
+use Rattle.orc_lines.specs.declared.fault.LineFault.TheVariants.{Breaks, Memory}
+
+-- what the reader of a block makes of a fault in its statements
+abbrev pub of_yang : YangFault → LineFault
+of_yang yang.Memory = Memory
+of_yang (yang.NotUtf8 at) = Breaks rule.Yang
+of_yang (yang.BadToken at) = Breaks rule.Yang
+of_yang (yang.BadEscape at) = Breaks rule.Yang
+of_yang (yang.OpenString at) = Breaks rule.Yang
+of_yang (yang.OpenBlock at) = Breaks rule.Yang
+of_yang (yang.Depth at) = Breaks rule.Yang
+
+-- what the reader of a line makes of a fault in the modules that it names
+abbrev pub of_schema : SchemaFault → LineFault
+of_schema schema.Memory = Memory
+of_schema (schema.Unsupported keyword) = Breaks rule.Schema
+of_schema (schema.Unknown name) = Breaks rule.Schema
+of_schema (schema.Duplicate name) = Breaks rule.Schema
+of_schema (schema.BadArgument keyword) = Breaks rule.Schema
+of_schema (schema.NoKey list) = Breaks rule.Schema
+of_schema (schema.Loop name) = Breaks rule.Schema

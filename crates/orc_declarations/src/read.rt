@@ -1,0 +1,95 @@
+//! Reading of the declarations line by line.
+ghost use Rattle.std.specs.Prelude.{◌≡◌, ◌<◌, ◌≤◌, ◌+◌, ◌*◌, IfOk, OnOk, IsTrue, length};
+ghost use Rattle.orc_lines.specs.Lines.{lines_of};
+ghost use Rattle.orc_declarations.specs.Declarations.{declarations_of, is_opening, nothing_declared};
+ghost use Rattle.orc_lines.specs.Answers.{at_line};
+ghost use Rattle.orc_lines.specs.Costs.{bytes_to, is_kept_line};
+ghost use Rattle.orc_lines.specs.Lawful.{AreDeclared};
+ghost use Rattle.orc_declarations.specs.Answers.{EndsWithin, left_of, Declares, IsOpened};
+ghost use Rattle.orc_lines.specs.Work.{most_work};
+
+use crate::declarations::take_line;
+use crate::opening::is_opening;
+use orc_io::Steps;
+use orc_lines::{Declared, Section, at_line, first_line};
+use orc_state::{BundleFault, Rule};
+use std::alloc::Global;
+use std::sync::ledger::Ledger;
+
+/// What is left where the declarations end.
+#[derive(Drop)]
+pub struct Behind<'a> {
+    /// The bytes in front of the line `script`, or all of them where there is none.
+    pub size: usize,
+    /// The bytes and the lines in front of the script.
+    pub at: u64,
+    pub number: u64,
+    /// The bytes of the script.
+    pub later: &'a [u8],
+}
+
+// That the opening data is valid and each device accepts its base, where the declarations end in the
+// line of this number.
+fn check_opening(alloc: Global, declared: &Declared, number: u64) -> Result<(), BundleFault>
+    requires { AreDeclared declared.now }
+    ensures { IsOpened declared.now number result }
+{
+    if is_opening(alloc, declared)? {
+        return Ok(());
+    }
+    Err(BundleFault::At {
+        line: number,
+        rule: Rule::Opening,
+    })
+}
+
+/// ReadsLine the declarations: up to the line `script`, or all lines where there is none. Nothing is declared
+/// before. The counts are those of `read_counted` of `orc_bundle`.
+pub fn read_declarations<'a, L: Ledger, M: Ledger>(
+    alloc: Global,
+    bytes: &'a [u8],
+    declared: &mut Declared,
+    steps: &mut Steps<L>,
+    work: &mut Steps<M>,
+) -> Result<Behind<'a>, BundleFault>
+    requires nothing { declared.old ≡ nothing_declared }
+    requires lawful { AreDeclared declared.old }
+    ensures answer { Declares (declarations_of declared.old 0 0 (lines_of bytes.now)) declared.new result }
+    ensures lawful { OnOk result (AreDeclared declared.new) }
+    ensures opened { OnOk result (IsTrue (is_opening declared.new)) }
+    ensures within { IfOk result (EndsWithin bytes.now) }
+    ensures cost { steps.new + bytes_to is_kept_line (lines_of bytes.now) + 2 * left_of result
+        ≤ steps.old + 2 * length bytes.now }
+    ensures worked { work.new + most_work (left_of result) ≤ work.old + most_work (length bytes.now) }
+    ensures counts { IfOk result (λ behind. steps.old + length bytes.now ≤ steps.new + length behind.later.now) }
+{
+    let mut rest = bytes;
+    let mut at = 0;
+    let mut number = 0;
+    'lines: while !rest.is_empty() {
+        let (line, later) = first_line(rest, steps);
+        number += 1;
+        if let Err(fault) = take_line(alloc, declared, at, line, later, steps, work) {
+            return Err(at_line(number, fault));
+        }
+        let begin = at;
+        at += line.len() as u64;
+        rest = later;
+        if declared.section == Section::Script {
+            check_opening(alloc, declared, number)?;
+            return Ok(Behind {
+                size: begin as usize,
+                at,
+                number,
+                later,
+            });
+        }
+    }
+    check_opening(alloc, declared, number + 1)?;
+    Ok(Behind {
+        size: bytes.len(),
+        at,
+        number,
+        later: rest,
+    })
+}

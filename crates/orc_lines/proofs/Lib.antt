@@ -1,0 +1,16 @@
+mod BlockLines
+pub mod CanonicalItems
+pub mod Costs
+pub mod Cuts
+pub mod DataPaths
+mod KeptPaths
+pub mod Keywords
+pub mod Lawful
+pub mod LinesOf
+pub mod Numbers
+mod RepeatedNames
+pub mod Rules
+pub mod SchemaPlaces
+mod Utf8
+mod WordCuts
+pub mod Work

@@ -1,0 +1,15 @@
+use Rattle.std.proofs.Common.{◌≡◌, Some, sym, ◌∙◌}
+use Rattle.orc_lines.proofs.CanonicalItems.{carries_same, value_known}
+use Rattle.orc_lines.proofs.KeptPaths.{still_open}
+use Rattle.orc_lines.proofs.items.read_leaf.Goals as goal
+
+pub returns-clause-lawful : goal.returns-clause-lawful
+returns-clause-lawful g c =
+    let value = c.in-Some-value.value in
+    let found : c.in_ok-value.value ≡ Some value = (let is = c.in-Some-value.is in cc) in
+    c.canonical_put.ensures.lawful
+    (carries_same c.args.schema.now c.in-Some.path value _ ∙ sym c.if-not-can_carry.ensures.value)
+    (value_known c.in_ok-value.value value c.in_ok-value.ensures.lawful found)
+
+pub returns-clause-free : goal.returns-clause-free
+returns-clause-free g c = still_open c.canonical_put.result c.args.of_data c.in-Some.path c.canonical_put.ensures.kept (sym c.if-is_barred.ensures)

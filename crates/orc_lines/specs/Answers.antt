@@ -1,0 +1,32 @@
+-- What readers answer.
+use Rattle.std.specs.Prelude.{◌≡◌, ℕ, Result}
+use Rattle.std.specs.declared.result.Result.TheVariants.{Ok, Err}
+use Rattle.orc_state.specs.declared.rule.Rule.{Rule}
+use Rattle.orc_state.specs.declared.fault.BundleFault.{BundleFault}
+use Rattle.orc_state.specs.declared.fault.BundleFault.TheVariants.{At, Memory}
+use Rattle.orc_state.specs.declared.fault.BundleFault.TheVariants as bundle
+use Rattle.orc_lines.specs.declared.fault.LineFault.{LineFault}
+use Rattle.orc_lines.specs.declared.fault.LineFault.TheVariants.{Breaks, Memory}
+
+-- the answer, a value or a line at fault with its rule; want of memory may come in its place
+abbrev pub Gives : {X : Type 0} → Result X (ℕ × Rule) → Result X BundleFault → Type 0
+Gives answer (Ok x) = answer ≡ Ok x
+Gives answer (Err (At line rule)) = answer ≡ Err (line, rule)
+Gives answer (Err Memory) = Unit {0}
+
+-- what a reader that changes what was read so far answers; want of memory is free
+abbrev pub Takes : {X T : Type 0} → Result X Rule → X → Result T LineFault → Type 0
+Takes answer new (Ok _) = answer ≡ Ok new
+Takes answer new (Err (Breaks rule)) = answer ≡ Err rule
+Takes answer new (Err Memory) = Unit {0}
+
+-- the same of a reader of a value
+abbrev pub ReadsLine : {X : Type 0} → Result X Rule → Result X LineFault → Type 0
+ReadsLine answer (Ok x) = answer ≡ Ok x
+ReadsLine answer (Err (Breaks rule)) = answer ≡ Err rule
+ReadsLine answer (Err Memory) = Unit {0}
+
+-- what a fault of the line of this number is
+abbrev pub at_line : ℕ → LineFault → BundleFault
+at_line number (Breaks rule) = bundle.At number rule
+at_line number Memory = bundle.Memory

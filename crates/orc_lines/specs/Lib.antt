@@ -1,0 +1,11 @@
+pub mod Rules
+pub mod Lines
+pub mod Words
+pub mod Keywords
+pub mod Names
+pub mod Items
+pub mod Lawful
+pub mod Answers
+pub mod Costs
+pub mod Work
+pub mod inside

@@ -1,0 +1,83 @@
+//! What was declared so far, against which the lines of declarations and of the script are read.
+ghost use Rattle.std.specs.Prelude.{◌≡◌, slice_get};
+ghost use Rattle.std.specs.Option.{option_copied};
+ghost use Rattle.orc_schema.specs.Schemas.{plain_table};
+ghost use Rattle.orc_state.specs.Calls.{schema_in, schema_named};
+ghost use Rattle.orc_state.specs.States.{names_of};
+
+use crate::names::Names;
+use orc_call::Put;
+use orc_schema::Schema;
+use orc_state::Device;
+use orc_text::{Row, Text};
+use orc_yang::Stmt;
+
+/// Which lines may stand.
+#[derive(Clone, Copy, PartialEq, Eq)]
+pub enum Section {
+    /// The header alone.
+    Header,
+    /// Declarations, or the line that ends them.
+    Declarations,
+    /// The script.
+    Script,
+}
+
+/// What was declared so far.
+#[derive(Drop)]
+pub struct Declared {
+    pub section: Section,
+    /// How many lines of a block are still to come.
+    pub skip: u64,
+    /// The names of the modules, and their statements.
+    pub modules: Names,
+    pub statements: Row<Stmt>,
+    /// The data schema is declared.
+    pub has_data: bool,
+    /// The types of devices.
+    pub types: Names,
+    /// The plain schema, and behind it that of each type.
+    pub schemas: Row<Schema>,
+    /// The names of the devices.
+    pub names: Names,
+    /// The devices with their bases and their rules.
+    pub devices: Row<Device>,
+    /// The schema of the data, and the items of its lines.
+    pub data_schema: Schema,
+    pub data: Row<Put>,
+}
+
+impl Declared {
+    /// The schema of the device of a name; the plain one where none is declared.
+    pub fn schema_named<'a>(&'a self, name: &Text, plain: &'a Schema) -> &'a Schema
+        requires named { self.now.names ≡ names_of self.now.devices }
+        requires plain { plain.now ≡ plain_table }
+        ensures { result.now ≡ schema_named self.now.schemas self.now.devices name.now }
+    {
+        let Some(n) = self.names.place(name) else {
+            return plain;
+        };
+        match self.device_at(n) {
+            Some(device) => self.schema_at(device.schema, plain),
+            None => plain,
+        }
+    }
+
+    // The device of a number.
+    fn device_at(&self, n: usize) -> Option<&Device>
+        ensures { option_copied result ≡ slice_get self.now.devices n }
+    {
+        self.devices.as_slice().get(n)
+    }
+
+    // The schema of a place.
+    fn schema_at<'a>(&'a self, place: u32, plain: &'a Schema) -> &'a Schema
+        requires { plain.now ≡ plain_table }
+        ensures { result.now ≡ schema_in self.now.schemas place }
+    {
+        match self.schemas.as_slice().get(place as usize) {
+            Some(schema) => schema,
+            None => plain,
+        }
+    }
+}

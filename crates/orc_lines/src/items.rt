@@ -1,0 +1,382 @@
+//! Items and where they stand.
+ghost use Rattle.std.specs.Prelude.{IsTrue, ◌≡◌, ◌≤◌, ◌<◌, ◌+◌, ◌*◌, [], IfOk, IfSome, MatchOption, None, Some, false, length};
+ghost use Rattle.orc_path.specs.Alphabet.{is_value};
+ghost use Rattle.orc_path.specs.Reading.{path_of};
+ghost use Rattle.orc_path.specs.Texts.{path_text};
+ghost use Rattle.orc_path.specs.Values.{value_of};
+ghost use Rattle.orc_state.specs.Calls.{blank_item, is_data_path, is_forbid_rule, is_item_under, is_kept, is_list_path, is_put};
+ghost use Rattle.orc_lines.specs.Answers.{ReadsLine};
+ghost use Rattle.orc_lines.specs.Items.{is_past_path, is_past_value, is_long_item, is_barred, can_carry, canonical_put, after_mark, data_path_of, entry_of, forbidden_of, leaf_in, leaf_of, list_path_of, put_of, stored_data_path, stored_list_path};
+ghost use Rattle.orc_schema.specs.Schemas.{SchemaTable};
+ghost use Rattle.orc_typed.specs.Typed.{canonical_path};
+ghost use Rattle.orc_typed.specs.Laws.{has_plain_text};
+ghost use Rattle.orc_typed.specs.Sizes.{item_size};
+ghost use Rattle.orc_lines.specs.Work.{path_bytes, work_on};
+
+use crate::fault::{LineFault, breaks};
+use crate::lists::{is_data_path, is_list_path, names_list};
+use crate::words::cut;
+use orc_call::Put;
+use orc_io::Steps;
+use orc_path::{Item, Path, PathFault, is_long_value, read_value_counted, values_are_read};
+use orc_schema::Schema;
+use orc_state::{Rule, is_kept};
+use orc_text::{Memory, Text};
+use orc_typed::{
+    canonical_is_typed, canonical_item_counted, canonical_keeps, canonical_path_counted,
+    is_in_schema_counted,
+};
+use std::alloc::Global;
+use std::sync::ledger::Ledger;
+
+/// The path of a text, where it is one.
+pub fn read_path<L: Ledger>(
+    alloc: Global,
+    word: &str,
+    work: &mut Steps<L>,
+) -> Result<Option<Path>, Memory>
+    ensures value { IfOk result (λ found. found ≡ path_of word.now) }
+    ensures text { IfOk result (λ found. path_bytes found ≤ length word.now) }
+    ensures worked { work.new ≤ work.old + 2 * length word.now }
+{
+    match Path::parse_counted(alloc, word, work) {
+        Ok(path) => Ok(Some(path)),
+        Err(PathFault::BadPath { .. }) => Ok(None),
+        Err(PathFault::Memory) => Err(Memory),
+    }
+}
+
+// The value of a text, where it is one.
+fn value_in<L: Ledger>(
+    alloc: Global,
+    text: &str,
+    work: &mut Steps<L>,
+) -> Result<Option<Text>, Memory>
+    ensures value { IfOk result (λ found. found ≡ value_of text.now) }
+    ensures lawful { IfOk result (λ found. IfSome found (λ value. IsTrue (is_value value))) }
+    ensures size { IfOk result (λ found. IfSome found (λ value. length value ≤ length text.now)) }
+    ensures worked { work.new ≤ work.old + 2 * length text.now }
+{
+    values_are_read();
+    read_value_counted(alloc, text, work)
+}
+
+/// Whether a path passes a limit.
+pub fn is_past_path<L: Ledger>(path: &Option<Path>, work: &mut Steps<L>) -> bool
+    ensures long { result ≡ is_past_path path.now }
+    ensures worked { work.new ≤ work.old + 2 * path_bytes path.now }
+{
+    match path {
+        Some(path) => path.is_long_counted(work),
+        None => false,
+    }
+}
+
+// Whether a value does.
+fn is_past_value(value: &Option<Text>) -> bool
+    ensures { result ≡ is_past_value value.now }
+{
+    match value {
+        Some(value) => is_long_value(value.as_str()),
+        None => false,
+    }
+}
+
+// What stands behind `=` and a space.
+fn after_mark(rest: &str) -> Option<&str>
+    ensures value { MatchOption result (after_mark rest.now ≡ None) (λ value. after_mark rest.now ≡ Some value.now) }
+    ensures shorter { IfSome result (λ value. length value.now < length rest.now) }
+{
+    match cut(rest) {
+        Some(("=", value)) => Some(value),
+        _ => None,
+    }
+}
+
+// Whether the text of an item passes a limit.
+fn is_long_item(item: &Item) -> bool
+    ensures { result ≡ is_long_item item.now }
+{
+    match item {
+        Item::Entry => false,
+        Item::Leaf(text) => is_long_value(text.as_str()),
+    }
+}
+
+/// Whether the path can carry such an item under the schema, whatever their texts.
+pub fn can_carry<L: Ledger>(schema: &Schema, path: &Path, item: &Item, work: &mut Steps<L>) -> bool
+    ensures value { result ≡ can_carry schema.now path.now item.now }
+    ensures worked { work.new ≤ work.old + 2 * length (path_text path.now) }
+{
+    item.fits(path) && is_in_schema_counted(schema, path, item, work)
+}
+
+// An item and where it stands, in canonical form.
+fn canonical_put<L: Ledger>(
+    alloc: Global,
+    schema: &Schema,
+    path: &Path,
+    item: &Item,
+    work: &mut Steps<L>,
+) -> Result<Put, LineFault>
+    ensures reads { ReadsLine (canonical_put schema.now path.now item.now) result }
+    ensures lawful { IsTrue (can_carry schema.now path.now item.now) → IsTrue (has_plain_text item.now)
+        → IfOk result (λ put. IsTrue (is_put schema.now put)) }
+    ensures kept { IfOk result (λ put. is_kept put.path ≡ is_kept path.now) }
+    ensures worked { work.new ≤ work.old + 35 * length (path_text path.now) + 3 * item_size item.now + 2 }
+{
+    canonical_is_typed();
+    canonical_keeps();
+    let Some(own) = canonical_path_counted(alloc, schema, path, work)? else {
+        return breaks(Rule::Value);
+    };
+    let Some(own_item) = canonical_item_counted(alloc, schema, path, item, work)? else {
+        return breaks(Rule::Value);
+    };
+    if own.is_long_counted(work) || is_long_item(&own_item) {
+        return breaks(Rule::Size);
+    }
+    Ok(Put {
+        path: own,
+        item: own_item,
+    })
+}
+
+// Whether no line may name the path, where it is one of the data.
+fn is_barred(of_data: bool, path: &Path) -> bool
+    ensures { result ≡ is_barred of_data path.now }
+{
+    of_data && is_kept(path)
+}
+
+// An entry, of the data or of a device.
+fn read_entry<L: Ledger>(
+    alloc: Global,
+    of_data: bool,
+    schema: &Schema,
+    is_long: bool,
+    word: &str,
+    work: &mut Steps<L>,
+) -> Result<Put, LineFault>
+    ensures reads { ReadsLine (entry_of of_data schema.now is_long word.now) result }
+    ensures lawful { IfOk result (λ put. IsTrue (is_put schema.now put)) }
+    ensures free { IfOk result (λ put. is_barred of_data put.path ≡ false) }
+    ensures worked { work.new ≤ work.old + 43 * length word.now }
+{
+    if word.is_empty() {
+        return breaks(Rule::Line);
+    }
+    let path = read_path(alloc, word, work)?;
+    if is_long || is_past_path(&path, work) {
+        return breaks(Rule::Size);
+    }
+    let Some(path) = path else {
+        return breaks(Rule::Path);
+    };
+    if is_barred(of_data, &path) || !can_carry(schema, &path, &Item::Entry, work) {
+        return breaks(Rule::Path);
+    }
+    canonical_put(alloc, schema, &path, &Item::Entry, work)
+}
+
+// A leaf and the text of its value.
+fn read_leaf<L: Ledger>(
+    alloc: Global,
+    of_data: bool,
+    schema: &Schema,
+    is_long: bool,
+    word: &str,
+    text: &str,
+    work: &mut Steps<L>,
+) -> Result<Put, LineFault>
+    ensures reads { ReadsLine (leaf_of of_data schema.now is_long word.now text.now) result }
+    ensures lawful { IfOk result (λ put. IsTrue (is_put schema.now put)) }
+    ensures free { IfOk result (λ put. is_barred of_data put.path ≡ false) }
+    ensures worked { work.new ≤ work.old + 43 * length word.now + 5 * length text.now }
+{
+    if word.is_empty() {
+        return breaks(Rule::Line);
+    }
+    let path = read_path(alloc, word, work)?;
+    let value = value_in(alloc, text, work)?;
+    if is_long || is_past_path(&path, work) || is_past_value(&value) {
+        return breaks(Rule::Size);
+    }
+    let Some(path) = path else {
+        return breaks(Rule::Path);
+    };
+    if is_barred(of_data, &path) || !can_carry(schema, &path, &Item::Leaf(Text::new(alloc)), work) {
+        return breaks(Rule::Path);
+    }
+    let Some(value) = value else {
+        return breaks(Rule::Value);
+    };
+    canonical_put(alloc, schema, &path, &Item::Leaf(value), work)
+}
+
+/// An item line: a path, and behind it ` = ` and a value or nothing. It is stored in canonical form,
+/// as the schema has it. A name in front of it may be too long. Of the data, a line may not name what
+/// the orchestrator keeps itself.
+pub fn read_put<L: Ledger>(
+    alloc: Global,
+    of_data: bool,
+    schema: &Schema,
+    is_long: bool,
+    text: &str,
+    work: &mut Steps<L>,
+) -> Result<Put, LineFault>
+    ensures reads { ReadsLine (put_of of_data schema.now is_long text.now) result }
+    ensures lawful { IfOk result (λ put. IsTrue (is_put schema.now put)) }
+    ensures free { IfOk result (λ put. is_barred of_data put.path ≡ false) }
+    ensures worked { work.new + 2 * length text.now ≤ work.old + work_on text.now }
+{
+    let Some((word, rest)) = cut(text) else {
+        return read_entry(alloc, of_data, schema, is_long, text, work);
+    };
+    match after_mark(rest) {
+        Some(value) => read_leaf(alloc, of_data, schema, is_long, word, value, work),
+        None => breaks(Rule::Line),
+    }
+}
+
+/// The item that the path can carry, but for a leaf's text.
+pub fn blank_item(alloc: Global, path: &Path) -> Item
+    ensures { result ≡ blank_item path.now }
+{
+    if path.ends_in_keys() {
+        return Item::Entry;
+    }
+    Item::Leaf(Text::new(alloc))
+}
+
+// A path of the data, in canonical form.
+fn stored_data_path<L: Ledger>(
+    alloc: Global,
+    schema: &Schema,
+    path: &Path,
+    work: &mut Steps<L>,
+) -> Result<Path, LineFault>
+    ensures reads { ReadsLine (stored_data_path schema.now (canonical_path schema.now path.now)) result }
+    ensures lawful { IfOk result (λ own. IsTrue (is_data_path schema.now own)) }
+    ensures worked { work.new ≤ work.old + 131 * length (path_text path.now) }
+{
+    let Some(own) = canonical_path_counted(alloc, schema, path, work)? else {
+        return breaks(Rule::Value);
+    };
+    if !is_data_path(alloc, schema, &own, work) {
+        return breaks(Rule::Size);
+    }
+    Ok(own)
+}
+
+/// The path of a line `unset`: one of the data that can carry an item. It is stored in canonical form.
+pub fn read_data_path<L: Ledger>(
+    alloc: Global,
+    schema: &Schema,
+    word: &str,
+    work: &mut Steps<L>,
+) -> Result<Path, LineFault>
+    ensures reads { ReadsLine (data_path_of schema.now word.now) result }
+    ensures lawful { IfOk result (λ path. IsTrue (is_data_path schema.now path)) }
+    ensures worked { work.new + 2 * length word.now ≤ work.old + work_on word.now }
+{
+    if word.is_empty() {
+        return breaks(Rule::Line);
+    }
+    let path = read_path(alloc, word, work)?;
+    if is_past_path(&path, work) {
+        return breaks(Rule::Size);
+    }
+    let Some(path) = path else {
+        return breaks(Rule::Path);
+    };
+    if is_kept(&path) || !can_carry(schema, &path, &blank_item(alloc, &path), work) {
+        return breaks(Rule::Path);
+    }
+    stored_data_path(alloc, schema, &path, work)
+}
+
+// The path of a list, in canonical form.
+fn stored_list_path<L: Ledger>(
+    alloc: Global,
+    schema: &Schema,
+    path: &Path,
+    work: &mut Steps<L>,
+) -> Result<Path, LineFault>
+    ensures reads { ReadsLine (stored_list_path schema.now (canonical_path schema.now path.now)) result }
+    ensures lawful { IfOk result (λ own. IsTrue (is_list_path schema.now own)) }
+    ensures worked { work.new ≤ work.old + 131 * length (path_text path.now) }
+{
+    let Some(own) = canonical_path_counted(alloc, schema, path, work)? else {
+        return breaks(Rule::Value);
+    };
+    if !is_list_path(schema, &own, work) {
+        return breaks(Rule::Size);
+    }
+    Ok(own)
+}
+
+/// The path of a list or a leaf-list, in a line `rule D max`. It is stored in canonical form. A name
+/// in front of it may be too long.
+pub fn read_list_path<L: Ledger>(
+    alloc: Global,
+    schema: &Schema,
+    is_long: bool,
+    word: &str,
+    work: &mut Steps<L>,
+) -> Result<Path, LineFault>
+    ensures reads { ReadsLine (list_path_of schema.now is_long word.now) result }
+    ensures lawful { IfOk result (λ path. IsTrue (is_list_path schema.now path)) }
+    ensures worked { work.new + 2 * length word.now ≤ work.old + work_on word.now }
+{
+    if word.is_empty() {
+        return breaks(Rule::Line);
+    }
+    let path = read_path(alloc, word, work)?;
+    if is_long || is_past_path(&path, work) {
+        return breaks(Rule::Size);
+    }
+    let Some(path) = path else {
+        return breaks(Rule::Path);
+    };
+    if !names_list(schema, &path, work) {
+        return breaks(Rule::Path);
+    }
+    stored_list_path(alloc, schema, &path, work)
+}
+
+// The path of a leaf, and its text.
+fn leaf_in(path: Path, item: Item) -> Result<(Path, Text), LineFault>
+    ensures reads { ReadsLine (leaf_in path item) result }
+    ensures lawful { (schema : SchemaTable) → IsTrue (is_item_under schema path item)
+        → IfOk result (λ leaf. IsTrue (is_forbid_rule schema leaf)) }
+{
+    match item {
+        Item::Entry => breaks(Rule::Line),
+        Item::Leaf(text) => Ok((path, text)),
+    }
+}
+
+/// The leaf of a line `rule D forbid`, and the text that it may not have. A name in front of it may
+/// be too long.
+#[tactic(auto, unfolding(crate::specs::Items::forbidden_of))]
+pub fn read_forbidden<L: Ledger>(
+    alloc: Global,
+    schema: &Schema,
+    is_long: bool,
+    text: &str,
+    work: &mut Steps<L>,
+) -> Result<(Path, Text), LineFault>
+    ensures reads { ReadsLine (forbidden_of schema.now is_long text.now) result }
+    ensures lawful { IfOk result (λ leaf. IsTrue (is_forbid_rule schema.now leaf)) }
+    ensures worked { work.new + 2 * length text.now ≤ work.old + work_on text.now }
+{
+    let Some((word, rest)) = cut(text) else {
+        return breaks(Rule::Line);
+    };
+    let Some(value) = after_mark(rest) else {
+        return breaks(Rule::Line);
+    };
+    let put = read_leaf(alloc, false, schema, is_long, word, value, work)?;
+    leaf_in(put.path, put.item)
+}

@@ -1,0 +1,66 @@
+//! The first words of lines.
+ghost use Rattle.std.specs.Prelude.{◌≡◌};
+ghost use Rattle.orc_lines.specs.Keywords.{keyword_of};
+
+/// The first word of a line.
+#[derive(Clone, Copy)]
+pub enum Keyword {
+    Device,
+    Datamodel,
+    Devicetype,
+    Rule,
+    Base,
+    Data,
+    Yang,
+    Script,
+    Show,
+    Json,
+    Meta,
+    Call,
+    Literal,
+    Write,
+    Delete,
+    Set,
+    Unset,
+    Unbase,
+    End,
+    Settle,
+    Stop,
+    Recover,
+    History,
+    /// No line has it.
+    Other,
+}
+
+/// The keyword that a word is.
+#[tactic(auto, unfolding(crate::specs::Keywords::keyword_of))]
+pub fn keyword_of(word: &str) -> Keyword
+    ensures { result ≡ keyword_of word.now }
+{
+    match word {
+        "device" => Keyword::Device,
+        "datamodel" => Keyword::Datamodel,
+        "devicetype" => Keyword::Devicetype,
+        "rule" => Keyword::Rule,
+        "base" => Keyword::Base,
+        "data" => Keyword::Data,
+        "yang" => Keyword::Yang,
+        "script" => Keyword::Script,
+        "show" => Keyword::Show,
+        "json" => Keyword::Json,
+        "meta" => Keyword::Meta,
+        "call" => Keyword::Call,
+        "literal" => Keyword::Literal,
+        "write" => Keyword::Write,
+        "delete" => Keyword::Delete,
+        "set" => Keyword::Set,
+        "unset" => Keyword::Unset,
+        "unbase" => Keyword::Unbase,
+        "end" => Keyword::End,
+        "settle" => Keyword::Settle,
+        "stop" => Keyword::Stop,
+        "recover" => Keyword::Recover,
+        "history" => Keyword::History,
+        _ => Keyword::Other,
+    }
+}

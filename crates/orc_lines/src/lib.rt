@@ -1,0 +1,28 @@
+//! The lines of a bundle: how bytes are cut into lines and words, and what is read of both declarations
+//! and scripts: names, numbers, items and paths, with the rule that a text breaks; and what was
+//! declared so far, against which each line is read.
+#![tactic(auto)]
+
+mod declared;
+mod fault;
+mod items;
+mod keyword;
+mod lines;
+mod lists;
+mod names;
+mod words;
+
+pub use declared::{Declared, Section};
+pub use fault::{LineFault, at_line, breaks};
+pub use items::{
+    blank_item, can_carry, is_past_path, read_data_path, read_forbidden, read_list_path, read_path,
+    read_put,
+};
+pub use keyword::{Keyword, keyword_of};
+pub use lines::{
+    LARGEST_BUNDLE, LONGEST_LINE, block_of, ends_later, first_line, is_large, is_settled,
+    is_skipped, lacks_header, line_text, seen,
+};
+pub use lists::names_list;
+pub use names::{Names, repeats};
+pub use words::{cut, cut_prefix, first_word, number_of, read_text, words_of};

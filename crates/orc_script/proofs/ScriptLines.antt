@@ -1,0 +1,387 @@
+-- What a line of a script makes of the steps so far.
+use Rattle.std.proofs.Common.{◌≡◌, ℕ, Bool, true, false, not, ◌||◌, nat_eq, cond, List, [], ◌∷◌, ◌++◌, codes, length, Ok, Option, Some, None, is_some, refl, ap, sym, ◌∙◌, subst}
+use Rattle.std.specs.List.{list_any}
+use Rattle.std.specs.Str.{is_utf8}
+use Rattle.std.proofs.lemmas.Bool.{false≢true, or_parts}
+use Rattle.orc_path.specs.Alphabet.{is_identifier}
+use Rattle.orc_path.specs.Limits.{is_long_name}
+use Rattle.orc_call.specs.declared.call.Action.TheVariants as action
+use Rattle.orc_call.specs.declared.call.Call.{Call}
+use Rattle.orc_state.specs.Actions.{is_named_by}
+use Rattle.orc_state.specs.Calls.{schema_named}
+use Rattle.orc_state.specs.declared.rule.Rule.{Rule}
+use Rattle.orc_state.specs.declared.rule.Rule.TheVariants as rule
+use Rattle.orc_lines.specs.declared.declared.Declared.{Declared}
+use Rattle.orc_path.specs.Reading.{path_of}
+use Rattle.orc_path.specs.Steps.{PathStep}
+use Rattle.orc_lines.specs.Items.{data_path_of, is_past_path, put_of}
+use Rattle.orc_script.specs.Places.{device_item_of, device_node_of, device_node_words, device_path_of, is_no_word, node_path_of}
+use Rattle.orc_lines.specs.Keywords.{keyword_of}
+use Rattle.orc_lines.specs.Lines.{is_end, is_large, is_settled, is_skipped, text_of}
+use Rattle.orc_lines.specs.Names.{place_of, with_name}
+use Rattle.orc_lines.specs.Rules.{checked, or_rule}
+use Rattle.orc_script.specs.Scripts.{a_step, after_bare, after_base_put, after_base_remove, after_call, after_delete, after_end, after_json, after_literal, after_meta, after_set, after_show, after_step, after_stop, after_unset, after_write, an_action, bare_step, behind_literal, call_end, call_words, is_call_full, is_caller_more, is_followed, is_full, name_rules, scripted_at, step_words, stop_words, with_action, with_call, with_literal, with_step, with_write, word_at, words_at}
+use Rattle.orc_lines.specs.Words.{cut_at, first_word, is_text, number_in, word_before}
+use Rattle.orc_script.specs.declared.step.ScriptStep.{ScriptStep}
+use Rattle.orc_script.specs.declared.step.ScriptStep.TheVariants.{Show, Json, Meta, Data, Serve, Settle, Stop, StopAt, Recover, History}
+use Rattle.orc_lines.specs.declared.keyword.Keyword.{Keyword}
+use Rattle.orc_lines.specs.declared.keyword.Keyword.TheVariants as keyword
+use Rattle.orc_script.specs.declared.script.Script.{Script}
+use Rattle.orc_script.specs.declared.script.Part.{Part}
+use Rattle.orc_script.specs.declared.script.Part.TheVariants as part
+use Rattle.orc_script.specs.inside.Costs.{step_looks_at}
+use Rattle.orc_lines.proofs.Keywords.{end_known, end_word, is_end_word, is_settle_word, settle_word}
+use Rattle.orc_lines.proofs.Rules.{ok, or_rule_ok, on_ok_ok, passed, same_ok, so, no_ok}
+
+-- a step that is no call
+abbrev pub is_plain : ScriptStep → Bool
+is_plain (Serve call) = false
+is_plain _ = true
+
+-- no call is open
+abbrev pub is_resting : Part → Bool
+is_resting part.Steps = true
+is_resting _ = false
+
+-- what a line makes: a step more
+pub record Stepped (s : Script) (text : List ℕ) (later : List (List ℕ)) (t : Script) : Type 0 where
+  pub step : ScriptStep
+  pub kept : is_skipped text ≡ false
+  pub resting : s.part ≡ part.Steps
+  pub room : is_full s ≡ false
+  pub is : t ≡ with_step s step
+  pub plain : is_plain step ≡ true
+  pub settles : is_text text (codes "settle") ≡ true → step ≡ Settle
+  pub unlooked : step_looks_at (keyword_of (first_word text)) later ≡ 0
+
+-- a call is open
+pub record Called (s : Script) (text : List ℕ) (later : List (List ℕ)) (t : Script) : Type 0 where
+  pub kept : is_skipped text ≡ false
+  pub resting : s.part ≡ part.Steps
+  pub room : is_full s ≡ false
+  pub few : is_caller_more s t.caller ≡ false
+  pub open_now : t.part ≡ part.Call
+  pub steps : t.steps ≡ s.steps
+  pub callers : t.callers ≡ with_name s.callers t.caller
+  pub other : is_text text (codes "settle") ≡ false
+  pub ends : list_any is_end later ≡ true
+  pub looked : keyword_of (first_word text) ≡ keyword.Call
+
+-- the call stays open
+pub record Stays (s : Script) (text : List ℕ) (later : List (List ℕ)) (t : Script) : Type 0 where
+  pub kept : is_skipped text ≡ false
+  pub was_open : is_resting s.part ≡ false
+  pub open_now : is_resting t.part ≡ false
+  pub steps : t.steps ≡ s.steps
+  pub callers : t.callers ≡ s.callers
+  pub caller : t.caller ≡ s.caller
+  pub other : is_text text (codes "end") ≡ false
+  pub unlooked : step_looks_at (keyword_of (first_word text)) later ≡ 0
+
+-- the call is a step
+pub record Ended (s : Script) (text : List ℕ) (later : List (List ℕ)) (t : Script) : Type 0 where
+  pub call : Call
+  pub kept : is_skipped text ≡ false
+  pub was_open : is_resting s.part ≡ false
+  pub resting : t.part ≡ part.Steps
+  pub steps : t.steps ≡ s.steps ++ Serve call ∷ []
+  pub callers : t.callers ≡ s.callers
+  pub caller : call.caller ≡ s.caller
+  pub ends : is_text text (codes "end") ≡ true
+  pub followed : is_settled later ≡ true
+  pub looked : keyword_of (first_word text) ≡ keyword.End
+
+pub data MakesOf (s : Script) (text : List ℕ) (later : List (List ℕ)) (t : Script) : Type 0 where
+  over : is_skipped text ≡ true → s ≡ t → MakesOf s text later t
+  stepped : Stepped s text later t → MakesOf s text later t
+  called : Called s text later t → MakesOf s text later t
+  stays : Stays s text later t → MakesOf s text later t
+  ended : Ended s text later t → MakesOf s text later t
+
+not_so : (b : Bool) → (b ≡ true → ⊥) → b ≡ false
+not_so false h = refl
+not_so true h = absurd (h refl)
+
+-- a line that is not skipped, with its first word
+module _ (d : Declared) (s : Script) (text : List ℕ) (later : List (List ℕ)) (t : Script) (kept : is_skipped text ≡ false) where
+  abbrev word : Keyword
+  word = keyword_of (first_word text)
+
+  -- its first word is another than that of `settle`, or that of `end`
+  no_settle : (k : Keyword) → word ≡ k → is_settle_word k ≡ false → is_text text (codes "settle") ≡ true → ⊥
+  no_settle k is other h = false≢true (sym other ∙ ap is_settle_word (sym is ∙ settle_word text h))
+
+  no_end : (k : Keyword) → word ≡ k → is_end_word k ≡ false → is_text text (codes "end") ≡ false
+  no_end k is other = not_so (is_text text (codes "end")) (λ h. false≢true (sym other ∙ ap is_end_word (sym is ∙ end_word text h)))
+
+  unlooked_at : (k : Keyword) → word ≡ k → step_looks_at k later ≡ 0 → step_looks_at word later ≡ 0
+  unlooked_at k is none = ap (λ (x : Keyword). step_looks_at x later) is ∙ none
+
+  -- steps
+  module _ (resting : s.part ≡ part.Steps) where
+    a_bare : (step : ScriptStep) → is_plain step ≡ true → (is_text text (codes "settle") ≡ true → step ≡ Settle) → step_looks_at word later ≡ 0
+        → after_bare s step ≡ Ok t → MakesOf s text later t
+    a_bare step plain settles unlooked h =
+        let p = passed (is_full s) rule.Size (Ok (with_step s step)) t h in
+        stepped (record {
+          step = step;
+          kept = kept;
+          resting = resting;
+          room = p.0;
+          is = sym (same_ok (with_step s step) t p.1);
+          plain = plain;
+          settles = settles;
+          unlooked = unlooked;
+        })
+
+    one_word : (k : Keyword) → word ≡ k → bare_step k s ≡ Ok t → MakesOf s text later t
+    unfolding bare_step step_looks_at
+    one_word keyword.Settle is h = a_bare Settle refl (λ e. refl) (unlooked_at keyword.Settle is refl) h
+    one_word keyword.Stop is h = a_bare Stop refl (λ e. absurd (no_settle keyword.Stop is refl e)) (unlooked_at keyword.Stop is refl) h
+    one_word keyword.Recover is h = a_bare Recover refl (λ e. absurd (no_settle keyword.Recover is refl e)) (unlooked_at keyword.Recover is refl) h
+    one_word keyword.History is h = a_bare History refl (λ e. absurd (no_settle keyword.History is refl e)) (unlooked_at keyword.History is refl) h
+    one_word keyword.Data is h = a_bare Data refl (λ e. absurd (no_settle keyword.Data is refl e)) (unlooked_at keyword.Data is refl) h
+    one_word _ is h = absurd (no_ok rule.Line t h)
+
+    shown : (rest : List ℕ) → word ≡ keyword.Show → after_show d s rest ≡ Ok t → MakesOf s text later t
+    unfolding after_show step_looks_at
+    shown rest is h =
+        let one = passed (not (is_identifier rest)) rule.Line _ t h in
+        let two = passed (is_long_name rest || is_full s) rule.Size _ t one.1 in
+        let found = or_rule_ok (place_of d.names rest) rule.Unknown (λ n. Ok (with_step s (Show n))) t two.1 in
+        let step = Show found.0 in
+        stepped (record {
+          step = step;
+          kept = kept;
+          resting = resting;
+          room = (or_parts (is_long_name rest) (is_full s) two.0).1;
+          is = sym (same_ok (with_step s step) t found.1.1);
+          plain = refl;
+          settles = λ e. absurd (no_settle keyword.Show is refl e);
+          unlooked = unlooked_at keyword.Show is refl;
+        })
+
+    printed : (rest : List ℕ) → word ≡ keyword.Json → after_json d s rest ≡ Ok t → MakesOf s text later t
+    unfolding after_json step_looks_at
+    printed rest is h =
+        let one = passed (not (is_identifier rest)) rule.Line _ t h in
+        let two = passed (is_long_name rest || is_full s) rule.Size _ t one.1 in
+        let three = passed (schema_named d.schemas d.devices rest).plain rule.Unknown _ t two.1 in
+        let found = or_rule_ok (place_of d.names rest) rule.Unknown (λ n. Ok (with_step s (Json n))) t three.1 in
+        stepped (record {
+          step = Json found.0;
+          kept = kept;
+          resting = resting;
+          room = (or_parts (is_long_name rest) (is_full s) two.0).1;
+          is = sym (same_ok (with_step s (Json found.0)) t found.1.1);
+          plain = refl;
+          settles = λ e. absurd (no_settle keyword.Json is refl e);
+          unlooked = unlooked_at keyword.Json is refl;
+        })
+
+    -- a step `meta` has room
+    node_room : (full : Bool) (rest : List ℕ) (node : ℕ × List PathStep) → device_node_of d full rest ≡ Ok node → full ≡ false
+    unfolding device_node_of
+    node_room full rest node h = on (cut_at 32 rest) h where
+      on : (o : Option (List ℕ × List ℕ)) → device_node_words d full o ≡ Ok node → full ≡ false
+      on None h = absurd (no_ok rule.Line node h)
+      on (Some words) h =
+          let long = is_long_name words.0 || full in
+          let past = is_past_path (path_of words.1) in
+          let one = passed (not (is_identifier words.0)) rule.Line _ node h in
+          let found = on_ok_ok (node_path_of (schema_named d.schemas d.devices words.0) long words.1) _ node one.1 in
+          let two = passed (is_no_word words.1) rule.Line _ found.0 found.1.0 in
+          let three = passed (long || past) rule.Size _ found.0 two.1 in
+          (or_parts (is_long_name words.0) full (or_parts long past three.0).0).1
+
+    told : (rest : List ℕ) → word ≡ keyword.Meta → after_meta d s rest ≡ Ok t → MakesOf s text later t
+    unfolding after_meta step_looks_at
+    told rest is h =
+        let found = on_ok_ok (device_node_of d (is_full s) rest) (λ node. Ok (with_step s (Meta node.0 node.1))) t h in
+        let step = Meta found.0.0 found.0.1 in
+        stepped (record {
+          step = step;
+          kept = kept;
+          resting = resting;
+          room = node_room (is_full s) rest found.0 found.1.0;
+          is = sym (same_ok (with_step s step) t found.1.1);
+          plain = refl;
+          settles = λ e. absurd (no_settle keyword.Meta is refl e);
+          unlooked = unlooked_at keyword.Meta is refl;
+        })
+
+    stops : (o : Option (List ℕ × List ℕ)) → word ≡ keyword.Stop → stop_words s o ≡ Ok t → MakesOf s text later t
+    unfolding step_looks_at
+    stops None is h = absurd (no_ok rule.Line t h)
+    stops (Some words) is h =
+        let one = or_rule_ok (number_in words.0) rule.Line (λ count. or_rule (number_in words.1) rule.Line (λ bytes. after_bare s (StopAt count bytes))) t h in
+        let two = or_rule_ok (number_in words.1) rule.Line (λ bytes. after_bare s (StopAt one.0 bytes)) t one.1.1 in
+        a_bare (StopAt one.0 two.0) refl (λ e. absurd (no_settle keyword.Stop is refl e)) (unlooked_at keyword.Stop is refl) two.1.1
+
+    calls : (o : Option (List ℕ × List ℕ)) (followed : Bool) → word ≡ keyword.Call → is_followed word later ≡ followed → call_words s followed o ≡ Ok t → MakesOf s text later t
+    unfolding is_followed
+    calls None followed is follows h = absurd (no_ok rule.Line t h)
+    calls (Some words) followed is follows h =
+        let found = or_rule_ok (number_in words.1) rule.Line _ t h in
+        let number = found.0 in
+        let after : Script = record s { part = part.Call; callers = with_name s.callers words.0; caller = words.0; number = number; actions = [] } in
+        let one = passed (not (is_identifier words.0)) rule.Line _ t found.1.1 in
+        let two = passed (is_long_name words.0 || is_full s || is_caller_more s words.0) rule.Size _ t one.1 in
+        let three = passed (not followed) rule.Line (Ok after) t two.1 in
+        let parts = or_parts (is_long_name words.0 || is_full s) (is_caller_more s words.0) two.0 in
+        let limits = or_parts (is_long_name words.0) (is_full s) parts.0 in
+        let same = same_ok after t three.1 in
+        let name : words.0 ≡ t.caller = ap (λ (x : Script). x.caller) same in
+        called (record {
+          kept = kept;
+          resting = resting;
+          room = limits.1;
+          few = subst (λ (x : List ℕ). is_caller_more s x ≡ false) name parts.1;
+          open_now = sym (ap (λ (x : Script). x.part) same);
+          steps = sym (ap (λ (x : Script). x.steps) same);
+          callers = sym (ap (λ (x : Script). x.callers) same) ∙ ap (with_name s.callers) name;
+          other = not_so (is_text text (codes "settle")) (no_settle keyword.Call is refl);
+          ends = sym (ap (λ (x : Keyword). is_followed x later) is) ∙ follows ∙ so followed three.0;
+          looked = is;
+        })
+
+    more_words : (k : Keyword) (rest : List ℕ) (followed : Bool) → word ≡ k → is_followed word later ≡ followed → a_step k d s rest followed ≡ Ok t → MakesOf s text later t
+    unfolding a_step after_stop after_call
+    more_words keyword.Show rest followed is follows h = shown rest is h
+    more_words keyword.Json rest followed is follows h = printed rest is h
+    more_words keyword.Meta rest followed is follows h = told rest is h
+    more_words keyword.Stop rest followed is follows h = stops (cut_at 32 rest) is h
+    more_words keyword.Call rest followed is follows h = calls (cut_at 32 rest) followed is follows h
+    more_words _ rest followed is follows h = absurd (no_ok rule.Line t h)
+
+  -- within a call
+  module _ (was_open : is_resting s.part ≡ false) where
+    goes_on : (k : Keyword) → word ≡ k → is_end_word k ≡ false → step_looks_at k later ≡ 0 → (u : Script) → ok Script Rule u ≡ Ok t
+        → is_resting u.part ≡ false → u.steps ≡ s.steps → u.callers ≡ s.callers → u.caller ≡ s.caller → MakesOf s text later t
+    goes_on k is other none u h open_now steps callers caller =
+        let same = same_ok u t h in
+        stays (record {
+          kept = kept;
+          was_open = was_open;
+          open_now = subst (λ (x : Script). is_resting x.part ≡ false) same open_now;
+          steps = subst (λ (x : Script). x.steps ≡ s.steps) same steps;
+          callers = subst (λ (x : Script). x.callers ≡ s.callers) same callers;
+          caller = subst (λ (x : Script). x.caller ≡ s.caller) same caller;
+          other = no_end k is other;
+          unlooked = unlooked_at k is none;
+        })
+
+    writes : (rest : List ℕ) → word ≡ keyword.Write → after_write d s rest ≡ Ok t → MakesOf s text later t
+    unfolding after_write step_looks_at
+    writes rest is h =
+        let found = on_ok_ok (device_item_of d rest) (λ write. Ok (with_write s write)) t h in
+        goes_on keyword.Write is refl refl (with_write s found.0) found.1.1 was_open refl refl refl
+
+    -- behind the actions so far, where an open literal is one of them
+    module _ (u : Script) (open_yet : is_resting u.part ≡ false) (steps : u.steps ≡ s.steps) (callers : u.callers ≡ s.callers) (caller : u.caller ≡ s.caller) where
+      names : (name : List ℕ) (v : Script) → checked (name_rules u name) (ok Script Rule v) ≡ Ok t → ok Script Rule v ≡ Ok t
+      names name v h =
+          let one = passed (not (is_identifier name) || is_call_full u) rule.Line _ t h in
+          let two = passed (is_long_name name) rule.Size _ t one.1 in
+          (passed (is_named_by u.actions name) rule.Duplicate (Ok v) t two.1).1
+
+      sets : (rest : List ℕ) → word ≡ keyword.Set → after_set d u rest ≡ Ok t → MakesOf s text later t
+      unfolding after_set step_looks_at
+      sets rest is h =
+          let one = passed (is_call_full u) rule.Line _ t h in
+          let found = on_ok_ok (put_of true d.data_schema false rest) (λ put. Ok (with_action u (action.Set put))) t one.1 in
+          goes_on keyword.Set is refl refl (with_action u (action.Set found.0)) found.1.1 open_yet steps callers caller
+
+      unsets : (rest : List ℕ) → word ≡ keyword.Unset → after_unset d u rest ≡ Ok t → MakesOf s text later t
+      unfolding after_unset step_looks_at
+      unsets rest is h =
+          let one = passed (is_call_full u || is_some (cut_at 32 rest)) rule.Line _ t h in
+          let found = on_ok_ok (data_path_of d.data_schema rest) (λ path. Ok (with_action u (action.Unset path))) t one.1 in
+          goes_on keyword.Unset is refl refl (with_action u (action.Unset found.0)) found.1.1 open_yet steps callers caller
+
+      puts_base : (rest : List ℕ) → word ≡ keyword.Base → after_base_put d u rest ≡ Ok t → MakesOf s text later t
+      unfolding after_base_put step_looks_at
+      puts_base rest is h =
+          let one = passed (is_call_full u) rule.Line _ t h in
+          let found = on_ok_ok (device_item_of d rest) (λ put. Ok (with_action u (action.BasePut put))) t one.1 in
+          goes_on keyword.Base is refl refl (with_action u (action.BasePut found.0)) found.1.1 open_yet steps callers caller
+
+      removes_base : (rest : List ℕ) → word ≡ keyword.Unbase → after_base_remove d u rest ≡ Ok t → MakesOf s text later t
+      unfolding after_base_remove step_looks_at
+      removes_base rest is h =
+          let one = passed (is_call_full u) rule.Line _ t h in
+          let found = on_ok_ok (device_path_of d rest) (λ named. Ok (with_action u (action.BaseRemove named.0 named.1))) t one.1 in
+          goes_on keyword.Unbase is refl refl (with_action u (action.BaseRemove found.0.0 found.0.1)) found.1.1 open_yet steps callers caller
+
+      acts : (k : Keyword) (rest : List ℕ) → word ≡ k → an_action k d u rest ≡ Ok t → MakesOf s text later t
+      unfolding an_action after_literal after_delete step_looks_at
+      acts keyword.Literal rest is h =
+          let v : Script = record u { part = part.Literal; name = rest; writes = [] } in
+          goes_on keyword.Literal is refl refl v (names rest v h) refl steps callers caller
+      acts keyword.Delete rest is h =
+          let v : Script = with_action u (action.Delete rest) in
+          goes_on keyword.Delete is refl refl v (names rest v h) open_yet steps callers caller
+      acts keyword.Set rest is h = sets rest is h
+      acts keyword.Unset rest is h = unsets rest is h
+      acts keyword.Base rest is h = puts_base rest is h
+      acts keyword.Unbase rest is h = removes_base rest is h
+      acts _ rest is h = absurd (no_ok rule.Line t h)
+
+      ends : (k : Keyword) (followed : Bool) → cut_at 32 text ≡ None → word ≡ k → is_followed word later ≡ followed → call_end k u followed ≡ Ok t → MakesOf s text later t
+      unfolding call_end after_end is_followed
+      ends keyword.End followed alone is follows h =
+          let some = passed (nat_eq (length u.actions) 0) rule.Line _ t h in
+          let one = passed (not followed) rule.Line (Ok (with_call u)) t some.1 in
+          let same = same_ok (with_call u) t one.1 in
+          let call : Call = record { caller = u.caller; number = u.number; actions = u.actions } in
+          ended (record {
+            call = call;
+            kept = kept;
+            was_open = was_open;
+            resting = sym (ap (λ (x : Script). x.part) same);
+            steps = sym (ap (λ (x : Script). x.steps) same) ∙ ap (λ (x : List ScriptStep). x ++ Serve call ∷ []) steps;
+            callers = sym (ap (λ (x : Script). x.callers) same) ∙ callers;
+            caller = caller;
+            ends = end_known text (ap (λ (o : Option (List ℕ × List ℕ)). keyword_of (word_before text o)) (sym alone) ∙ is);
+            followed = sym (ap (λ (x : Keyword). is_followed x later) is) ∙ follows ∙ so followed one.0;
+            looked = is;
+          })
+      ends _ followed alone is follows h = absurd (no_ok rule.Line t h)
+
+    a_line : (k : Keyword) (rest : List ℕ) → word ≡ k → behind_literal k d s rest ≡ Ok t → MakesOf s text later t
+    unfolding behind_literal
+    a_line keyword.Write rest is h = writes rest is h
+    a_line k rest is h = acts (with_literal s) refl refl refl refl k rest is h
+
+  -- by what is open
+  of_words : (p : Part) → s.part ≡ p → (rest : List ℕ) (followed : Bool) → is_followed word later ≡ followed → words_at p word d s rest followed ≡ Ok t → MakesOf s text later t
+  unfolding words_at
+  of_words part.Steps here rest followed follows h = more_words here word rest followed refl follows h
+  of_words part.Call here rest followed follows h = acts (ap is_resting here) s (ap is_resting here) refl refl refl word rest refl h
+  of_words part.Literal here rest followed follows h = a_line (ap is_resting here) word rest refl h
+
+  of_word : (p : Part) → s.part ≡ p → (followed : Bool) → cut_at 32 text ≡ None → is_followed word later ≡ followed → word_at p word s followed ≡ Ok t → MakesOf s text later t
+  unfolding word_at
+  of_word part.Steps here followed alone follows h = one_word here word refl h
+  of_word part.Call here followed alone follows h = ends (ap is_resting here) s (ap is_resting here) refl refl refl word followed alone refl follows h
+  of_word part.Literal here followed alone follows h = ends (ap is_resting here) (with_literal s) refl refl refl refl word followed alone refl follows h
+
+  of_cut : (o : Option (List ℕ × List ℕ)) → cut_at 32 text ≡ o → (followed : Bool) → is_followed word later ≡ followed → step_words d s word followed o ≡ Ok t → MakesOf s text later t
+  of_cut None is followed follows h = of_word s.part refl followed is follows h
+  of_cut (Some words) is followed follows h = of_words s.part refl words.1 followed follows h
+
+  of_step : after_step d s text later ≡ Ok t → MakesOf s text later t
+  unfolding after_step
+  of_step h = of_cut (cut_at 32 text) refl (is_followed word later) refl h
+
+pub makes : (d : Declared) (s : Script) (at : ℕ) (line : List ℕ) (later : List (List ℕ)) (t : Script)
+    → scripted_at d s at line later ≡ Ok t → MakesOf s (text_of line) later t
+unfolding scripted_at
+makes d s at line later t h =
+    let text = text_of line in
+    let one = passed (is_large at line) rule.Size _ t h in
+    let two = passed (not (is_utf8 text)) rule.Utf8 _ t one.1 in
+    on (is_skipped text) refl two.1 where
+      on : (b : Bool) → is_skipped (text_of line) ≡ b → cond b (Ok s) (after_step d s (text_of line) later) ≡ Ok t → MakesOf s (text_of line) later t
+      on true is h = over is (same_ok s t h)
+      on false is h = of_step d s (text_of line) later t is h

@@ -1,0 +1,4 @@
+pub mod Places
+pub mod Scripts
+pub mod Steps
+pub mod inside

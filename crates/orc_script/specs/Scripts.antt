@@ -1,0 +1,279 @@
+-- What each form of a script's line makes of the steps so far, behind declarations.
+use Rattle.std.specs.Prelude.{ℕ, Bool, true, false, not, ◌&&◌, ◌||◌, nat_eq, nat_le, List, [], ◌∷◌, ◌++◌, length, Option, is_some, Result, if◌then◌else◌, ◌+◌}
+use Rattle.std.specs.declared.option.Option.TheVariants.{None, Some}
+use Rattle.std.specs.declared.result.Result.TheVariants.{Ok, Err}
+use Rattle.std.specs.List.{list_any}
+use Rattle.std.specs.Str.{is_utf8}
+use Rattle.orc_path.specs.Alphabet.{is_identifier}
+use Rattle.orc_path.specs.Limits.{is_long_name}
+use Rattle.orc_call.specs.declared.call.Action.{Action}
+use Rattle.orc_call.specs.declared.call.Action.TheVariants as action
+use Rattle.orc_call.specs.declared.call.DevicePut.{DevicePut}
+use Rattle.orc_call.specs.declared.call.TheConstants.{MOST_ACTIONS}
+use Rattle.orc_state.specs.Actions.{is_named_by}
+use Rattle.orc_state.specs.Calls.{schema_named}
+use Rattle.orc_state.specs.declared.rule.Rule.{Rule}
+use Rattle.orc_state.specs.declared.rule.Rule.TheVariants as rule
+use Rattle.orc_lines.specs.Rules.{checked, or_rule, on_ok}
+use Rattle.orc_lines.specs.Lines.{is_end, is_large, is_settled, is_skipped, text_of}
+use Rattle.orc_lines.specs.Words.{cut_at, first_word, number_in}
+use Rattle.orc_lines.specs.Keywords.{keyword_of}
+use Rattle.orc_lines.specs.Names.{is_among, place_of, with_name}
+use Rattle.orc_lines.specs.Items.{data_path_of, put_of}
+use Rattle.orc_script.specs.Places.{device_item_of, device_node_of, device_path_of}
+use Rattle.orc_lines.specs.declared.declared.Declared.{Declared}
+use Rattle.orc_script.specs.declared.step.ScriptStep.{ScriptStep}
+use Rattle.orc_script.specs.declared.step.ScriptStep.TheVariants as step
+use Rattle.orc_lines.specs.declared.keyword.Keyword.{Keyword}
+use Rattle.orc_lines.specs.declared.keyword.Keyword.TheVariants as keyword
+use Rattle.orc_script.specs.declared.script.Script.{Script}
+use Rattle.orc_script.specs.declared.script.Part.{Part}
+use Rattle.orc_script.specs.declared.script.Part.TheVariants as part
+use Rattle.orc_script.specs.declared.script.TheConstants.{MOST_CALLERS, MOST_STEPS}
+use Rattle.orc_lines.specs.Rules.{on_line}
+
+-- no step, and no call is open
+abbrev pub no_steps : Script
+no_steps = record {
+  part = part.Steps;
+  callers = [];
+  steps = [];
+  caller = [];
+  number = 0;
+  actions = [];
+  name = [];
+  writes = [];
+}
+
+-- steps of one line
+
+-- no step more can stand
+abbrev pub is_full : Script → Bool
+is_full s = nat_le MOST_STEPS (length s.steps)
+
+abbrev pub with_step : Script → ScriptStep → Script
+with_step s step = record s { steps = s.steps ++ step ∷ [] }
+
+-- a step of one word
+abbrev pub after_bare : Script → ScriptStep → Result Script Rule
+after_bare s step = checked ((is_full s, rule.Size) ∷ []) (Ok (with_step s step))
+
+-- `show D`, behind these declarations
+unfoldable pub after_show : Declared → Script → List ℕ → Result Script Rule
+after_show d s rest =
+    checked ((not (is_identifier rest), rule.Line) ∷ (is_long_name rest || is_full s, rule.Size) ∷ [])
+    (or_rule (place_of d.names rest) rule.Unknown (λ n. Ok (with_step s (step.Show n))))
+
+-- `json D`, of a device with a type
+unfoldable pub after_json : Declared → Script → List ℕ → Result Script Rule
+after_json d s rest =
+    checked (
+    (not (is_identifier rest), rule.Line)
+    ∷ (is_long_name rest || is_full s, rule.Size)
+    ∷ ((schema_named d.schemas d.devices rest).plain, rule.Unknown)
+    ∷ [])
+    (or_rule (place_of d.names rest) rule.Unknown (λ n. Ok (with_step s (step.Json n))))
+
+-- `meta D PATH`
+unfoldable pub after_meta : Declared → Script → List ℕ → Result Script Rule
+after_meta d s rest =
+    on_ok (device_node_of d (is_full s) rest) (λ node. Ok (with_step s (step.Meta node.0 node.1)))
+
+-- `stop K B`
+abbrev pub stop_words : Script → Option (List ℕ × List ℕ) → Result Script Rule
+stop_words s None = Err rule.Line
+stop_words s (Some words) =
+    or_rule (number_in words.0) rule.Line (λ count.
+    or_rule (number_in words.1) rule.Line (λ bytes.
+    after_bare s (step.StopAt count bytes)))
+
+unfoldable pub after_stop : Script → List ℕ → Result Script Rule
+after_stop s rest = stop_words s (cut_at 32 rest)
+
+-- calls
+
+-- a caller more than can be
+abbrev pub is_caller_more : Script → List ℕ → Bool
+is_caller_more s name = not (is_among s.callers name) && nat_le MOST_CALLERS (length s.callers)
+
+-- What the line with this first word wants of the lines behind it: `call`, that one is `end`; `end`, that the next one
+-- is `settle`; any other, nothing.
+unfoldable pub is_followed : Keyword → List (List ℕ) → Bool
+is_followed keyword.Call later = list_any is_end later
+is_followed keyword.End later = is_settled later
+is_followed _ later = true
+
+-- `call C N`, followed or not
+abbrev pub call_words : Script → Bool → Option (List ℕ × List ℕ) → Result Script Rule
+call_words s followed None = Err rule.Line
+call_words s followed (Some words) =
+    or_rule (number_in words.1) rule.Line (λ number.
+    checked (
+    (not (is_identifier words.0), rule.Line)
+    ∷ (is_long_name words.0 || is_full s || is_caller_more s words.0, rule.Size)
+    ∷ (not followed, rule.Line)
+    ∷ [])
+    (Ok (record s {
+      part = part.Call;
+      callers = with_name s.callers words.0;
+      caller = words.0;
+      number = number;
+      actions = [];
+    })))
+
+unfoldable pub after_call : Script → List ℕ → Bool → Result Script Rule
+after_call s rest followed = call_words s followed (cut_at 32 rest)
+
+-- no action more can stand in the open call
+abbrev pub is_call_full : Script → Bool
+is_call_full s = nat_le MOST_ACTIONS (length s.actions)
+
+-- what is said of the service that an action more names: the call has room, and names it once
+abbrev pub name_rules : Script → List ℕ → List (Bool × Rule)
+name_rules s name =
+    (not (is_identifier name) || is_call_full s, rule.Line)
+    ∷ (is_long_name name, rule.Size)
+    ∷ (is_named_by s.actions name, rule.Duplicate)
+    ∷ []
+
+-- `literal NAME`, whose writes are to come
+unfoldable pub after_literal : Script → List ℕ → Result Script Rule
+after_literal s name = checked (name_rules s name) (Ok (record s { part = part.Literal; name = name; writes = [] }))
+
+-- an action more
+abbrev pub with_action : Script → Action → Script
+with_action s action = record s { actions = s.actions ++ action ∷ [] }
+
+-- `delete NAME`
+unfoldable pub after_delete : Script → List ℕ → Result Script Rule
+after_delete s name = checked (name_rules s name) (Ok (with_action s (action.Delete name)))
+
+-- `set ITEM`
+unfoldable pub after_set : Declared → Script → List ℕ → Result Script Rule
+after_set d s rest =
+    checked ((is_call_full s, rule.Line) ∷ [])
+    (on_ok (put_of true d.data_schema false rest) (λ put. Ok (with_action s (action.Set put))))
+
+-- `unset PATH`
+unfoldable pub after_unset : Declared → Script → List ℕ → Result Script Rule
+after_unset d s rest =
+    checked ((is_call_full s || is_some (cut_at 32 rest), rule.Line) ∷ [])
+    (on_ok (data_path_of d.data_schema rest) (λ path. Ok (with_action s (action.Unset path))))
+
+-- `base D ITEM`
+unfoldable pub after_base_put : Declared → Script → List ℕ → Result Script Rule
+after_base_put d s rest =
+    checked ((is_call_full s, rule.Line) ∷ [])
+    (on_ok (device_item_of d rest) (λ put. Ok (with_action s (action.BasePut put))))
+
+-- `unbase D PATH`
+unfoldable pub after_base_remove : Declared → Script → List ℕ → Result Script Rule
+after_base_remove d s rest =
+    checked ((is_call_full s, rule.Line) ∷ [])
+    (on_ok (device_path_of d rest) (λ named. Ok (with_action s (action.BaseRemove named.0 named.1))))
+
+-- the open literal gets its writes: the call has it as an action
+abbrev pub with_literal : Script → Script
+with_literal s = record s {
+  part = part.Call;
+  actions = s.actions ++ action.Literal s.name s.writes ∷ [];
+  name = [];
+  writes = [];
+}
+
+-- a write more of the open literal
+abbrev pub with_write : Script → DevicePut → Script
+with_write s write = record s { writes = s.writes ++ write ∷ [] }
+
+-- `write D ITEM`
+unfoldable pub after_write : Declared → Script → List ℕ → Result Script Rule
+after_write d s rest = on_ok (device_item_of d rest) (λ write. Ok (with_write s write))
+
+-- the call with its actions is a step
+abbrev pub with_call : Script → Script
+with_call s = record s {
+  part = part.Steps;
+  steps = s.steps ++ step.Serve (record { caller = s.caller; number = s.number; actions = s.actions }) ∷ [];
+  caller = [];
+  actions = [];
+}
+
+-- `end`, behind an action at least, followed or not
+unfoldable pub after_end : Script → Bool → Result Script Rule
+after_end s followed =
+    checked ((nat_eq (length s.actions) 0, rule.Line) ∷ (not followed, rule.Line) ∷ []) (Ok (with_call s))
+
+-- which forms stand where
+
+-- of more than one word, where no call is open
+unfoldable pub a_step : Keyword → Declared → Script → List ℕ → Bool → Result Script Rule
+a_step keyword.Show d s rest followed = after_show d s rest
+a_step keyword.Json d s rest followed = after_json d s rest
+a_step keyword.Meta d s rest followed = after_meta d s rest
+a_step keyword.Stop d s rest followed = after_stop s rest
+a_step keyword.Call d s rest followed = after_call s rest followed
+a_step _ d s rest followed = Err rule.Line
+
+-- of one word
+unfoldable pub bare_step : Keyword → Script → Result Script Rule
+bare_step keyword.Settle s = after_bare s step.Settle
+bare_step keyword.Stop s = after_bare s step.Stop
+bare_step keyword.Recover s = after_bare s step.Recover
+bare_step keyword.History s = after_bare s step.History
+bare_step keyword.Data s = after_bare s step.Data
+bare_step _ s = Err rule.Line
+
+-- an action of the open call
+unfoldable pub an_action : Keyword → Declared → Script → List ℕ → Result Script Rule
+an_action keyword.Literal d s rest = after_literal s rest
+an_action keyword.Delete d s rest = after_delete s rest
+an_action keyword.Set d s rest = after_set d s rest
+an_action keyword.Unset d s rest = after_unset d s rest
+an_action keyword.Base d s rest = after_base_put d s rest
+an_action keyword.Unbase d s rest = after_base_remove d s rest
+an_action _ d s rest = Err rule.Line
+
+-- a line of a literal, or the action behind it
+unfoldable pub behind_literal : Keyword → Declared → Script → List ℕ → Result Script Rule
+behind_literal keyword.Write d s rest = after_write d s rest
+behind_literal word d s rest = an_action word d (with_literal s) rest
+
+-- the line that ends the open call
+unfoldable pub call_end : Keyword → Script → Bool → Result Script Rule
+call_end keyword.End s followed = after_end s followed
+call_end _ s followed = Err rule.Line
+
+-- a line of more than one word
+unfoldable pub words_at : Part → Keyword → Declared → Script → List ℕ → Bool → Result Script Rule
+words_at part.Steps word d s rest followed = a_step word d s rest followed
+words_at part.Call word d s rest followed = an_action word d s rest
+words_at part.Literal word d s rest followed = behind_literal word d s rest
+
+-- a line of one word
+unfoldable pub word_at : Part → Keyword → Script → Bool → Result Script Rule
+word_at part.Steps word s followed = bare_step word s
+word_at part.Call word s followed = call_end word s followed
+word_at part.Literal word s followed = call_end word (with_literal s) followed
+
+-- a line with this first word
+abbrev pub step_words : Declared → Script → Keyword → Bool → Option (List ℕ × List ℕ) → Result Script Rule
+step_words d s word followed None = word_at s.part word s followed
+step_words d s word followed (Some words) = words_at s.part word d s words.1 followed
+
+-- a line that is not skipped, with the lines behind it
+unfoldable pub after_step : Declared → Script → List ℕ → List (List ℕ) → Result Script Rule
+after_step d s text later =
+    step_words d s (keyword_of (first_word text)) (is_followed (keyword_of (first_word text)) later)
+    (cut_at 32 text)
+
+-- a line with the lines behind it; so many bytes stand in front of it
+unfoldable pub scripted_at : Declared → Script → ℕ → List ℕ → List (List ℕ) → Result Script Rule
+scripted_at d s at line later =
+    checked ((is_large at line, rule.Size) ∷ (not (is_utf8 (text_of line)), rule.Utf8) ∷ [])
+    (if is_skipped (text_of line) then Ok s else after_step d s (text_of line) later)
+
+-- the steps in lines, behind these declarations
+abbrev pub script_steps : Declared → Script → ℕ → ℕ → List (List ℕ) → Result (List ScriptStep) (ℕ × Rule)
+script_steps d s at n [] = Ok s.steps
+script_steps d s at n (line ∷ later) =
+    on_line (n + 1) (scripted_at d s at line later) (λ t. script_steps d t (at + length line) (n + 1) later)

@@ -1,0 +1,304 @@
+//! What each line of a call block makes of the open call.
+ghost use Rattle.std.specs.Prelude.{◌≡◌, ◌≤◌, ◌+◌, ℕ, OnOk};
+ghost use Rattle.orc_state.specs.declared.declarations.Decls.{Decls};
+ghost use Rattle.orc_state.specs.declared.lawful.TheConstants.{MOST_WRITES};
+ghost use Rattle.orc_script.specs.Scripts.{after_base_put, after_base_remove, after_delete, after_end, after_literal, after_set, after_unset, after_write, an_action, behind_literal, call_end, is_call_full, with_literal};
+ghost use Rattle.orc_lines.specs.Lawful.{AreDeclared, decls_in};
+ghost use Rattle.orc_script.specs.inside.Lawful.{AreSteps};
+ghost use Rattle.orc_lines.specs.Answers.{Takes};
+ghost use Rattle.orc_lines.specs.Work.{work_on};
+
+use crate::places::{read_device_item, read_device_path};
+use crate::script::{Part, Script};
+use crate::step::ScriptStep;
+use orc_call::{Action, Call, MOST_ACTIONS};
+use orc_io::Steps;
+use orc_lines::{Declared, Keyword, LineFault, breaks, cut, read_data_path, read_put};
+use orc_path::{is_identifier_counted, is_long_name};
+use orc_state::{Rule, is_named_by};
+use orc_text::{Memory, Row, Text};
+use std::alloc::Global;
+use std::mem::replace;
+use std::sync::ledger::Ledger;
+
+impl Script {
+    // Whether no action more can stand in the open call.
+    fn is_call_full(&self) -> bool
+        ensures { result ≡ is_call_full self.now }
+    {
+        self.actions.len() >= MOST_ACTIONS
+    }
+
+    // `literal NAME`, whose writes are to come.
+    #[tactic(auto, unfolding(crate::specs::Scripts::after_literal))]
+    fn take_literal<L: Ledger>(
+        &mut self,
+        alloc: Global,
+        name: &str,
+        work: &mut Steps<L>,
+    ) -> Result<(), LineFault>
+        ensures takes { Takes (after_literal self.old name.now) self.new result }
+        ensures lawful { (decls : Decls) (most : ℕ) → AreSteps decls most self.old
+            → self.old.part ≡ Part.Call → OnOk result (AreSteps decls most self.new) }
+        ensures worked { work.new ≤ work.old + work_on name.now }
+    {
+        if !is_identifier_counted(name, work) || self.is_call_full() {
+            return breaks(Rule::Line);
+        }
+        if is_long_name(name) {
+            return breaks(Rule::Size);
+        }
+        let name = Text::from_str(alloc, name)?;
+        if is_named_by(self.actions.as_slice(), &name) {
+            return breaks(Rule::Duplicate);
+        }
+        self.part = Part::Literal;
+        self.name = name;
+        self.writes = Row::new(alloc);
+        Ok(())
+    }
+
+    // `delete NAME`.
+    #[tactic(auto, unfolding(crate::specs::Scripts::after_delete))]
+    fn take_delete<L: Ledger>(
+        &mut self,
+        alloc: Global,
+        name: &str,
+        work: &mut Steps<L>,
+    ) -> Result<(), LineFault>
+        ensures takes { Takes (after_delete self.old name.now) self.new result }
+        ensures lawful { (decls : Decls) (most : ℕ) → AreSteps decls most self.old
+            → self.old.part ≡ Part.Call → OnOk result (AreSteps decls most self.new) }
+        ensures worked { work.new ≤ work.old + work_on name.now }
+    {
+        if !is_identifier_counted(name, work) || self.is_call_full() {
+            return breaks(Rule::Line);
+        }
+        if is_long_name(name) {
+            return breaks(Rule::Size);
+        }
+        let name = Text::from_str(alloc, name)?;
+        if is_named_by(self.actions.as_slice(), &name) {
+            return breaks(Rule::Duplicate);
+        }
+        self.actions.push(Action::Delete(name))?;
+        Ok(())
+    }
+
+    // `set ITEM`.
+    #[tactic(auto, unfolding(crate::specs::Scripts::after_set))]
+    fn take_set<L: Ledger>(
+        &mut self,
+        alloc: Global,
+        declared: &Declared,
+        rest: &str,
+        work: &mut Steps<L>,
+    ) -> Result<(), LineFault>
+        ensures takes { Takes (after_set declared.now self.old rest.now) self.new result }
+        ensures lawful { (most : ℕ) → AreSteps (decls_in declared.now) most self.old
+            → self.old.part ≡ Part.Call → OnOk result (AreSteps (decls_in declared.now) most self.new) }
+        ensures worked { work.new ≤ work.old + work_on rest.now }
+    {
+        if self.is_call_full() {
+            return breaks(Rule::Line);
+        }
+        let put = read_put(alloc, true, &declared.data_schema, false, rest, work)?;
+        self.actions.push(Action::Set(put))?;
+        Ok(())
+    }
+
+    // `unset PATH`.
+    #[tactic(auto, unfolding(crate::specs::Scripts::after_unset))]
+    fn take_unset<L: Ledger>(
+        &mut self,
+        alloc: Global,
+        declared: &Declared,
+        rest: &str,
+        work: &mut Steps<L>,
+    ) -> Result<(), LineFault>
+        ensures takes { Takes (after_unset declared.now self.old rest.now) self.new result }
+        ensures lawful { (most : ℕ) → AreSteps (decls_in declared.now) most self.old
+            → self.old.part ≡ Part.Call → OnOk result (AreSteps (decls_in declared.now) most self.new) }
+        ensures worked { work.new ≤ work.old + work_on rest.now }
+    {
+        if self.is_call_full() || cut(rest).is_some() {
+            return breaks(Rule::Line);
+        }
+        let path = read_data_path(alloc, &declared.data_schema, rest, work)?;
+        self.actions.push(Action::Unset(path))?;
+        Ok(())
+    }
+
+    // `base D ITEM`.
+    #[tactic(auto, unfolding(crate::specs::Scripts::after_base_put))]
+    fn take_base_put<L: Ledger>(
+        &mut self,
+        alloc: Global,
+        declared: &Declared,
+        rest: &str,
+        work: &mut Steps<L>,
+    ) -> Result<(), LineFault>
+        requires { AreDeclared declared.now }
+        ensures takes { Takes (after_base_put declared.now self.old rest.now) self.new result }
+        ensures lawful { (most : ℕ) → AreSteps (decls_in declared.now) most self.old
+            → self.old.part ≡ Part.Call → OnOk result (AreSteps (decls_in declared.now) most self.new) }
+        ensures worked { work.new ≤ work.old + work_on rest.now }
+    {
+        if self.is_call_full() {
+            return breaks(Rule::Line);
+        }
+        let put = read_device_item(alloc, declared, rest, work)?;
+        self.actions.push(Action::BasePut(put))?;
+        Ok(())
+    }
+
+    // `unbase D PATH`.
+    #[tactic(auto, unfolding(crate::specs::Scripts::after_base_remove))]
+    fn take_base_remove<L: Ledger>(
+        &mut self,
+        alloc: Global,
+        declared: &Declared,
+        rest: &str,
+        work: &mut Steps<L>,
+    ) -> Result<(), LineFault>
+        requires { AreDeclared declared.now }
+        ensures takes { Takes (after_base_remove declared.now self.old rest.now) self.new result }
+        ensures lawful { (most : ℕ) → AreSteps (decls_in declared.now) most self.old
+            → self.old.part ≡ Part.Call → OnOk result (AreSteps (decls_in declared.now) most self.new) }
+        ensures worked { work.new ≤ work.old + work_on rest.now }
+    {
+        if self.is_call_full() {
+            return breaks(Rule::Line);
+        }
+        let named = read_device_path(alloc, declared, rest, work)?;
+        self.actions.push(Action::BaseRemove(named.0, named.1))?;
+        Ok(())
+    }
+
+    // `write D ITEM`.
+    #[tactic(auto, unfolding(crate::specs::Scripts::after_write))]
+    fn take_write<L: Ledger>(
+        &mut self,
+        alloc: Global,
+        declared: &Declared,
+        rest: &str,
+        work: &mut Steps<L>,
+    ) -> Result<(), LineFault>
+        requires { AreDeclared declared.now }
+        ensures takes { Takes (after_write declared.now self.old rest.now) self.new result }
+        ensures lawful { (most : ℕ) → AreSteps (decls_in declared.now) most self.old → self.old.part ≡ Part.Literal
+            → OnOk result (AreSteps (decls_in declared.now) (most + 1) self.new) }
+        ensures worked { work.new ≤ work.old + work_on rest.now }
+    {
+        let write = read_device_item(alloc, declared, rest, work)?;
+        self.writes.push(write)?;
+        Ok(())
+    }
+
+    // An action of the open call.
+    #[tactic(auto, unfolding(crate::specs::Scripts::an_action))]
+    pub(crate) fn take_action<L: Ledger>(
+        &mut self,
+        alloc: Global,
+        declared: &Declared,
+        word: Keyword,
+        rest: &str,
+        work: &mut Steps<L>,
+    ) -> Result<(), LineFault>
+        requires { AreDeclared declared.now }
+        ensures takes { Takes (an_action word declared.now self.old rest.now) self.new result }
+        ensures lawful { (most : ℕ) → AreSteps (decls_in declared.now) most self.old
+            → self.old.part ≡ Part.Call → OnOk result (AreSteps (decls_in declared.now) most self.new) }
+        ensures worked { work.new ≤ work.old + work_on rest.now }
+    {
+        match word {
+            Keyword::Literal => self.take_literal(alloc, rest, work),
+            Keyword::Delete => self.take_delete(alloc, rest, work),
+            Keyword::Set => self.take_set(alloc, declared, rest, work),
+            Keyword::Unset => self.take_unset(alloc, declared, rest, work),
+            Keyword::Base => self.take_base_put(alloc, declared, rest, work),
+            Keyword::Unbase => self.take_base_remove(alloc, declared, rest, work),
+            _ => breaks(Rule::Line),
+        }
+    }
+
+    // The open literal gets its writes, and becomes an action of the call.
+    pub(crate) fn close_literal(&mut self, alloc: Global) -> Result<(), Memory>
+        ensures closed { OnOk result (self.new ≡ with_literal self.old) }
+        ensures lawful { (decls : Decls) (most : ℕ) → AreSteps decls most self.old
+            → self.old.part ≡ Part.Literal → most ≤ MOST_WRITES → OnOk result (AreSteps decls most self.new) }
+    {
+        let name = replace(&mut self.name, Text::new(alloc));
+        let writes = replace(&mut self.writes, Row::new(alloc));
+        self.actions.push(Action::Literal(name, writes))?;
+        self.part = Part::Call;
+        Ok(())
+    }
+
+    // A line of more than one word of a literal, or the action behind it.
+    #[tactic(auto, unfolding(crate::specs::Scripts::behind_literal))]
+    pub(crate) fn take_behind_literal<L: Ledger>(
+        &mut self,
+        alloc: Global,
+        declared: &Declared,
+        word: Keyword,
+        rest: &str,
+        work: &mut Steps<L>,
+    ) -> Result<(), LineFault>
+        requires { AreDeclared declared.now }
+        ensures takes { Takes (behind_literal word declared.now self.old rest.now) self.new result }
+        ensures lawful { (most : ℕ) → AreSteps (decls_in declared.now) most self.old → self.old.part ≡ Part.Literal
+            → most ≤ MOST_WRITES → OnOk result (AreSteps (decls_in declared.now) (most + 1) self.new) }
+        ensures worked { work.new ≤ work.old + work_on rest.now }
+    {
+        match word {
+            Keyword::Write => self.take_write(alloc, declared, rest, work),
+            _ => {
+                self.close_literal(alloc)?;
+                self.take_action(alloc, declared, word, rest, work)
+            }
+        }
+    }
+
+    // `end`, followed or not.
+    #[tactic(auto, unfolding(crate::specs::Scripts::after_end))]
+    fn take_end(&mut self, alloc: Global, followed: bool) -> Result<(), LineFault>
+        ensures takes { Takes (after_end self.old followed) self.new result }
+        ensures lawful { (decls : Decls) (most : ℕ) → AreSteps decls most self.old
+            → self.old.part ≡ Part.Call → OnOk result (AreSteps decls most self.new) }
+    {
+        if self.actions.len() == 0 {
+            return breaks(Rule::Line);
+        }
+        if !followed {
+            return breaks(Rule::Line);
+        }
+        let caller = replace(&mut self.caller, Text::new(alloc));
+        let actions = replace(&mut self.actions, Row::new(alloc));
+        self.steps.push(ScriptStep::Serve(Call {
+            caller,
+            number: self.number,
+            actions,
+        }))?;
+        self.part = Part::Steps;
+        Ok(())
+    }
+
+    // The line that ends the open call.
+    #[tactic(auto, unfolding(crate::specs::Scripts::call_end))]
+    pub(crate) fn take_call_end(
+        &mut self,
+        alloc: Global,
+        word: Keyword,
+        followed: bool,
+    ) -> Result<(), LineFault>
+        ensures takes { Takes (call_end word self.old followed) self.new result }
+        ensures lawful { (decls : Decls) (most : ℕ) → AreSteps decls most self.old
+            → self.old.part ≡ Part.Call → OnOk result (AreSteps decls most self.new) }
+    {
+        match word {
+            Keyword::End => self.take_end(alloc, followed),
+            _ => breaks(Rule::Line),
+        }
+    }
+}

@@ -1,0 +1,13 @@
+//! The script of a bundle: the steps and call blocks below the line `script`, read line by line against
+//! what was declared.
+#![tactic(auto)]
+
+mod call_block;
+mod places;
+mod read;
+mod script;
+mod step;
+
+pub use read::read_steps;
+pub use script::{MOST_CALLERS, MOST_STEPS};
+pub use step::ScriptStep;

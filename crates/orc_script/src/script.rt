@@ -1,0 +1,406 @@
+//! The steps so far, and what each form of a script's line makes of them.
+ghost use Rattle.std.specs.Prelude.{◌≡◌, ◌<◌, ◌≤◌, ◌+◌, ◌^◌, ℕ, List, IsTrue, OnOk, length};
+ghost use Rattle.orc_lines.specs.Keywords.{keyword_of};
+ghost use Rattle.orc_lines.specs.Lines.{lines_of};
+ghost use Rattle.orc_lines.specs.Words.{first_word};
+ghost use Rattle.orc_script.specs.Scripts.{no_steps, is_full, is_caller_more, after_bare, after_show, after_json, after_meta, after_stop, after_call, after_step, a_step, bare_step, is_followed, words_at, word_at, scripted_at};
+ghost use Rattle.orc_lines.specs.Answers.{Takes};
+ghost use Rattle.orc_lines.specs.Work.{work_on};
+ghost use Rattle.orc_script.specs.inside.Costs.{scripted_looks_at, step_looks_at};
+ghost use Rattle.orc_lines.specs.Lawful.{AreDeclared, decls_in};
+ghost use Rattle.orc_script.specs.inside.Lawful.{AreSteps};
+ghost use Rattle.orc_state.specs.declared.declarations.Decls.{Decls};
+ghost use Rattle.orc_script.specs.Steps.{is_step};
+ghost use Rattle.orc_state.specs.declared.lawful.TheConstants.{MOST_WRITES};
+ghost use Rattle.orc_lines.specs.declared.lines.TheConstants.{LARGEST_BUNDLE};
+
+use crate::places::read_device_node;
+use crate::step::ScriptStep;
+use orc_call::{Action, DevicePut};
+use orc_io::Steps;
+use orc_lines::{
+    Declared, Keyword, LineFault, Names, breaks, cut, ends_later, first_word, is_large, is_settled,
+    is_skipped, keyword_of, line_text, number_of, read_text,
+};
+use orc_path::{is_identifier_counted, is_long_name};
+use orc_schema::Schema;
+use orc_state::Rule;
+use orc_text::{Row, Text};
+use std::alloc::Global;
+use std::sync::ledger::Ledger;
+
+/// The most callers of a script.
+pub const MOST_CALLERS: usize = 256;
+
+/// The most steps of a script.
+pub const MOST_STEPS: usize = 100_000;
+
+/// Which lines may stand.
+#[derive(Clone, Copy)]
+pub enum Part {
+    /// Steps: no call is open.
+    Steps,
+    /// An action of the open call, or behind one the line that ends the call.
+    Call,
+    /// A write of the open call's literal, or what may stand behind an action.
+    Literal,
+}
+
+/// The steps so far, with the callers that they name, and the parts of the open call.
+#[derive(Drop)]
+pub struct Script {
+    pub part: Part,
+    pub callers: Names,
+    pub steps: Row<ScriptStep>,
+    pub caller: Text,
+    pub number: u64,
+    /// The actions of the open call so far, but for a literal whose writes may go on.
+    pub actions: Row<Action>,
+    /// That literal.
+    pub name: Text,
+    pub writes: Row<DevicePut>,
+}
+
+// Whether the lines behind are as the line with this first word wants them.
+#[tactic(auto, unfolding(crate::specs::Scripts::is_followed, crate::specs::inside::Costs::step_looks_at))]
+fn is_followed<L: Ledger>(word: Keyword, later: &[u8], steps: &mut Steps<L>) -> bool
+    ensures followed { result ≡ is_followed word (lines_of later.now) }
+    ensures cost { steps.new ≡ steps.old + step_looks_at word (lines_of later.now) }
+{
+    match word {
+        Keyword::Call => ends_later(later, steps),
+        Keyword::End => is_settled(later, steps),
+        _ => true,
+    }
+}
+
+impl Script {
+    /// No step, and no call is open.
+    pub(crate) fn new(alloc: Global) -> Script
+        ensures { result ≡ no_steps }
+    {
+        Script {
+            part: Part::Steps,
+            callers: Names::new(alloc),
+            steps: Row::new(alloc),
+            caller: Text::new(alloc),
+            number: 0,
+            actions: Row::new(alloc),
+            name: Text::new(alloc),
+            writes: Row::new(alloc),
+        }
+    }
+
+    // Whether no step more can stand.
+    fn is_full(&self) -> bool
+        ensures { result ≡ is_full self.now }
+    {
+        self.steps.len() >= MOST_STEPS
+    }
+
+    // A step of one word.
+    fn take_bare(&mut self, step: ScriptStep) -> Result<(), LineFault>
+        ensures takes { Takes (after_bare self.old step) self.new result }
+        ensures lawful { (decls : Decls) (most : ℕ) → AreSteps decls most self.old
+            → IsTrue (is_step decls step) → OnOk result (AreSteps decls most self.new) }
+    {
+        if self.is_full() {
+            return breaks(Rule::Size);
+        }
+        self.steps.push(step)?;
+        Ok(())
+    }
+
+    // `show D`.
+    #[tactic(auto, unfolding(crate::specs::Scripts::after_show))]
+    fn take_show<L: Ledger>(
+        &mut self,
+        alloc: Global,
+        declared: &Declared,
+        rest: &str,
+        work: &mut Steps<L>,
+    ) -> Result<(), LineFault>
+        requires { AreDeclared declared.now }
+        ensures takes { Takes (after_show declared.now self.old rest.now) self.new result }
+        ensures lawful { (most : ℕ) → AreSteps (decls_in declared.now) most self.old
+            → OnOk result (AreSteps (decls_in declared.now) most self.new) }
+        ensures worked { work.new ≤ work.old + work_on rest.now }
+    {
+        if !is_identifier_counted(rest, work) {
+            return breaks(Rule::Line);
+        }
+        if is_long_name(rest) || self.is_full() {
+            return breaks(Rule::Size);
+        }
+        let name = Text::from_str(alloc, rest)?;
+        let Some(n) = declared.names.place(&name) else {
+            return breaks(Rule::Unknown);
+        };
+        self.steps.push(ScriptStep::Show(n as u32))?;
+        Ok(())
+    }
+
+    // `json D`.
+    #[tactic(auto, unfolding(crate::specs::Scripts::after_json))]
+    fn take_json<L: Ledger>(
+        &mut self,
+        alloc: Global,
+        declared: &Declared,
+        rest: &str,
+        work: &mut Steps<L>,
+    ) -> Result<(), LineFault>
+        requires { AreDeclared declared.now }
+        ensures takes { Takes (after_json declared.now self.old rest.now) self.new result }
+        ensures lawful { (most : ℕ) → AreSteps (decls_in declared.now) most self.old
+            → OnOk result (AreSteps (decls_in declared.now) most self.new) }
+        ensures worked { work.new ≤ work.old + work_on rest.now }
+    {
+        if !is_identifier_counted(rest, work) {
+            return breaks(Rule::Line);
+        }
+        if is_long_name(rest) || self.is_full() {
+            return breaks(Rule::Size);
+        }
+        let name = Text::from_str(alloc, rest)?;
+        let plain = Schema::plain(alloc);
+        if declared.schema_named(&name, &plain).is_plain() {
+            return breaks(Rule::Unknown);
+        }
+        let Some(n) = declared.names.place(&name) else {
+            return breaks(Rule::Unknown);
+        };
+        self.steps.push(ScriptStep::Json(n as u32))?;
+        Ok(())
+    }
+
+    // `meta D PATH`.
+    #[tactic(auto, unfolding(crate::specs::Scripts::after_meta))]
+    fn take_meta<L: Ledger>(
+        &mut self,
+        alloc: Global,
+        declared: &Declared,
+        rest: &str,
+        work: &mut Steps<L>,
+    ) -> Result<(), LineFault>
+        requires { AreDeclared declared.now }
+        ensures takes { Takes (after_meta declared.now self.old rest.now) self.new result }
+        ensures lawful { (most : ℕ) → AreSteps (decls_in declared.now) most self.old
+            → OnOk result (AreSteps (decls_in declared.now) most self.new) }
+        ensures worked { work.new ≤ work.old + work_on rest.now }
+    {
+        let node = read_device_node(alloc, declared, self.is_full(), rest, work)?;
+        self.steps.push(ScriptStep::Meta(node.0, node.1))?;
+        Ok(())
+    }
+
+    // `stop K B`.
+    #[tactic(auto, unfolding(crate::specs::Scripts::after_stop))]
+    fn take_stop(&mut self, rest: &str) -> Result<(), LineFault>
+        ensures takes { Takes (after_stop self.old rest.now) self.new result }
+        ensures lawful { (decls : Decls) (most : ℕ) → AreSteps decls most self.old
+            → OnOk result (AreSteps decls most self.new) }
+    {
+        let Some((count, bytes)) = cut(rest) else {
+            return breaks(Rule::Line);
+        };
+        let Some(count) = number_of(count) else {
+            return breaks(Rule::Line);
+        };
+        let Some(bytes) = number_of(bytes) else {
+            return breaks(Rule::Line);
+        };
+        self.take_bare(ScriptStep::StopAt(count, bytes))
+    }
+
+    // Whether this would be a caller more than can be.
+    fn is_caller_more(&self, name: &Text) -> bool
+        ensures { result ≡ is_caller_more self.now name.now }
+    {
+        !self.callers.has(name) && self.callers.len() >= MOST_CALLERS
+    }
+
+    // `call C N`, followed or not.
+    #[tactic(auto, unfolding(crate::specs::Scripts::after_call))]
+    fn take_call<L: Ledger>(
+        &mut self,
+        alloc: Global,
+        rest: &str,
+        followed: bool,
+        work: &mut Steps<L>,
+    ) -> Result<(), LineFault>
+        ensures takes { Takes (after_call self.old rest.now followed) self.new result }
+        ensures lawful { (decls : Decls) (most : ℕ) → AreSteps decls most self.old
+            → OnOk result (AreSteps decls most self.new) }
+        ensures worked { work.new ≤ work.old + work_on rest.now }
+    {
+        let Some((caller, number)) = cut(rest) else {
+            return breaks(Rule::Line);
+        };
+        let Some(number) = number_of(number) else {
+            return breaks(Rule::Line);
+        };
+        if !is_identifier_counted(caller, work) {
+            return breaks(Rule::Line);
+        }
+        let name = Text::from_str(alloc, caller)?;
+        if is_long_name(caller) || self.is_full() || self.is_caller_more(&name) {
+            return breaks(Rule::Size);
+        }
+        if !followed {
+            return breaks(Rule::Line);
+        }
+        self.callers.add(name.copy(alloc)?)?;
+        self.part = Part::Call;
+        self.caller = name;
+        self.number = number;
+        self.actions = Row::new(alloc);
+        Ok(())
+    }
+
+    // A step of more than one word.
+    #[tactic(auto, unfolding(crate::specs::Scripts::a_step))]
+    fn take_step<L: Ledger>(
+        &mut self,
+        alloc: Global,
+        declared: &Declared,
+        word: Keyword,
+        rest: &str,
+        followed: bool,
+        work: &mut Steps<L>,
+    ) -> Result<(), LineFault>
+        requires { AreDeclared declared.now }
+        ensures takes { Takes (a_step word declared.now self.old rest.now followed) self.new result }
+        ensures lawful { (most : ℕ) → AreSteps (decls_in declared.now) most self.old
+            → OnOk result (AreSteps (decls_in declared.now) most self.new) }
+        ensures worked { work.new ≤ work.old + work_on rest.now }
+    {
+        match word {
+            Keyword::Show => self.take_show(alloc, declared, rest, work),
+            Keyword::Json => self.take_json(alloc, declared, rest, work),
+            Keyword::Meta => self.take_meta(alloc, declared, rest, work),
+            Keyword::Stop => self.take_stop(rest),
+            Keyword::Call => self.take_call(alloc, rest, followed, work),
+            _ => breaks(Rule::Line),
+        }
+    }
+
+    // A step of one word.
+    #[tactic(auto, unfolding(crate::specs::Scripts::bare_step))]
+    fn take_bare_step(&mut self, word: Keyword) -> Result<(), LineFault>
+        ensures takes { Takes (bare_step word self.old) self.new result }
+        ensures lawful { (decls : Decls) (most : ℕ) → AreSteps decls most self.old
+            → OnOk result (AreSteps decls most self.new) }
+    {
+        match word {
+            Keyword::Settle => self.take_bare(ScriptStep::Settle),
+            Keyword::Stop => self.take_bare(ScriptStep::Stop),
+            Keyword::Recover => self.take_bare(ScriptStep::Recover),
+            Keyword::History => self.take_bare(ScriptStep::History),
+            Keyword::Data => self.take_bare(ScriptStep::Data),
+            _ => breaks(Rule::Line),
+        }
+    }
+
+    // A line of more than one word.
+    #[tactic(auto, unfolding(crate::specs::Scripts::words_at))]
+    fn take_words<L: Ledger>(
+        &mut self,
+        alloc: Global,
+        declared: &Declared,
+        word: Keyword,
+        rest: &str,
+        followed: bool,
+        work: &mut Steps<L>,
+    ) -> Result<(), LineFault>
+        requires { AreDeclared declared.now }
+        ensures takes { Takes
+            (words_at self.old.part word declared.now self.old rest.now followed)
+            self.new result }
+        ensures lawful { (most : ℕ) → AreSteps (decls_in declared.now) most self.old → most ≤ MOST_WRITES
+            → OnOk result (AreSteps (decls_in declared.now) (most + 1) self.new) }
+        ensures worked { work.new ≤ work.old + work_on rest.now }
+    {
+        match self.part {
+            Part::Steps => self.take_step(alloc, declared, word, rest, followed, work),
+            Part::Call => self.take_action(alloc, declared, word, rest, work),
+            Part::Literal => self.take_behind_literal(alloc, declared, word, rest, work),
+        }
+    }
+
+    // A line of one word.
+    #[tactic(auto, unfolding(crate::specs::Scripts::word_at))]
+    fn take_word(&mut self, alloc: Global, word: Keyword, followed: bool) -> Result<(), LineFault>
+        ensures takes { Takes (word_at self.old.part word self.old followed) self.new result }
+        ensures lawful { (decls : Decls) (most : ℕ) → AreSteps decls most self.old → most ≤ MOST_WRITES
+            → OnOk result (AreSteps decls most self.new) }
+    {
+        match self.part {
+            Part::Steps => self.take_bare_step(word),
+            Part::Call => self.take_call_end(alloc, word, followed),
+            Part::Literal => {
+                self.close_literal(alloc)?;
+                self.take_call_end(alloc, word, followed)
+            }
+        }
+    }
+
+    // A line that is not skipped, with the bytes behind it.
+    #[tactic(auto, unfolding(crate::specs::Scripts::after_step))]
+    fn take_text<L: Ledger, M: Ledger>(
+        &mut self,
+        alloc: Global,
+        declared: &Declared,
+        text: &str,
+        later: &[u8],
+        steps: &mut Steps<L>,
+        work: &mut Steps<M>,
+    ) -> Result<(), LineFault>
+        requires { AreDeclared declared.now }
+        ensures takes { Takes (after_step declared.now self.old text.now (lines_of later.now)) self.new result }
+        ensures lawful { (most : ℕ) → AreSteps (decls_in declared.now) most self.old → most ≤ MOST_WRITES
+            → OnOk result (AreSteps (decls_in declared.now) (most + 1) self.new) }
+        ensures cost { steps.new ≡ steps.old + step_looks_at (keyword_of (first_word text.now)) (lines_of later.now) }
+        ensures worked { work.new ≤ work.old + work_on text.now }
+    {
+        let word = keyword_of(first_word(text));
+        let followed = is_followed(word, later, steps);
+        match cut(text) {
+            Some((_, rest)) => self.take_words(alloc, declared, word, rest, followed, work),
+            None => self.take_word(alloc, word, followed),
+        }
+    }
+
+    /// A line, with the bytes behind it. So many bytes stand in front of it.
+    #[tactic(auto, unfolding(crate::specs::Scripts::scripted_at))]
+    pub(crate) fn take<L: Ledger, M: Ledger>(
+        &mut self,
+        alloc: Global,
+        declared: &Declared,
+        at: u64,
+        line: &[u8],
+        later: &[u8],
+        steps: &mut Steps<L>,
+        work: &mut Steps<M>,
+    ) -> Result<(), LineFault>
+        requires room { at + length line.now < 2 ^ 63 }
+        requires declared { AreDeclared declared.now }
+        ensures takes { Takes (scripted_at declared.now self.old at line.now (lines_of later.now)) self.new result }
+        ensures lawful { (most : ℕ) → AreSteps (decls_in declared.now) most self.old → most ≤ MOST_WRITES
+            → OnOk result (AreSteps (decls_in declared.now) (most + 1) self.new) }
+        ensures small { OnOk result (at + length line.now ≤ LARGEST_BUNDLE) }
+        ensures counts { steps.old ≤ steps.new }
+        ensures cost { steps.new ≤ steps.old + scripted_looks_at line.now (lines_of later.now) }
+        ensures worked { work.new ≤ work.old + work_on line.now }
+    {
+        if is_large(at, line) {
+            return breaks(Rule::Size);
+        }
+        let Some(text) = read_text(line_text(line)) else {
+            return breaks(Rule::Utf8);
+        };
+        if is_skipped(text.as_bytes()) {
+            return Ok(());
+        }
+        self.take_text(alloc, declared, text, later, steps, work)
+    }
+}

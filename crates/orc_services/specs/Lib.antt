@@ -1,0 +1,5 @@
+pub mod Services
+pub mod Settling
+pub mod Fitting
+pub mod Laws
+pub mod inside

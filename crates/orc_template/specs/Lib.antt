@@ -1,0 +1,12 @@
+pub mod Readers
+pub mod Strings
+pub mod Values
+pub mod Writing
+pub mod Devices
+pub mod Blocks
+pub mod Expansions
+pub mod Templates
+pub mod Said
+pub mod Laws
+pub mod TheReaders
+pub mod inside

@@ -1,0 +1,19 @@
+-- What takes texts back to expressions and conditions.
+use Rattle.std.specs.Prelude.{◌≡◌, ℕ, Bool, List, Option, IsTrue}
+use Rattle.std.specs.declared.option.Option.TheVariants.{Some}
+use Rattle.orc_expr.specs.Expressions.{Expression, Condition, is_expression, expression_text, is_condition, condition_text}
+
+-- what gives the expression, and the condition, that a text is the text of, where there is one
+pub record Readers : Type 0 where
+  pub expression : List ℕ → Option Expression
+  pub condition : List ℕ → Option Condition
+
+-- it gives what has this text, and nothing else
+pub record ReadsBack {X : Type 0} (is : X → Bool) (text_of : X → List ℕ) (read : List ℕ → Option X) : Type 0 where
+  pub again : (x : X) → IsTrue (is x) → read (text_of x) ≡ Some x
+  pub only : (text : List ℕ) (x : X) → read text ≡ Some x → IsTrue (is x) × (text_of x ≡ text)
+
+-- such readers there are, and each two give the same
+pub record AreReaders (readers : Readers) : Type 0 where
+  pub expressions : ReadsBack is_expression expression_text readers.expression
+  pub conditions : ReadsBack is_condition condition_text readers.condition

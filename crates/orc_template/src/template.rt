@@ -1,0 +1,294 @@
+//! Templates.
+ghost use Rattle.std.specs.Prelude.{◌≡◌, ℕ, List, ◌++◌, IfOk, OnOk, OnErr, MatchOption, map};
+ghost use Rattle.std.specs.FinMap.{empty};
+ghost use Rattle.serde_json.specs.View.{view as json_view};
+ghost use Rattle.orc_json.specs.Readings.{IsJson, IsNoJson};
+ghost use Rattle.orc_schema.specs.Schemas.{shape_at};
+ghost use Rattle.orc_expr.specs.Reads.{IsFixedByReads};
+ghost use Rattle.orc_template.specs.Readers.{Readers, AreReaders};
+ghost use Rattle.orc_template.specs.Templates.{ReadsTemplate};
+ghost use Rattle.orc_template.specs.Expansions.{expanded, reads_expanded, AnswersExpansion, AnswersWriting};
+ghost use Rattle.orc_template.specs.Said.{template_json, read_result, parts_result};
+ghost use Rattle.orc_template.specs.inside.Machine.{the_readers, site};
+ghost use Rattle.orc_template.specs.inside.Expanding.{FindsExpansion, FindsWriting, AddsReads};
+
+use crate::blocks::{DEPTH, blocks_inside};
+use crate::checking::template_fault;
+use crate::expanding::{Expanding, do_blocks};
+use crate::expansion::gathered;
+use crate::{Devices, ExpandFault, Expansion, TemplateFault, View};
+use orc_expr::ReadSet;
+use orc_path::{DataView, Path};
+use orc_schema::Schema;
+use orc_text::{Memory, Row, Text};
+use orc_tree::Tree;
+use serde_json::Value;
+use std::alloc::Global;
+use std::mem;
+
+/// A template: its JSON, whose strings hold expressions.
+#[derive(Drop)]
+pub struct Template {
+    json: Value,
+}
+
+// The JSON value that bytes are the text of, where they are one.
+fn parse(alloc: Global, bytes: &[u8]) -> Result<Option<Value>, Memory>
+    ensures { IfOk result (λ found. MatchOption found (IsNoJson bytes.now)
+        (λ value. IsJson bytes.now (json_view value))) }
+{
+    match Value::from_slice(alloc, bytes) {
+        Ok(value) => Ok(Some(value)),
+        Err(error) => if error.is_memory() {
+            Err(Memory)
+        } else {
+            Ok(None)
+        },
+    }
+}
+
+// Nothing is written on any device.
+fn nothing_written(alloc: Global, names: &[Text]) -> Result<Vec<Tree>, Memory>
+    ensures { IfOk result (λ trees. trees.items ≡ map (λ name. empty) names.now) }
+{
+    let mut trees = Vec::new(alloc);
+    for _name in names {
+        trees.push(Tree::new(alloc))?;
+    }
+    Ok(trees)
+}
+
+impl Template {
+    /// The template of a list of the data that bytes are the JSON text of. `NotJson` comes exactly
+    /// where they are no JSON text; else the fault is that of the least block, and at one block
+    /// `BadMember` goes before `BadExpr`.
+    pub fn read(
+        alloc: Global,
+        bytes: &[u8],
+        schema: &Schema,
+        list: &Path,
+    ) -> Result<Template, TemplateFault>
+        ensures { (readers : Readers) → AreReaders readers
+            → ReadsTemplate (record { readers = readers; shapes = shape_at schema.now; node = list.now }) bytes.now
+            (read_result result) }
+    {
+        Template::read_bytes(alloc, bytes, schema, list)
+    }
+
+    // The same, where texts are read byte by byte.
+    fn read_bytes(
+        alloc: Global,
+        bytes: &[u8],
+        schema: &Schema,
+        list: &Path,
+    ) -> Result<Template, TemplateFault>
+        ensures { ReadsTemplate (site (shape_at schema.now) list.now) bytes.now (read_result result) }
+    {
+        match parse(alloc, bytes)? {
+            Some(json) => Template::checked(alloc, json, schema, list),
+            None => Err(TemplateFault::NotJson),
+        }
+    }
+
+    // The template of a JSON value, or its first fault.
+    fn checked(
+        alloc: Global,
+        json: Value,
+        schema: &Schema,
+        list: &Path,
+    ) -> Result<Template, TemplateFault>
+        ensures { (bytes : List ℕ) → IsJson bytes (json_view json)
+            → ReadsTemplate (site (shape_at schema.now) list.now) bytes (read_result result) }
+    {
+        let tree = Tree::new(alloc);
+        let view = View {
+            tree: &tree,
+            schema,
+        };
+        match template_fault(alloc, &view, list, &json)? {
+            Some(fault) => Err(fault),
+            None => Ok(Template { json }),
+        }
+    }
+
+    /// An equal template.
+    pub fn copy(&self, alloc: Global) -> Result<Template, Memory>
+        ensures { IfOk result (λ template. template_json template ≡ template_json self.now) }
+    {
+        let _alloc = alloc;
+        Ok(Template {
+            json: self.json.clone()?,
+        })
+    }
+
+    // What is written on each device, with its reads alone.
+    fn write_alone<V: DataView>(
+        &self,
+        alloc: Global,
+        view: &V,
+        instance: &Path,
+        devices: &Devices,
+        reads: &mut ReadSet,
+    ) -> Result<Row<Tree>, ExpandFault>
+        ensures { FindsWriting
+            (expanded the_readers devices.now instance.now (template_json self.now) (V.viewed view.now))
+            reads.new.reads result }
+    {
+        let mut expanding = Expanding {
+            written: nothing_written(alloc, devices.names.as_slice())?,
+            reads: ReadSet::new(alloc),
+        };
+        let done = do_blocks(
+            alloc,
+            view,
+            devices,
+            DEPTH,
+            instance,
+            1,
+            blocks_inside(&self.json),
+            &mut expanding,
+        );
+        let Expanding {
+            written,
+            reads: read,
+        } = expanding;
+        *reads = read;
+        match done {
+            Ok(()) => Ok(Row::from_vec(written)),
+            Err(fault) => Err(fault),
+        }
+    }
+
+    // The expansion, with its reads alone.
+    fn expand_alone<V: DataView>(
+        &self,
+        alloc: Global,
+        view: &V,
+        instance: &Path,
+        devices: &Devices,
+        reads: &mut ReadSet,
+    ) -> Result<Expansion, ExpandFault>
+        ensures { FindsExpansion
+            (expanded the_readers devices.now instance.now (template_json self.now) (V.viewed view.now))
+            reads.new.reads (parts_result result) }
+    {
+        match self.write_alone(alloc, view, instance, devices, reads) {
+            Ok(written) => Ok(gathered(alloc, written.as_slice())?),
+            Err(fault) => Err(fault),
+        }
+    }
+
+    /// What the template writes on each device, by the devices' numbers, or the first fault: as
+    /// `expand`, with the devices on which nothing is written.
+    pub fn written<V: DataView>(
+        &self,
+        alloc: Global,
+        view: &V,
+        instance: &Path,
+        devices: &Devices,
+        reads: &mut ReadSet,
+    ) -> Result<Row<Tree>, ExpandFault>
+        ensures answer { (readers : Readers) → AreReaders readers → AnswersWriting
+            (expanded readers devices.now instance.now (template_json self.now) (V.viewed view.now))
+            reads.old.reads reads.new.reads result }
+        // A view that shares its shapes and what was read gives the same and reads the same.
+        ensures sound { (readers : Readers) → IsFixedByReads
+            (expanded readers devices.now instance.now (template_json self.now)) reads_expanded (V.viewed view.now) }
+    {
+        self.write_adding(alloc, view, instance, devices, reads)
+    }
+
+    // What is written, with its reads added.
+    fn write_adding<V: DataView>(
+        &self,
+        alloc: Global,
+        view: &V,
+        instance: &Path,
+        devices: &Devices,
+        reads: &mut ReadSet,
+    ) -> Result<Row<Tree>, ExpandFault>
+        ensures { AnswersWriting
+            (expanded the_readers devices.now instance.now (template_json self.now) (V.viewed view.now))
+            reads.old.reads reads.new.reads result }
+    {
+        let mut read = ReadSet::new(alloc);
+        let answer = self.write_alone(alloc, view, instance, devices, &mut read);
+        with_reads(alloc, reads, read, answer)
+    }
+
+    /// What the template writes for an instance of its list, or the first fault: each block in the
+    /// order of the text, at its context or, with `for`, at each of its nodes. What was read is
+    /// added, also where the answer is a fault; after want of memory nothing is added.
+    pub fn expand<V: DataView>(
+        &self,
+        alloc: Global,
+        view: &V,
+        instance: &Path,
+        devices: &Devices,
+        reads: &mut ReadSet,
+    ) -> Result<Expansion, ExpandFault>
+        ensures answer { (readers : Readers) → AreReaders readers → AnswersExpansion
+            (expanded readers devices.now instance.now (template_json self.now) (V.viewed view.now))
+            reads.old.reads reads.new.reads (parts_result result) }
+        // A view that shares its shapes and what was read gives the same and reads the same.
+        ensures sound { (readers : Readers) → IsFixedByReads
+            (expanded readers devices.now instance.now (template_json self.now)) reads_expanded (V.viewed view.now) }
+    {
+        self.expand_adding(alloc, view, instance, devices, reads)
+    }
+
+    // The expansion, with its reads added.
+    fn expand_adding<V: DataView>(
+        &self,
+        alloc: Global,
+        view: &V,
+        instance: &Path,
+        devices: &Devices,
+        reads: &mut ReadSet,
+    ) -> Result<Expansion, ExpandFault>
+        ensures { AnswersExpansion
+            (expanded the_readers devices.now instance.now (template_json self.now) (V.viewed view.now))
+            reads.old.reads reads.new.reads (parts_result result) }
+    {
+        let mut read = ReadSet::new(alloc);
+        let answer = self.expand_alone(alloc, view, instance, devices, &mut read);
+        with_reads(alloc, reads, read, answer)
+    }
+}
+
+// An answer, once its reads are added.
+fn with_reads<T: Drop>(
+    alloc: Global,
+    reads: &mut ReadSet,
+    read: ReadSet,
+    answer: Result<T, ExpandFault>,
+) -> Result<T, ExpandFault>
+    ensures { AddsReads answer reads.old.reads read.reads reads.new.reads result }
+{
+    match answer {
+        Err(ExpandFault::Memory) => Err(ExpandFault::Memory),
+        Err(ExpandFault::At { block, rule }) => {
+            add_reads(alloc, reads, read)?;
+            Err(ExpandFault::At { block, rule })
+        }
+        Ok(value) => {
+            add_reads(alloc, reads, read)?;
+            Ok(value)
+        }
+    }
+}
+
+// Adds reads. After want of memory the reads are as they were.
+fn add_reads(alloc: Global, reads: &mut ReadSet, more: ReadSet) -> Result<(), Memory>
+    ensures ok { OnOk result (reads.new.reads ≡ reads.old.reads ++ more.reads) }
+    ensures err { OnErr result (reads.new.reads ≡ reads.old.reads) }
+{
+    let mut all = mem::replace(&mut reads.reads, Row::new(alloc)).into_vec();
+    let mut more = more.reads.into_vec();
+    let added = all.append(&mut more);
+    reads.reads = Row::from_vec(all);
+    match added {
+        Ok(()) => Ok(()),
+        Err(_) => Err(Memory),
+    }
+}
