@@ -1,3 +1,4 @@
+mod DeclarationFaults
 mod ScriptFaults
 mod Skipped
 mod SkippedLines
@@ -13,3 +14,4 @@ mod WrittenPreamble
 mod WrittenScript
 mod WrittenSteps
 mod WrittenTexts
+mod Tables

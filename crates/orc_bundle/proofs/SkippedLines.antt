@@ -1,13 +1,17 @@
 -- A skipped line put into a bundle only moves the lines behind it.
-use Rattle.std.proofs.Common.{◌≡◌, ℕ, zero, suc, ◌<◌, ◌≤◌, ◌+◌, ◌-◌, Bool, true, false, not, ◌||◌, cond, nat_lt, List, [], ◌∷◌, ◌++◌, codes, length, Result, Ok, Err, Option, Some, None, refl, ap, sym, ◌∙◌, arith, ltb-false}
+use Rattle.std.proofs.Common.{◌≡◌, ℕ, zero, suc, ◌<◌, ◌≤◌, ◌+◌, ◌-◌, Bool, true, false, not, ◌||◌, cond, nat_eq, nat_lt, List, [], ◌∷◌, ◌++◌, codes, length, Result, Ok, Err, Option, Some, None, refl, ap, sym, ◌∙◌, arith, ltb-false}
 use Rattle.std.specs.List.{list_any}
-use Rattle.std.specs.Option.{is_none, option_map, option_map_or}
+use Rattle.std.specs.Option.{is_none, option_and_then, option_map, option_map_or}
+use Rattle.orc_path.specs.Alphabet.{is_identifier}
+use Rattle.orc_path.specs.Limits.{is_long_name}
+use Rattle.orc_path.specs.Reading.{path_of}
+use Rattle.orc_lines.specs.Items.{is_past_path}
 use Rattle.std.specs.Str.{is_utf8}
 use Rattle.std.proofs.lemmas.Bool.{false≢true, le-leb, lt-leb, le-ltb, or_from}
 use Rattle.std.proofs.lemmas.List.{take_all}
 use Rattle.orc_state.specs.declared.rule.Rule.{Rule}
 use Rattle.orc_state.specs.declared.rule.Rule.TheVariants as rule
-use Rattle.orc_declarations.specs.Declarations.{Front, declarations_of, is_script, opened, after_header, after_text, after_yang, declaration, declaration_words, declared_at, is_header, is_opening, is_taken, lines_taken, nothing_declared, taken_by, words_take, with_module}
+use Rattle.orc_declarations.specs.Declarations.{Front, declarations_of, is_script, opened, after_header, after_template, after_text, after_yang, block_size, count_in, list_template, template_block, template_line, template_words, declaration, declaration_words, declared_at, is_header, is_opening, is_taken, lines_taken, nothing_declared, taken_by, words_take, with_module}
 use Rattle.orc_bundle.specs.Bundles.{bundle_in, bundle_of, decls_of, header_rule, script_of}
 use Rattle.orc_lines.specs.Lawful.{decls_with}
 use Rattle.orc_lines.specs.Lines.{lacks_header, as_line, block_of, first_kept, is_end, is_large, is_skipped, lines_of, text_of}
@@ -94,6 +98,27 @@ yang_same d rest a b same = on (number_in rest) same where
   on None same = refl
   on (Some n) same = ap (λ (o : Option (List ℕ)). or_rule o rule.Line (λ text. on_ok (module_of text) (λ m. checked ((is_taken d m.name, rule.Duplicate) ∷ []) (Ok (with_module d n m))))) same
 
+template_same : (d : Declared) (rest : List ℕ) (a b : List (List ℕ)) → block_of (taken_by keyword.Template rest) a ≡ block_of (taken_by keyword.Template rest) b → after_template d rest a ≡ after_template d rest b
+unfolding after_template taken_by
+template_same d rest a b same = outer (cut_at 32 rest) same
+  where
+    counted : (name word : List ℕ) (o : Option ℕ) → block_of (block_size o) a ≡ block_of (block_size o) b
+        → or_rule o rule.Line (λ n. template_block d name n word a) ≡ or_rule o rule.Line (λ n. template_block d name n word b)
+    counted name word None same = refl
+    counted name word (Some n) same =
+        ap (λ (found : Option (List ℕ)). checked ((nat_eq (length word) 0, rule.Line) ∷ (is_long_name name || is_past_path (path_of word), rule.Size) ∷ [])
+        (or_rule found rule.Line (λ text. or_rule (path_of word) rule.Path (λ list. list_template d name n list text)))) same
+
+    inner : (name : List ℕ) (o : Option (List ℕ × List ℕ)) → block_of (block_size (count_in o)) a ≡ block_of (block_size (count_in o)) b
+        → template_line d name a o ≡ template_line d name b o
+    inner name None same = refl
+    inner name (Some words) same = counted name words.0 (number_in words.1) same
+
+    outer : (o : Option (List ℕ × List ℕ)) → block_of (block_size (count_in (option_and_then (λ words. cut_at 32 words.1) o))) a ≡ block_of (block_size (count_in (option_and_then (λ words. cut_at 32 words.1) o))) b
+        → template_words d a o ≡ template_words d b o
+    outer None same = refl
+    outer (Some words) same = ap (λ (r : Result Declared Rule). checked ((not (is_identifier words.0), rule.Line) ∷ []) r) (inner words.0 (cut_at 32 words.1) same)
+
 form_same : (k : Keyword) (d : Declared) (rest : List ℕ) (a b : List (List ℕ)) → block_of (taken_by k rest) a ≡ block_of (taken_by k rest) b → declaration k d rest a ≡ declaration k d rest b
 unfolding declaration
 form_same keyword.Device d rest a b same = refl
@@ -103,6 +128,7 @@ form_same keyword.Rule d rest a b same = refl
 form_same keyword.Base d rest a b same = refl
 form_same keyword.Data d rest a b same = refl
 form_same keyword.Yang d rest a b same = yang_same d rest a b same
+form_same keyword.Template d rest a b same = template_same d rest a b same
 form_same _ d rest a b same = refl
 
 words_same : (d : Declared) (text : List ℕ) (o : Option (List ℕ × List ℕ)) (a b : List (List ℕ)) → block_of (words_take o) a ≡ block_of (words_take o) b

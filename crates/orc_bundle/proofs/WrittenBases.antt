@@ -1,5 +1,5 @@
 -- All declarations that are written are read.
-use Rattle.std.proofs.Common.{◌≡◌, ℕ, ◌<◌, ◌≤◌, true, false, ◌&&◌, nat_lt, List, [], ◌∷◌, ◌++◌, length, length-append, map, refl, ap, sym, ◌∙◌, subst, arith, append_assoc, append-nil, nat_eq, Option, None, Some}
+use Rattle.std.proofs.Common.{◌≡◌, ℕ, ◌<◌, ◌≤◌, true, false, not, ◌&&◌, nat_lt, List, [], ◌∷◌, ◌++◌, length, length-append, map, refl, ap, sym, ◌∙◌, subst, arith, append_assoc, append-nil, nat_eq, Option, None, Some}
 use Rattle.std.specs.Option.{option_map_or}
 use Rattle.std.specs.List.{AllByRecursion, IsDistinct, flat_map, list_all}
 use Rattle.std.proofs.lemmas.Bool.{and_parts, false≢true, or_from}
@@ -8,7 +8,7 @@ use Rattle.orc_path.specs.Steps.{PathStep}
 use Rattle.orc_call.specs.declared.call.Put.{Put}
 use Rattle.orc_state.specs.States.{is_same_text, names_of}
 use Rattle.orc_schema.specs.Schemas.{SchemaTable}
-use Rattle.orc_state.specs.Calls.{is_data_item, is_device, is_device_under, is_forbid_rule, is_lawful_name, is_max_rule, is_put, schema_in}
+use Rattle.orc_state.specs.Calls.{is_data_item, is_device, is_device_under, is_forbid_rule, is_lawful_name, is_max_rule, is_put, is_served, schema_in}
 use Rattle.orc_state.specs.declared.declarations.Device.{Device}
 use Rattle.orc_state.specs.declared.declarations.TheConstants.{MOST_DEVICES}
 use Rattle.orc_declarations.specs.Declarations.{schema_place}
@@ -16,6 +16,7 @@ use Rattle.orc_bundle.specs.Laws.{Preamble, preamble_alone, is_kind}
 use Rattle.orc_lines.specs.Names.{is_among}
 use Rattle.orc_bundle.specs.Written.{base_line, data_line, device_lines, forbid_line, max_line}
 use Rattle.orc_lines.specs.declared.declared.Declared.{Declared}
+use Rattle.orc_lines.proofs.LinesOf.{untrue}
 use Rattle.orc_bundle.proofs.Texts.{IsLawfulName, lawful_name, lawful_under}
 use Rattle.orc_bundle.proofs.WrittenDeclarations.{Fronts, one_declaration}
 use Rattle.orc_bundle.proofs.WrittenDevices.{at_data, at_devices, base_read, base_text, data_read, data_text, device_line, device_read, device_text, forbid_read, forbid_text, max_read, max_text, new_device, same_back, schema_last}
@@ -153,13 +154,15 @@ module _ (h : Preamble) (e : Declared) (line : List ℕ) (later : List (List ℕ
 
   -- the rest of the data
   pub data_lines_read : (devices : List Device) (before todo : List Put) (rest : List (List ℕ)) → list_all (is_data_item h.data_schema) todo ≡ true
+      → list_all (λ (put : Put). not (is_served h.services put.path)) todo ≡ true
       → Fronts (at_data h devices (before ++ todo)) rest e line later → Fronts (at_data h devices before) (map data_line todo ++ rest) e line later
-  data_lines_read devices before [] rest lawful behind = subst (λ (puts : List Put). Fronts (at_data h devices puts) rest e line later) (append-nil before) behind
-  data_lines_read devices before (put ∷ todo) rest lawful behind =
+  data_lines_read devices before [] rest lawful apart behind = subst (λ (puts : List Put). Fronts (at_data h devices puts) rest e line later) (append-nil before) behind
+  data_lines_read devices before (put ∷ todo) rest lawful apart behind =
       let parts = and_parts (is_data_item h.data_schema put) (list_all (is_data_item h.data_schema) todo) lawful in
+      let free = and_parts (not (is_served h.services put.path)) (list_all (λ (put : Put). not (is_served h.services put.path)) todo) apart in
       one_declaration e line later (at_data h devices before) (at_data h devices (before ++ put ∷ [])) (data_line put) (map data_line todo ++ rest)
-      (data_text h.data_schema put parts.0) refl refl (λ lines. data_read h devices before put lines parts.0) refl
-      (data_lines_read devices (before ++ put ∷ []) todo rest parts.1
+      (data_text h.data_schema put parts.0) refl refl (λ lines. data_read h devices before put lines parts.0 (untrue (is_served h.services put.path) free.0)) refl
+      (data_lines_read devices (before ++ put ∷ []) todo rest parts.1 free.1
       (subst (λ (puts : List Put). Fronts (at_data h devices puts) rest e line later) (sym (append_assoc before (put ∷ []) todo)) behind))
 
   -- the rest of the devices

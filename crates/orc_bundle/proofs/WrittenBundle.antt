@@ -1,6 +1,6 @@
 -- The spellings of a bundle are read as that bundle.
-use Rattle.std.proofs.Common.{◌≡◌, ℕ, ◌≤◌, ◌+◌, Bool, true, false, cond, List, [], ◌∷◌, ◌++◌, codes, length, length-append, map, take, refl, ap, ap₂, sym, ◌∙◌, subst, arith, append_assoc, append-nil, ◌&&◌, nat_eq, nat_lt, Result, Ok, Err, Option, None}
-use Rattle.std.specs.List.{IsDistinct, concat, flat_map, list_all}
+use Rattle.std.proofs.Common.{◌≡◌, ℕ, ◌≤◌, ◌+◌, Bool, true, false, not, cond, List, [], ◌∷◌, ◌++◌, codes, length, length-append, map, take, refl, ap, ap₂, sym, ◌∙◌, subst, arith, append_assoc, append-nil, ◌&&◌, nat_eq, nat_lt, Result, Ok, Err, Option, None}
+use Rattle.std.specs.List.{AllByRecursion, IsDistinct, concat, flat_map, list_all}
 use Rattle.std.specs.Option.{is_none}
 use Rattle.std.proofs.lemmas.Bool.{and_parts, and_from}
 use Rattle.std.proofs.lemmas.List.{take_all}
@@ -9,7 +9,7 @@ use Rattle.orc_call.specs.declared.call.Put.{Put}
 use Rattle.orc_check.specs.Validity.{Breach, broken_of}
 use Rattle.orc_state.specs.States.{is_same_text, names_of, opening_data}
 use Rattle.orc_schema.specs.Schemas.{SchemaTable, plain_table}
-use Rattle.orc_state.specs.Calls.{is_data_item, is_device, is_device_under, is_lawful_name, schema_in}
+use Rattle.orc_state.specs.Calls.{is_data_item, is_served, is_device, is_device_under, is_lawful_name, schema_in}
 use Rattle.orc_state.specs.Declarations.{accepts_base}
 use Rattle.orc_state.specs.declared.declarations.Decls.{Decls}
 use Rattle.orc_state.specs.declared.declarations.Device.{Device}
@@ -25,7 +25,9 @@ use Rattle.orc_script.specs.Scripts.{script_steps, no_steps}
 use Rattle.orc_lines.specs.Keywords.{keyword_of}
 use Rattle.orc_bundle.specs.Laws.{FollowPreamble, ArePlain, Preamble, IsPreamble, SpelledIsRead, WrittenIsRead, preamble_alone, is_kind}
 use Rattle.orc_lines.specs.Rules.{on_ok}
-use Rattle.orc_bundle.specs.Written.{AreLinesOf, IsLineOf, IsSpelling, bundle_text, data_line, declared_lines, device_lines, none, one, plain_kind, script_lines, text_of_lines}
+use Rattle.orc_template.specs.Devices.{DeviceTable}
+use Rattle.orc_services.specs.declared.list.ServiceList.{ServiceList}
+use Rattle.orc_bundle.specs.Written.{AreLinesOf, IsLineOf, IsSpelling, SpellsStep, no_json, bundle_text, data_line, declared_lines, device_lines, none, one, plain_kind, script_lines, text_of_lines}
 use Rattle.orc_bundle.specs.declared.bundle.Bundle.{Bundle}
 use Rattle.orc_script.specs.declared.step.ScriptStep.{ScriptStep}
 use Rattle.orc_lines.specs.declared.lines.TheConstants.{LARGEST_BUNDLE}
@@ -39,7 +41,7 @@ use Rattle.orc_bundle.proofs.WrittenDevices.{at_data, bare_preamble, header_read
 use Rattle.orc_bundle.proofs.WrittenPreamble.{head_read, header_kept}
 use Rattle.orc_bundle.proofs.WrittenLines.{IsText, lines_of_joined, plain_line, plain_lines}
 use Rattle.orc_bundle.proofs.WrittenSteps.{steps_read}
-use Rattle.orc_bundle.proofs.WrittenTexts.{clean_append, data_clean, devices_clean, is_clean, steps_clean}
+use Rattle.orc_bundle.proofs.WrittenTexts.{clean_append, data_clean, devices_clean, is_clean, steps_clean, steps_spell}
 
 -- lines and their bytes
 
@@ -69,15 +71,15 @@ in_script h devices puts = record (at_data h devices puts) { section = section.S
 
 declarations_read : (h : Preamble) (kind : ℕ → List ℕ) (decls : Decls) (line : List ℕ) (later : List (List ℕ)) → IsLineOf (codes "script") line
     → IsDistinct is_same_text (names_of decls.devices) → length decls.devices ≤ MOST_DEVICES → AreKnown h kind decls.devices
-    → list_all (is_data_item h.data_schema) decls.data ≡ true → is_opening (at_data h decls.devices decls.data) ≡ true
+    → list_all (is_data_item h.data_schema) decls.data ≡ true → list_all (λ (put : Put). not (is_served h.services put.path)) decls.data ≡ true → is_opening (at_data h decls.devices decls.data) ≡ true
     → Fronts (preamble_alone h) (declared_lines kind decls) (in_script h decls.devices decls.data) line later
-declarations_read h kind decls line later script distinct few known items opens =
+declarations_read h kind decls line later script distinct few known items apart opens =
     let devices = decls.devices in
     let puts = decls.data in
     let e = in_script h devices puts in
     let lines = map data_line puts in
     let front = script_line (at_data h devices puts) line later refl refl opens script in
-    let found = devices_read h e line later kind [] devices (lines ++ []) distinct few known (data_lines_read h e line later devices [] puts [] items front) in
+    let found = devices_read h e line later kind [] devices (lines ++ []) distinct few known (data_lines_read h e line later devices [] puts [] items apart front) in
     subst (λ (ts : List (List ℕ)). Fronts (preamble_alone h) ts e line later) (ap (λ (ts : List (List ℕ)). flat_map (device_lines kind) devices ++ ts) (append-nil lines)) found
 
 -- what is made of a front and of the steps behind it
@@ -101,6 +103,9 @@ module _ (b : Bundle) (h : Preamble) (kind : ℕ → List ℕ) (is : IsBundle b)
   pub items_good : list_all (is_data_item h.data_schema) b.decls.data ≡ true
   items_good = subst (λ (s : SchemaTable). list_all (is_data_item s) b.decls.data ≡ true) under.data_model is.decls.items
 
+  pub items_apart : list_all (λ (put : Put). not (is_served h.services put.path)) b.decls.data ≡ true
+  items_apart = subst (λ (lists : List ServiceList). list_all (λ (put : Put). not (is_served lists put.path)) b.decls.data ≡ true) under.services is.decls.served
+
   -- what is declared in front of its script
   abbrev pub front_declared : Declared
   front_declared = record (in_script h b.decls.devices b.decls.data) { names = b.decls.names }
@@ -111,14 +116,22 @@ module _ (b : Bundle) (h : Preamble) (kind : ℕ → List ℕ) (is : IsBundle b)
     named = is.decls.named;
   }
 
-  -- the same declarations under the schemas that are read
-  abbrev read_decls : List SchemaTable → SchemaTable → Decls
-  read_decls ss s = record b.decls { schemas = ss; data_schema = s }
+  -- the same declarations with the schemas, the lists of services and the table of devices that are read
+  abbrev read_decls : List SchemaTable → SchemaTable → List ServiceList → DeviceTable → Decls
+  read_decls ss s lists table = record b.decls { schemas = ss; data_schema = s; services = lists; table = table }
+
+  abbrev pub table_with : List (List ℕ) → List SchemaTable → DeviceTable
+  table_with ns ss = record { names = ns; schemas = ss; of = map (λ (d : Device). d.schema) b.decls.devices }
+
+  table_is : b.decls.table ≡ table_with b.decls.names h.schemas
+  table_is = is.decls.table ∙ ap (table_with b.decls.names) under.types
 
   pub steps_good : list_all (is_step (decls_with b.decls.text front_declared)) b.steps ≡ true
   steps_good =
-      subst (λ (s : SchemaTable). list_all (is_step (read_decls h.schemas s)) b.steps ≡ true) under.data_model
-      (subst (λ (ss : List SchemaTable). list_all (is_step (read_decls ss b.decls.data_schema)) b.steps ≡ true) under.types is.steps)
+      subst (λ (table : DeviceTable). list_all (is_step (read_decls h.schemas h.data_schema h.services table)) b.steps ≡ true) table_is
+      (subst (λ (lists : List ServiceList). list_all (is_step (read_decls h.schemas h.data_schema lists b.decls.table)) b.steps ≡ true) under.services
+      (subst (λ (s : SchemaTable). list_all (is_step (read_decls h.schemas s b.decls.services b.decls.table)) b.steps ≡ true) under.data_model
+      (subst (λ (ss : List SchemaTable). list_all (is_step (read_decls ss b.decls.data_schema b.decls.services b.decls.table)) b.steps ≡ true) under.types is.steps)))
 
   -- the opening data is valid, and each device accepts its base
   pub opens : is_opening (at_data h b.decls.devices b.decls.data) ≡ true
@@ -130,7 +143,7 @@ module _ (b : Bundle) (h : Preamble) (kind : ℕ → List ℕ) (is : IsBundle b)
       (ap (λ (o : Option Breach). is_none o) valid)
       (subst (λ (ss : List SchemaTable). list_all (accepts_base ss) b.decls.devices ≡ true) under.types is.decls.accepted)
 
-module _ (b : Bundle) (h : Preamble) (kind : ℕ → List ℕ) (head front : List (List ℕ)) (line : List ℕ) (later : List (List ℕ)) (is : IsBundle b) (starts : IsPreamble h head) (under : FollowPreamble h kind b.decls) (w : IsSpelling b kind head front line later) where
+module _ (b : Bundle) (h : Preamble) (kind : ℕ → List ℕ) (json : List ℕ → List Put → List ℕ) (head front : List (List ℕ)) (line : List ℕ) (later : List (List ℕ)) (is : IsBundle b) (starts : IsPreamble h head) (under : FollowPreamble h kind b.decls) (w : IsSpelling b kind json head front line later) where
   abbrev bytes : List ℕ
   bytes = concat (head ++ front ++ line ∷ later)
 
@@ -142,14 +155,14 @@ module _ (b : Bundle) (h : Preamble) (kind : ℕ → List ℕ) (head front : Lis
   size = 0 + bytes_of head + bytes_of front
 
   -- the line `script` and what stands behind it are lines too
-  behind : AreLinesOf (codes "script" ∷ script_lines b.decls.names b.steps) (line ∷ later)
-  behind = one (codes "script") line (script_lines b.decls.names b.steps) later w.script w.steps
+  behind : AreLinesOf (codes "script" ∷ script_lines json b.decls.names b.steps) (line ∷ later)
+  behind = one (codes "script") line (script_lines json b.decls.names b.steps) later w.script w.steps
 
   rest_lines : lines_of (concat front ++ concat (line ∷ later)) ≡ rest
   rest_lines =
       lines_of_joined (declared_lines kind b.decls) front (concat (line ∷ later)) w.declared
       ∙ ap (λ (x : List ℕ). front ++ lines_of x) (sym (append-nil (concat (line ∷ later))))
-      ∙ ap (λ (ls : List (List ℕ)). front ++ ls) (lines_of_joined (codes "script" ∷ script_lines b.decls.names b.steps) (line ∷ later) [] behind ∙ append-nil (line ∷ later))
+      ∙ ap (λ (ls : List (List ℕ)). front ++ ls) (lines_of_joined (codes "script" ∷ script_lines json b.decls.names b.steps) (line ∷ later) [] behind ∙ append-nil (line ∷ later))
 
   lines_are : lines_of bytes ≡ head ++ rest
   lines_are =
@@ -171,7 +184,7 @@ module _ (b : Bundle) (h : Preamble) (kind : ℕ → List ℕ) (head front : Lis
       ≡ Ok (record { declared = in_script h b.decls.devices b.decls.data; size = size; at = size + length line; number = k; later = later }))
   found =
       declarations_read h kind b.decls line later w.script (subst (λ (ns : List (List ℕ)). IsDistinct is_same_text ns) is.decls.named is.decls.distinct) is.decls.few (devices_known b h kind is under)
-      (items_good b h kind is under) (opens b h kind is under)
+      (items_good b h kind is under) (items_apart b h kind is under) (opens b h kind is under)
       front w.declared (0 + bytes_of head) (0 + length head) within
 
   abbrev parted : Front
@@ -190,7 +203,7 @@ module _ (b : Bundle) (h : Preamble) (kind : ℕ → List ℕ) (head front : Lis
       let small = within in
       let more = bytes_behind front (line ∷ later) in
       subst (λ (ns : List (List ℕ)). script_steps (record (in_script h b.decls.devices b.decls.data) { names = ns }) no_steps (size + length line) found.0 later ≡ Ok b.steps) is.decls.named
-      (steps_read b.decls.text (front_declared b h kind is under) (named b h kind is under) is.decls.distinct [] [] b.steps 0 (steps_good b h kind is under) is.settled (omega arith) is.callers later w.steps (size + length line) found.0 (omega arith))
+      (steps_read json b.decls.text (front_declared b h kind is under) (named b h kind is under) is.decls.distinct [] [] b.steps 0 (steps_good b h kind is under) (subst (λ (s : SchemaTable). AllByRecursion (SpellsStep s json) b.steps) under.data_model w.bodies) is.settled (omega arith) is.callers later w.steps (size + length line) found.0 (omega arith))
 
   text_kept : take size bytes ≡ b.decls.text
   text_kept =
@@ -211,11 +224,13 @@ module _ (b : Bundle) (h : Preamble) (kind : ℕ → List ℕ) (head front : Lis
       ap (λ (x : List ℕ). bundle_in x (lines_of x)) all_seen
       ∙ ap (λ (none : Bool). cond none (Err (1, header_rule (lines_of bytes))) (on_ok (declarations_of nothing_declared 0 0 (lines_of bytes)) (λ f. on_ok (script_of f) (with_steps bytes f)))) has_header
       ∙ with_front bytes (declarations_of nothing_declared 0 0 (lines_of bytes)) parted b.steps declared script_is
-      ∙ ap₂ (λ (text : List ℕ) (ns : List (List ℕ)). Ok (record { decls = record { text = text; names = ns; schemas = h.schemas; devices = b.decls.devices; data_schema = h.data_schema; «data» = b.decls.data }; steps = b.steps })) text_kept (sym is.decls.named)
-      ∙ ap₂ (λ (ss : List SchemaTable) (s : SchemaTable). Ok (record b { decls = read_decls b h kind is under ss s })) (sym under.types) (sym under.data_model)
+      ∙ ap₂ (λ (text : List ℕ) (ns : List (List ℕ)). Ok (record { decls = record { text = text; names = ns; schemas = h.schemas; devices = b.decls.devices; data_schema = h.data_schema; «data» = b.decls.data; services = h.services; table = table_with b h kind is under ns h.schemas }; steps = b.steps }))
+      text_kept (sym is.decls.named)
+      ∙ ap₂ (λ (ss : List SchemaTable) (s : SchemaTable). Ok (record b { decls = record b.decls { schemas = ss; data_schema = s; services = h.services; table = table_with b h kind is under b.decls.names ss } })) (sym under.types) (sym under.data_model)
+      ∙ ap₂ (λ (lists : List ServiceList) (table : DeviceTable). Ok (record b { decls = record b.decls { services = lists; table = table } })) (sym under.services) (sym is.decls.table)
 
 pub spelled_is_read : SpelledIsRead
-spelled_is_read b h kind head front line later is starts under w = again b h kind head front line later is starts under w
+spelled_is_read b h kind json head front line later is starts under w = again b h kind json head front line later is starts under w
 
 -- the plainest spelling
 
@@ -253,6 +268,7 @@ plainly : (b : Bundle) → IsBundle b → ArePlain b.decls → FollowPreamble ba
 plainly b is plain = record {
   types = plain.types;
   data_model = plain.data_model;
+  services = plain.services;
   kinds = plain_kinds b.decls.devices (subst (λ (ss : List SchemaTable). list_all (is_device ss) b.decls.devices ≡ true) plain.types is.decls.devices);
 }
 
@@ -271,18 +287,20 @@ written_is_read b is plain text small =
     let names = b.decls.names in
     let head = header_line ∷ [] in
     let front = map as_line (declared_lines plain_kind b.decls) in
-    let later = map as_line (script_lines names b.steps) in
+    let later = map as_line (script_lines no_json names b.steps) in
     let under = plainly b is plain in
     let declared = joined_lines (codes "orc 1" ∷ declared_lines plain_kind b.decls) in
     let bytes : concat (head ++ front ++ as_line (codes "script") ∷ later) ≡ bundle_text b =
     concat_joined (head ++ front) (as_line (codes "script") ∷ later)
-    ∙ ap₂ (λ (x y : List ℕ). x ++ y) declared (joined_lines (codes "script" ∷ script_lines names b.steps)) in
+    ∙ ap₂ (λ (x y : List ℕ). x ++ y) declared (joined_lines (codes "script" ∷ script_lines no_json names b.steps)) in
     subst (λ (x : List ℕ). bundle_of x ≡ Ok b) bytes
-    (again b bare_preamble plain_kind head front (as_line (codes "script")) later is bare under (record {
+    (again b bare_preamble plain_kind no_json head front (as_line (codes "script")) later is bare under (record {
       declared = plain_lines (declared_lines plain_kind b.decls) (declared_clean b is under);
       script = plain_line (codes "script") refl;
-      steps = plain_lines (script_lines names b.steps)
-          (steps_clean b.decls.text (front_declared b bare_preamble plain_kind is under) (named b bare_preamble plain_kind is under) b.steps (steps_good b bare_preamble plain_kind is under));
+      steps = plain_lines (script_lines no_json names b.steps)
+          (steps_clean b.decls.text (front_declared b bare_preamble plain_kind is under) (named b bare_preamble plain_kind is under) refl b.steps (steps_good b bare_preamble plain_kind is under));
+      bodies = subst (λ (s : SchemaTable). AllByRecursion (SpellsStep s no_json) b.steps) (sym under.data_model)
+          (steps_spell b.decls.text (front_declared b bare_preamble plain_kind is under) (named b bare_preamble plain_kind is under) refl b.steps (steps_good b bare_preamble plain_kind is under));
       text = text ∙ sym declared;
       small = subst (λ (x : List ℕ). length x ≤ LARGEST_BUNDLE) (sym bytes) small;
     }))

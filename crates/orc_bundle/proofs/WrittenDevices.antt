@@ -15,7 +15,7 @@ use Rattle.orc_call.specs.declared.call.Put.{Put}
 use Rattle.orc_state.specs.States.{is_same_text, names_of}
 use Rattle.orc_schema.specs.Schemas.{SchemaTable, node_at, path_names, plain_table}
 use Rattle.orc_typed.specs.Typed.{are_canonical_steps, stand}
-use Rattle.orc_state.specs.Calls.{device_named, is_data_item, is_forbid_rule, is_kept, is_list_path, has_entries, is_max_rule, is_put, schema_in, schema_named}
+use Rattle.orc_state.specs.Calls.{device_named, is_data_item, is_forbid_rule, is_kept, is_list_path, has_entries, is_max_rule, is_put, is_served, schema_in, schema_named}
 use Rattle.orc_state.specs.declared.declarations.Device.{Device}
 use Rattle.orc_state.specs.declared.declarations.TheConstants.{MOST_DEVICES}
 use Rattle.orc_state.specs.declared.rule.Rule.{Rule}
@@ -34,6 +34,8 @@ use Rattle.orc_lines.proofs.Rules.{ok}
 use Rattle.orc_bundle.proofs.Texts.{IsLawfulAt, IsLawfulName, IsWord, item_short, lawful_under, number_short, part_append, part_known, part_of_item, part_of_word, path_short, word_of_number, word_of_path}
 use Rattle.orc_bundle.proofs.WrittenItems.{forbidden_again, item_again, list_path_again}
 use Rattle.orc_bundle.proofs.WrittenLines.{IsText, cut_word, number_again}
+use Rattle.std.proofs.lemmas.Bool.{or_from}
+use Rattle.orc_services.specs.declared.list.ServiceList.{ServiceList}
 
 -- behind the preamble these devices are declared
 abbrev pub at_devices : Preamble → List Device → Declared
@@ -120,7 +122,7 @@ changed_declared h done d e devices named is =
 
 -- nothing is declared of them
 abbrev pub bare_preamble : Preamble
-bare_preamble = record { modules = []; statements = []; has_data = false; types = []; schemas = plain_table ∷ []; data_schema = built_in_schema }
+bare_preamble = record { modules = []; statements = []; has_data = false; types = []; schemas = plain_table ∷ []; data_schema = built_in_schema; templates = []; services = [] }
 
 pub header_read : (rest : List (List ℕ)) → after_text nothing_declared (codes "orc 1") rest ≡ Ok (preamble_alone bare_preamble)
 unfolding after_text after_header
@@ -190,7 +192,7 @@ base_read h done d put rest s l new own at =
     let item = item_text put.path put.item in
     let ident = l.identifier in
     let short = l.short in
-    let reads = item_again false s put.path put.item at refl in
+    let reads = item_again None s put.path put.item at refl in
     let place = place_behind_all done d new in
     ap (λ (x : List ℕ). base_words now (cut_at 32 x)) (append_assoc d.name (codes " ") item)
     ∙ ap (base_words now) (cut_word d.name item l.word)
@@ -324,13 +326,14 @@ data_text s put at =
     record { part = part_append (codes "data ") item (part_known (codes "data ") refl refl) (part_of_item put.path put.item lawful); kept = refl; short = omega arith }
 
 -- an item of the data that a line may name
-pub data_again : (s : SchemaTable) (put : Put) → is_data_item s put ≡ true → put_of true s false (item_text put.path put.item) ≡ Ok put
-data_again s put at =
+pub data_again : (lists : List ServiceList) (s : SchemaTable) (put : Put) → is_data_item s put ≡ true → is_served lists put.path ≡ false
+    → put_of (Some lists) s false (item_text put.path put.item) ≡ Ok put
+data_again lists s put at apart =
     let parts = and_parts (is_put s put) (not (is_kept put.path)) at in
-    item_again true s put.path put.item parts.0 (untrue (is_kept put.path) parts.1)
+    item_again (Some lists) s put.path put.item parts.0 (or_from (is_kept put.path) (is_served lists put.path) (untrue (is_kept put.path) parts.1) apart)
 
-pub data_read : (h : Preamble) (devices : List Device) (before : List Put) (put : Put) (rest : List (List ℕ)) → is_data_item h.data_schema put ≡ true
+pub data_read : (h : Preamble) (devices : List Device) (before : List Put) (put : Put) (rest : List (List ℕ)) → is_data_item h.data_schema put ≡ true → is_served h.services put.path ≡ false
     → after_text (at_data h devices before) (data_line put) rest ≡ Ok (at_data h devices (before ++ put ∷ []))
 unfolding after_text declaration keyword_of after_data
-data_read h devices before put rest at =
-    ap (λ (r : Result Put Rule). on_ok r (λ p. Ok (record (at_data h devices before) { «data» = before ++ p ∷ [] }))) (data_again h.data_schema put at)
+data_read h devices before put rest at apart =
+    ap (λ (r : Result Put Rule). on_ok r (λ p. Ok (record (at_data h devices before) { «data» = before ++ p ∷ [] }))) (data_again h.services h.data_schema put at apart)

@@ -19,14 +19,16 @@ use Rattle.orc_call.specs.declared.call.Put.{Put}
 use Rattle.orc_schema.specs.Schemas.{SchemaTable, kind_at_path, node_at, path_names}
 use Rattle.orc_typed.specs.Typed.{are_canonical_keys, are_canonical_steps, canonical_item, canonical_keys, canonical_path, canonical_steps, canonical_text, has_canonical_keys, is_canonical_text, is_canonical_value, is_in_schema, is_typed, kinds_at, stand}
 use Rattle.orc_typed.proofs.Kept.{own_of_typed}
-use Rattle.orc_state.specs.Calls.{blank_item, has_entries, is_data_path, is_item_at, is_item_under, is_kept, is_list_path, is_path_under}
-use Rattle.orc_lines.specs.Items.{can_carry, data_path_of, forbidden_of, forbidden_words, is_barred, is_past_path, is_past_value, item_words, leaf_of, list_path_of, names_list, put_of}
+use Rattle.orc_state.specs.Calls.{blank_item, has_entries, is_data_path, is_item_at, is_item_under, is_kept, is_list_path, is_path_under, is_served}
+use Rattle.orc_services.specs.Services.{list_with}
+use Rattle.orc_lines.specs.Items.{can_carry, data_path_of, forbidden_of, forbidden_words, is_barred, is_past_path, is_past_value, is_service_at, item_words, leaf_of, list_path_of, names_list, names_service, put_of, service_path_of}
 use Rattle.orc_lines.proofs.CanonicalItems.{carries_same}
 use Rattle.orc_script.specs.Places.{base_path_of, is_no_word, is_node_path, names_node, node_path_of}
 use Rattle.orc_lines.specs.Words.{cut_at}
 use Rattle.orc_lines.proofs.LinesOf.{untrue}
 use Rattle.orc_bundle.proofs.Texts.{IsLawfulAt, IsWord, lawful_at, lawful_value, word_of_path}
 use Rattle.orc_bundle.proofs.WrittenLines.{cut_alone, cut_word}
+use Rattle.orc_services.specs.declared.list.ServiceList.{ServiceList}
 
 not_zero : (n : ℕ) → 0 < n → nat_eq n 0 ≡ false
 not_zero n h = grind arith
@@ -104,8 +106,8 @@ own_at s p item h =
 abbrev pub put : List PathStep → Item → Put
 put p item = record { path = p; item = item }
 
-entry_again : (of_data : Bool) (s : SchemaTable) (p : List PathStep) → IsOwnAt s p Entry → is_barred of_data p ≡ false → put_of of_data s false (path_text p) ≡ Ok (put p Entry)
-entry_again of_data s p is free =
+entry_again : (lists : Option (List ServiceList)) (s : SchemaTable) (p : List PathStep) → IsOwnAt s p Entry → is_barred lists p ≡ false → put_of lists s false (path_text p) ≡ Ok (put p Entry)
+entry_again lists s p is free =
     let l = is.lawful in
     let some = path_some p in
     let kept = path_kept p l.path l.short in
@@ -114,15 +116,15 @@ entry_again of_data s p is free =
     let own = is.own in
     let own_item = is.own_item in
     let short = l.short in
-    ap (item_words of_data s false (path_text p)) (cut_alone (path_text p) (word_of_path p l.path))
+    ap (item_words lists s false (path_text p)) (cut_alone (path_text p) (word_of_path p l.path))
     ∙ rw some (rw kept (rw again (rw free (rw carries (rw own (rw own_item (rw short refl)))))))
 
 value_again : (v : List ℕ) → is_value v ≡ true → value_of (value_text v) ≡ Some v
 value_again v h = (values_are_read (value_text v) v).1 (h, refl)
 
-leaf_found : (of_data : Bool) (s : SchemaTable) (p : List PathStep) (v : List ℕ) → IsOwnAt s p (Leaf v) → is_barred of_data p ≡ false
-    → leaf_of of_data s false (path_text p) (value_text v) ≡ Ok (put p (Leaf v))
-leaf_found of_data s p v is free =
+leaf_found : (lists : Option (List ServiceList)) (s : SchemaTable) (p : List PathStep) (v : List ℕ) → IsOwnAt s p (Leaf v) → is_barred lists p ≡ false
+    → leaf_of lists s false (path_text p) (value_text v) ≡ Ok (put p (Leaf v))
+leaf_found lists s p v is free =
     let l = is.lawful in
     let some = path_some p in
     let value = lawful_value v l.lawful in
@@ -142,26 +144,27 @@ leaf_cut : (p : List PathStep) (v : List ℕ) → is_path p ≡ true → cut_at 
 leaf_cut p v is = ap (cut_at 32) (append_assoc (path_text p) (codes " = ") (value_text v)) ∙ cut_word (path_text p) (61 ∷ 32 ∷ value_text v) (word_of_path p is)
 
 -- an item and where it stands
-pub item_again : (of_data : Bool) (s : SchemaTable) (p : List PathStep) (item : Item) → is_item_under s p item ≡ true → is_barred of_data p ≡ false
-    → put_of of_data s false (item_text p item) ≡ Ok (put p item)
-item_again of_data s p Entry h free = entry_again of_data s p (own_at s p Entry h) free
-item_again of_data s p (Leaf v) h free =
+pub item_again : (lists : Option (List ServiceList)) (s : SchemaTable) (p : List PathStep) (item : Item) → is_item_under s p item ≡ true → is_barred lists p ≡ false
+    → put_of lists s false (item_text p item) ≡ Ok (put p item)
+item_again lists s p Entry h free = entry_again lists s p (own_at s p Entry h) free
+item_again lists s p (Leaf v) h free =
     let is = own_at s p (Leaf v) h in
-    ap (item_words of_data s false (item_text p (Leaf v))) (leaf_cut p v is.lawful.path) ∙ leaf_found of_data s p v is free
+    ap (item_words lists s false (item_text p (Leaf v))) (leaf_cut p v is.lawful.path) ∙ leaf_found lists s p v is free
 
 -- a leaf, and a text that it may not have
 pub forbidden_again : (s : SchemaTable) (p : List PathStep) (v : List ℕ) → is_item_under s p (Leaf v) ≡ true → forbidden_of s false (item_text p (Leaf v)) ≡ Ok (p, v)
 unfolding forbidden_of
 forbidden_again s p v h =
     let is = own_at s p (Leaf v) h in
-    let found = leaf_found false s p v is refl in
+    let found = leaf_found None s p v is refl in
     ap (forbidden_words s false) (leaf_cut p v is.lawful.path) ∙ rw found refl
 
 -- paths
 
 -- one of the data that can carry an item
-pub data_path_again : (s : SchemaTable) (p : List PathStep) → is_data_path s p ≡ true → data_path_of s (path_text p) ≡ Ok p
-data_path_again s p h =
+pub data_path_again : (lists : List ServiceList) (s : SchemaTable) (p : List PathStep) → is_data_path s p ≡ true → is_served lists p ≡ false
+    → data_path_of lists s (path_text p) ≡ Ok p
+data_path_again lists s p h apart =
     let two = and_parts (is_path_under s p) (not (is_kept p)) h in
     let one = and_parts (is_item_at p (blank_item p)) (is_in_schema s p (blank_item p) && (s.plain || are_canonical_steps s [] p)) two.0 in
     let parts = and_parts (is_in_schema s p (blank_item p)) (s.plain || are_canonical_steps s [] p) one.1 in
@@ -169,10 +172,28 @@ data_path_again s p h =
     let some = path_some p in
     let kept = path_kept p l.path l.short in
     let again = path_of_text p l.path in
-    let free = untrue (is_kept p) two.1 in
+    let free = or_from (is_kept p) (is_served lists p) (untrue (is_kept p) two.1) apart in
     let carries : can_carry s p (blank_item p) ≡ true = and_from (fits p (blank_item p)) (is_in_schema s p (blank_item p)) l.fit parts.0 in
     let own = path_own s p parts.1 in
     rw some (rw kept (rw again (rw free (rw carries (rw own (rw h refl))))))
+
+-- the entry of a service
+pub service_path_again : (lists : List ServiceList) (s : SchemaTable) (p : List PathStep) → is_data_path s p ≡ true → is_some (list_with lists p) ≡ true
+    → service_path_of lists s (path_text p) ≡ Ok p
+service_path_again lists s p h listed =
+    let two = and_parts (is_path_under s p) (not (is_kept p)) h in
+    let one = and_parts (is_item_at p (blank_item p)) (is_in_schema s p (blank_item p) && (s.plain || are_canonical_steps s [] p)) two.0 in
+    let parts = and_parts (is_in_schema s p (blank_item p)) (s.plain || are_canonical_steps s [] p) one.1 in
+    let l = lawful_at p (blank_item p) one.0 in
+    let some = path_some p in
+    let kept = path_kept p l.path l.short in
+    let again = path_of_text p l.path in
+    let carries : can_carry s p (blank_item p) ≡ true = and_from (fits p (blank_item p)) (is_in_schema s p (blank_item p)) l.fit parts.0 in
+    let names : names_service lists s p ≡ true =
+    and_from (is_some (list_with lists p)) (not (is_kept p) && can_carry s p (blank_item p)) listed (and_from (not (is_kept p)) (can_carry s p (blank_item p)) two.1 carries) in
+    let at : is_service_at lists s p ≡ true = and_from (is_data_path s p) (is_some (list_with lists p)) h listed in
+    let own = path_own s p parts.1 in
+    rw some (rw kept (rw again (rw names (rw own (rw at refl)))))
 
 -- one of a list
 pub list_path_again : (s : SchemaTable) (p : List PathStep) → is_list_path s p ≡ true → list_path_of s false (path_text p) ≡ Ok p

@@ -5,7 +5,7 @@ use Rattle.std.specs.Cmp.Lexicographic.{bytes_decides}
 use Rattle.std.proofs.lemmas.Bool.{and_parts, lt-leb, lt-ltb, ltb-true, false≢true}
 use Rattle.orc_call.specs.declared.call.Call.{Call}
 use Rattle.orc_call.specs.declared.call.TheConstants.{MOST_ACTIONS}
-use Rattle.orc_state.specs.Actions.{name_each_once}
+use Rattle.orc_state.specs.Actions.{services_once}
 use Rattle.orc_state.specs.States.{is_same_text, name_of}
 use Rattle.orc_state.specs.Calls.{is_action, is_call, is_lawful_name, schema_named}
 use Rattle.orc_state.specs.declared.declarations.Decls.{Decls}
@@ -19,7 +19,8 @@ use Rattle.orc_lines.specs.Names.{is_among, place_of, with_name}
 use Rattle.orc_script.specs.Scripts.{a_step, after_call, after_step, call_words, is_caller_more, is_followed, words_at}
 use Rattle.orc_script.specs.Places.{is_node_path}
 use Rattle.orc_lines.specs.Words.{cut_at, is_text}
-use Rattle.orc_bundle.specs.Written.{AreLinesOf, lines_of_action, step_lines}
+use Rattle.orc_call.specs.declared.call.Put.{Put}
+use Rattle.orc_bundle.specs.Written.{AreLinesOf, SpellsStep, lines_of_action, step_lines}
 use Rattle.orc_script.specs.declared.step.ScriptStep.{ScriptStep}
 use Rattle.orc_script.specs.declared.step.ScriptStep.TheVariants.{Show, Json, Meta, Data, Serve, Settle, Stop, StopAt, Recover, History}
 use Rattle.orc_script.specs.declared.script.Script.{Script}
@@ -92,7 +93,7 @@ pub record IsKnown (decls : Decls) (call : Call) : Type 0 where
   pub some : nat_eq (length call.actions) 0 ≡ false
   pub few : length call.actions ≤ MOST_ACTIONS
   pub actions : list_all (is_action decls) call.actions ≡ true
-  pub once : name_each_once call.actions ≡ true
+  pub once : services_once call.actions ≡ true
 
 not_none : (n : ℕ) → nat_le 1 n ≡ true → nat_eq n 0 ≡ false
 not_none n h = grind arith
@@ -104,11 +105,11 @@ pub known : (decls : Decls) (call : Call) → is_call decls call ≡ true → Is
 known decls call h =
     let count = nat_le 1 (length call.actions) && nat_le (length call.actions) MOST_ACTIONS in
     let named = is_lawful_name call.caller && nat_lt call.number (2 ^ 64) in
-    let all = and_parts (named && count) (list_all (is_action decls) call.actions && name_each_once call.actions) h in
+    let all = and_parts (named && count) (list_all (is_action decls) call.actions && services_once call.actions) h in
     let front = and_parts named count all.0 in
     let one = and_parts (is_lawful_name call.caller) (nat_lt call.number (2 ^ 64)) front.0 in
     let two = and_parts (nat_le 1 (length call.actions)) (nat_le (length call.actions) MOST_ACTIONS) front.1 in
-    let three = and_parts (list_all (is_action decls) call.actions) (name_each_once call.actions) all.1 in
+    let three = and_parts (list_all (is_action decls) call.actions) (services_once call.actions) all.1 in
     record {
       caller = lawful_name call.caller one.0;
       number = ltb-true call.number (2 ^ 64) one.1;
@@ -121,20 +122,20 @@ known decls call h =
 is_the_end : (line : List ℕ) → text_of line ≡ codes "end" → is_end line ≡ true
 is_the_end line says = ap (λ (t : List ℕ). is_text t (codes "end")) says
 
-serve_lines : (text : List ℕ) (d : Declared) (callers : List (List ℕ)) (done : List ScriptStep) (before : ℕ) (call : Call) (rest : List (List ℕ)) (r : Result (List ScriptStep) (ℕ × Rule))
-    → AreNamed d → length done < MOST_STEPS → is_call (decls_with text d) call ≡ true → length (with_name callers call.caller) ≤ MOST_CALLERS
+serve_lines : (json : List ℕ → List Put → List ℕ) (text : List ℕ) (d : Declared) (callers : List (List ℕ)) (done : List ScriptStep) (before : ℕ) (call : Call) (rest : List (List ℕ)) (r : Result (List ScriptStep) (ℕ × Rule))
+    → AreNamed d → length done < MOST_STEPS → is_call (decls_with text d) call ≡ true → SpellsStep d.data_schema json (Serve call) → length (with_name callers call.caller) ≤ MOST_CALLERS
     → ((later : List (List ℕ)) → AreLinesOf rest later → is_settled later ≡ true)
     → Ends d (resting (with_name callers call.caller) (done ++ Serve call ∷ []) call.number) rest r
-    → Ends d (resting callers done before) (step_lines d.names (Serve call) ++ rest) r
-serve_lines text d callers done before call rest r names few is most settled behind =
+    → Ends d (resting callers done before) (step_lines json d.names (Serve call) ++ rest) r
+serve_lines json text d callers done before call rest r names few is spells most settled behind =
     let k = known (decls_with text d) call is in
-    let actions = flat_map lines_of_action call.actions in
+    let actions = flat_map (lines_of_action json) call.actions in
     let more = actions ++ codes "end" ∷ rest in
     let line = codes "call " ++ call.caller ++ codes " " ++ decimal call.number in
     subst (λ (ts : List (List ℕ)). Ends d (resting callers done before) (line ∷ ts) r) (sym (append_assoc actions (codes "end" ∷ []) rest))
     (call_line d callers done before call.caller call.number more r few k.caller k.number most
     (λ later are. among more later (codes "end") is_end are is_the_end (contained_behind actions (codes "end" ∷ rest) (codes "end") (inl refl)))
-    (call_read (with_name callers call.caller) done call.caller call.number text d call.actions rest r names k.actions k.once k.few k.some settled behind))
+    (call_read (with_name callers call.caller) done call.caller call.number json text d call.actions rest r names k.actions spells k.once k.few k.some settled behind))
 
 -- the devices' names
 
@@ -185,22 +186,22 @@ callers_more callers (StopAt count bytes ∷ steps) = callers_more callers steps
 callers_more callers (Recover ∷ steps) = callers_more callers steps
 callers_more callers (History ∷ steps) = callers_more callers steps
 
-settled_lines : (names : List (List ℕ)) (steps : List ScriptStep) → begins_settled steps ≡ true
-    → (later : List (List ℕ)) → AreLinesOf (flat_map (step_lines names) steps) later → is_settled later ≡ true
-settled_lines names [] h later are = absurd (false≢true h)
-settled_lines names (Settle ∷ steps) h later are = settled_first (flat_map (step_lines names) steps) later are
-settled_lines names (Serve call ∷ steps) h later are = absurd (false≢true h)
-settled_lines names (Show device ∷ steps) h later are = absurd (false≢true h)
-settled_lines names (Json device ∷ steps) h later are = absurd (false≢true h)
-settled_lines names (Meta device path ∷ steps) h later are = absurd (false≢true h)
-settled_lines names (Data ∷ steps) h later are = absurd (false≢true h)
-settled_lines names (Stop ∷ steps) h later are = absurd (false≢true h)
-settled_lines names (StopAt count bytes ∷ steps) h later are = absurd (false≢true h)
-settled_lines names (Recover ∷ steps) h later are = absurd (false≢true h)
-settled_lines names (History ∷ steps) h later are = absurd (false≢true h)
+settled_lines : (json : List ℕ → List Put → List ℕ) (names : List (List ℕ)) (steps : List ScriptStep) → begins_settled steps ≡ true
+    → (later : List (List ℕ)) → AreLinesOf (flat_map (step_lines json names) steps) later → is_settled later ≡ true
+settled_lines json names [] h later are = absurd (false≢true h)
+settled_lines json names (Settle ∷ steps) h later are = settled_first (flat_map (step_lines json names) steps) later are
+settled_lines json names (Serve call ∷ steps) h later are = absurd (false≢true h)
+settled_lines json names (Show device ∷ steps) h later are = absurd (false≢true h)
+settled_lines json names (Json device ∷ steps) h later are = absurd (false≢true h)
+settled_lines json names (Meta device path ∷ steps) h later are = absurd (false≢true h)
+settled_lines json names (Data ∷ steps) h later are = absurd (false≢true h)
+settled_lines json names (Stop ∷ steps) h later are = absurd (false≢true h)
+settled_lines json names (StopAt count bytes ∷ steps) h later are = absurd (false≢true h)
+settled_lines json names (Recover ∷ steps) h later are = absurd (false≢true h)
+settled_lines json names (History ∷ steps) h later are = absurd (false≢true h)
 
 -- the rest of the steps
-module _ (text : List ℕ) (d : Declared) (known_names : AreNamed d) (distinct : IsDistinct is_same_text d.names) where
+module _ (json : List ℕ → List Put → List ℕ) (text : List ℕ) (d : Declared) (known_names : AreNamed d) (distinct : IsDistinct is_same_text d.names) where
   abbrev names : List (List ℕ)
   names = d.names
 
@@ -208,7 +209,7 @@ module _ (text : List ℕ) (d : Declared) (known_names : AreNamed d) (distinct :
   is_one = is_step (decls_with text d)
 
   abbrev lines : List ScriptStep → List (List ℕ)
-  lines steps = flat_map (step_lines d.names) steps
+  lines steps = flat_map (step_lines json d.names) steps
 
   moved : (s : Script) (done : List ScriptStep) (step : ScriptStep) (steps : List ScriptStep) → Ends d s (lines steps) (Ok ((done ++ step ∷ []) ++ steps)) → Ends d s (lines steps) (Ok (done ++ step ∷ steps))
   moved s done step steps h = subst (λ (all : List ScriptStep). Ends d s (lines steps) (Ok all)) (append_assoc done (step ∷ []) steps) h
@@ -217,55 +218,55 @@ module _ (text : List ℕ) (d : Declared) (known_names : AreNamed d) (distinct :
   next done step steps h = let size = length-append done (step ∷ []) in omega arith
 
   pub steps_read : (callers : List (List ℕ)) (done todo : List ScriptStep) (number : ℕ)
-      → list_all is_one todo ≡ true → are_settled todo ≡ true → length done + length todo ≤ MOST_STEPS → length (callers_behind callers todo) ≤ MOST_CALLERS
+      → list_all is_one todo ≡ true → AllByRecursion (SpellsStep d.data_schema json) todo → are_settled todo ≡ true → length done + length todo ≤ MOST_STEPS → length (callers_behind callers todo) ≤ MOST_CALLERS
       → Ends d (resting callers done number) (lines todo) (Ok (done ++ todo))
-  steps_read callers done [] number all settled few most =
+  steps_read callers done [] number all spells settled few most =
       subst (λ (steps : List ScriptStep). Ends d (resting callers done number) [] (Ok steps)) (sym (append-nil done)) (no_line d (resting callers done number))
-  steps_read callers done (Show device ∷ steps) number all settled few most =
+  steps_read callers done (Show device ∷ steps) number all spells settled few most =
       let parts = and_parts (is_one (Show device)) (list_all is_one steps) all in
       let within = ltb-true device (length names) parts.0 in
       show_line d callers done number (lines steps) (Ok (done ++ Show device ∷ steps)) (omega arith) (name_of names device) device
       (lawful_name (name_of names device) (name_lawful names device known_names.lawful within)) (place_again names device distinct within)
-      (moved _ done (Show device) steps (steps_read callers (done ++ Show device ∷ []) steps number parts.1 settled (next done (Show device) steps few) most))
-  steps_read callers done (Json device ∷ steps) number all settled few most =
+      (moved _ done (Show device) steps (steps_read callers (done ++ Show device ∷ []) steps number parts.1 spells.1 settled (next done (Show device) steps few) most))
+  steps_read callers done (Json device ∷ steps) number all spells settled few most =
       let parts = and_parts (is_one (Json device)) (list_all is_one steps) all in
       let typed = (schema_named d.schemas d.devices (name_of names device)).plain in
       let fits = and_parts (nat_lt device (length names)) (not typed) parts.0 in
       let within = ltb-true device (length names) fits.0 in
       json_line d callers done number (lines steps) (Ok (done ++ Json device ∷ steps)) (omega arith) (name_of names device) device
       (lawful_name (name_of names device) (name_lawful names device known_names.lawful within)) (place_again names device distinct within) (untrue typed fits.1)
-      (moved _ done (Json device) steps (steps_read callers (done ++ Json device ∷ []) steps number parts.1 settled (next done (Json device) steps few) most))
-  steps_read callers done (Meta device path ∷ steps) number all settled few most =
+      (moved _ done (Json device) steps (steps_read callers (done ++ Json device ∷ []) steps number parts.1 spells.1 settled (next done (Json device) steps few) most))
+  steps_read callers done (Meta device path ∷ steps) number all spells settled few most =
       let parts = and_parts (is_one (Meta device path)) (list_all is_one steps) all in
       let fits = and_parts (nat_lt device (length names)) (is_node_path (schema_named d.schemas d.devices (name_of names device)) path) parts.0 in
       let within = ltb-true device (length names) fits.0 in
       meta_line d callers done number (lines steps) (Ok (done ++ Meta device path ∷ steps)) (omega arith) (name_of names device) device path
       (lawful_name (name_of names device) (name_lawful names device known_names.lawful within)) (place_again names device distinct within) fits.1
-      (moved _ done (Meta device path) steps (steps_read callers (done ++ Meta device path ∷ []) steps number parts.1 settled (next done (Meta device path) steps few) most))
-  steps_read callers done (Data ∷ steps) number all settled few most =
+      (moved _ done (Meta device path) steps (steps_read callers (done ++ Meta device path ∷ []) steps number parts.1 spells.1 settled (next done (Meta device path) steps few) most))
+  steps_read callers done (Data ∷ steps) number all spells settled few most =
       data_line d callers done number (lines steps) (Ok (done ++ Data ∷ steps)) (omega arith)
-      (moved _ done Data steps (steps_read callers (done ++ Data ∷ []) steps number all settled (next done Data steps few) most))
-  steps_read callers done (Serve call ∷ steps) number all settled few most =
+      (moved _ done Data steps (steps_read callers (done ++ Data ∷ []) steps number all spells.1 settled (next done Data steps few) most))
+  steps_read callers done (Serve call ∷ steps) number all spells settled few most =
       let parts = and_parts (is_one (Serve call)) (list_all is_one steps) all in
       let two = and_parts (begins_settled steps) (are_settled steps) settled in
       let now = with_name callers call.caller in
       let grows = callers_more now steps in
-      serve_lines text d callers done number call (lines steps) (Ok (done ++ Serve call ∷ steps)) known_names (omega arith) parts.0 (omega arith) (settled_lines names steps two.0)
-      (moved _ done (Serve call) steps (steps_read now (done ++ Serve call ∷ []) steps call.number parts.1 two.1 (next done (Serve call) steps few) most))
-  steps_read callers done (Settle ∷ steps) number all settled few most =
+      serve_lines json text d callers done number call (lines steps) (Ok (done ++ Serve call ∷ steps)) known_names (omega arith) parts.0 spells.0 (omega arith) (settled_lines json names steps two.0)
+      (moved _ done (Serve call) steps (steps_read now (done ++ Serve call ∷ []) steps call.number parts.1 spells.1 two.1 (next done (Serve call) steps few) most))
+  steps_read callers done (Settle ∷ steps) number all spells settled few most =
       settle_line d callers done number (lines steps) (Ok (done ++ Settle ∷ steps)) (omega arith)
-      (moved _ done Settle steps (steps_read callers (done ++ Settle ∷ []) steps number all settled (next done Settle steps few) most))
-  steps_read callers done (Stop ∷ steps) number all settled few most =
+      (moved _ done Settle steps (steps_read callers (done ++ Settle ∷ []) steps number all spells.1 settled (next done Settle steps few) most))
+  steps_read callers done (Stop ∷ steps) number all spells settled few most =
       stop_line d callers done number (lines steps) (Ok (done ++ Stop ∷ steps)) (omega arith)
-      (moved _ done Stop steps (steps_read callers (done ++ Stop ∷ []) steps number all settled (next done Stop steps few) most))
-  steps_read callers done (StopAt count bytes ∷ steps) number all settled few most =
+      (moved _ done Stop steps (steps_read callers (done ++ Stop ∷ []) steps number all spells.1 settled (next done Stop steps few) most))
+  steps_read callers done (StopAt count bytes ∷ steps) number all spells settled few most =
       let parts = and_parts (is_one (StopAt count bytes)) (list_all is_one steps) all in
       let fit = and_parts (nat_lt count (2 ^ 64)) (nat_lt bytes (2 ^ 64)) parts.0 in
       stop_at_line d callers done number (lines steps) (Ok (done ++ StopAt count bytes ∷ steps)) (omega arith) count bytes (ltb-true count (2 ^ 64) fit.0) (ltb-true bytes (2 ^ 64) fit.1)
-      (moved _ done (StopAt count bytes) steps (steps_read callers (done ++ StopAt count bytes ∷ []) steps number parts.1 settled (next done (StopAt count bytes) steps few) most))
-  steps_read callers done (Recover ∷ steps) number all settled few most =
+      (moved _ done (StopAt count bytes) steps (steps_read callers (done ++ StopAt count bytes ∷ []) steps number parts.1 spells.1 settled (next done (StopAt count bytes) steps few) most))
+  steps_read callers done (Recover ∷ steps) number all spells settled few most =
       recover_line d callers done number (lines steps) (Ok (done ++ Recover ∷ steps)) (omega arith)
-      (moved _ done Recover steps (steps_read callers (done ++ Recover ∷ []) steps number all settled (next done Recover steps few) most))
-  steps_read callers done (History ∷ steps) number all settled few most =
+      (moved _ done Recover steps (steps_read callers (done ++ Recover ∷ []) steps number all spells.1 settled (next done Recover steps few) most))
+  steps_read callers done (History ∷ steps) number all spells settled few most =
       history_line d callers done number (lines steps) (Ok (done ++ History ∷ steps)) (omega arith)
-      (moved _ done History steps (steps_read callers (done ++ History ∷ []) steps number all settled (next done History steps few) most))
+      (moved _ done History steps (steps_read callers (done ++ History ∷ []) steps number all spells.1 settled (next done History steps few) most))

@@ -1,7 +1,8 @@
 -- No line of a written bundle has a line feed or a carriage return.
-use Rattle.std.proofs.Common.{◌≡◌, ℕ, ◌^◌, Bool, true, not, ◌&&◌, List, [], ◌∷◌, ◌++◌, codes, length, map, refl, ◌∙◌, nat_le, nat_lt, decimal}
-use Rattle.std.specs.List.{flat_map, list_all}
-use Rattle.std.proofs.lemmas.Bool.{and_parts, and_from, ltb-true}
+use Rattle.std.proofs.Common.{◌≡◌, ℕ, ◌^◌, Bool, true, false, not, ◌&&◌, ◌||◌, List, [], ◌∷◌, ◌++◌, codes, length, map, refl, ap, sym, ◌∙◌, nat_le, nat_lt, decimal, Option, Some, None, is_some}
+use Rattle.std.specs.Option.{option_map_or}
+use Rattle.std.specs.List.{AllByRecursion, flat_map, list_all}
+use Rattle.std.proofs.lemmas.Bool.{and_parts, and_from, false≢true, ltb-true}
 use Rattle.std.proofs.lemmas.List.Folds.{list_all-append}
 use Rattle.orc_path.specs.Items.{item_text}
 use Rattle.orc_path.specs.Steps.{PathStep}
@@ -12,7 +13,10 @@ use Rattle.orc_call.specs.declared.call.DevicePut.{DevicePut}
 use Rattle.orc_call.specs.declared.call.Put.{Put}
 use Rattle.orc_state.specs.States.{name_of}
 use Rattle.orc_schema.specs.Schemas.{SchemaTable}
-use Rattle.orc_state.specs.Calls.{is_action, is_data_item, is_forbid_rule, is_lawful_name, is_max_rule, is_put, is_write, schema_in, schema_named}
+use Rattle.orc_path.specs.Reading.{path_of}
+use Rattle.orc_services.specs.Services.{list_with}
+use Rattle.orc_services.specs.declared.list.ServiceList.{ServiceList}
+use Rattle.orc_state.specs.Calls.{has_body, is_data_path, is_served, is_service, is_service_path, is_action, is_data_item, is_forbid_rule, is_lawful_name, is_max_rule, is_put, is_write, schema_in, schema_named}
 use Rattle.orc_state.specs.declared.declarations.Decls.{Decls}
 use Rattle.orc_state.specs.declared.declarations.Device.{Device}
 use Rattle.orc_state.specs.declared.lawful.TheConstants.{MOST_WRITES}
@@ -20,7 +24,7 @@ use Rattle.orc_lines.specs.Lawful.{decls_with}
 use Rattle.orc_script.specs.Steps.{is_step}
 use Rattle.orc_lines.specs.declared.declared.Declared.{Declared}
 use Rattle.orc_bundle.specs.Laws.{Preamble}
-use Rattle.orc_bundle.specs.Written.{base_line, data_line, device_lines, forbid_line, line_of_write, lines_of_action, max_line, step_lines}
+use Rattle.orc_bundle.specs.Written.{SpellsAction, SpellsStep, base_line, data_line, device_lines, forbid_line, line_of_write, lines_of_action, max_line, no_json, step_lines}
 use Rattle.orc_script.specs.declared.step.ScriptStep.{ScriptStep}
 use Rattle.orc_script.specs.declared.step.ScriptStep.TheVariants.{Show, Json, Meta, Data, Serve, Settle, Stop, StopAt, Recover, History}
 use Rattle.orc_bundle.proofs.Texts.{IsLawfulName, is_line_byte, lawful_name, lawful_under}
@@ -32,6 +36,14 @@ use Rattle.orc_bundle.proofs.WrittenItems.{node_known}
 use Rattle.orc_bundle.proofs.WrittenLines.{IsText}
 use Rattle.orc_bundle.proofs.WrittenScript.{json_text, meta_text, show_text, stop_at_text}
 use Rattle.orc_bundle.proofs.WrittenSteps.{call_text, known, name_lawful}
+
+and_false : (b : Bool) → (b && false) ≡ false
+and_false true = refl
+and_false false = refl
+
+or_false : (a b : Bool) → b ≡ false → (a || b) ≡ true → a ≡ true
+or_false true b h k = refl
+or_false false b h k = absurd (false≢true (sym h ∙ k))
 
 abbrev pub is_clean : List ℕ → Bool
 is_clean t = list_all is_line_byte t
@@ -82,7 +94,8 @@ data_clean s (put ∷ puts) h =
     let parts = and_parts (is_data_item s put) (list_all (is_data_item s) puts) h in
     clean_more (data_line put) (map data_line puts) (data_text s put parts.0) (data_clean s puts parts.1)
 
-module _ (text : List ℕ) (d : Declared) (known_names : AreNamed d) where
+-- where no list has a template
+module _ (text : List ℕ) (d : Declared) (known_names : AreNamed d) (unserved : d.services ≡ []) where
   abbrev decls : Decls
   decls = decls_with text d
 
@@ -93,17 +106,37 @@ module _ (text : List ℕ) (d : Declared) (known_names : AreNamed d) where
       let one = write_known text d w known_names parts.0 in
       clean_more (line_of_write w) (map line_of_write ws) (write_text w one.device one.at) (writes_clean ws parts.1)
 
-  action_clean : (a : Action) → is_action decls a ≡ true → list_all is_clean (lines_of_action a) ≡ true
+  no_service : (id : List ℕ) → is_service decls id ≡ false
+  no_service id = on (path_of id)
+    where
+      none : (p : List PathStep) → (is_data_path d.data_schema p && is_some (list_with d.services p)) ≡ false
+      none p = ap (λ (lists : List ServiceList). is_data_path d.data_schema p && is_some (list_with lists p)) unserved ∙ and_false (is_data_path d.data_schema p)
+
+      on : (o : Option (List PathStep)) → option_map_or (is_service_path decls) o false ≡ false
+      on None = refl
+      on (Some p) = none p
+
+  -- no action names a service of a list
+  not_served : (id : List ℕ) → is_service decls id ≡ true → ⊥
+  not_served id h = false≢true (sym (no_service id) ∙ h)
+
+  action_clean : (a : Action) → is_action decls a ≡ true → list_all is_clean (lines_of_action no_json a) ≡ true
   action_clean (action.Literal id writes) h =
       let two = and_parts (is_lawful_name id && nat_le (length writes) MOST_WRITES) (list_all (is_write decls) writes) h in
       let one = and_parts (is_lawful_name id) (nat_le (length writes) MOST_WRITES) two.0 in
       clean_more (codes "literal " ++ id) (map line_of_write writes) (literal_text id (lawful_name id one.0)) (writes_clean writes two.1)
-  action_clean (action.Delete id) h = clean_more (codes "delete " ++ id) [] (delete_text id (lawful_name id h)) refl
-  action_clean (action.Create id body) h = refl
-  action_clean (action.Modify id body) h = refl
-  action_clean (action.Redeploy id) h = refl
-  action_clean (action.Set put) h = clean_more (codes "set " ++ item_text put.path put.item) [] (set_text d.data_schema put h) refl
-  action_clean (action.Unset path) h = clean_more (codes "unset " ++ path_text path) [] (unset_text d.data_schema path h) refl
+  action_clean (action.Delete id) h =
+      let name = or_false (is_lawful_name id) (is_service decls id) (no_service id) h in
+      clean_more (codes "delete " ++ id) [] (delete_text id (lawful_name id name)) refl
+  action_clean (action.Create id body) h = absurd (not_served id (and_parts (is_service decls id) (has_body decls id body) h).0)
+  action_clean (action.Modify id body) h = absurd (not_served id (and_parts (is_service decls id) (has_body decls id body) h).0)
+  action_clean (action.Redeploy id) h = absurd (not_served id h)
+  action_clean (action.Set put) h =
+      let item = (and_parts (is_data_item d.data_schema put) (not (is_served d.services put.path)) h).0 in
+      clean_more (codes "set " ++ item_text put.path put.item) [] (set_text d.data_schema put item) refl
+  action_clean (action.Unset path) h =
+      let named = (and_parts (is_data_path d.data_schema path) (not (is_served d.services path)) h).0 in
+      clean_more (codes "unset " ++ path_text path) [] (unset_text d.data_schema path named) refl
   action_clean (action.BasePut w) h =
       let k = write_known text d w known_names h in
       clean_more (codes "base " ++ w.device ++ codes " " ++ item_text w.path w.item) [] (base_text w.device (record { path = w.path; item = w.item }) k.device k.at) refl
@@ -111,13 +144,13 @@ module _ (text : List ℕ) (d : Declared) (known_names : AreNamed d) where
       let k = base_path_known text d name path known_names h in
       clean_more (codes "unbase " ++ name ++ codes " " ++ path_text path) [] (unbase_text (schema_named d.schemas d.devices name) name path k.device k.under) refl
 
-  actions_clean : (actions : List Action) → list_all (is_action decls) actions ≡ true → list_all is_clean (flat_map lines_of_action actions) ≡ true
+  actions_clean : (actions : List Action) → list_all (is_action decls) actions ≡ true → list_all is_clean (flat_map (lines_of_action no_json) actions) ≡ true
   actions_clean [] h = refl
   actions_clean (a ∷ ys) h =
       let parts = and_parts (is_action decls a) (list_all (is_action decls) ys) h in
-      clean_append (lines_of_action a) (flat_map lines_of_action ys) (action_clean a parts.0) (actions_clean ys parts.1)
+      clean_append (lines_of_action no_json a) (flat_map (lines_of_action no_json) ys) (action_clean a parts.0) (actions_clean ys parts.1)
 
-  step_clean : (step : ScriptStep) → is_step decls step ≡ true → list_all is_clean (step_lines d.names step) ≡ true
+  step_clean : (step : ScriptStep) → is_step decls step ≡ true → list_all is_clean (step_lines no_json d.names step) ≡ true
   step_clean (Show device) h =
       let within = ltb-true device (length d.names) h in
       clean_more (codes "show " ++ name_of d.names device) [] (show_text (name_of d.names device) (lawful_name (name_of d.names device) (name_lawful d.names device known_names.lawful within))) refl
@@ -135,7 +168,7 @@ module _ (text : List ℕ) (d : Declared) (known_names : AreNamed d) where
   step_clean Data h = refl
   step_clean (Serve call) h =
       let k = known decls call h in
-      let actions = flat_map lines_of_action call.actions in
+      let actions = flat_map (lines_of_action no_json) call.actions in
       clean_more (codes "call " ++ call.caller ++ codes " " ++ decimal call.number) (actions ++ codes "end" ∷ []) (call_text call.caller call.number k.caller k.number)
       (clean_append actions (codes "end" ∷ []) (actions_clean call.actions k.actions) refl)
   step_clean Settle h = refl
@@ -146,8 +179,30 @@ module _ (text : List ℕ) (d : Declared) (known_names : AreNamed d) where
   step_clean Recover h = refl
   step_clean History h = refl
 
-  pub steps_clean : (steps : List ScriptStep) → list_all (is_step decls) steps ≡ true → list_all is_clean (flat_map (step_lines d.names) steps) ≡ true
+  -- no body is spelled
+  action_spells : (a : Action) → is_action decls a ≡ true → SpellsAction d.data_schema no_json a
+  action_spells (action.Create id body) h = absurd (not_served id (and_parts (is_service decls id) (has_body decls id body) h).0)
+  action_spells (action.Modify id body) h = absurd (not_served id (and_parts (is_service decls id) (has_body decls id body) h).0)
+  action_spells other h = tt
+
+  actions_spell : (actions : List Action) → list_all (is_action decls) actions ≡ true → AllByRecursion (SpellsAction d.data_schema no_json) actions
+  actions_spell [] h = tt
+  actions_spell (a ∷ ys) h =
+      let parts = and_parts (is_action decls a) (list_all (is_action decls) ys) h in
+      (action_spells a parts.0, actions_spell ys parts.1)
+
+  step_spells : (step : ScriptStep) → is_step decls step ≡ true → SpellsStep d.data_schema no_json step
+  step_spells (Serve call) h = actions_spell call.actions (known decls call h).actions
+  step_spells other h = tt
+
+  pub steps_spell : (steps : List ScriptStep) → list_all (is_step decls) steps ≡ true → AllByRecursion (SpellsStep d.data_schema no_json) steps
+  steps_spell [] h = tt
+  steps_spell (step ∷ steps) h =
+      let parts = and_parts (is_step decls step) (list_all (is_step decls) steps) h in
+      (step_spells step parts.0, steps_spell steps parts.1)
+
+  pub steps_clean : (steps : List ScriptStep) → list_all (is_step decls) steps ≡ true → list_all is_clean (flat_map (step_lines no_json d.names) steps) ≡ true
   steps_clean [] h = refl
   steps_clean (step ∷ steps) h =
       let parts = and_parts (is_step decls step) (list_all (is_step decls) steps) h in
-      clean_append (step_lines d.names step) (flat_map (step_lines d.names) steps) (step_clean step parts.0) (steps_clean steps parts.1)
+      clean_append (step_lines no_json d.names step) (flat_map (step_lines no_json d.names) steps) (step_clean step parts.0) (steps_clean steps parts.1)

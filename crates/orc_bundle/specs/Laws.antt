@@ -5,6 +5,8 @@ use Rattle.std.specs.List.{concat, list_all}
 use Rattle.std.specs.Option.{option_map_or}
 use Rattle.std.specs.Str.{is_utf8}
 use Rattle.orc_yang.specs.declared.statement.Stmt.{Stmt}
+use Rattle.orc_call.specs.declared.call.Put.{Put}
+use Rattle.orc_services.specs.declared.list.ServiceList.{ServiceList}
 use Rattle.orc_schema.specs.Schemas.{SchemaTable, plain_table}
 use Rattle.orc_state.specs.Calls.{is_lawful_name}
 use Rattle.orc_state.specs.declared.declarations.Decls.{Decls}
@@ -57,7 +59,7 @@ SkippedLinesChangeNothing =
     → lacks_header (before ++ after) ≡ false → length longer ≤ LARGEST_BUNDLE
     → meaning_of (bundle_of longer) ≡ moved_behind (length before) (meaning_of (bundle_of bytes))
 
--- What is declared of modules, types of devices and the data schema.
+-- What is declared of modules, types of devices, the data schema and templates.
 pub record Preamble : Type 0 where
   pub modules : List (List ℕ)
   pub statements : List Stmt
@@ -65,6 +67,8 @@ pub record Preamble : Type 0 where
   pub types : List (List ℕ)
   pub schemas : List SchemaTable
   pub data_schema : SchemaTable
+  pub templates : List (List ℕ)
+  pub services : List ServiceList
 
 -- these are declared, and no device and no data
 abbrev pub preamble_alone : Preamble → Declared
@@ -80,6 +84,8 @@ preamble_alone preamble = record {
   devices = [];
   data_schema = preamble.data_schema;
   «data» = [];
+  templates = preamble.templates;
+  services = preamble.services;
 }
 
 -- What lines make of what was declared, none of which is the line `script`; so many bytes stand in front of them.
@@ -101,26 +107,28 @@ abbrev pub is_kind : Preamble → (ℕ → List ℕ) → Device → Bool
 is_kind preamble kind device = is_lawful_name (kind device.schema)
     && option_map_or (nat_eq device.schema) (schema_place (preamble_alone preamble) (kind device.schema)) false
 
--- the schemas are those of the preamble, and each device is of a kind that it declares
+-- the schemas and the lists of services are those of the preamble, and each device is of a kind that it declares
 pub record FollowPreamble (preamble : Preamble) (kind : ℕ → List ℕ) (decls : Decls) : Type 0 where
   pub types : decls.schemas ≡ preamble.schemas
   pub data_model : decls.data_schema ≡ preamble.data_schema
+  pub services : decls.services ≡ preamble.services
   pub kinds : IsTrue (list_all (is_kind preamble kind) decls.devices)
 
 -- Each spelling of a bundle is read as that bundle, behind any lines that declare modules, types of devices and the
 -- data schema: with comments and empty lines put in, and with carriage returns before line feeds.
 abbrev pub SpelledIsRead : Type 0
 SpelledIsRead =
-    (bundle : Bundle) (preamble : Preamble) (kind : ℕ → List ℕ) (head front : List (List ℕ)) (line : List ℕ)
-    (later : List (List ℕ))
+    (bundle : Bundle) (preamble : Preamble) (kind : ℕ → List ℕ) (json : List ℕ → List Put → List ℕ)
+    (head front : List (List ℕ)) (line : List ℕ) (later : List (List ℕ))
     → IsBundle bundle → IsPreamble preamble head → FollowPreamble preamble kind bundle.decls
-    → IsSpelling bundle kind head front line later
+    → IsSpelling bundle kind json head front line later
     → bundle_of (concat (head ++ front ++ line ∷ later)) ≡ Ok bundle
 
 -- No type is declared, so that each device is a plain one, and no `datamodel`: the text of modules is kept nowhere.
 pub record ArePlain (decls : Decls) : Type 0 where
   pub types : decls.schemas ≡ plain_table ∷ []
   pub data_model : decls.data_schema ≡ built_in_schema
+  pub services : decls.services ≡ []
 
 -- The text of a bundle that declares no modules, in the plainest spelling, is read as that bundle.
 abbrev pub WrittenIsRead : Type 0

@@ -1,14 +1,18 @@
 -- The lines that spell a bundle.
-use Rattle.std.specs.Prelude.{ℕ, ◌≤◌, ◌≡◌, true, not, ◌==◌, List, [], ◌∷◌, ◌++◌, codes, length, map}
+use Rattle.std.specs.Prelude.{ℕ, ◌≤◌, ◌≡◌, true, false, not, ◌&&◌, ◌==◌, nat_eq, List, [], ◌∷◌, ◌++◌, codes, length, map}
 use Rattle.std.specs.Fmt.{decimal}
-use Rattle.std.specs.List.{concat, flat_map, list_all}
+use Rattle.std.specs.List.{AllByRecursion, concat, flat_map, list_all}
+use Rattle.std.specs.declared.option.Option.TheVariants.{Some}
+use Rattle.orc_path.specs.Reading.{path_of}
+use Rattle.orc_schema.specs.Schemas.{SchemaTable}
+use Rattle.orc_script.specs.Bodies.{body_of}
 use Rattle.std.specs.Str.{is_utf8}
 use Rattle.orc_path.specs.Items.{item_text}
 use Rattle.orc_path.specs.Steps.{PathStep}
 use Rattle.orc_path.specs.Texts.{path_text}
 use Rattle.orc_path.specs.declared.item.Item.TheVariants.{Leaf}
 use Rattle.orc_call.specs.declared.call.Action.{Action}
-use Rattle.orc_call.specs.declared.call.Action.TheVariants.{Literal, Delete, Set, Unset, BasePut, BaseRemove}
+use Rattle.orc_call.specs.declared.call.Action.TheVariants.{Create, Modify, Redeploy, Literal, Delete, Set, Unset, BasePut, BaseRemove}
 use Rattle.orc_call.specs.declared.call.DevicePut.{DevicePut}
 use Rattle.orc_call.specs.declared.call.Put.{Put}
 use Rattle.orc_state.specs.States.{name_of}
@@ -48,37 +52,59 @@ data_line put = codes "data " ++ item_text put.path put.item
 abbrev pub line_of_write : DevicePut → List ℕ
 line_of_write write = codes "write " ++ write.device ++ codes " " ++ item_text write.path write.item
 
--- an action; the other kinds are not built yet
-abbrev pub lines_of_action : Action → List (List ℕ)
-lines_of_action (Literal id writes) = (codes "literal " ++ id) ∷ map line_of_write writes
-lines_of_action (Delete id) = (codes "delete " ++ id) ∷ []
-lines_of_action (Set put) = (codes "set " ++ item_text put.path put.item) ∷ []
-lines_of_action (Unset path) = (codes "unset " ++ path_text path) ∷ []
-lines_of_action (BasePut put) = (codes "base " ++ put.device ++ codes " " ++ item_text put.path put.item) ∷ []
-lines_of_action (BaseRemove device path) = (codes "unbase " ++ device ++ codes " " ++ path_text path) ∷ []
-lines_of_action other = []
+-- an action; `json` says how its line writes a service's body
+abbrev pub lines_of_action : (List ℕ → List Put → List ℕ) → Action → List (List ℕ)
+lines_of_action json (Create id body) = (codes "create " ++ id ++ codes " " ++ json id body) ∷ []
+lines_of_action json (Modify id body) = (codes "modify " ++ id ++ codes " " ++ json id body) ∷ []
+lines_of_action json (Redeploy id) = (codes "redeploy " ++ id) ∷ []
+lines_of_action json (Literal id writes) = (codes "literal " ++ id) ∷ map line_of_write writes
+lines_of_action json (Delete id) = (codes "delete " ++ id) ∷ []
+lines_of_action json (Set put) = (codes "set " ++ item_text put.path put.item) ∷ []
+lines_of_action json (Unset path) = (codes "unset " ++ path_text path) ∷ []
+lines_of_action json (BasePut put) = (codes "base " ++ put.device ++ codes " " ++ item_text put.path put.item) ∷ []
+lines_of_action json (BaseRemove device path) = (codes "unbase " ++ device ++ codes " " ++ path_text path) ∷ []
 
 -- a step of the script, where these devices are declared
-abbrev pub step_lines : List (List ℕ) → ScriptStep → List (List ℕ)
-step_lines names (Show device) = (codes "show " ++ name_of names device) ∷ []
-step_lines names (Json device) = (codes "json " ++ name_of names device) ∷ []
-step_lines names (Meta device path) = (codes "meta " ++ name_of names device ++ codes " " ++ path_text path) ∷ []
-step_lines names Data = codes "data" ∷ []
-step_lines names (Serve call) =
+abbrev pub step_lines : (List ℕ → List Put → List ℕ) → List (List ℕ) → ScriptStep → List (List ℕ)
+step_lines json names (Show device) = (codes "show " ++ name_of names device) ∷ []
+step_lines json names (Json device) = (codes "json " ++ name_of names device) ∷ []
+step_lines json names (Meta device path) = (codes "meta " ++ name_of names device ++ codes " " ++ path_text path) ∷ []
+step_lines json names Data = codes "data" ∷ []
+step_lines json names (Serve call) =
     (codes "call " ++ call.caller ++ codes " " ++ decimal call.number)
-    ∷ flat_map lines_of_action call.actions ++ codes "end" ∷ []
-step_lines names Settle = codes "settle" ∷ []
-step_lines names Stop = codes "stop" ∷ []
-step_lines names (StopAt count bytes) = (codes "stop " ++ decimal count ++ codes " " ++ decimal bytes) ∷ []
-step_lines names Recover = codes "recover" ∷ []
-step_lines names History = codes "history" ∷ []
+    ∷ flat_map (lines_of_action json) call.actions ++ codes "end" ∷ []
+step_lines json names Settle = codes "settle" ∷ []
+step_lines json names Stop = codes "stop" ∷ []
+step_lines json names (StopAt count bytes) = (codes "stop " ++ decimal count ++ codes " " ++ decimal bytes) ∷ []
+step_lines json names Recover = codes "recover" ∷ []
+step_lines json names History = codes "history" ∷ []
 
 -- the declarations behind those of modules, types and the data schema
 abbrev pub declared_lines : (ℕ → List ℕ) → Decls → List (List ℕ)
 declared_lines kind decls = flat_map (device_lines kind) decls.devices ++ map data_line decls.data
 
-abbrev pub script_lines : List (List ℕ) → List ScriptStep → List (List ℕ)
-script_lines names steps = flat_map (step_lines names) steps
+abbrev pub script_lines : (List ℕ → List Put → List ℕ) → List (List ℕ) → List ScriptStep → List (List ℕ)
+script_lines json names steps = flat_map (step_lines json names) steps
+
+-- bodies
+
+-- A text without line feeds and carriage returns is a body of the service of this id, and no line with it is too long.
+pub record SpellsBody (schema : SchemaTable) (id : List ℕ) (body : List Put) (text : List ℕ) : Type 0 where
+  pub alone : list_all (λ byte. not (byte == 10) && not (byte == 13)) text ≡ true
+  pub some : nat_eq (length text) 0 ≡ false
+  pub utf8 : is_utf8 text ≡ true
+  pub short : length (codes "create " ++ id ++ codes " " ++ text) ≤ LONGEST_LINE
+  pub read : (entry : List PathStep) → path_of id ≡ Some entry → body_of schema entry text ≡ Some body
+
+-- each body of a script is spelled so
+abbrev pub SpellsAction : SchemaTable → (List ℕ → List Put → List ℕ) → Action → Type 0
+SpellsAction schema json (Create id body) = SpellsBody schema id body (json id body)
+SpellsAction schema json (Modify id body) = SpellsBody schema id body (json id body)
+SpellsAction schema json other = Unit {0}
+
+abbrev pub SpellsStep : SchemaTable → (List ℕ → List Put → List ℕ) → ScriptStep → Type 0
+SpellsStep schema json (Serve call) = AllByRecursion (SpellsAction schema json) call.actions
+SpellsStep schema json other = Unit {0}
 
 -- spellings
 
@@ -98,14 +124,15 @@ pub data AreLinesOf : List (List ℕ) → List (List ℕ) → Type 0 where
       → is_skipped text ≡ true → is_utf8 text ≡ true → length text ≤ LONGEST_LINE
       → AreLinesOf texts lines → AreLinesOf texts (line ∷ lines)
 
--- Behind lines that declare modules, types and the data schema, these are the lines of the other declarations, the
--- line `script`, and those of the script. The text of the declarations is that of their lines, and all keep the limit
--- of a bundle.
-pub record IsSpelling (bundle : Bundle) (kind : ℕ → List ℕ) (head front : List (List ℕ)) (line : List ℕ)
-    (later : List (List ℕ)) : Type 0 where
+-- Behind lines that declare modules, types, the data schema and templates, these are the lines of the other
+-- declarations, the line `script`, and those of the script. The text of the declarations is that of their lines, and
+-- all keep the limit of a bundle. Each body is spelled as a JSON text.
+pub record IsSpelling (bundle : Bundle) (kind : ℕ → List ℕ) (json : List ℕ → List Put → List ℕ)
+    (head front : List (List ℕ)) (line : List ℕ) (later : List (List ℕ)) : Type 0 where
   pub declared : AreLinesOf (declared_lines kind bundle.decls) front
   pub script : IsLineOf (codes "script") line
-  pub steps : AreLinesOf (script_lines bundle.decls.names bundle.steps) later
+  pub steps : AreLinesOf (script_lines json bundle.decls.names bundle.steps) later
+  pub bodies : AllByRecursion (SpellsStep bundle.decls.data_schema json) bundle.steps
   pub text : bundle.decls.text ≡ concat (head ++ front)
   pub small : length (concat (head ++ front ++ line ∷ later)) ≤ LARGEST_BUNDLE
 
@@ -118,10 +145,14 @@ text_of_lines texts = flat_map as_line texts
 abbrev pub plain_kind : ℕ → List ℕ
 plain_kind place = codes "plain"
 
+-- where no service of a list is named
+abbrev pub no_json : List ℕ → List Put → List ℕ
+no_json id body = []
+
 -- where no modules are declared
 abbrev pub declared_text : Bundle → List ℕ
 declared_text bundle = text_of_lines (codes "orc 1" ∷ declared_lines plain_kind bundle.decls)
 
 abbrev pub bundle_text : Bundle → List ℕ
 bundle_text bundle =
-    declared_text bundle ++ text_of_lines (codes "script" ∷ script_lines bundle.decls.names bundle.steps)
+    declared_text bundle ++ text_of_lines (codes "script" ∷ script_lines no_json bundle.decls.names bundle.steps)

@@ -1,5 +1,5 @@
 //! Reading of a bundle.
-ghost use Rattle.std.specs.Prelude.{◌≡◌, ◌<◌, ◌≤◌, ◌+◌, ◌*◌, ◌^◌, IfOk, OnOk, length};
+ghost use Rattle.std.specs.Prelude.{◌≡◌, ◌<◌, ◌≤◌, ◌+◌, ◌*◌, ◌^◌, IfOk, OnOk, length, map};
 ghost use Rattle.std.specs.List.{IsDistinct};
 ghost use Rattle.orc_state.specs.States.{is_same_text};
 ghost use Rattle.orc_lines.specs.Lines.{lines_of, seen};
@@ -8,13 +8,16 @@ ghost use Rattle.orc_declarations.specs.Declarations.{nothing_declared};
 ghost use Rattle.orc_lines.specs.Answers.{Gives};
 ghost use Rattle.orc_lines.specs.Work.{most_work};
 ghost use Rattle.orc_lines.specs.declared.lines.TheConstants.{LARGEST_BUNDLE};
+ghost use Rattle.orc_lines.specs.Lawful.{AreDeclared, decls_in};
 
 use crate::bundle::Bundle;
 use orc_declarations::{nothing_declared, read_declarations};
 use orc_io::Steps;
-use orc_lines::{Names, first_line, is_large, lacks_header, line_text, read_text, seen};
+use orc_lines::{Declared, Names, first_line, is_large, lacks_header, line_text, read_text, seen};
+use orc_schema::Schema;
 use orc_script::read_steps;
-use orc_state::{BundleFault, Decls, Rule};
+use orc_state::{BundleFault, Decls, Device, Rule};
+use orc_template::Devices;
 use orc_text::{Memory, Row, Text};
 use std::alloc::Global;
 use std::marker::Brand;
@@ -37,6 +40,43 @@ fn row_of(alloc: Global, names: &Names) -> Result<Row<Text>, Memory>
         row.push(name.copy(alloc)?)?;
     }
     Ok(row)
+}
+
+// The places of the devices' schemas.
+fn places_of(alloc: Global, devices: &[Device]) -> Result<Row<u32>, Memory>
+    ensures { IfOk result (λ places. places ≡ map (λ device. device.schema) devices.now) }
+{
+    let mut places = Row::new(alloc);
+    for device in devices {
+        places.push(device.schema)?;
+    }
+    Ok(places)
+}
+
+// Equal schemas.
+fn copies_of(alloc: Global, schemas: &[Schema]) -> Result<Row<Schema>, Memory>
+    ensures { IfOk result (λ copies. copies ≡ schemas.now) }
+{
+    let mut copies = Row::new(alloc);
+    for schema in schemas {
+        copies.push(schema.copy(alloc)?)?;
+    }
+    Ok(copies)
+}
+
+// The devices as expansions take them.
+fn table_of(alloc: Global, declared: &Declared) -> Result<Devices, Memory>
+    requires { AreDeclared declared.now }
+    ensures { IfOk result (λ table. table ≡ (decls_in declared.now).table) }
+{
+    let names = row_of(alloc, &declared.names)?;
+    let schemas = copies_of(alloc, declared.schemas.as_slice())?;
+    let places = places_of(alloc, declared.devices.as_slice())?;
+    match Devices::of_parts(names, schemas, places) {
+        Some(table) => Ok(table),
+        // Names differ, and each device has the place of a schema.
+        None => unreachable!(),
+    }
 }
 
 // The rule that line 1 breaks where no line is the header.
@@ -82,6 +122,7 @@ fn read_seen<L: Ledger, M: Ledger>(
     let behind = read_declarations(alloc, bytes, &mut declared, steps, work)?;
     let text = text_of(alloc, &bytes[..behind.size])?;
     let names = row_of(alloc, &declared.names)?;
+    let table = table_of(alloc, &declared)?;
     let script = read_steps(
         alloc,
         &declared,
@@ -99,6 +140,8 @@ fn read_seen<L: Ledger, M: Ledger>(
             devices: declared.devices,
             data_schema: declared.data_schema,
             data: declared.data,
+            services: declared.services,
+            table,
         },
         steps: script,
     })
@@ -150,7 +193,8 @@ pub fn read_bundle(alloc: Global, bytes: &[u8]) -> Result<Bundle, BundleFault>
 /// their hashes, a look through the 64 actions at most of an open call for the service of a line, one
 /// look at the names of a block's statements for their lengths, and one copy of the declarations' bytes.
 ///
-/// What isn't bounded by the bytes is claimed nowhere: what the schema of modules costs, since each
+/// What isn't bounded by the bytes is claimed nowhere: what the JSON of a template or of a service's body
+/// costs, each of which is read once; what the schema of modules costs, since each
 /// line `datamodel` or `devicetype` copies the statements that it names, and groupings that use one
 /// another double the nodes with each statement; nor, where the declarations end, whether the opening
 /// data and each base are valid.

@@ -53,6 +53,9 @@ device_more d name place known lawful within few =
           (and_from (is_lawful_name name) (nat_lt place (length d.schemas)) lawful (lt-ltb place (length d.schemas) within)) refl);
       few = omega arith;
       items = known.items;
+      served = known.served;
+      services = known.services;
+      apart = known.apart;
       sound = known.sound;
     }
 
@@ -96,6 +99,9 @@ type_more d name schema known sound =
       devices = devices_kept d.schemas schema d.devices known.devices;
       few = known.few;
       items = known.items;
+      served = known.served;
+      services = known.services;
+      apart = known.apart;
       sound = All-push IsSound d.schemas schema known.sound sound;
     }
 

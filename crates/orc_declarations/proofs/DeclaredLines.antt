@@ -1,5 +1,5 @@
 -- What a line of declarations makes of what was declared so far.
-use Rattle.std.proofs.Common.{◌≡◌, ℕ, ◌<◌, ◌-◌, Bool, true, false, not, ◌&&◌, ◌||◌, nat_le, nat_lt, cond, List, [], ◌∷◌, ◌++◌, codes, length, Result, Ok, Err, Option, Some, None, refl, ap, sym, ◌∙◌, subst, lt-ltb, eqb-true}
+use Rattle.std.proofs.Common.{◌≡◌, ℕ, ◌<◌, ◌-◌, Bool, true, false, not, ◌&&◌, ◌||◌, nat_eq, nat_le, nat_lt, cond, List, [], ◌∷◌, ◌++◌, codes, length, Result, Ok, Err, Option, Some, None, refl, ap, sym, ◌∙◌, subst, lt-ltb, eqb-true}
 use Rattle.std.specs.Str.{is_utf8}
 use Rattle.std.proofs.lemmas.Bool.{false≢true}
 use Rattle.orc_path.specs.Alphabet.{is_identifier}
@@ -8,8 +8,10 @@ use Rattle.orc_state.specs.Calls.{schema_named}
 use Rattle.orc_state.specs.declared.declarations.TheConstants.{MOST_DEVICES}
 use Rattle.orc_state.specs.declared.rule.Rule.{Rule}
 use Rattle.orc_state.specs.declared.rule.Rule.TheVariants as rule
-use Rattle.orc_declarations.specs.Declarations.{is_script, after_base, after_data, after_datamodel, after_device, after_devicetype, after_forbid, after_header, after_max, after_rule, after_script, after_text, after_yang, bare_declaration, base_words, block_size, declaration, declaration_words, declared_at, device_words, is_header, is_taken, lines_taken, max_words, rule_kind, rule_line, schema_place, schema_words, taken_by, type_words, with_base, with_device, with_forbid, with_max, with_module, with_type, words_take}
-use Rattle.orc_lines.specs.Items.{forbidden_of, list_path_of, put_of}
+use Rattle.orc_declarations.specs.Declarations.{is_script, after_base, after_data, after_datamodel, after_device, after_devicetype, after_forbid, after_header, after_max, after_rule, after_script, after_template, after_text, after_yang, bare_declaration, base_words, block_size, count_in, declaration, declaration_words, declared_at, device_words, is_header, is_taken, lines_taken, max_words, rule_kind, rule_line, is_listed_already, is_template_of, may_be_served, schema_place, schema_words, taken_by, template_count, template_line, template_words, type_words, with_template, with_base, with_device, with_forbid, with_max, with_module, with_type, words_take}
+use Rattle.orc_lines.specs.Items.{forbidden_of, is_past_path, list_path_of, put_of}
+use Rattle.orc_path.specs.Reading.{path_of}
+use Rattle.std.specs.Option.{option_and_then}
 use Rattle.orc_lines.specs.Keywords.{keyword_of}
 use Rattle.orc_lines.specs.Lines.{block_of, is_large, is_skipped, text_of}
 use Rattle.orc_declarations.specs.Modules.{module_of}
@@ -66,7 +68,7 @@ module _ (d e : Declared) (text : List ℕ) (later : List (List ℕ)) (none : d.
     unfolding after_datamodel taken_by
     of_datamodel is h =
         let one = on_ok_ok (schema_words d (words_of words.1) (with_name (words_of words.1) (codes "orc")) d.has_data) _ e h in
-        keeps keyword.Datamodel is refl (record d { has_data = true; data_schema = one.0; «data» = [] }) refl refl one.1.1
+        keeps keyword.Datamodel is refl (record d { has_data = true; data_schema = one.0; «data» = []; templates = []; services = [] }) refl refl one.1.1
 
     of_type : keyword_of words.0 ≡ keyword.Devicetype → (names : List (List ℕ)) → type_words d names ≡ Ok e → Declares d text e
     unfolding taken_by
@@ -81,7 +83,7 @@ module _ (d e : Declared) (text : List ℕ) (later : List (List ℕ)) (none : d.
     of_base is None h = absurd (no_ok rule.Line e h)
     of_base is (Some names) h =
         let one = passed (not (is_identifier names.0)) rule.Line _ e h in
-        let two = on_ok_ok (put_of false (schema_named d.schemas d.devices names.0) (is_long_name names.0) names.1) _ e one.1 in
+        let two = on_ok_ok (put_of None (schema_named d.schemas d.devices names.0) (is_long_name names.0) names.1) _ e one.1 in
         let three = or_rule_ok (place_of d.names names.0) rule.Unknown (λ n. Ok (record d { devices = with_base n two.0 d.devices })) e two.1.1 in
         keeps keyword.Base is refl (record d { devices = with_base three.0 two.0 d.devices }) refl refl three.1.1
 
@@ -121,7 +123,7 @@ module _ (d e : Declared) (text : List ℕ) (later : List (List ℕ)) (none : d.
     of_data : keyword_of words.0 ≡ keyword.Data → after_data d words.1 ≡ Ok e → Declares d text e
     unfolding after_data taken_by
     of_data is h =
-        let one = on_ok_ok (put_of true d.data_schema false words.1) (λ put. Ok (record d { «data» = d.data ++ put ∷ [] })) e h in
+        let one = on_ok_ok (put_of (Some d.services) d.data_schema false words.1) (λ put. Ok (record d { «data» = d.data ++ put ∷ [] })) e h in
         keeps keyword.Data is refl (record d { «data» = d.data ++ one.0 ∷ [] }) refl refl one.1.1
 
     of_yang : keyword_of words.0 ≡ keyword.Yang → after_yang d words.1 later ≡ Ok e → Declares d text e
@@ -136,8 +138,36 @@ module _ (d e : Declared) (text : List ℕ) (later : List (List ℕ)) (none : d.
         declared here (sym (ap (λ (x : Declared). x.section) same) ∙ here)
         (sym (ap (λ (x : Declared). x.skip) same) ∙ sym (takes keyword.Yang is ∙ ap block_size one.1.0)) no_script
 
+    -- the list and its template, behind the name
+    of_list : keyword_of words.0 ≡ keyword.Template → (name : List ℕ) (front : List ℕ × List ℕ) → cut_at 32 words.1 ≡ Some front
+        → (o : Option (List ℕ × List ℕ)) → cut_at 32 front.1 ≡ o → template_line d name later o ≡ Ok e → Declares d text e
+    unfolding taken_by
+    of_list is name front first None second h = absurd (no_ok rule.Line e h)
+    of_list is name front first (Some parts) second h =
+        let one = or_rule_ok (number_in parts.1) rule.Line _ e h in
+        let two = passed (nat_eq (length parts.0) 0) rule.Line _ e one.1.1 in
+        let three = passed (is_long_name name || is_past_path (path_of parts.0)) rule.Size _ e two.1 in
+        let four = or_rule_ok (block_of one.0 later) rule.Line _ e three.1 in
+        let five = or_rule_ok (path_of parts.0) rule.Path _ e four.1.1 in
+        let after : Declared = with_template d one.0 name (record { list = five.0; template = four.0 }) in
+        let six = passed (not (may_be_served d five.0)) rule.Path _ e five.1.1 in
+        let seven = passed (is_among d.templates name || is_listed_already d five.0) rule.Duplicate _ e six.1 in
+        let eight = passed (not (is_template_of d.data_schema five.0 four.0)) rule.Template (Ok after) e seven.1 in
+        let same = same_ok after e eight.1 in
+        let count : template_count words.1 ≡ Some one.0 =
+        ap (λ (o : Option (List ℕ × List ℕ)). count_in (option_and_then (λ (ws : List ℕ × List ℕ). cut_at 32 ws.1) o)) first
+        ∙ ap count_in second ∙ one.1.0 in
+        declared here (sym (ap (λ (x : Declared). x.section) same) ∙ here)
+        (sym (ap (λ (x : Declared). x.skip) same) ∙ sym (takes keyword.Template is ∙ ap block_size count)) no_script
+
+    of_template : keyword_of words.0 ≡ keyword.Template → (o : Option (List ℕ × List ℕ)) → cut_at 32 words.1 ≡ o → template_words d later o ≡ Ok e → Declares d text e
+    of_template is None first h = absurd (no_ok rule.Line e h)
+    of_template is (Some front) first h =
+        let one = passed (not (is_identifier front.0)) rule.Line _ e h in
+        of_list is front.0 front first (cut_at 32 front.1) refl one.1
+
     of_words : (k : Keyword) → keyword_of words.0 ≡ k → declaration k d words.1 later ≡ Ok e → Declares d text e
-    unfolding declaration after_device after_devicetype after_base after_rule
+    unfolding declaration after_device after_devicetype after_base after_rule after_template
     of_words keyword.Device is h = of_device is (cut_at 32 words.1) h
     of_words keyword.Datamodel is h = of_datamodel is h
     of_words keyword.Devicetype is h = of_type is (words_of words.1) h
@@ -145,6 +175,7 @@ module _ (d e : Declared) (text : List ℕ) (later : List (List ℕ)) (none : d.
     of_words keyword.Base is h = of_base is (cut_at 32 words.1) h
     of_words keyword.Data is h = of_data is h
     of_words keyword.Yang is h = of_yang is h
+    of_words keyword.Template is h = of_template is (cut_at 32 words.1) refl h
     of_words _ is h = absurd (no_ok rule.Line e h)
 
   of_word : (k : Keyword) → cut_at 32 text ≡ None → d.section ≡ section.Declarations → bare_declaration k d ≡ Ok e → Declares d text e

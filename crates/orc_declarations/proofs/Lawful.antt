@@ -7,7 +7,7 @@ use Rattle.orc_path.specs.Steps.{PathStep}
 use Rattle.orc_call.specs.declared.call.Put.{Put}
 use Rattle.orc_state.specs.States.{names_of}
 use Rattle.orc_schema.specs.Schemas.{SchemaTable}
-use Rattle.orc_state.specs.Calls.{is_data_item, is_device, is_forbid_rule, is_kept, is_lawful_name, is_max_rule, is_put, schema_in}
+use Rattle.orc_state.specs.Calls.{is_data_item, is_device, is_forbid_rule, is_kept, is_served, is_lawful_name, is_max_rule, is_put, schema_in}
 use Rattle.orc_state.specs.declared.declarations.Device.{Device}
 use Rattle.orc_lines.specs.declared.declared.Declared.{Declared}
 use Rattle.orc_declarations.specs.Declarations.{changed_at, with_base, with_forbid, with_max}
@@ -121,6 +121,9 @@ module _ (d : Declared) (n : ℕ) (devices : List Device) (h : AreDeclared d) wh
     devices = lawful_stay d.schemas n good f d.devices keeps lawful h.devices;
     few = h.few;
     items = h.items;
+    served = h.served;
+    services = h.services;
+    apart = h.apart;
     sound = h.sound;
   })
 
@@ -140,13 +143,17 @@ module _ (d : Declared) (n : ℕ) (devices : List Device) (h : AreDeclared d) wh
 
 -- the data have an item more
 pub data_more : (d : Declared) (put : Put) (items : List Put) → AreDeclared d → is_put d.data_schema put ≡ true → is_kept put.path ≡ false
+    → is_served d.services put.path ≡ false
     → items ≡ d.data ++ put ∷ [] → AreDeclared (record d { «data» = items })
-data_more d put items h lawful free grown = subst (λ (ps : List Put). AreDeclared (record d { «data» = ps })) (sym grown) (record {
+data_more d put items h lawful free unserved grown = subst (λ (ps : List Put). AreDeclared (record d { «data» = ps })) (sym grown) (record {
   named = h.named;
   plain = h.plain;
   typed = h.typed;
   devices = h.devices;
   few = h.few;
   items = all_more (is_data_item d.data_schema) d.data put h.items (both (is_put d.data_schema put) (not (is_kept put.path)) lawful (ap not free));
+  served = all_more (λ (p : Put). not (is_served d.services p.path)) d.data put h.served (ap not unserved);
+  services = h.services;
+  apart = h.apart;
   sound = h.sound;
 })

@@ -6,3 +6,5 @@ pub mod DeclaredLines
 mod Lawful
 mod LongNames
 pub mod Opened
+mod TemplateTexts
+mod ServiceLists

@@ -111,6 +111,10 @@ lawful_decls d text names known opens same distinct =
       few = (let one = ap length known.named in let two = names_size d.devices in let three = known.few in omega arith);
       distinct = distinct;
       items = known.items;
+      served = known.served;
+      services = known.services;
+      apart = known.apart;
+      table = refl;
       valid = none_broken (broken_of d.data_schema (opening_data d.names d.data)) parts.0;
       accepted = parts.1;
     })

@@ -1,5 +1,5 @@
 -- What each form of a declaration makes of what was declared so far.
-use Rattle.std.specs.Prelude.{ℕ, zero, suc, Bool, true, false, not, ◌&&◌, ◌||◌, ◌-◌, nat_le, nat_lt, List, [], ◌∷◌, ◌++◌, codes, length, slice_get, Option, Result, is_none, is_some, option_and_then, option_map, option_to_list, if◌then◌else◌, ◌+◌}
+use Rattle.std.specs.Prelude.{ℕ, zero, suc, Bool, true, false, not, ◌&&◌, ◌||◌, ◌-◌, nat_eq, nat_le, nat_lt, List, [], ◌∷◌, ◌++◌, codes, length, slice_get, Option, Result, is_none, is_some, option_and_then, option_map, option_to_list, if◌then◌else◌, ◌+◌}
 use Rattle.std.specs.declared.option.Option.TheVariants.{None, Some}
 use Rattle.std.specs.declared.result.Result.TheVariants.{Ok, Err}
 use Rattle.std.specs.List.{flat_map, list_all, list_any}
@@ -11,8 +11,13 @@ use Rattle.orc_call.specs.declared.call.Put.{Put}
 use Rattle.orc_path.specs.Steps.{PathStep}
 use Rattle.orc_check.specs.Validity.{broken_of}
 use Rattle.orc_schema.specs.Schemas.{SchemaTable, plain_table}
-use Rattle.orc_state.specs.Calls.{schema_named}
-use Rattle.orc_state.specs.Declarations.{accepts_base}
+use Rattle.orc_state.specs.Calls.{meets, schema_named}
+use Rattle.orc_state.specs.Declarations.{accepts_base, has_template, is_service_list}
+use Rattle.orc_services.specs.declared.list.ServiceList.{ServiceList}
+use Rattle.orc_template.specs.Said.{json_value}
+use Rattle.orc_path.specs.Order.{path_cmp}
+use Rattle.orc_path.specs.Reading.{path_of}
+use Rattle.std.specs.Ordering.{eq_by_cmp}
 use Rattle.orc_state.specs.States.{opening_data}
 use Rattle.orc_state.specs.declared.declarations.Device.{Device}
 use Rattle.orc_state.specs.declared.declarations.TheConstants.{MOST_DEVICES}
@@ -23,7 +28,7 @@ use Rattle.orc_lines.specs.Lines.{block_of, is_large, is_skipped, text_of}
 use Rattle.orc_lines.specs.Words.{cut_at, is_text, number_in, words_of}
 use Rattle.orc_lines.specs.Keywords.{keyword_of}
 use Rattle.orc_lines.specs.Names.{is_among, place_of, repeats, with_name}
-use Rattle.orc_lines.specs.Items.{forbidden_of, list_path_of, put_of}
+use Rattle.orc_lines.specs.Items.{forbidden_of, is_past_path, list_path_of, put_of}
 use Rattle.orc_declarations.specs.Modules.{orc_module, module_of}
 use Rattle.orc_declarations.specs.Schemas.{schema_or_rule}
 use Rattle.orc_yang.specs.declared.statement.Stmt.{Stmt}
@@ -58,6 +63,8 @@ nothing_declared = record {
   devices = [];
   data_schema = built_in_schema;
   «data» = [];
+  templates = [];
+  services = [];
 }
 
 -- the forms
@@ -92,12 +99,12 @@ schema_words d words names is_double =
     ∷ [])
     (schema_or_rule (modules_named d names))
 
--- `datamodel M M ..`; the built-in module is always one of them. No item of the data stands above this line, since a
--- line may name no path of the built-in module.
+-- `datamodel M M ..`; the built-in module is always one of them. No item of the data and no template stands above this
+-- line, since a line may name no path of the built-in module.
 unfoldable pub after_datamodel : Declared → List ℕ → Result Declared Rule
 after_datamodel d rest =
     on_ok (schema_words d (words_of rest) (with_name (words_of rest) (codes "orc")) d.has_data) (λ schema.
-    Ok (record d { has_data = true; data_schema = schema; «data» = [] }))
+    Ok (record d { has_data = true; data_schema = schema; «data» = []; templates = []; services = [] }))
 
 -- a type of devices, and its schema
 abbrev pub with_type : Declared → List ℕ → SchemaTable → Declared
@@ -156,7 +163,7 @@ abbrev pub base_words : Declared → Option (List ℕ × List ℕ) → Result De
 base_words d None = Err rule.Line
 base_words d (Some words) =
     checked ((not (is_identifier words.0), rule.Line) ∷ [])
-    (on_ok (put_of false (schema_named d.schemas d.devices words.0) (is_long_name words.0) words.1) (λ put.
+    (on_ok (put_of None (schema_named d.schemas d.devices words.0) (is_long_name words.0) words.1) (λ put.
     or_rule (place_of d.names words.0) rule.Unknown (λ n.
     Ok (record d { devices = with_base n put d.devices }))))
 
@@ -209,7 +216,7 @@ after_rule d rest = rule_line d (cut_at 32 rest)
 -- `data ITEM`
 unfoldable pub after_data : Declared → List ℕ → Result Declared Rule
 after_data d rest =
-    on_ok (put_of true d.data_schema false rest) (λ put. Ok (record d { «data» = d.data ++ put ∷ [] }))
+    on_ok (put_of (Some d.services) d.data_schema false rest) (λ put. Ok (record d { «data» = d.data ++ put ∷ [] }))
 
 -- a module of this name can't be declared: it is, or is built in
 abbrev pub is_taken : Declared → List ℕ → Bool
@@ -232,12 +239,79 @@ after_yang d rest later =
     checked ((is_taken d m.name, rule.Duplicate) ∷ [])
     (Ok (with_module d n m)))))
 
--- how many lines a line takes for its block: `yang N` takes N, any other none
+-- The path is that of a list whose entries may be services: one of the data schema that is reached through containers
+-- alone, at or under which no item of the data is declared.
+abbrev pub may_be_served : Declared → List PathStep → Bool
+may_be_served d list = is_service_list d.data_schema list && not (list_any (λ put. meets list put.path) d.data)
+
+-- the list has a template
+abbrev pub is_listed_already : Declared → List PathStep → Bool
+is_listed_already d list = list_any (λ it. eq_by_cmp path_cmp list it.list) d.services
+
+-- the text of a block is a template of a list
+abbrev pub is_template_of : SchemaTable → List PathStep → List ℕ → Bool
+is_template_of schema list text =
+    is_some (json_value text) && has_template schema (record { list = list; template = text })
+
+-- a template, with so many lines
+abbrev pub with_template : Declared → ℕ → List ℕ → ServiceList → Declared
+with_template d n name it = record d {
+  templates = d.templates ++ name ∷ [];
+  services = d.services ++ it ∷ [];
+  skip = n;
+}
+
+-- the list of a `template` line gets the template that the text of its block is
+abbrev pub list_template : Declared → List ℕ → ℕ → List PathStep → List ℕ → Result Declared Rule
+list_template d name n list text =
+    checked (
+    (not (may_be_served d list), rule.Path)
+    ∷ (is_among d.templates name || is_listed_already d list, rule.Duplicate)
+    ∷ (not (is_template_of d.data_schema list text), rule.Template)
+    ∷ [])
+    (Ok (with_template d n name (record { list = list; template = text })))
+
+-- Such a line behind its name, with the lines behind it. The limits of what it says go before the lines that may be
+-- missing.
+abbrev pub template_block : Declared → List ℕ → ℕ → List ℕ → List (List ℕ) → Result Declared Rule
+template_block d name n word later =
+    checked (
+    (nat_eq (length word) 0, rule.Line)
+    ∷ (is_long_name name || is_past_path (path_of word), rule.Size)
+    ∷ [])
+    (or_rule (block_of n later) rule.Line (λ text.
+    or_rule (path_of word) rule.Path (λ list.
+    list_template d name n list text)))
+
+-- `template T LISTPATH N` behind its name
+abbrev pub template_line : Declared → List ℕ → List (List ℕ) → Option (List ℕ × List ℕ) → Result Declared Rule
+template_line d name later None = Err rule.Line
+template_line d name later (Some words) =
+    or_rule (number_in words.1) rule.Line (λ n. template_block d name n words.0 later)
+
+abbrev pub template_words : Declared → List (List ℕ) → Option (List ℕ × List ℕ) → Result Declared Rule
+template_words d later None = Err rule.Line
+template_words d later (Some words) =
+    checked ((not (is_identifier words.0), rule.Line) ∷ []) (template_line d words.0 later (cut_at 32 words.1))
+
+unfoldable pub after_template : Declared → List ℕ → List (List ℕ) → Result Declared Rule
+after_template d rest later = template_words d later (cut_at 32 rest)
+
+-- the number at the end of such a line
+abbrev pub count_in : Option (List ℕ × List ℕ) → Option ℕ
+count_in None = None
+count_in (Some words) = number_in words.1
+
+abbrev pub template_count : List ℕ → Option ℕ
+template_count rest = count_in (option_and_then (λ words. cut_at 32 words.1) (cut_at 32 rest))
+
+-- how many lines a line takes for its block: `yang N` and `template T LISTPATH N` take N, any other none
 abbrev pub block_size : Option ℕ → ℕ
 block_size number = option_map_or (λ n. n) number 0
 
 unfoldable pub taken_by : Keyword → List ℕ → ℕ
 taken_by keyword.Yang rest = block_size (number_in rest)
+taken_by keyword.Template rest = block_size (template_count rest)
 taken_by _ rest = 0
 
 abbrev pub words_take : Option (List ℕ × List ℕ) → ℕ
@@ -262,6 +336,7 @@ declaration keyword.Rule d rest later = after_rule d rest
 declaration keyword.Base d rest later = after_base d rest
 declaration keyword.Data d rest later = after_data d rest
 declaration keyword.Yang d rest later = after_yang d rest later
+declaration keyword.Template d rest later = after_template d rest later
 declaration _ d rest later = Err rule.Line
 
 -- of one word

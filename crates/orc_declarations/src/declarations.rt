@@ -13,6 +13,7 @@ ghost use Rattle.orc_lines.specs.declared.lines.TheConstants.{LARGEST_BUNDLE};
 
 use crate::module::module_of;
 use crate::schemas::built_in_schema;
+use crate::templates::take_template;
 use crate::types::{schema_place, take_datamodel, take_devicetype};
 use orc_call::Put;
 use orc_io::Steps;
@@ -121,6 +122,8 @@ pub fn nothing_declared(alloc: Global) -> Result<Declared, Memory>
         devices: Row::new(alloc),
         data_schema: built_in_schema(alloc)?,
         data: Row::new(alloc),
+        templates: Names::new(alloc),
+        services: Row::new(alloc),
     })
 }
 
@@ -204,7 +207,7 @@ fn take_base<L: Ledger>(
     let plain = Schema::plain(alloc);
     let put = read_put(
         alloc,
-        false,
+        None,
         declared.schema_named(&name, &plain),
         is_long,
         item,
@@ -339,7 +342,14 @@ fn take_data<L: Ledger>(
     ensures lawful { AreDeclared declared.old → OnOk result (AreDeclared declared.new) }
     ensures worked { work.new ≤ work.old + work_on rest.now }
 {
-    let put = read_put(alloc, true, &declared.data_schema, false, rest, work)?;
+    let put = read_put(
+        alloc,
+        Some(declared.services.as_slice()),
+        &declared.data_schema,
+        false,
+        rest,
+        work,
+    )?;
     declared.data.push(put)?;
     Ok(())
 }
@@ -414,6 +424,7 @@ fn take_words<L: Ledger, M: Ledger>(
         Keyword::Base => take_base(alloc, declared, rest, work),
         Keyword::Data => take_data(alloc, declared, rest, work),
         Keyword::Yang => take_yang(alloc, declared, rest, later, steps, work),
+        Keyword::Template => take_template(alloc, declared, rest, later, steps, work),
         _ => breaks(Rule::Line),
     }
 }

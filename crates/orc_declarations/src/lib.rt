@@ -8,6 +8,7 @@ mod opening;
 mod read;
 mod schemas;
 mod statements;
+mod templates;
 mod types;
 
 pub use declarations::nothing_declared;

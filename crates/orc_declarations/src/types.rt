@@ -17,7 +17,7 @@ ghost use Rattle.orc_lines.specs.Work.{bytes_in, work_on};
 use crate::schemas::schema_of;
 use crate::statements::{copy, orc_module};
 use orc_io::Steps;
-use orc_lines::{Declared, LineFault, breaks, repeats, words_of};
+use orc_lines::{Declared, LineFault, Names, breaks, repeats, words_of};
 use orc_path::{is_identifier_counted, is_long_name};
 use orc_schema::Schema;
 use orc_state::{Device, Rule};
@@ -157,7 +157,7 @@ fn schema_words<L: Ledger>(
 }
 
 /// `datamodel M M ..`.
-#[tactic(auto, unfolding(crate::specs::Declarations::after_datamodel))]
+#[tactic(auto, unfolding(crate::specs::Declarations::after_datamodel), using(crate::proofs::ServiceLists::none_apart))]
 pub(crate) fn take_datamodel<L: Ledger>(
     alloc: Global,
     declared: &mut Declared,
@@ -181,6 +181,8 @@ pub(crate) fn take_datamodel<L: Ledger>(
     )?;
     declared.has_data = true;
     declared.data = Row::new(alloc);
+    declared.templates = Names::new(alloc);
+    declared.services = Row::new(alloc);
     Ok(())
 }
 

@@ -19,20 +19,30 @@ use Rattle.orc_state.specs.declared.rule.Rule.TheVariants as rule
 -- the first words of lines
 unfoldable pub known_words : List ℕ
 known_words =
-    codes "A line begins with `device`, `base`, `rule`, `data`, `yang`, `datamodel`, `devicetype` or `script`; "
-    ++ codes "below `script` with `show`, `json`, `meta`, `data`, `call`, `settle`, `stop`, `recover` or "
-    ++ codes "`history`; within a call with `literal`, `write`, `delete`, `set`, `unset`, `base`, `unbase` or "
-    ++ codes "`end`."
+    codes "A line begins with `device`, `base`, `rule`, `data`, `yang`, `datamodel`, `devicetype`, `template` or "
+    ++ codes "`script`; below `script` with `show`, `json`, `meta`, `data`, `call`, `settle`, `stop`, `recover` or "
+    ++ codes "`history`; within a call with `create`, `modify`, `redeploy`, `literal`, `write`, `delete`, `set`, "
+    ++ codes "`unset`, `base`, `unbase` or `end`."
 
 -- a line of a call, or a word that begins no line
 unfoldable pub call_line_words : Keyword → List ℕ
+call_line_words keyword.Create =
+    codes "An action `create PATH JSON` stands within a call, which has 64 actions at most; PATH is an entry of a "
+    ++ codes "list that has a template, and JSON the object of that entry without its keys."
+call_line_words keyword.Modify =
+    codes "An action `modify PATH JSON` stands within a call, which has 64 actions at most; PATH is an entry of a "
+    ++ codes "list that has a template, and JSON the object of that entry without its keys."
+call_line_words keyword.Redeploy =
+    codes "An action `redeploy PATH` stands within a call, which has 64 actions at most; PATH is an entry of a "
+    ++ codes "list that has a template."
 call_line_words keyword.Literal =
     codes "An action `literal NAME` stands within a call, which has 64 actions at most."
 call_line_words keyword.Write =
     codes "A line `write DEVICE PATH` for an entry or `write DEVICE PATH = VALUE` for a leaf stands below the "
     ++ codes "line `literal NAME` of its call."
 call_line_words keyword.Delete =
-    codes "An action `delete NAME` stands within a call, which has 64 actions at most."
+    codes "An action `delete NAME`, or `delete PATH` for an entry of a list that has a template, stands within a "
+    ++ codes "call, which has 64 actions at most."
 call_line_words keyword.Set =
     codes "An action `set PATH` for an entry or `set PATH = VALUE` for a leaf stands within a call, which has "
     ++ codes "64 actions at most."
@@ -88,6 +98,9 @@ form_words keyword.Data =
     ++ codes "within a call."
 form_words keyword.Yang =
     codes "A module is the line `yang N` and the N lines below it, before the line `script`."
+form_words keyword.Template =
+    codes "A template is the line `template NAME PATH N` and the N lines below it, before the line `script`; PATH is "
+    ++ codes "that of a list of the data, without keys."
 form_words keyword.Script =
     codes "The line `script` ends the declarations, once, and has nothing behind that word."
 form_words word = step_line_words word
@@ -129,6 +142,10 @@ unknown_words _ =
 -- what is declared once
 unfoldable pub duplicate_words : Keyword → List ℕ
 duplicate_words keyword.Datamodel = codes "The schema of the data is declared once."
+duplicate_words keyword.Template = codes "A name is declared once, and a list has one template."
+duplicate_words keyword.Create = codes "A call names each service once."
+duplicate_words keyword.Modify = codes "A call names each service once."
+duplicate_words keyword.Redeploy = codes "A call names each service once."
 duplicate_words keyword.Literal = codes "A call names each service once."
 duplicate_words keyword.Delete = codes "A call names each service once."
 duplicate_words _ = codes "A name is declared once, and the module `orc` is built in."
@@ -148,9 +165,11 @@ rule_words rule.Path word =
     ++ codes "VALUE`; any other is a leaf and has one, but in `unset` and `unbase`, which have a path alone. On a "
     ++ codes "device with a type, and in the data, the names are those of its modules, an entry has each key of its "
     ++ codes "list, or a leaf-list's value, and a key has no line of its own. No line of the data (`data`, `set` and "
-    ++ codes "`unset`) names /orc:device, nor what stands below it. Behind `max` stands the path of a list or "
-    ++ codes "leaf-list, without keys at its end; `meta` takes any path of its device, that of a container, of a key "
-    ++ codes "or of a whole list too."
+    ++ codes "`unset`) names /orc:device or a list that has a template, nor what stands below it. Behind `template` "
+    ++ codes "stands the path of a list of the data that is reached through containers alone and has no items yet; "
+    ++ codes "behind `create`, `modify` and `redeploy` an entry of a list that has a template. Behind `max` stands "
+    ++ codes "the path of a list or leaf-list, without keys at its end; `meta` takes any path of its device, that of "
+    ++ codes "a container, of a key or of a whole list too."
 rule_words rule.Value word =
     codes "In a value a backslash is \\\\, a tab \\t, a line feed \\n and a carriage return \\r. It has no "
     ++ codes "other control character below U+0020, and no noncharacter. On a device with a type, and in the data, "

@@ -221,6 +221,8 @@ fn duplicate_words(word: Keyword) -> &'static str
 {
     match word {
         Keyword::Datamodel => "The schema of the data is declared once.",
+        Keyword::Template => "A name is declared once, and a list has one template.",
+        Keyword::Create | Keyword::Modify | Keyword::Redeploy => "A call names each service once.",
         Keyword::Literal | Keyword::Delete => "A call names each service once.",
         _ => "A name is declared once, and the module `orc` is built in.",
     }
@@ -247,9 +249,11 @@ fn rule_words(rule: Rule, word: Keyword) -> &'static str
              `unset` and `unbase`, which have a path alone. On a device with a type, and in the data, \
              the names are those of its modules, an entry has each key of its list, or a leaf-list's \
              value, and a key has no line of its own. No line of the data (`data`, `set` and `unset`) \
-             names /orc:device, nor what stands below it. Behind `max` stands the path of a list or \
-             leaf-list, without keys at its end; `meta` takes any path of its device, that of a \
-             container, of a key or of a whole list too."
+             names /orc:device or a list that has a template, nor what stands below it. Behind \
+             `template` stands the path of a list of the data that is reached through containers alone \
+             and has no items yet; behind `create`, `modify` and `redeploy` an entry of a list that has \
+             a template. Behind `max` stands the path of a list or leaf-list, without keys at its end; \
+             `meta` takes any path of its device, that of a container, of a key or of a whole list too."
         }
         Rule::Value => {
             "In a value a backslash is \\\\, a tab \\t, a line feed \\n and a carriage return \\r. It \
@@ -306,6 +310,10 @@ fn form_words(word: Keyword) -> &'static str
         Keyword::Yang => {
             "A module is the line `yang N` and the N lines below it, before the line `script`."
         }
+        Keyword::Template => {
+            "A template is the line `template NAME PATH N` and the N lines below it, before the line \
+             `script`; PATH is that of a list of the data, without keys."
+        }
         Keyword::Script => {
             "The line `script` ends the declarations, once, and has nothing behind that word."
         }
@@ -358,6 +366,18 @@ fn call_line_words(word: Keyword) -> &'static str
     ensures { result.now ≡ call_line_words word }
 {
     match word {
+        Keyword::Create => {
+            "An action `create PATH JSON` stands within a call, which has 64 actions at most; PATH is an \
+             entry of a list that has a template, and JSON the object of that entry without its keys."
+        }
+        Keyword::Modify => {
+            "An action `modify PATH JSON` stands within a call, which has 64 actions at most; PATH is an \
+             entry of a list that has a template, and JSON the object of that entry without its keys."
+        }
+        Keyword::Redeploy => {
+            "An action `redeploy PATH` stands within a call, which has 64 actions at most; PATH is an \
+             entry of a list that has a template."
+        }
         Keyword::Literal => {
             "An action `literal NAME` stands within a call, which has 64 actions at most."
         }
@@ -366,7 +386,8 @@ fn call_line_words(word: Keyword) -> &'static str
              below the line `literal NAME` of its call."
         }
         Keyword::Delete => {
-            "An action `delete NAME` stands within a call, which has 64 actions at most."
+            "An action `delete NAME`, or `delete PATH` for an entry of a list that has a template, \
+             stands within a call, which has 64 actions at most."
         }
         Keyword::Set => {
             "An action `set PATH` for an entry or `set PATH = VALUE` for a leaf stands within a \
@@ -390,8 +411,8 @@ fn call_line_words(word: Keyword) -> &'static str
 fn known_words() -> &'static str
     ensures { result.now ≡ known_words }
 {
-    "A line begins with `device`, `base`, `rule`, `data`, `yang`, `datamodel`, `devicetype` or \
-     `script`; below `script` with `show`, `json`, `meta`, `data`, `call`, `settle`, `stop`, \
-     `recover` or `history`; within a call with `literal`, `write`, `delete`, `set`, `unset`, `base`, \
-     `unbase` or `end`."
+    "A line begins with `device`, `base`, `rule`, `data`, `yang`, `datamodel`, `devicetype`, \
+     `template` or `script`; below `script` with `show`, `json`, `meta`, `data`, `call`, `settle`, \
+     `stop`, `recover` or `history`; within a call with `create`, `modify`, `redeploy`, `literal`, \
+     `write`, `delete`, `set`, `unset`, `base`, `unbase` or `end`."
 }

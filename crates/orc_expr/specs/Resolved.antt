@@ -1,5 +1,5 @@
 -- Where an expression leads in a schema, seen from a node of it: whether each of its names is there.
-use Rattle.std.specs.Prelude.{ℕ, ◌-◌, ◌==◌, nat_le, nat_eq, Bool, true, false, ◌||◌, List, [], ◌∷◌, ◌++◌, length, take, Option, option_map, if◌then◌else◌}
+use Rattle.std.specs.Prelude.{ℕ, ◌-◌, ◌==◌, nat_le, nat_eq, Bool, false, ◌||◌, List, [], ◌∷◌, ◌++◌, length, take, Option, option_map, if◌then◌else◌}
 use Rattle.std.specs.declared.option.Option.TheVariants.{None, Some}
 use Rattle.std.specs.Cmp.Lexicographic.{pointwise}
 use Rattle.orc_path.specs.Steps.{PathStep}
@@ -7,7 +7,6 @@ use Rattle.orc_path.specs.declared.shape.Shape.{Shape}
 use Rattle.orc_path.specs.declared.shape.Shape.TheVariants as shape
 use Rattle.orc_expr.specs.Expressions.{Expression, Here, FromRoot, FromContext, Below, Where, Quoted}
 use Rattle.orc_expr.specs.Looks.{parent_behind}
-use Rattle.orc_expr.specs.declared.resolving.NodeStep.{NodeStep}
 use Rattle.orc_expr.specs.declared.resolving.Led.{Led}
 use Rattle.orc_expr.specs.declared.resolving.Led.TheVariants as led
 

@@ -1,5 +1,5 @@
 //! What the predicates of a step choose.
-ghost use Rattle.std.specs.Prelude.{◌≡◌, ◌++◌, IfOk, OnOk};
+ghost use Rattle.std.specs.Prelude.{◌≡◌, IfOk};
 ghost use Rattle.orc_expr.specs.Looks.{chosen, selected, selected_by, asks_each_key};
 ghost use Rattle.orc_expr.specs.inside.Lists.{only_of};
 
@@ -10,16 +10,7 @@ use crate::step::{Asked, Choice, Chosen};
 use orc_path::{DataView, Name, Path};
 use orc_text::{Memory, Row, Text};
 use std::alloc::Global;
-
-/// Adds copies of reads.
-pub(crate) fn push_copies(alloc: Global, reads: &mut Row<Read>, more: &[Read]) -> Result<(), Memory>
-    ensures { OnOk result (reads.new ≡ reads.old ++ more.now) }
-{
-    for read in more {
-        reads.push(read.copy(alloc)?)?;
-    }
-    Ok(())
-}
+use std::collections::LinkedList;
 
 /// A term's one text, or that it gives none, or more than one.
 #[derive(Drop)]
@@ -43,15 +34,19 @@ fn only_text(alloc: Global, found: &Option<Row<Text>>) -> Result<Only, Memory>
     }
 }
 
-// What the terms of predicates give, in their order.
-fn chosen(alloc: Global, asked: &[Asked]) -> Result<Chosen, Memory>
-    ensures { IfOk result (λ made. made ≡ chosen asked.now) }
+// What the terms of predicates give, in their order. What they read is moved on, not copied.
+fn chosen(alloc: Global, asked: Row<Asked>) -> Result<Chosen, Memory>
+    ensures { IfOk result (λ made. made ≡ chosen asked) }
 {
     let mut keys = Row::new(alloc);
-    let mut reads = Row::new(alloc);
-    for next in asked {
-        push_copies(alloc, &mut reads, next.given.reads.as_slice())?;
-        match only_text(alloc, &next.given.found)? {
+    let mut reads = LinkedList::new(alloc);
+    for next in asked.into_vec() {
+        let Looked {
+            found,
+            reads: mut more,
+        } = next.given;
+        reads.append(&mut more)?;
+        match only_text(alloc, &found)? {
             Only::One(text) => keys.push(text)?,
             Only::Nothing => {
                 return Ok(Chosen {
@@ -79,7 +74,7 @@ fn selected_by<V: DataView>(
     view: &V,
     name: &Name,
     places: &[Path],
-    mut reads: Row<Read>,
+    mut reads: LinkedList<Read>,
     choice: Choice,
 ) -> Result<Looked<Path>, Memory>
     ensures { IfOk result
@@ -108,10 +103,10 @@ pub(crate) fn selected<V: DataView>(
     view: &V,
     before: Looked<Path>,
     name: &Name,
-    asked: &[Asked],
+    asked: Row<Asked>,
 ) -> Result<Looked<Path>, Memory>
     ensures { IfOk result
-        (λ look. look ≡ selected (V.viewed view.now).items before name.now asked.now before.found) }
+        (λ look. look ≡ selected (V.viewed view.now).items before name.now asked before.found) }
 {
     let Looked { found, mut reads } = before;
     match found {
@@ -125,9 +120,9 @@ pub(crate) fn selected<V: DataView>(
             }
             let Chosen {
                 choice,
-                reads: more,
+                reads: mut more,
             } = chosen(alloc, asked)?;
-            push_copies(alloc, &mut reads, more.as_slice())?;
+            reads.append(&mut more)?;
             selected_by(alloc, view, name, places.as_slice(), reads, choice)
         }
     }

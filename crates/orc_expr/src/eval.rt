@@ -12,15 +12,27 @@ use crate::{Read, ReadSet};
 use orc_path::{DataView, Path};
 use orc_text::{Memory, Row, Text};
 use std::alloc::Global;
+use std::collections::LinkedList;
 use std::mem;
 
+// The reads of a look, in a row.
+fn in_row(alloc: Global, mut reads: LinkedList<Read>) -> Result<Vec<Read>, Memory>
+    ensures { IfOk result (λ row. row.items ≡ reads) }
+{
+    let mut row = Vec::with_capacity(alloc, reads.len())?;
+    while let Some(read) = reads.pop_front() {
+        row.push(read)?;
+    }
+    Ok(row)
+}
+
 // Adds reads. After want of memory the reads are as they were.
-fn add_reads(alloc: Global, reads: &mut ReadSet, more: Row<Read>) -> Result<(), Memory>
+fn add_reads(alloc: Global, reads: &mut ReadSet, more: LinkedList<Read>) -> Result<(), Memory>
     ensures ok { OnOk result (reads.new.reads ≡ reads.old.reads ++ more) }
     ensures err { OnErr result (reads.new.reads ≡ reads.old.reads) }
 {
+    let mut more = in_row(alloc, more)?;
     let mut all = mem::replace(&mut reads.reads, Row::new(alloc)).into_vec();
-    let mut more = more.into_vec();
     let added = all.append(&mut more);
     reads.reads = Row::from_vec(all);
     match added {

@@ -15,6 +15,7 @@ use crate::step::{LastStep, Reached};
 use orc_path::{DataView, Name, Path, Shape};
 use orc_text::{Memory, Row, Text};
 use std::alloc::Global;
+use std::collections::LinkedList;
 
 // Nothing is found there, and nothing read.
 fn nowhere<T: Drop>(alloc: Global, before: Looked<Path>) -> Looked<T>
@@ -92,10 +93,16 @@ fn list_look<V: DataView>(
     if step.asked.is_empty() {
         return entries_look(alloc, view, step);
     }
-    if !asks_each_key(keys, step.asked.as_slice()) {
-        return Ok(nowhere(alloc, step.before));
+    let LastStep {
+        parent: _parent,
+        before,
+        name,
+        asked,
+    } = step;
+    if !asks_each_key(keys, asked.as_slice()) {
+        return Ok(nowhere(alloc, before));
     }
-    selected(alloc, view, step.before, &step.name, step.asked.as_slice())
+    selected(alloc, view, before, &name, asked)
 }
 
 // Where a step leads that further steps stand behind.
@@ -261,8 +268,8 @@ fn context_shape<V: DataView>(alloc: Global, view: &V, here: &Path) -> Result<Sh
 fn read_here<T: Drop>(alloc: Global, here: &Path, found: Row<T>) -> Result<Looked<T>, Memory>
     ensures { IfOk result (λ look. look ≡ read_here here.now found) }
 {
-    let mut reads = Row::new(alloc);
-    reads.push(Read::Item(here.copy(alloc)?))?;
+    let mut reads = LinkedList::new(alloc);
+    reads.push_back(Read::Item(here.copy(alloc)?))?;
     Ok(Looked {
         found: Some(found),
         reads,

@@ -10,6 +10,7 @@ use crate::alphabet::{are_keys, is_name_behind};
 use orc_path::{DataView, Item, Name, Path, Step};
 use orc_text::{Copied, Memory, Row, Text};
 use std::alloc::Global;
+use std::collections::LinkedList;
 
 // A row of copies.
 fn copied_row<T: Copied + Drop>(alloc: Global, items: &[T]) -> Result<Row<T>, Memory>
@@ -81,14 +82,14 @@ fn read_at(alloc: Global, kind: ReadKind, node: &Path) -> Result<Read, Memory>
 /// Adds what is read at nodes.
 pub(crate) fn push_reads(
     alloc: Global,
-    reads: &mut Row<Read>,
+    reads: &mut LinkedList<Read>,
     kind: ReadKind,
     nodes: &[Path],
 ) -> Result<(), Memory>
     ensures { OnOk result (reads.new ≡ reads.old ++ map (read_as kind) nodes.now) }
 {
     for node in nodes {
-        reads.push(read_at(alloc, kind, node)?)?;
+        reads.push_back(read_at(alloc, kind, node)?)?;
     }
     Ok(())
 }

@@ -4,6 +4,7 @@ use crate::Read;
 use crate::looked::Looked;
 use orc_path::{Name, Path};
 use orc_text::{Row, Text};
+use std::collections::LinkedList;
 
 /// A predicate: a key's name, and what its term gives.
 #[derive(Drop)]
@@ -43,5 +44,5 @@ pub(crate) enum Choice {
 #[derive(Drop)]
 pub(crate) struct Chosen {
     pub(crate) choice: Choice,
-    pub(crate) reads: Row<Read>,
+    pub(crate) reads: LinkedList<Read>,
 }

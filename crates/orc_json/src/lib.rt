@@ -3,7 +3,8 @@
 //! Each member of a JSON text states that an item stands at a path, or is at fault there. `read`
 //! gives the configuration of all of them, or the least fault, and `read_entry` what a service body
 //! gives below its entry. `write` gives the text of the one JSON value of a configuration, which is
-//! read as that configuration.
+//! read as that configuration. `name_behind` and `path_below` are how a member's name goes on from a
+//! path, for texts with such members.
 #![tactic(auto)]
 
 mod fault;
@@ -22,4 +23,5 @@ mod writer;
 pub use fault::{DUPLICATE, JsonFault, KEY, KIND, MEMBER, VALUE};
 pub use laws::{json_is_read, typed_has_json};
 pub use reader::{read, read_entry};
+pub use steps::{name_behind, path_below};
 pub use writer::write;

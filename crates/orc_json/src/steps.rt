@@ -1,4 +1,4 @@
-//! Paths below others.
+//! Names and paths below others.
 ghost use Rattle.std.specs.Prelude.{◌≡◌, ◌++◌, ◌∷◌, [], IfOk, IsTrue, Some, None, if◌then◌else◌};
 ghost use Rattle.std.specs.List.{list_all};
 ghost use Rattle.orc_path.specs.Alphabet.{is_identifier, is_qualified, is_key, is_node_name};
@@ -43,7 +43,7 @@ fn later_name(alloc: Global, text: &str) -> Result<Option<Name>, Memory>
 }
 
 /// The text as a name behind these steps, where it may be one.
-pub(crate) fn name_behind(alloc: Global, at: &Path, text: &str) -> Result<Option<Name>, Memory>
+pub fn name_behind(alloc: Global, at: &Path, text: &str) -> Result<Option<Name>, Memory>
     ensures { IfOk result (λ name. name ≡ (if is_name_behind at.now text.now then Some text.now else None)) }
 {
     match at.steps.as_slice() {
@@ -53,12 +53,7 @@ pub(crate) fn name_behind(alloc: Global, at: &Path, text: &str) -> Result<Option
 }
 
 /// The path of a name below another one, with keys or none.
-pub(crate) fn path_below(
-    alloc: Global,
-    at: &Path,
-    name: &Name,
-    keys: Row<Text>,
-) -> Result<Path, Memory>
+pub fn path_below(alloc: Global, at: &Path, name: &Name, keys: Row<Text>) -> Result<Path, Memory>
     requires named { IsTrue (is_name_behind at.now name.now) }
     requires keys { IsTrue (list_all is_key keys) }
     ensures { IfOk result (λ path. path ≡ below at.now name.now keys) }

@@ -53,11 +53,15 @@ end_known word h = on (is_text word (codes "end")) refl where
         other_word (is_text word (codes "base")) _ _ refl (
         other_word (is_text word (codes "data")) _ _ refl (
         other_word (is_text word (codes "yang")) _ _ refl (
+        other_word (is_text word (codes "template")) _ _ refl (
         other_word (is_text word (codes "script")) _ _ refl (
         other_word (is_text word (codes "show")) _ _ refl (
         other_word (is_text word (codes "json")) _ _ refl (
         other_word (is_text word (codes "meta")) _ _ refl (
         other_word (is_text word (codes "call")) _ _ refl (
+        other_word (is_text word (codes "create")) _ _ refl (
+        other_word (is_text word (codes "modify")) _ _ refl (
+        other_word (is_text word (codes "redeploy")) _ _ refl (
         other_word (is_text word (codes "literal")) _ _ refl (
         other_word (is_text word (codes "write")) _ _ refl (
         other_word (is_text word (codes "delete")) _ _ refl (
@@ -68,7 +72,7 @@ end_known word h = on (is_text word (codes "end")) refl where
         other_word (is_text word (codes "settle")) _ _ refl (
         other_word (is_text word (codes "stop")) _ _ refl (
         other_word (is_text word (codes "recover")) _ _ refl (
-        other_word (is_text word (codes "history")) _ _ refl refl))))))))))))))))))))))
+        other_word (is_text word (codes "history")) _ _ refl refl))))))))))))))))))))))))))
 
 -- a text that is skipped has none of them
 pub skipped_word : (text : List ℕ) → is_skipped text ≡ true → keyword_of (first_word text) ≡ keyword.Other

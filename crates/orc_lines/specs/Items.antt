@@ -1,5 +1,5 @@
 -- Items as words of a line.
-use Rattle.std.specs.Prelude.{ℕ, ◌-◌, Bool, false, not, ◌&&◌, ◌||◌, nat_eq, nat_lt, List, [], ◌∷◌, codes, length, take, Option, Result, if◌then◌else◌}
+use Rattle.std.specs.Prelude.{ℕ, ◌-◌, Bool, false, not, ◌&&◌, ◌||◌, is_some, nat_eq, nat_lt, List, [], ◌∷◌, codes, length, take, Option, Result, if◌then◌else◌}
 use Rattle.std.specs.declared.option.Option.TheVariants.{None, Some}
 use Rattle.std.specs.declared.result.Result.TheVariants.{Ok, Err}
 use Rattle.std.specs.Option.{option_map_or}
@@ -13,7 +13,9 @@ use Rattle.orc_path.specs.declared.item.Item.TheVariants.{Entry, Leaf}
 use Rattle.orc_schema.specs.Schemas.{SchemaTable, node_at, path_names}
 use Rattle.orc_typed.specs.Typed.{canonical_item, canonical_path, is_in_schema, stand}
 use Rattle.orc_call.specs.declared.call.Put.{Put}
-use Rattle.orc_state.specs.Calls.{blank_item, has_entries, is_data_path, is_kept, is_list_path}
+use Rattle.orc_services.specs.Services.{list_with}
+use Rattle.orc_services.specs.declared.list.ServiceList.{ServiceList}
+use Rattle.orc_state.specs.Calls.{blank_item, has_entries, is_data_path, is_kept, is_list_path, is_served}
 use Rattle.orc_state.specs.declared.rule.Rule.{Rule}
 use Rattle.orc_state.specs.declared.rule.Rule.TheVariants as rule
 use Rattle.orc_lines.specs.Rules.{checked, or_rule, on_ok}
@@ -34,9 +36,11 @@ is_long_item (Leaf text) = is_long_value text
 abbrev pub can_carry : SchemaTable → List PathStep → Item → Bool
 can_carry schema path item = fits path item && is_in_schema schema path item
 
--- Of a device each path may be named; of the data none that the orchestrator keeps itself.
-abbrev pub is_barred : Bool → List PathStep → Bool
-is_barred of_data path = of_data && is_kept path
+-- Of a device each path may be named; of the data, which has these lists of services, none that the orchestrator keeps
+-- itself, and none at, under or above such a list.
+abbrev pub is_barred : Option (List ServiceList) → List PathStep → Bool
+is_barred None path = false
+is_barred (Some lists) path = is_kept path || is_served lists path
 
 -- What is stored of an item: its path and the item in canonical form, which has to keep the limits too.
 abbrev pub stored_put : Option (List PathStep) → Option Item → Result Put Rule
@@ -48,26 +52,26 @@ stored_put own own_item =
 abbrev pub canonical_put : SchemaTable → List PathStep → Item → Result Put Rule
 canonical_put schema path item = stored_put (canonical_path schema path) (canonical_item schema path item)
 
--- `PATH`, an entry, of the data or of a device; a name in front of it may be too long
-abbrev pub entry_of : Bool → SchemaTable → Bool → List ℕ → Result Put Rule
-entry_of of_data schema is_long word =
+-- `PATH`, an entry, of the data with its lists of services or of a device; a name in front of it may be too long
+abbrev pub entry_of : Option (List ServiceList) → SchemaTable → Bool → List ℕ → Result Put Rule
+entry_of lists schema is_long word =
     checked (
     (nat_eq (length word) 0, rule.Line)
     ∷ (is_long || is_past_path (path_of word), rule.Size)
     ∷ [])
     (or_rule (path_of word) rule.Path (λ path.
-    checked ((is_barred of_data path || not (can_carry schema path Entry), rule.Path) ∷ [])
+    checked ((is_barred lists path || not (can_carry schema path Entry), rule.Path) ∷ [])
     (canonical_put schema path Entry)))
 
 -- `PATH = VALUE`, a leaf
-abbrev pub leaf_of : Bool → SchemaTable → Bool → List ℕ → List ℕ → Result Put Rule
-leaf_of of_data schema is_long word text =
+abbrev pub leaf_of : Option (List ServiceList) → SchemaTable → Bool → List ℕ → List ℕ → Result Put Rule
+leaf_of lists schema is_long word text =
     checked (
     (nat_eq (length word) 0, rule.Line)
     ∷ (is_long || is_past_path (path_of word) || is_past_value (value_of text), rule.Size)
     ∷ [])
     (or_rule (path_of word) rule.Path (λ path.
-    checked ((is_barred of_data path || not (can_carry schema path (Leaf [])), rule.Path) ∷ [])
+    checked ((is_barred lists path || not (can_carry schema path (Leaf [])), rule.Path) ∷ [])
     (or_rule (value_of text) rule.Value (λ value.
     canonical_put schema path (Leaf value)))))
 
@@ -80,14 +84,15 @@ abbrev pub after_mark : List ℕ → Option (List ℕ)
 after_mark rest = marked (cut_at 32 rest)
 
 -- a path's text, and what stands behind it and a space
-abbrev pub item_words : Bool → SchemaTable → Bool → List ℕ → Option (List ℕ × List ℕ) → Result Put Rule
-item_words of_data schema is_long text None = entry_of of_data schema is_long text
-item_words of_data schema is_long text (Some words) =
-    or_rule (after_mark words.1) rule.Line (λ value. leaf_of of_data schema is_long words.0 value)
+abbrev pub item_words : Option (List ServiceList) → SchemaTable → Bool → List ℕ → Option (List ℕ × List ℕ)
+    → Result Put Rule
+item_words lists schema is_long text None = entry_of lists schema is_long text
+item_words lists schema is_long text (Some words) =
+    or_rule (after_mark words.1) rule.Line (λ value. leaf_of lists schema is_long words.0 value)
 
 -- an item and where it stands, as a schema stores them; a name in front of it may be too long
-abbrev pub put_of : Bool → SchemaTable → Bool → List ℕ → Result Put Rule
-put_of of_data schema is_long text = item_words of_data schema is_long text (cut_at 32 text)
+abbrev pub put_of : Option (List ServiceList) → SchemaTable → Bool → List ℕ → Result Put Rule
+put_of lists schema is_long text = item_words lists schema is_long text (cut_at 32 text)
 
 -- paths without an item
 
@@ -98,12 +103,34 @@ stored_data_path schema own =
     or_rule own rule.Value (λ path. checked ((not (is_data_path schema path), rule.Size) ∷ []) (Ok path))
 
 -- `PATH`, one of the data that can carry an item
-abbrev pub data_path_of : SchemaTable → List ℕ → Result (List PathStep) Rule
-data_path_of schema word =
+abbrev pub data_path_of : List ServiceList → SchemaTable → List ℕ → Result (List PathStep) Rule
+data_path_of lists schema word =
     checked ((nat_eq (length word) 0, rule.Line) ∷ (is_past_path (path_of word), rule.Size) ∷ [])
     (or_rule (path_of word) rule.Path (λ path.
-    checked ((is_kept path || not (can_carry schema path (blank_item path)), rule.Path) ∷ [])
+    checked ((is_barred (Some lists) path || not (can_carry schema path (blank_item path)), rule.Path) ∷ [])
     (stored_data_path schema (canonical_path schema path))))
+
+-- The path is that of an entry of one of these lists of services, whatever its texts.
+abbrev pub names_service : List ServiceList → SchemaTable → List PathStep → Bool
+names_service lists schema path =
+    is_some (list_with lists path) && (not (is_kept path) && can_carry schema path (blank_item path))
+
+-- The same of one that keeps the limits and whose keys are in canonical form.
+abbrev pub is_service_at : List ServiceList → SchemaTable → List PathStep → Bool
+is_service_at lists schema path = is_data_path schema path && is_some (list_with lists path)
+
+-- what is stored of one: its canonical form, looked at once more in the same way
+abbrev pub stored_service_path : List ServiceList → SchemaTable → Option (List PathStep) → Result (List PathStep) Rule
+stored_service_path lists schema own =
+    or_rule own rule.Value (λ path. checked ((not (is_service_at lists schema path), rule.Size) ∷ []) (Ok path))
+
+-- `PATH`, the entry of a service
+abbrev pub service_path_of : List ServiceList → SchemaTable → List ℕ → Result (List PathStep) Rule
+service_path_of lists schema word =
+    checked ((nat_eq (length word) 0, rule.Line) ∷ (is_past_path (path_of word), rule.Size) ∷ [])
+    (or_rule (path_of word) rule.Path (λ path.
+    checked ((not (names_service lists schema path), rule.Path) ∷ [])
+    (stored_service_path lists schema (canonical_path schema path))))
 
 -- The path is that of a list or a leaf-list, whatever its texts: the steps above it stand with their keys, and its own
 -- has none.
@@ -139,7 +166,7 @@ abbrev pub forbidden_words : SchemaTable → Bool → Option (List ℕ × List �
 forbidden_words schema is_long None = Err rule.Line
 forbidden_words schema is_long (Some words) =
     or_rule (after_mark words.1) rule.Line (λ value.
-    on_ok (leaf_of false schema is_long words.0 value) (λ put. leaf_in put.path put.item))
+    on_ok (leaf_of None schema is_long words.0 value) (λ put. leaf_in put.path put.item))
 
 unfoldable pub forbidden_of : SchemaTable → Bool → List ℕ → Result (List PathStep × List ℕ) Rule
 forbidden_of schema is_long text = forbidden_words schema is_long (cut_at 32 text)

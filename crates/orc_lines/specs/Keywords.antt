@@ -13,11 +13,15 @@ keyword_of word =
     if is_text word (codes "base") then keyword.Base else
     if is_text word (codes "data") then keyword.Data else
     if is_text word (codes "yang") then keyword.Yang else
+    if is_text word (codes "template") then keyword.Template else
     if is_text word (codes "script") then keyword.Script else
     if is_text word (codes "show") then keyword.Show else
     if is_text word (codes "json") then keyword.Json else
     if is_text word (codes "meta") then keyword.Meta else
     if is_text word (codes "call") then keyword.Call else
+    if is_text word (codes "create") then keyword.Create else
+    if is_text word (codes "modify") then keyword.Modify else
+    if is_text word (codes "redeploy") then keyword.Redeploy else
     if is_text word (codes "literal") then keyword.Literal else
     if is_text word (codes "write") then keyword.Write else
     if is_text word (codes "delete") then keyword.Delete else

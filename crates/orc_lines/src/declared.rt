@@ -8,6 +8,7 @@ ghost use Rattle.orc_state.specs.States.{names_of};
 use crate::names::Names;
 use orc_call::Put;
 use orc_schema::Schema;
+use orc_services::ServiceList;
 use orc_state::Device;
 use orc_text::{Row, Text};
 use orc_yang::Stmt;
@@ -45,6 +46,9 @@ pub struct Declared {
     /// The schema of the data, and the items of its lines.
     pub data_schema: Schema,
     pub data: Row<Put>,
+    /// The names of the templates, and the lists that have them.
+    pub templates: Names,
+    pub services: Row<ServiceList>,
 }
 
 impl Declared {

@@ -1,13 +1,13 @@
 //! Items and where they stand.
-ghost use Rattle.std.specs.Prelude.{IsTrue, ◌≡◌, ◌≤◌, ◌<◌, ◌+◌, ◌*◌, [], IfOk, IfSome, MatchOption, None, Some, false, length};
+ghost use Rattle.std.specs.Prelude.{IsTrue, ◌≡◌, ◌≤◌, ◌<◌, ◌+◌, ◌*◌, [], IfOk, IfSome, MatchOption, None, Some, false, length, option_map};
 ghost use Rattle.orc_path.specs.Alphabet.{is_value};
 ghost use Rattle.orc_path.specs.Reading.{path_of};
 ghost use Rattle.orc_path.specs.Texts.{path_text};
 ghost use Rattle.orc_path.specs.Values.{value_of};
-ghost use Rattle.orc_state.specs.Calls.{blank_item, is_data_path, is_forbid_rule, is_item_under, is_kept, is_list_path, is_put};
+ghost use Rattle.orc_state.specs.Calls.{blank_item, is_data_path, is_forbid_rule, is_item_under, is_list_path, is_put, is_served};
 ghost use Rattle.orc_lines.specs.Answers.{ReadsLine};
-ghost use Rattle.orc_lines.specs.Items.{is_past_path, is_past_value, is_long_item, is_barred, can_carry, canonical_put, after_mark, data_path_of, entry_of, forbidden_of, leaf_in, leaf_of, list_path_of, put_of, stored_data_path, stored_list_path};
-ghost use Rattle.orc_schema.specs.Schemas.{SchemaTable};
+ghost use Rattle.orc_lines.specs.Items.{is_past_path, is_past_value, is_long_item, is_barred, can_carry, canonical_put, after_mark, data_path_of, entry_of, forbidden_of, leaf_in, leaf_of, list_path_of, put_of, stored_data_path, stored_list_path, names_service, is_service_at, service_path_of, stored_service_path};
+ghost use Rattle.orc_schema.specs.Schemas.{SchemaTable, path_names};
 ghost use Rattle.orc_typed.specs.Typed.{canonical_path};
 ghost use Rattle.orc_typed.specs.Laws.{has_plain_text};
 ghost use Rattle.orc_typed.specs.Sizes.{item_size};
@@ -20,7 +20,8 @@ use orc_call::Put;
 use orc_io::Steps;
 use orc_path::{Item, Path, PathFault, is_long_value, read_value_counted, values_are_read};
 use orc_schema::Schema;
-use orc_state::{Rule, is_kept};
+use orc_services::{ServiceList, is_listed};
+use orc_state::{Rule, is_kept, is_served};
 use orc_text::{Memory, Text};
 use orc_typed::{
     canonical_is_typed, canonical_item_counted, canonical_keeps, canonical_path_counted,
@@ -93,8 +94,8 @@ fn after_mark(rest: &str) -> Option<&str>
     }
 }
 
-// Whether the text of an item passes a limit.
-fn is_long_item(item: &Item) -> bool
+/// Whether the text of an item passes a limit.
+pub fn is_long_item(item: &Item) -> bool
     ensures { result ≡ is_long_item item.now }
 {
     match item {
@@ -122,7 +123,7 @@ fn canonical_put<L: Ledger>(
     ensures reads { ReadsLine (canonical_put schema.now path.now item.now) result }
     ensures lawful { IsTrue (can_carry schema.now path.now item.now) → IsTrue (has_plain_text item.now)
         → IfOk result (λ put. IsTrue (is_put schema.now put)) }
-    ensures kept { IfOk result (λ put. is_kept put.path ≡ is_kept path.now) }
+    ensures names { IfOk result (λ put. path_names put.path ≡ path_names path.now) }
     ensures worked { work.new ≤ work.old + 35 * length (path_text path.now) + 3 * item_size item.now + 2 }
 {
     canonical_is_typed();
@@ -142,25 +143,29 @@ fn canonical_put<L: Ledger>(
     })
 }
 
-// Whether no line may name the path, where it is one of the data.
-fn is_barred(of_data: bool, path: &Path) -> bool
-    ensures { result ≡ is_barred of_data path.now }
+// Whether no line may name the path, where it is one of the data with these lists of services.
+fn is_barred(lists: Option<&[ServiceList]>, path: &Path) -> bool
+    ensures { result ≡ is_barred (option_map (λ lists. lists.now) lists.entry) path.now }
 {
-    of_data && is_kept(path)
+    match lists {
+        Some(lists) => is_kept(path) || is_served(lists, path),
+        None => false,
+    }
 }
 
 // An entry, of the data or of a device.
 fn read_entry<L: Ledger>(
     alloc: Global,
-    of_data: bool,
+    lists: Option<&[ServiceList]>,
     schema: &Schema,
     is_long: bool,
     word: &str,
     work: &mut Steps<L>,
 ) -> Result<Put, LineFault>
-    ensures reads { ReadsLine (entry_of of_data schema.now is_long word.now) result }
+    ensures reads { ReadsLine
+        (entry_of (option_map (λ lists. lists.now) lists.entry) schema.now is_long word.now) result }
     ensures lawful { IfOk result (λ put. IsTrue (is_put schema.now put)) }
-    ensures free { IfOk result (λ put. is_barred of_data put.path ≡ false) }
+    ensures free { IfOk result (λ put. is_barred (option_map (λ lists. lists.now) lists.entry) put.path ≡ false) }
     ensures worked { work.new ≤ work.old + 43 * length word.now }
 {
     if word.is_empty() {
@@ -173,7 +178,7 @@ fn read_entry<L: Ledger>(
     let Some(path) = path else {
         return breaks(Rule::Path);
     };
-    if is_barred(of_data, &path) || !can_carry(schema, &path, &Item::Entry, work) {
+    if is_barred(lists, &path) || !can_carry(schema, &path, &Item::Entry, work) {
         return breaks(Rule::Path);
     }
     canonical_put(alloc, schema, &path, &Item::Entry, work)
@@ -182,16 +187,17 @@ fn read_entry<L: Ledger>(
 // A leaf and the text of its value.
 fn read_leaf<L: Ledger>(
     alloc: Global,
-    of_data: bool,
+    lists: Option<&[ServiceList]>,
     schema: &Schema,
     is_long: bool,
     word: &str,
     text: &str,
     work: &mut Steps<L>,
 ) -> Result<Put, LineFault>
-    ensures reads { ReadsLine (leaf_of of_data schema.now is_long word.now text.now) result }
+    ensures reads { ReadsLine
+        (leaf_of (option_map (λ lists. lists.now) lists.entry) schema.now is_long word.now text.now) result }
     ensures lawful { IfOk result (λ put. IsTrue (is_put schema.now put)) }
-    ensures free { IfOk result (λ put. is_barred of_data put.path ≡ false) }
+    ensures free { IfOk result (λ put. is_barred (option_map (λ lists. lists.now) lists.entry) put.path ≡ false) }
     ensures worked { work.new ≤ work.old + 43 * length word.now + 5 * length text.now }
 {
     if word.is_empty() {
@@ -205,7 +211,7 @@ fn read_leaf<L: Ledger>(
     let Some(path) = path else {
         return breaks(Rule::Path);
     };
-    if is_barred(of_data, &path) || !can_carry(schema, &path, &Item::Leaf(Text::new(alloc)), work) {
+    if is_barred(lists, &path) || !can_carry(schema, &path, &Item::Leaf(Text::new(alloc)), work) {
         return breaks(Rule::Path);
     }
     let Some(value) = value else {
@@ -215,26 +221,27 @@ fn read_leaf<L: Ledger>(
 }
 
 /// An item line: a path, and behind it ` = ` and a value or nothing. It is stored in canonical form,
-/// as the schema has it. A name in front of it may be too long. Of the data, a line may not name what
-/// the orchestrator keeps itself.
+/// as the schema has it. A name in front of it may be too long. Of the data, which has these lists of
+/// services, a line may name neither what the orchestrator keeps itself nor a service.
 pub fn read_put<L: Ledger>(
     alloc: Global,
-    of_data: bool,
+    lists: Option<&[ServiceList]>,
     schema: &Schema,
     is_long: bool,
     text: &str,
     work: &mut Steps<L>,
 ) -> Result<Put, LineFault>
-    ensures reads { ReadsLine (put_of of_data schema.now is_long text.now) result }
+    ensures reads { ReadsLine
+        (put_of (option_map (λ lists. lists.now) lists.entry) schema.now is_long text.now) result }
     ensures lawful { IfOk result (λ put. IsTrue (is_put schema.now put)) }
-    ensures free { IfOk result (λ put. is_barred of_data put.path ≡ false) }
+    ensures free { IfOk result (λ put. is_barred (option_map (λ lists. lists.now) lists.entry) put.path ≡ false) }
     ensures worked { work.new + 2 * length text.now ≤ work.old + work_on text.now }
 {
     let Some((word, rest)) = cut(text) else {
-        return read_entry(alloc, of_data, schema, is_long, text, work);
+        return read_entry(alloc, lists, schema, is_long, text, work);
     };
     match after_mark(rest) {
-        Some(value) => read_leaf(alloc, of_data, schema, is_long, word, value, work),
+        Some(value) => read_leaf(alloc, lists, schema, is_long, word, value, work),
         None => breaks(Rule::Line),
     }
 }
@@ -258,6 +265,7 @@ fn stored_data_path<L: Ledger>(
 ) -> Result<Path, LineFault>
     ensures reads { ReadsLine (stored_data_path schema.now (canonical_path schema.now path.now)) result }
     ensures lawful { IfOk result (λ own. IsTrue (is_data_path schema.now own)) }
+    ensures names { IfOk result (λ own. path_names own ≡ path_names path.now) }
     ensures worked { work.new ≤ work.old + 131 * length (path_text path.now) }
 {
     let Some(own) = canonical_path_counted(alloc, schema, path, work)? else {
@@ -272,12 +280,14 @@ fn stored_data_path<L: Ledger>(
 /// The path of a line `unset`: one of the data that can carry an item. It is stored in canonical form.
 pub fn read_data_path<L: Ledger>(
     alloc: Global,
+    lists: &[ServiceList],
     schema: &Schema,
     word: &str,
     work: &mut Steps<L>,
 ) -> Result<Path, LineFault>
-    ensures reads { ReadsLine (data_path_of schema.now word.now) result }
+    ensures reads { ReadsLine (data_path_of lists.now schema.now word.now) result }
     ensures lawful { IfOk result (λ path. IsTrue (is_data_path schema.now path)) }
+    ensures free { IfOk result (λ path. is_served lists.now path ≡ false) }
     ensures worked { work.new + 2 * length word.now ≤ work.old + work_on word.now }
 {
     if word.is_empty() {
@@ -290,10 +300,90 @@ pub fn read_data_path<L: Ledger>(
     let Some(path) = path else {
         return breaks(Rule::Path);
     };
-    if is_kept(&path) || !can_carry(schema, &path, &blank_item(alloc, &path), work) {
+    if is_barred(Some(lists), &path) || !can_carry(schema, &path, &blank_item(alloc, &path), work) {
         return breaks(Rule::Path);
     }
     stored_data_path(alloc, schema, &path, work)
+}
+
+// Whether the path is that of an entry of one of the lists, whatever its texts.
+fn names_service<L: Ledger>(
+    alloc: Global,
+    lists: &[ServiceList],
+    schema: &Schema,
+    path: &Path,
+    work: &mut Steps<L>,
+) -> bool
+    ensures value { result ≡ names_service lists.now schema.now path.now }
+    ensures worked { work.new ≤ work.old + 2 * length (path_text path.now) }
+{
+    is_listed(lists, path)
+        && (!is_kept(path) && can_carry(schema, path, &blank_item(alloc, path), work))
+}
+
+// Whether it is one that can be stored: it keeps the limits, and its keys are in canonical form.
+fn is_service_at<L: Ledger>(
+    alloc: Global,
+    lists: &[ServiceList],
+    schema: &Schema,
+    path: &Path,
+    work: &mut Steps<L>,
+) -> bool
+    ensures value { result ≡ is_service_at lists.now schema.now path.now }
+    ensures worked { work.new ≤ work.old + 8 * length (path_text path.now) }
+{
+    is_data_path(alloc, schema, path, work) && is_listed(lists, path)
+}
+
+// The path of a service, in canonical form.
+fn stored_service_path<L: Ledger>(
+    alloc: Global,
+    lists: &[ServiceList],
+    schema: &Schema,
+    path: &Path,
+    work: &mut Steps<L>,
+) -> Result<Path, LineFault>
+    ensures reads { ReadsLine
+        (stored_service_path lists.now schema.now (canonical_path schema.now path.now)) result }
+    ensures lawful { IfOk result (λ own. IsTrue (is_service_at lists.now schema.now own)) }
+    ensures worked { work.new ≤ work.old + 131 * length (path_text path.now) }
+{
+    let Some(own) = canonical_path_counted(alloc, schema, path, work)? else {
+        return breaks(Rule::Value);
+    };
+    if !is_service_at(alloc, lists, schema, &own, work) {
+        return breaks(Rule::Size);
+    }
+    Ok(own)
+}
+
+/// The path of a service: that of an entry of one of these lists, which the schema has. It is stored in
+/// canonical form.
+pub fn read_service_path<L: Ledger>(
+    alloc: Global,
+    lists: &[ServiceList],
+    schema: &Schema,
+    word: &str,
+    work: &mut Steps<L>,
+) -> Result<Path, LineFault>
+    ensures reads { ReadsLine (service_path_of lists.now schema.now word.now) result }
+    ensures lawful { IfOk result (λ path. IsTrue (is_service_at lists.now schema.now path)) }
+    ensures worked { work.new + 2 * length word.now ≤ work.old + work_on word.now }
+{
+    if word.is_empty() {
+        return breaks(Rule::Line);
+    }
+    let path = read_path(alloc, word, work)?;
+    if is_past_path(&path, work) {
+        return breaks(Rule::Size);
+    }
+    let Some(path) = path else {
+        return breaks(Rule::Path);
+    };
+    if !names_service(alloc, lists, schema, &path, work) {
+        return breaks(Rule::Path);
+    }
+    stored_service_path(alloc, lists, schema, &path, work)
 }
 
 // The path of a list, in canonical form.
@@ -377,6 +467,6 @@ pub fn read_forbidden<L: Ledger>(
     let Some(value) = after_mark(rest) else {
         return breaks(Rule::Line);
     };
-    let put = read_leaf(alloc, false, schema, is_long, word, value, work)?;
+    let put = read_leaf(alloc, None, schema, is_long, word, value, work)?;
     leaf_in(put.path, put.item)
 }

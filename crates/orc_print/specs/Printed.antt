@@ -13,11 +13,12 @@ use Rattle.orc_path.specs.declared.item.Item.{Item}
 use Rattle.orc_path.specs.declared.item.Item.TheVariants.{Entry, Leaf}
 use Rattle.orc_call.specs.declared.call.Call.{Call}
 use Rattle.orc_call.specs.declared.answer.Answer.{Answer}
-use Rattle.orc_call.specs.declared.answer.Answer.TheVariants.{Committed, Exists, Missing, Invalid, Clash, Reused, Down, JournalFault}
+use Rattle.orc_call.specs.declared.answer.Answer.TheVariants.{Committed, Exists, Missing, Invalid, Expand, Clash, Reused, Down, JournalFault}
 use Rattle.orc_refs.specs.declared.moves.Meta.{Meta}
 use Rattle.orc_schema.specs.Schemas.{SchemaTable}
 use Rattle.orc_check.specs.declared.rules.TheConstants.{KIND, KEY, MANDATORY, MIN_ELEMENTS, MAX_ELEMENTS, LEAFREF}
 use Rattle.orc_json.specs.Written.{IsJsonTextOf}
+use Rattle.orc_template.specs.declared.fault.TheConstants.{NO_VALUE, MANY_VALUES, UNKNOWN_DEVICE, BAD_LEAF}
 use Rattle.orc_state.specs.States.{name_of}
 use Rattle.orc_state.specs.Texts.{action_lines}
 
@@ -91,11 +92,22 @@ validity_word rule =
 abbrev pub is_rule : ℕ → Bool
 is_rule rule = nat_le KIND rule && nat_le rule LEAFREF
 
+-- the word for a rule of expansion
+abbrev pub expansion_word : ℕ → List ℕ
+expansion_word rule =
+    if rule == NO_VALUE then codes "no-value"
+    else if rule == MANY_VALUES then codes "many-values"
+    else if rule == UNKNOWN_DEVICE then codes "unknown-device"
+    else if rule == BAD_LEAF then codes "bad-leaf"
+    else codes "self-clash"
+
 abbrev pub answer_words : List (List ℕ) → Answer → List ℕ
 answer_words names (Committed entry) = codes "Committed " ++ decimal entry
 answer_words names (Exists id) = codes "Exists " ++ id
 answer_words names (Missing id) = codes "Missing " ++ id
 answer_words names (Invalid path rule) = codes "Invalid " ++ path_text path ++ codes " " ++ validity_word rule
+answer_words names (Expand id block rule) =
+    codes "Expand " ++ id ++ codes " " ++ decimal block ++ codes " " ++ expansion_word rule
 answer_words names (Clash device path id) =
     codes "Clash " ++ name_of names device ++ codes " " ++ path_text path ++ codes " " ++ id
 answer_words names (Reused entry) = codes "Reused " ++ decimal entry
@@ -110,6 +122,7 @@ is_answer_among devices (Committed entry) = true
 is_answer_among devices (Exists id) = true
 is_answer_among devices (Missing id) = true
 is_answer_among devices (Invalid path rule) = is_rule rule
+is_answer_among devices (Expand id block rule) = true
 is_answer_among devices (Clash device path id) = nat_lt device devices
 is_answer_among devices (Reused entry) = true
 is_answer_among devices Down = true
@@ -123,7 +136,7 @@ answer_line names caller number answer =
 
 -- histories
 
--- a call of a history, with its number in it; each write of a literal service is indented
+-- a call of a history, with its number in it; each write of a literal service and each item of a body is indented
 abbrev pub history_call : ℕ → Call → List ℕ
 history_call entry call =
     decimal entry ++ codes " " ++ call.caller ++ codes " " ++ decimal call.number ++ codes "\n"

@@ -1,11 +1,12 @@
 //! The answers of calls.
 ghost use Rattle.std.specs.Prelude.{◌≡◌, length, IfOk, IsTrue};
 ghost use Rattle.orc_print.specs.inside.Adding.{Adds};
-ghost use Rattle.orc_print.specs.Printed.{answer_line, answer_words, is_answer_among, is_rule, validity_word};
+ghost use Rattle.orc_print.specs.Printed.{answer_line, answer_words, expansion_word, is_answer_among, is_rule, validity_word};
 
 use orc_call::Answer;
 use orc_check::{KEY, KIND, MANDATORY, MAX_ELEMENTS, MIN_ELEMENTS};
 use orc_state::device_name;
+use orc_template::{BAD_LEAF, MANY_VALUES, NO_VALUE, UNKNOWN_DEVICE};
 use orc_text::{Memory, Text};
 use std::alloc::Global;
 
@@ -59,6 +60,14 @@ fn push_answer(
             out.push_str(" ")?;
             out.push_str(validity_word(*rule))?;
         }
+        Answer::Expand(id, block, rule) => {
+            out.push_str("Expand ")?;
+            out.push_str(id.as_str())?;
+            out.push_str(" ")?;
+            out.push_str(block.to_string(alloc)?.as_str())?;
+            out.push_str(" ")?;
+            out.push_str(expansion_word(*rule))?;
+        }
         Answer::Clash(device, path, id) => {
             out.push_str("Clash ")?;
             out.push_str(device_name(names, *device).as_str())?;
@@ -96,5 +105,22 @@ fn validity_word(rule: u8) -> &'static str
         "max-elements"
     } else {
         "leafref"
+    }
+}
+
+// The word for a rule of expansion.
+fn expansion_word(rule: u8) -> &'static str
+    ensures { result.now ≡ expansion_word rule }
+{
+    if rule == NO_VALUE {
+        "no-value"
+    } else if rule == MANY_VALUES {
+        "many-values"
+    } else if rule == UNKNOWN_DEVICE {
+        "unknown-device"
+    } else if rule == BAD_LEAF {
+        "bad-leaf"
+    } else {
+        "self-clash"
     }
 }

@@ -1,13 +1,13 @@
 //! Histories.
-ghost use Rattle.std.specs.Prelude.{◌≡◌, [], codes, IfOk};
+ghost use Rattle.std.specs.Prelude.{◌≡◌, ◌++◌, [], codes, IfOk};
 ghost use Rattle.std.specs.List.{flat_map};
 ghost use Rattle.orc_print.specs.inside.Adding.{Adds};
 ghost use Rattle.orc_print.specs.Printed.{history_call, history_lines, history_text};
-ghost use Rattle.orc_state.specs.Texts.{action_lines, write_line};
+ghost use Rattle.orc_state.specs.Texts.{action_lines, body_line, write_line};
 
-use orc_call::{Action, Call, DevicePut};
+use orc_call::{Action, Call, DevicePut, Put};
 use orc_path::push_item;
-use orc_text::Memory;
+use orc_text::{Memory, Text};
 use std::alloc::Global;
 
 /// The group `history`: how many calls it has, each call with its number in it and its actions, and
@@ -61,17 +61,20 @@ fn push_action(out: &mut String, alloc: Global, action: &Action) -> Result<(), M
     ensures { Adds result out.old out.new (action_lines (codes "  ") action.now) }
 {
     match action {
+        Action::Create(id, body) => {
+            push_named(out, "create ", id)?;
+            push_body(out, alloc, body.as_slice())?;
+        }
+        Action::Modify(id, body) => {
+            push_named(out, "modify ", id)?;
+            push_body(out, alloc, body.as_slice())?;
+        }
+        Action::Redeploy(id) => push_named(out, "redeploy ", id)?,
         Action::Literal(id, writes) => {
-            out.push_str("literal ")?;
-            out.push_str(id.as_str())?;
-            out.push_str("\n")?;
+            push_named(out, "literal ", id)?;
             push_writes(out, alloc, writes.as_slice())?;
         }
-        Action::Delete(id) => {
-            out.push_str("delete ")?;
-            out.push_str(id.as_str())?;
-            out.push_str("\n")?;
-        }
+        Action::Delete(id) => push_named(out, "delete ", id)?,
         Action::Set(put) => {
             out.push_str("set ")?;
             push_item(out, alloc, &put.path, &put.item)?;
@@ -93,8 +96,28 @@ fn push_action(out: &mut String, alloc: Global, action: &Action) -> Result<(), M
             out.push_str(path.text(alloc)?.as_str())?;
             out.push_str("\n")?;
         }
-        // The other kinds are not built yet.
-        _ => {}
+    }
+    Ok(())
+}
+
+// The line of an action that has only its word and the service's id in it.
+fn push_named(out: &mut String, word: &str, id: &Text) -> Result<(), Memory>
+    ensures { Adds result out.old out.new (word.now ++ id.now ++ codes "\n") }
+{
+    out.push_str(word)?;
+    out.push_str(id.as_str())?;
+    out.push_str("\n")?;
+    Ok(())
+}
+
+// The items of a service's body, each on an indented line.
+fn push_body(out: &mut String, alloc: Global, body: &[Put]) -> Result<(), Memory>
+    ensures { Adds result out.old out.new (flat_map (body_line (codes "  ")) body.now) }
+{
+    for put in body {
+        out.push_str("  ")?;
+        push_item(out, alloc, &put.path, &put.item)?;
+        out.push_str("\n")?;
     }
     Ok(())
 }

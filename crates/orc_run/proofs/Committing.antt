@@ -377,7 +377,7 @@ module _ {D : Type 0} (meaning : DiskMeaning D) (only_now : (d : D) (c : List �
         on true named = absurd (let taken = named_taken old.past.numbers t es is.up.numbers named in cc)
         on false named = named
 
-    module _ (touched : devices ≡ touched_devices decls.names (state_of decls (take old.known old.past.history)) call) (positive : 1 ≤ t)
+    module _ (touched : devices ≡ touched_devices decls (state_of decls (take old.known old.past.history)) call) (positive : 1 ≤ t)
         (least : (u : ℕ) → 1 ≤ u → u < t → is_taken old.past.numbers u ≡ true)
         (stage : Stage) (outcome : Appended) (j : OpenJournal (Stopping D))
         (so : AppendsUpTo meaning decls.text stage (journal_view old.journal es) intent t outcome (journal_view j (known_by stage outcome es intent t))) where

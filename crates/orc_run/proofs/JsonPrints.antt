@@ -18,9 +18,8 @@ use Rattle.orc_json.specs.TypedJson.{IsTypedConfig, TypedHasJson}
 use Rattle.orc_call.specs.declared.call.Call.{Call}
 use Rattle.orc_state.specs.States.{is_same_text, name_of, names_of, tree_due}
 use Rattle.orc_state.specs.Calls.{device_named, is_action, is_call, is_device, is_device_under, is_lawful_name, schema_in}
-use Rattle.orc_state.specs.Laws.{AreActions, TreeIsTyped}
+use Rattle.orc_state.specs.Laws.{AreActions, TreeIsConfiguration, TreeIsTyped}
 use Rattle.orc_state.proofs.Fits.{call-actions, list_all-read}
-use Rattle.orc_state.proofs.Trees.{trees_are_configs}
 use Rattle.orc_state.specs.Declarations.{AreDecls}
 use Rattle.orc_state.specs.Legal.{IsLegal, state_of}
 use Rattle.orc_state.specs.declared.declarations.Decls.{Decls}
@@ -82,21 +81,21 @@ all_actions decls history h =
     (λ call k. AllPass-from_list_all (is_action decls) call.actions (call-actions decls call k)) history h
 
 -- the tree of a device may stand under the device's schema
-tree_typed : TreeIsTyped → (decls : Decls) (history : List Call) (d : ℕ) → AreDecls decls → IsLegal decls history → IsTypedConfig (device_schema decls d) (tree_due (state_of decls history) d)
-tree_typed law decls history d are legal =
+tree_typed : TreeIsConfiguration → TreeIsTyped → (decls : Decls) (history : List Call) (d : ℕ) → AreDecls decls → IsLegal decls history → IsTypedConfig (device_schema decls d) (tree_due (state_of decls history) d)
+tree_typed config law decls history d are legal =
     let actions = all_actions decls history legal.lawful in
     record {
-      whole = trees_are_configs decls history d (AllPass-from_list_all (is_device decls.schemas) decls.devices are.devices) actions;
+      whole = config decls history d are actions;
       typed = law decls history d are actions;
     }
 
 -- the tree of a device with a type has a JSON value, and this is printed of it
 pub prints_json : (decls : Decls) (history : List Call) (d : ℕ) (state : State) (tree : Config) (names : List (List ℕ)) (name : List ℕ) (schema : SchemaTable) (bytes row : List ℕ)
-    → TypedHasJson → TreeIsTyped → AreDecls decls → All IsSound decls.schemas → IsLegal decls history → (device_schema decls d).plain ≡ false
+    → TypedHasJson → TreeIsConfiguration → TreeIsTyped → AreDecls decls → All IsSound decls.schemas → IsLegal decls history → (device_schema decls d).plain ≡ false
     → state ≡ state_of decls history → tree ≡ tree_due state d → name ≡ name_of names d → names ≡ decls.names → schema ≡ device_schema decls d
     → IsJsonGroup name schema tree bytes → row ≡ bytes → PrintsJson decls (state_of decls history) d row
-prints_json decls history d state tree names name schema bytes row law typing are all legal typed behind due named own under group same = (
-  law (device_schema decls d) (tree_due (state_of decls history) d) (device_sound decls d all typed) typed (tree_typed typing decls history d are legal),
+prints_json decls history d state tree names name schema bytes row law config typing are all legal typed behind due named own under group same = (
+  law (device_schema decls d) (tree_due (state_of decls history) d) (device_sound decls d all typed) typed (tree_typed config typing decls history d are legal),
   subst (λ (t : List ℕ). IsJsonGroup (name_of decls.names d) (device_schema decls d) (tree_due (state_of decls history) d) t) (sym same)
       (subst (λ (c : Config). IsJsonGroup (name_of decls.names d) (device_schema decls d) c bytes) (due ∙ ap (λ (s : State). tree_due s d) behind)
       (subst (λ (s : SchemaTable). IsJsonGroup (name_of decls.names d) s tree bytes) under

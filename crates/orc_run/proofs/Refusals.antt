@@ -1,5 +1,5 @@
 -- What a refusal names: a device that is declared, a rule of validity.
-use Rattle.std.proofs.Common.{ℕ, suc, ◌+◌, ◌≤◌, ◌<◌, Bool, true, false, cond, List, [], ◌∷◌, length, None, Some, IsTrue, refl, arith}
+use Rattle.std.proofs.Common.{ℕ, suc, ◌+◌, ◌≤◌, ◌<◌, Bool, true, false, cond, List, [], ◌∷◌, length, None, Some, Ok, Err, Result, IsTrue, refl, arith}
 use Rattle.std.specs.Prelude.{nat_lt, option_map}
 use Rattle.std.specs.declared.option.Option.{Option}
 use Rattle.std.specs.Option.{option_or}
@@ -8,10 +8,14 @@ use Rattle.orc_check.specs.Validity.{Breach, broken_of}
 use Rattle.orc_state.specs.States.{lives}
 use Rattle.orc_state.specs.Actions.{data_after, live_after, touched}
 use Rattle.orc_state.specs.Clashes.{clash_at, clash_from, unequal_on}
-use Rattle.orc_state.specs.Next.{clash, existence, existence_of, invalid, refusal}
+use Rattle.orc_state.specs.Next.{clash, existence, existence_of, invalid, refusal, serving_on, expanded_call, expanded_to, unexpanded}
+use Rattle.orc_expr.specs.declared.read.Read.{Read}
+use Rattle.orc_template.specs.Expansions.{Expanding, Failed}
+use Rattle.orc_services.specs.Services.{Serving, expansion_of}
+use Rattle.orc_services.specs.Expanded.{ExpandedTo, as_literal, expanded_actions, expanded_by, expanded_action, with_expanded}
 use Rattle.orc_print.specs.Printed.{is_answer_among}
 use Rattle.orc_call.specs.declared.call.Action.{Action}
-use Rattle.orc_call.specs.declared.call.Action.TheVariants.{Literal, Delete}
+use Rattle.orc_call.specs.declared.call.Action.TheVariants.{Create, Modify, Redeploy, Literal, Delete}
 use Rattle.orc_call.specs.declared.call.Call.{Call}
 use Rattle.orc_call.specs.declared.answer.Answer.{Answer}
 use Rattle.orc_call.specs.declared.answer.Answer.TheVariants.{Clash, Exists, Invalid, Missing}
@@ -29,17 +33,26 @@ first_among : (n : ℕ) (o c : Option Answer) → IsAmong n o → IsAmong n c �
 first_among n None c h k = k
 first_among n (Some answer) c h k = h
 
-existence_of-among : (n : ℕ) (live : List Service) (action : Action) → IsAmong n (existence_of live action)
-existence_of-among n live (Literal id writes) = on (lives live id)
+made_among : (n : ℕ) (live : List Service) (id : List ℕ) → IsAmong n (cond (lives live id) (Some (Exists id)) None)
+made_among n live id = on (lives live id)
   where
     on : (t : Bool) → IsAmong n (cond t (Some (Exists id)) None)
     on true = refl
     on false = tt
-existence_of-among n live (Delete id) = on (lives live id)
+
+changed_among : (n : ℕ) (live : List Service) (id : List ℕ) → IsAmong n (cond (lives live id) None (Some (Missing id)))
+changed_among n live id = on (lives live id)
   where
     on : (t : Bool) → IsAmong n (cond t None (Some (Missing id)))
     on true = tt
     on false = refl
+
+existence_of-among : (n : ℕ) (live : List Service) (action : Action) → IsAmong n (existence_of live action)
+existence_of-among n live (Create id body) = made_among n live id
+existence_of-among n live (Modify id body) = changed_among n live id
+existence_of-among n live (Redeploy id) = changed_among n live id
+existence_of-among n live (Literal id writes) = made_among n live id
+existence_of-among n live (Delete id) = changed_among n live id
 existence_of-among n live other = tt
 
 existence-among : (n : ℕ) (live : List Service) (actions : List Action) → IsAmong n (existence live actions)
@@ -64,11 +77,49 @@ clash_from-among n live services d (name ∷ names) h =
     first_among n (clash_at live services d) (clash_from live services (suc d) names) (clash_at-among n d (unequal_on live services d) (omega arith))
     (clash_from-among n live services (suc d) names (omega arith))
 
+-- an answer in place of what actions come to is one that calls get
+abbrev AnswersAmong : {X : Type 0} → ℕ → Result X Answer → Type 0
+AnswersAmong n (Ok x) = Unit {0}
+AnswersAmong n (Err answer) = IsTrue (is_answer_among n answer)
+
+literal_among : (n : ℕ) (names : List (List ℕ)) (id : List ℕ) (o : Option (Result Expanding Failed)) → AnswersAmong n (as_literal names id o).outcome
+literal_among n names id None = tt
+literal_among n names id (Some (Ok e)) = tt
+literal_among n names id (Some (Err failed)) = refl
+
+one_among : (n : ℕ) (s : Serving) (action : Action) → AnswersAmong n (expanded_action s action).outcome
+one_among n s (Create id body) = literal_among n s.devices.names id (expansion_of s id)
+one_among n s (Modify id body) = literal_among n s.devices.names id (expansion_of s id)
+one_among n s (Redeploy id) = literal_among n s.devices.names id (expansion_of s id)
+one_among n s other = tt
+
+with_among : (n : ℕ) (action : Action) (o : Result (List Action) Answer) → AnswersAmong n o → AnswersAmong n (with_expanded action o)
+with_among n action (Ok actions) h = tt
+with_among n action (Err answer) h = h
+
+by_among : (n : ℕ) (o : Result Action Answer) (reads : List Read) (later : ExpandedTo (List Action)) → AnswersAmong n o → AnswersAmong n later.outcome
+    → AnswersAmong n (expanded_by o reads later).outcome
+by_among n (Ok action) reads later h k = with_among n action later.outcome k
+by_among n (Err answer) reads later h k = h
+
+settled_among : (n : ℕ) (s : Serving) (actions : List Action) → AnswersAmong n (expanded_actions s actions).outcome
+settled_among n s [] = tt
+settled_among n s (action ∷ actions) =
+    by_among n (expanded_action s action).outcome (expanded_action s action).reads (expanded_actions s actions) (one_among n s action) (settled_among n s actions)
+
+unexpanded_among : (n : ℕ) (o : Result (List Action) Answer) → AnswersAmong n o → IsAmong n (unexpanded o)
+unexpanded_among n (Ok actions) h = tt
+unexpanded_among n (Err answer) h = h
+
 pub refusal-among : (decls : Decls) (s : State) (call : Call) → IsAmong (length decls.names) (refusal decls s call)
 refusal-among decls s call =
     let n = length decls.names in
     let items = data_after call.actions s.data in
-    let behind = live_after decls.names call.actions s.live in
-    first_among n (existence s.live call.actions) (option_or (invalid decls.data_schema items) (clash decls.names s.live call.actions)) (existence-among n s.live call.actions)
-    (first_among n (invalid decls.data_schema items) (clash decls.names s.live call.actions) (invalid-among n (broken_of decls.data_schema items) (broken_ruled decls.data_schema items))
-    (clash_from-among n behind (touched call.actions behind) 0 decls.names (omega arith)))
+    let found = expanded_call decls s call in
+    let settled = expanded_to found in
+    let behind = live_after decls.names settled s.live in
+    let clashes = clash decls.names s.live settled in
+    first_among n (existence s.live call.actions) (option_or (invalid decls.data_schema items) (option_or (unexpanded found) clashes)) (existence-among n s.live call.actions)
+    (first_among n (invalid decls.data_schema items) (option_or (unexpanded found) clashes) (invalid-among n (broken_of decls.data_schema items) (broken_ruled decls.data_schema items))
+    (first_among n (unexpanded found) clashes (unexpanded_among n found (settled_among n (serving_on decls items) call.actions))
+    (clash_from-among n behind (touched settled behind) 0 decls.names (omega arith))))

@@ -75,7 +75,7 @@ module _ {D : Type 0} (meaning : DiskMeaning D) where
 -- the intent of a call with this number: it names the devices that the call touches
 abbrev pub intent_of : {D : Type 0} → Decls → View D → Call → ℕ → Entry
 intent_of decls view call t =
-    entry.Intent t call (touched_devices decls.names (state_of decls view.known) call)
+    entry.Intent t call (touched_devices decls (state_of decls view.known) call)
 
 -- What is known behind a commit that came to this stage, and what is pending: the journal may have a call as its next
 -- entry only from the append of its decision on.

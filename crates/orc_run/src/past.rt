@@ -108,7 +108,7 @@ impl Past {
             → IsDue decls.now self.old.history call.now → ⊥ }
         ensures numbers { self.new.numbers ≡ self.old.numbers }
     {
-        if !is_call(alloc, decls, call) {
+        if !is_call(alloc, decls, call)? {
             return Ok(false);
         }
         if self.answer_or_apply(alloc, decls, call)?.is_some() {

@@ -49,7 +49,7 @@ impl<D: Disk> Controller<D> {
             return answered(alloc, decls.names.as_slice(), call, &Answer::Down);
         }
         // What a deletion touches is told by the state before it.
-        let devices = touched_devices(alloc, decls.names.as_slice(), &self.past.state, call)?;
+        let devices = touched_devices(alloc, decls, &self.past.state, call)?;
         match self.past.answer_or_apply(alloc, decls, call)? {
             Some(answer) => answered(alloc, decls.names.as_slice(), call, &answer),
             None => self.commit(alloc, decls, call, devices),
@@ -70,7 +70,7 @@ impl<D: Disk> Controller<D> {
         requires call { IsTrue (is_call decls.now call.now) }
         requires devices { AreDevices devices }
         requires touched { devices
-            ≡ touched_devices decls.now.names (state_of decls.now (known_of self.old)) call.now }
+            ≡ touched_devices decls.now (state_of decls.now (known_of self.old)) call.now }
         ensures { (entries : List Entry) → IsCommitting D.disk decls.now call.now entries self.old
             → LeadsTo D.disk decls.now (view_of self.old entries) call.now result self.new }
     {

@@ -22,7 +22,7 @@ use orc_json::typed_has_json;
 use orc_path::Path;
 use orc_print::{data, down, history, json, meta, show, stopped};
 use orc_schema::Schema;
-use orc_state::{Decls, device_name, tree_is_typed};
+use orc_state::{Decls, device_name, tree_is_configuration, tree_is_typed};
 use orc_text::{Memory, Row};
 use std::alloc::Global;
 
@@ -107,6 +107,7 @@ impl<D: Disk> Controller<D> {
         requires typed { (device_schema decls.now device).plain ≡ false }
         ensures { IfOk result (PrintsJson decls.now (state_of decls.now (known_of self.now)) device) }
     {
+        tree_is_configuration();
         tree_is_typed();
         typed_has_json();
         let tree = self.past.state.tree_due(device);

@@ -10,7 +10,7 @@ use Rattle.orc_path.specs.Limits.{is_long_name}
 use Rattle.orc_call.specs.declared.call.Action.{Action}
 use Rattle.orc_call.specs.declared.call.Action.TheVariants.{Literal}
 use Rattle.orc_call.specs.declared.call.TheConstants.{MOST_ACTIONS}
-use Rattle.orc_state.specs.Actions.{is_named_by, name_each_once, named, names}
+use Rattle.orc_state.specs.Actions.{is_service_among, service_of, services_once}
 use Rattle.orc_state.specs.States.{is_same_text}
 use Rattle.orc_state.specs.Calls.{is_action, is_lawful_name, is_write}
 use Rattle.orc_state.specs.declared.declarations.Decls.{Decls}
@@ -21,6 +21,10 @@ use Rattle.orc_script.specs.declared.script.Part.{Part}
 use Rattle.orc_script.specs.declared.script.Part.TheVariants as part
 use Rattle.orc_script.specs.declared.script.Script.{Script}
 use Rattle.orc_lines.proofs.Lawful.{all_more, both}
+
+-- the action of a call names the service of this id
+abbrev pub names : Action → List ℕ → Bool
+names action id = option_map_or (λ own. is_same_text id own) (service_of action) false
 
 -- one action more names no service again
 
@@ -40,42 +44,42 @@ differ_back None (Some y) h = refl
 differ_back (Some x) None h = refl
 differ_back (Some x) (Some y) h = same_back x y h
 
-is_named_more : (xs : List Action) (a : Action) (id : List ℕ) → is_named_by xs id ≡ false → names a id ≡ false → is_named_by (xs ++ a ∷ []) id ≡ false
+is_named_more : (xs : List Action) (a : Action) (id : List ℕ) → is_service_among xs id ≡ false → names a id ≡ false → is_service_among (xs ++ a ∷ []) id ≡ false
 is_named_more [] a id none other = or_from (names a id) false other refl
 is_named_more (x ∷ xs) a id none other =
-    let parts = or_parts (names x id) (is_named_by xs id) none in
-    or_from (names x id) (is_named_by (xs ++ a ∷ []) id) parts.0 (is_named_more xs a id parts.1 other)
+    let parts = or_parts (names x id) (is_service_among xs id) none in
+    or_from (names x id) (is_service_among (xs ++ a ∷ []) id) parts.0 (is_named_more xs a id parts.1 other)
 
 -- no action among these names what an action names
 abbrev NoneNames : List Action → Option (List ℕ) → Type 0
-NoneNames xs mine = option_map_or (is_named_by xs) mine false ≡ false
+NoneNames xs mine = option_map_or (is_service_among xs) mine false ≡ false
 
-first_other : (x : Action) (xs : List Action) (mine : Option (List ℕ)) → NoneNames (x ∷ xs) mine → Differ mine (named x)
+first_other : (x : Action) (xs : List Action) (mine : Option (List ℕ)) → NoneNames (x ∷ xs) mine → Differ mine (service_of x)
 first_other x xs None h = refl
-first_other x xs (Some id) h = (or_parts (names x id) (is_named_by xs id) h).0
+first_other x xs (Some id) h = (or_parts (names x id) (is_service_among xs id) h).0
 
 later_other : (x : Action) (xs : List Action) (mine : Option (List ℕ)) → NoneNames (x ∷ xs) mine → NoneNames xs mine
 later_other x xs None h = refl
-later_other x xs (Some id) h = (or_parts (names x id) (is_named_by xs id) h).1
+later_other x xs (Some id) h = (or_parts (names x id) (is_service_among xs id) h).1
 
-head_once : (xs : List Action) (a : Action) (mine : Option (List ℕ)) → option_map_or (λ id. not (is_named_by xs id)) mine true ≡ true
-    → Differ mine (named a) → option_map_or (λ id. not (is_named_by (xs ++ a ∷ []) id)) mine true ≡ true
+head_once : (xs : List Action) (a : Action) (mine : Option (List ℕ)) → option_map_or (λ id. not (is_service_among xs id)) mine true ≡ true
+    → Differ mine (service_of a) → option_map_or (λ id. not (is_service_among (xs ++ a ∷ []) id)) mine true ≡ true
 head_once xs a None once other = refl
-head_once xs a (Some id) once other = ap not (is_named_more xs a id (back (is_named_by xs id) once) other) where
+head_once xs a (Some id) once other = ap not (is_named_more xs a id (back (is_service_among xs id) once) other) where
   back : (b : Bool) → not b ≡ true → b ≡ false
   back false h = refl
   back true h = sym h
 
-pub once_more : (xs : List Action) (a : Action) → name_each_once xs ≡ true → NoneNames xs (named a) → name_each_once (xs ++ a ∷ []) ≡ true
-once_more [] a once none = both (option_map_or (λ id. not (is_named_by [] id)) (named a) true) true (alone (named a)) refl where
-  alone : (mine : Option (List ℕ)) → option_map_or (λ id. not (is_named_by [] id)) mine true ≡ true
+pub once_more : (xs : List Action) (a : Action) → services_once xs ≡ true → NoneNames xs (service_of a) → services_once (xs ++ a ∷ []) ≡ true
+once_more [] a once none = both (option_map_or (λ id. not (is_service_among [] id)) (service_of a) true) true (alone (service_of a)) refl where
+  alone : (mine : Option (List ℕ)) → option_map_or (λ id. not (is_service_among [] id)) mine true ≡ true
   alone None = refl
   alone (Some id) = refl
 once_more (x ∷ xs) a once none =
-    let head = option_map_or (λ id. not (is_named_by xs id)) (named x) true in
-    both (option_map_or (λ id. not (is_named_by (xs ++ a ∷ []) id)) (named x) true) (name_each_once (xs ++ a ∷ []))
-    (head_once xs a (named x) (first_so head (name_each_once xs) once) (differ_back (named a) (named x) (first_other x xs (named a) none)))
-    (once_more xs a (second_so head (name_each_once xs) once) (later_other x xs (named a) none))
+    let head = option_map_or (λ id. not (is_service_among xs id)) (service_of x) true in
+    both (option_map_or (λ id. not (is_service_among (xs ++ a ∷ []) id)) (service_of x) true) (services_once (xs ++ a ∷ []))
+    (head_once xs a (service_of x) (first_so head (services_once xs) once) (differ_back (service_of a) (service_of x) (first_other x xs (service_of a) none)))
+    (once_more xs a (second_so head (services_once xs) once) (later_other x xs (service_of a) none))
 
 -- an action more
 
@@ -89,16 +93,16 @@ room_again : (n : ℕ) → nat_lt n MOST_ACTIONS ≡ true → nat_le MOST_ACTION
 room_again n h = grind arith
 
 pub begun_more : (decls : Decls) (s : Script) (a : Action) → are_begun decls s ≡ true → is_call_full s ≡ false → is_action decls a ≡ true
-    → NoneNames s.actions (named a) → are_begun decls (record s { actions = s.actions ++ a ∷ [] }) ≡ true
+    → NoneNames s.actions (service_of a) → are_begun decls (record s { actions = s.actions ++ a ∷ [] }) ≡ true
 begun_more decls s a begun room lawful new =
     let more = s.actions ++ a ∷ [] in
     let all = list_all (is_action decls) s.actions in
-    let once = name_each_once s.actions in
+    let once = services_once s.actions in
     let few = nat_le (length s.actions) MOST_ACTIONS in
     let later = second_so few (all && once) begun in
-    both (nat_le (length more) MOST_ACTIONS) (list_all (is_action decls) more && name_each_once more)
+    both (nat_le (length more) MOST_ACTIONS) (list_all (is_action decls) more && services_once more)
     (subst (λ (n : ℕ). nat_le n MOST_ACTIONS ≡ true) (sym (length-append s.actions (a ∷ []))) (room_for (length s.actions) room))
-    (both (list_all (is_action decls) more) (name_each_once more) (all_more (is_action decls) s.actions a (first_so all once later) lawful)
+    (both (list_all (is_action decls) more) (services_once more) (all_more (is_action decls) s.actions a (first_so all once later) lawful)
     (once_more s.actions a (second_so all once later) new))
 
 module _ (decls : Decls) (most : ℕ) (s : Script) (h : AreSteps decls most s) where
@@ -106,7 +110,7 @@ module _ (decls : Decls) (most : ℕ) (s : Script) (h : AreSteps decls most s) w
     so_far : (has_caller s && are_begun decls s) ≡ true
     so_far = subst (λ (p : Part). is_open decls s p ≡ true) here h.call
 
-    pub acted : (a : Action) (actions : List Action) → is_call_full s ≡ false → is_action decls a ≡ true → NoneNames s.actions (named a)
+    pub acted : (a : Action) (actions : List Action) → is_call_full s ≡ false → is_action decls a ≡ true → NoneNames s.actions (service_of a)
         → actions ≡ s.actions ++ a ∷ [] → AreSteps decls most (record s { actions = actions })
     acted a actions room lawful new grown =
         let t : Script = record s { actions = s.actions ++ a ∷ [] } in
@@ -120,13 +124,13 @@ module _ (decls : Decls) (most : ℕ) (s : Script) (h : AreSteps decls most s) w
         } in
         subst (λ (xs : List Action). AreSteps decls most (record s { actions = xs })) (sym grown) all
 
-    pub literal_begins : (name : List ℕ) → is_call_full s ≡ false → is_lawful_name name ≡ true → is_named_by s.actions name ≡ false
+    pub literal_begins : (name : List ℕ) → is_call_full s ≡ false → is_lawful_name name ≡ true → is_service_among s.actions name ≡ false
         → AreSteps decls most (record s { part = part.Literal; name = name; writes = [] })
     literal_begins name room lawful new = record {
       steps = h.steps;
-      call = both (has_caller s && are_begun decls s) (is_lawful_name name && true && (nat_lt (length s.actions) MOST_ACTIONS && not (is_named_by s.actions name))) so_far
-          (both (is_lawful_name name && true) (nat_lt (length s.actions) MOST_ACTIONS && not (is_named_by s.actions name)) (both (is_lawful_name name) true lawful refl)
-          (both (nat_lt (length s.actions) MOST_ACTIONS) (not (is_named_by s.actions name)) (room_left (length s.actions) room) (ap not new)));
+      call = both (has_caller s && are_begun decls s) (is_lawful_name name && true && (nat_lt (length s.actions) MOST_ACTIONS && not (is_service_among s.actions name))) so_far
+          (both (is_lawful_name name && true) (nat_lt (length s.actions) MOST_ACTIONS && not (is_service_among s.actions name)) (both (is_lawful_name name) true lawful refl)
+          (both (nat_lt (length s.actions) MOST_ACTIONS) (not (is_service_among s.actions name)) (room_left (length s.actions) room) (ap not new)));
       few = omega arith;
     }
 
@@ -138,14 +142,14 @@ module _ (decls : Decls) (most : ℕ) (s : Script) (h : AreSteps decls most s) w
   closed here small =
       let call : Bool = has_caller s && are_begun decls s in
       let writes = list_all (is_write decls) s.writes in
-      let free : Bool = nat_lt (length s.actions) MOST_ACTIONS && not (is_named_by s.actions s.name) in
+      let free : Bool = nat_lt (length s.actions) MOST_ACTIONS && not (is_service_among s.actions s.name) in
       let known : (call && is_literal_begun decls s) ≡ true = subst (λ (p : Part). is_open decls s p ≡ true) here h.call in
       let front = first_so call (is_literal_begun decls s) known in
       let literal = second_so call (is_literal_begun decls s) known in
       let named_so = first_so (is_lawful_name s.name && writes) free literal in
       let free_so = second_so (is_lawful_name s.name && writes) free literal in
-      let room = room_again (length s.actions) (first_so (nat_lt (length s.actions) MOST_ACTIONS) (not (is_named_by s.actions s.name)) free_so) in
-      let new = second_so (nat_lt (length s.actions) MOST_ACTIONS) (not (is_named_by s.actions s.name)) free_so in
+      let room = room_again (length s.actions) (first_so (nat_lt (length s.actions) MOST_ACTIONS) (not (is_service_among s.actions s.name)) free_so) in
+      let new = second_so (nat_lt (length s.actions) MOST_ACTIONS) (not (is_service_among s.actions s.name)) free_so in
       let few = h.few in
       let size = few_enough (length s.writes) MOST_WRITES (omega arith) in
       record {
@@ -155,7 +159,7 @@ module _ (decls : Decls) (most : ℕ) (s : Script) (h : AreSteps decls most s) w
             (both (is_lawful_name s.name && nat_le (length s.writes) MOST_WRITES) writes
             (both (is_lawful_name s.name) (nat_le (length s.writes) MOST_WRITES) (first_so (is_lawful_name s.name) writes named_so) size)
             (second_so (is_lawful_name s.name) writes named_so))
-            (not_back (is_named_by s.actions s.name) new));
+            (not_back (is_service_among s.actions s.name) new));
         few = omega arith;
       } where
         few_enough : (n most : ℕ) → n ≤ most → nat_le n most ≡ true

@@ -4,7 +4,7 @@ use Rattle.std.specs.List.{list_all}
 use Rattle.std.specs.Cmp.{first_so, second_so}
 use Rattle.orc_call.specs.declared.call.TheConstants.{MOST_ACTIONS}
 use Rattle.orc_path.specs.Steps.{PathStep}
-use Rattle.orc_state.specs.Actions.{is_named_by}
+use Rattle.orc_state.specs.Actions.{is_service_among}
 use Rattle.orc_call.specs.declared.call.DevicePut.{DevicePut}
 use Rattle.orc_state.specs.States.{is_same_text, names_of}
 use Rattle.orc_state.specs.Calls.{device_named, is_base_path, is_lawful_name, is_path_under, is_put, is_write, schema_named}
@@ -57,7 +57,7 @@ pub written : (decls : Decls) (most : ℕ) (s : Script) (w : DevicePut) (writes 
     → writes ≡ s.writes ++ w ∷ [] → AreSteps decls (most + 1) (record s { writes = writes })
 written decls most s w writes h here there grown =
     let call : Bool = has_caller s && are_begun decls s in
-    let room : Bool = nat_lt (length s.actions) MOST_ACTIONS && not (is_named_by s.actions s.name) in
+    let room : Bool = nat_lt (length s.actions) MOST_ACTIONS && not (is_service_among s.actions s.name) in
     let before = list_all (is_write decls) s.writes in
     let behind = list_all (is_write decls) (s.writes ++ w ∷ []) in
     let t : Script = record s { writes = s.writes ++ w ∷ [] } in

@@ -1,8 +1,10 @@
 mod BasePaths
-mod CallLines
+mod BodyTexts
+pub mod CallLines
 mod Costs
 pub mod Grown
 pub mod Lawful
+mod Services
 mod Placed
 pub mod ScriptLines
 pub mod StepsLawful

@@ -7,7 +7,7 @@ use Rattle.orc_path.specs.Alphabet.{is_identifier}
 use Rattle.orc_path.specs.Limits.{is_long_name}
 use Rattle.orc_call.specs.declared.call.Action.TheVariants as action
 use Rattle.orc_call.specs.declared.call.Call.{Call}
-use Rattle.orc_state.specs.Actions.{is_named_by}
+use Rattle.orc_state.specs.Actions.{is_service_among}
 use Rattle.orc_state.specs.Calls.{schema_named}
 use Rattle.orc_state.specs.declared.rule.Rule.{Rule}
 use Rattle.orc_state.specs.declared.rule.Rule.TheVariants as rule
@@ -19,8 +19,8 @@ use Rattle.orc_script.specs.Places.{device_item_of, device_node_of, device_node_
 use Rattle.orc_lines.specs.Keywords.{keyword_of}
 use Rattle.orc_lines.specs.Lines.{is_end, is_large, is_settled, is_skipped, text_of}
 use Rattle.orc_lines.specs.Names.{place_of, with_name}
-use Rattle.orc_lines.specs.Rules.{checked, or_rule}
-use Rattle.orc_script.specs.Scripts.{a_step, after_bare, after_base_put, after_base_remove, after_call, after_delete, after_end, after_json, after_literal, after_meta, after_set, after_show, after_step, after_stop, after_unset, after_write, an_action, bare_step, behind_literal, call_end, call_words, is_call_full, is_caller_more, is_followed, is_full, name_rules, scripted_at, step_words, stop_words, with_action, with_call, with_literal, with_step, with_write, word_at, words_at}
+use Rattle.orc_lines.specs.Rules.{checked, on_ok, or_rule}
+use Rattle.orc_script.specs.Scripts.{a_step, after_bare, after_base_put, after_base_remove, after_call, after_delete, after_end, after_json, after_literal, after_meta, after_set, after_show, after_step, after_stop, after_unset, after_write, an_action, bare_step, behind_literal, call_end, call_words, is_call_full, is_caller_more, is_followed, is_full, name_rules, scripted_at, step_words, stop_words, with_action, with_call, with_literal, with_step, with_write, word_at, words_at, after_create, after_modify, after_redeploy, begins_as_path, service_alone, service_body_of, service_id_of}
 use Rattle.orc_lines.specs.Words.{cut_at, first_word, is_text, number_in, word_before}
 use Rattle.orc_script.specs.declared.step.ScriptStep.{ScriptStep}
 use Rattle.orc_script.specs.declared.step.ScriptStep.TheVariants.{Show, Json, Meta, Data, Serve, Settle, Stop, StopAt, Recover, History}
@@ -32,6 +32,8 @@ use Rattle.orc_script.specs.declared.script.Part.TheVariants as part
 use Rattle.orc_script.specs.inside.Costs.{step_looks_at}
 use Rattle.orc_lines.proofs.Keywords.{end_known, end_word, is_end_word, is_settle_word, settle_word}
 use Rattle.orc_lines.proofs.Rules.{ok, or_rule_ok, on_ok_ok, passed, same_ok, so, no_ok}
+use Rattle.orc_call.specs.declared.call.Put.{Put}
+use Rattle.orc_call.specs.declared.call.Action.{Action}
 
 -- a step that is no call
 abbrev pub is_plain : ScriptStep → Bool
@@ -283,20 +285,20 @@ module _ (d : Declared) (s : Script) (text : List ℕ) (later : List (List ℕ))
       names name v h =
           let one = passed (not (is_identifier name) || is_call_full u) rule.Line _ t h in
           let two = passed (is_long_name name) rule.Size _ t one.1 in
-          (passed (is_named_by u.actions name) rule.Duplicate (Ok v) t two.1).1
+          (passed (is_service_among u.actions name) rule.Duplicate (Ok v) t two.1).1
 
       sets : (rest : List ℕ) → word ≡ keyword.Set → after_set d u rest ≡ Ok t → MakesOf s text later t
       unfolding after_set step_looks_at
       sets rest is h =
           let one = passed (is_call_full u) rule.Line _ t h in
-          let found = on_ok_ok (put_of true d.data_schema false rest) (λ put. Ok (with_action u (action.Set put))) t one.1 in
+          let found = on_ok_ok (put_of (Some d.services) d.data_schema false rest) (λ put. Ok (with_action u (action.Set put))) t one.1 in
           goes_on keyword.Set is refl refl (with_action u (action.Set found.0)) found.1.1 open_yet steps callers caller
 
       unsets : (rest : List ℕ) → word ≡ keyword.Unset → after_unset d u rest ≡ Ok t → MakesOf s text later t
       unfolding after_unset step_looks_at
       unsets rest is h =
           let one = passed (is_call_full u || is_some (cut_at 32 rest)) rule.Line _ t h in
-          let found = on_ok_ok (data_path_of d.data_schema rest) (λ path. Ok (with_action u (action.Unset path))) t one.1 in
+          let found = on_ok_ok (data_path_of d.services d.data_schema rest) (λ path. Ok (with_action u (action.Unset path))) t one.1 in
           goes_on keyword.Unset is refl refl (with_action u (action.Unset found.0)) found.1.1 open_yet steps callers caller
 
       puts_base : (rest : List ℕ) → word ≡ keyword.Base → after_base_put d u rest ≡ Ok t → MakesOf s text later t
@@ -313,14 +315,38 @@ module _ (d : Declared) (s : Script) (text : List ℕ) (later : List (List ℕ))
           let found = on_ok_ok (device_path_of d rest) (λ named. Ok (with_action u (action.BaseRemove named.0 named.1))) t one.1 in
           goes_on keyword.Unbase is refl refl (with_action u (action.BaseRemove found.0.0 found.0.1)) found.1.1 open_yet steps callers caller
 
+      -- an action on a service of a list
+      serves : (k : Keyword) → word ≡ k → is_end_word k ≡ false → step_looks_at k later ≡ 0 → (make : List ℕ → Action) (rest : List ℕ)
+          → service_alone make d u rest ≡ Ok t → MakesOf s text later t
+      serves k is other none make rest h =
+          let found = on_ok_ok (service_id_of d u rest) (λ id. Ok (with_action u (make id))) t h in
+          goes_on k is other none (with_action u (make found.0)) found.1.1 open_yet steps callers caller
+
+      bodied : (k : Keyword) → word ≡ k → is_end_word k ≡ false → step_looks_at k later ≡ 0 → (make : List ℕ → List Put → Action) (rest : List ℕ)
+          → on_ok (service_body_of d u rest) (λ made. ok Script Rule (with_action u (make made.0 made.1))) ≡ Ok t → MakesOf s text later t
+      bodied k is other none make rest h =
+          let found = on_ok_ok (service_body_of d u rest) (λ made. Ok (with_action u (make made.0 made.1))) t h in
+          goes_on k is other none (with_action u (make found.0.0 found.0.1)) found.1.1 open_yet steps callers caller
+
+      deletes : (rest : List ℕ) → word ≡ keyword.Delete → after_delete d u rest ≡ Ok t → MakesOf s text later t
+      unfolding after_delete step_looks_at
+      deletes rest is h = on (begins_as_path rest) h where
+        v : Script
+        v = with_action u (action.Delete rest)
+
+        on : (b : Bool) → cond b (service_alone action.Delete d u rest) (checked (name_rules u rest) (Ok v)) ≡ Ok t → MakesOf s text later t
+        on true h = serves keyword.Delete is refl refl action.Delete rest h
+        on false h = goes_on keyword.Delete is refl refl v (names rest v h) open_yet steps callers caller
+
       acts : (k : Keyword) (rest : List ℕ) → word ≡ k → an_action k d u rest ≡ Ok t → MakesOf s text later t
-      unfolding an_action after_literal after_delete step_looks_at
+      unfolding an_action after_literal after_create after_modify after_redeploy step_looks_at
       acts keyword.Literal rest is h =
           let v : Script = record u { part = part.Literal; name = rest; writes = [] } in
           goes_on keyword.Literal is refl refl v (names rest v h) refl steps callers caller
-      acts keyword.Delete rest is h =
-          let v : Script = with_action u (action.Delete rest) in
-          goes_on keyword.Delete is refl refl v (names rest v h) open_yet steps callers caller
+      acts keyword.Create rest is h = bodied keyword.Create is refl refl action.Create rest h
+      acts keyword.Modify rest is h = bodied keyword.Modify is refl refl action.Modify rest h
+      acts keyword.Redeploy rest is h = serves keyword.Redeploy is refl refl action.Redeploy rest h
+      acts keyword.Delete rest is h = deletes rest is h
       acts keyword.Set rest is h = sets rest is h
       acts keyword.Unset rest is h = unsets rest is h
       acts keyword.Base rest is h = puts_base rest is h

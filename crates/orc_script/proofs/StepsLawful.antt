@@ -5,7 +5,7 @@ use Rattle.std.specs.List.{list_all}
 use Rattle.orc_call.specs.declared.call.Action.{Action}
 use Rattle.orc_call.specs.declared.call.Action.TheVariants as action
 use Rattle.orc_call.specs.declared.call.TheConstants.{MOST_ACTIONS}
-use Rattle.orc_state.specs.Actions.{name_each_once}
+use Rattle.orc_state.specs.Actions.{services_once}
 use Rattle.orc_state.specs.Calls.{is_action, is_lawful_name}
 use Rattle.orc_lines.specs.Lawful.{decls_with}
 use Rattle.orc_script.specs.Steps.{is_step}
@@ -38,7 +38,7 @@ module _ (a b : List ℕ) (d : Declared) where
   step_same Data = refl
   step_same (Serve call) =
       ap (λ (t : Bool). is_lawful_name call.caller && nat_lt call.number (2 ^ 64)
-      && (nat_le 1 (length call.actions) && nat_le (length call.actions) MOST_ACTIONS) && (t && name_each_once call.actions)) (actions_same call.actions)
+      && (nat_le 1 (length call.actions) && nat_le (length call.actions) MOST_ACTIONS) && (t && services_once call.actions)) (actions_same call.actions)
   step_same Settle = refl
   step_same Stop = refl
   step_same (StopAt count bytes) = refl

@@ -1,4 +1,5 @@
 pub mod Places
+pub mod Bodies
 pub mod Scripts
 pub mod Steps
 pub mod inside

@@ -25,7 +25,7 @@ abbrev pub device_item_words : Declared → Option (List ℕ × List ℕ) → Re
 device_item_words d None = Err rule.Line
 device_item_words d (Some words) =
     checked ((not (is_identifier words.0), rule.Line) ∷ [])
-    (on_ok (put_of false (schema_named d.schemas d.devices words.0) (is_long_name words.0) words.1) (λ put.
+    (on_ok (put_of None (schema_named d.schemas d.devices words.0) (is_long_name words.0) words.1) (λ put.
     checked ((not (is_among d.names words.0), rule.Unknown) ∷ [])
     (Ok (record { device = words.0; path = put.path; item = put.item }))))
 

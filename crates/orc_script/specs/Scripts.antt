@@ -1,5 +1,5 @@
 -- What each form of a script's line makes of the steps so far, behind declarations.
-use Rattle.std.specs.Prelude.{ℕ, Bool, true, false, not, ◌&&◌, ◌||◌, nat_eq, nat_le, List, [], ◌∷◌, ◌++◌, length, Option, is_some, Result, if◌then◌else◌, ◌+◌}
+use Rattle.std.specs.Prelude.{ℕ, Bool, true, false, not, ◌&&◌, ◌||◌, ◌==◌, nat_eq, nat_le, List, [], ◌∷◌, ◌++◌, length, Option, is_some, Result, if◌then◌else◌, ◌+◌}
 use Rattle.std.specs.declared.option.Option.TheVariants.{None, Some}
 use Rattle.std.specs.declared.result.Result.TheVariants.{Ok, Err}
 use Rattle.std.specs.List.{list_any}
@@ -9,8 +9,12 @@ use Rattle.orc_path.specs.Limits.{is_long_name}
 use Rattle.orc_call.specs.declared.call.Action.{Action}
 use Rattle.orc_call.specs.declared.call.Action.TheVariants as action
 use Rattle.orc_call.specs.declared.call.DevicePut.{DevicePut}
+use Rattle.orc_call.specs.declared.call.Put.{Put}
+use Rattle.orc_path.specs.Texts.{path_text}
+use Rattle.std.specs.Option.{option_map_or}
+use Rattle.orc_script.specs.Bodies.{body_of, is_long_body, kept_body}
 use Rattle.orc_call.specs.declared.call.TheConstants.{MOST_ACTIONS}
-use Rattle.orc_state.specs.Actions.{is_named_by}
+use Rattle.orc_state.specs.Actions.{is_service_among}
 use Rattle.orc_state.specs.Calls.{schema_named}
 use Rattle.orc_state.specs.declared.rule.Rule.{Rule}
 use Rattle.orc_state.specs.declared.rule.Rule.TheVariants as rule
@@ -19,7 +23,7 @@ use Rattle.orc_lines.specs.Lines.{is_end, is_large, is_settled, is_skipped, text
 use Rattle.orc_lines.specs.Words.{cut_at, first_word, number_in}
 use Rattle.orc_lines.specs.Keywords.{keyword_of}
 use Rattle.orc_lines.specs.Names.{is_among, place_of, with_name}
-use Rattle.orc_lines.specs.Items.{data_path_of, put_of}
+use Rattle.orc_lines.specs.Items.{data_path_of, put_of, service_path_of}
 use Rattle.orc_script.specs.Places.{device_item_of, device_node_of, device_path_of}
 use Rattle.orc_lines.specs.declared.declared.Declared.{Declared}
 use Rattle.orc_script.specs.declared.step.ScriptStep.{ScriptStep}
@@ -133,7 +137,7 @@ abbrev pub name_rules : Script → List ℕ → List (Bool × Rule)
 name_rules s name =
     (not (is_identifier name) || is_call_full s, rule.Line)
     ∷ (is_long_name name, rule.Size)
-    ∷ (is_named_by s.actions name, rule.Duplicate)
+    ∷ (is_service_among s.actions name, rule.Duplicate)
     ∷ []
 
 -- `literal NAME`, whose writes are to come
@@ -144,21 +148,69 @@ after_literal s name = checked (name_rules s name) (Ok (record s { part = part.L
 abbrev pub with_action : Script → Action → Script
 with_action s action = record s { actions = s.actions ++ action ∷ [] }
 
--- `delete NAME`
-unfoldable pub after_delete : Script → List ℕ → Result Script Rule
-after_delete s name = checked (name_rules s name) (Ok (with_action s (action.Delete name)))
+-- what follows for the id of a service, which no other action of the call names
+abbrev pub on_service : {X : Type 0} → Script → List ℕ → Result X Rule → Result X Rule
+on_service s id answer = checked ((is_service_among s.actions id, rule.Duplicate) ∷ []) answer
+
+-- `PATH`, the entry of a service: its id is the path's text
+abbrev pub service_id_of : Declared → Script → List ℕ → Result (List ℕ) Rule
+service_id_of d s rest =
+    checked ((is_call_full s || is_some (cut_at 32 rest), rule.Line) ∷ [])
+    (on_ok (service_path_of d.services d.data_schema rest) (λ path.
+    on_service s (path_text path) (Ok (path_text path))))
+
+-- an action on it
+abbrev pub service_alone : (List ℕ → Action) → Declared → Script → List ℕ → Result Script Rule
+service_alone make d s rest = on_ok (service_id_of d s rest) (λ id. Ok (with_action s (make id)))
+
+-- `redeploy PATH`
+unfoldable pub after_redeploy : Declared → Script → List ℕ → Result Script Rule
+after_redeploy d s rest = service_alone action.Redeploy d s rest
+
+-- the text begins as that of a path does, and a name doesn't
+abbrev pub begins_as_path : List ℕ → Bool
+begins_as_path [] = false
+begins_as_path (b ∷ bs) = b == 47
+
+-- `delete NAME` and `delete PATH`
+unfoldable pub after_delete : Declared → Script → List ℕ → Result Script Rule
+after_delete d s rest =
+    if begins_as_path rest then service_alone action.Delete d s rest
+    else checked (name_rules s rest) (Ok (with_action s (action.Delete rest)))
+
+-- `PATH JSON`, the entry of a service and its body. A limit goes before a service that is named twice; a body that is
+-- none passes no limit.
+abbrev pub body_words : Declared → Script → Option (List ℕ × List ℕ) → Result (List ℕ × List Put) Rule
+body_words d s None = Err rule.Line
+body_words d s (Some words) =
+    checked ((nat_eq (length words.1) 0, rule.Line) ∷ [])
+    (on_ok (service_path_of d.services d.data_schema words.0) (λ path.
+    checked ((option_map_or is_long_body (body_of d.data_schema path words.1) false, rule.Size) ∷ [])
+    (on_service s (path_text path)
+    (on_ok (kept_body d.data_schema path (body_of d.data_schema path words.1)) (λ body. Ok (path_text path, body))))))
+
+abbrev pub service_body_of : Declared → Script → List ℕ → Result (List ℕ × List Put) Rule
+service_body_of d s rest = checked ((is_call_full s, rule.Line) ∷ []) (body_words d s (cut_at 32 rest))
+
+-- `create PATH JSON`
+unfoldable pub after_create : Declared → Script → List ℕ → Result Script Rule
+after_create d s rest = on_ok (service_body_of d s rest) (λ made. Ok (with_action s (action.Create made.0 made.1)))
+
+-- `modify PATH JSON`
+unfoldable pub after_modify : Declared → Script → List ℕ → Result Script Rule
+after_modify d s rest = on_ok (service_body_of d s rest) (λ made. Ok (with_action s (action.Modify made.0 made.1)))
 
 -- `set ITEM`
 unfoldable pub after_set : Declared → Script → List ℕ → Result Script Rule
 after_set d s rest =
     checked ((is_call_full s, rule.Line) ∷ [])
-    (on_ok (put_of true d.data_schema false rest) (λ put. Ok (with_action s (action.Set put))))
+    (on_ok (put_of (Some d.services) d.data_schema false rest) (λ put. Ok (with_action s (action.Set put))))
 
 -- `unset PATH`
 unfoldable pub after_unset : Declared → Script → List ℕ → Result Script Rule
 after_unset d s rest =
     checked ((is_call_full s || is_some (cut_at 32 rest), rule.Line) ∷ [])
-    (on_ok (data_path_of d.data_schema rest) (λ path. Ok (with_action s (action.Unset path))))
+    (on_ok (data_path_of d.services d.data_schema rest) (λ path. Ok (with_action s (action.Unset path))))
 
 -- `base D ITEM`
 unfoldable pub after_base_put : Declared → Script → List ℕ → Result Script Rule
@@ -225,8 +277,11 @@ bare_step _ s = Err rule.Line
 
 -- an action of the open call
 unfoldable pub an_action : Keyword → Declared → Script → List ℕ → Result Script Rule
+an_action keyword.Create d s rest = after_create d s rest
+an_action keyword.Modify d s rest = after_modify d s rest
+an_action keyword.Redeploy d s rest = after_redeploy d s rest
 an_action keyword.Literal d s rest = after_literal s rest
-an_action keyword.Delete d s rest = after_delete s rest
+an_action keyword.Delete d s rest = after_delete d s rest
 an_action keyword.Set d s rest = after_set d s rest
 an_action keyword.Unset d s rest = after_unset d s rest
 an_action keyword.Base d s rest = after_base_put d s rest

@@ -1,21 +1,27 @@
 //! What each line of a call block makes of the open call.
-ghost use Rattle.std.specs.Prelude.{◌≡◌, ◌≤◌, ◌+◌, ℕ, OnOk};
+ghost use Rattle.std.specs.Prelude.{◌≡◌, ◌≤◌, ◌+◌, ℕ, IfOk, IsTrue, Ok, OnOk, false};
 ghost use Rattle.orc_state.specs.declared.declarations.Decls.{Decls};
 ghost use Rattle.orc_state.specs.declared.lawful.TheConstants.{MOST_WRITES};
-ghost use Rattle.orc_script.specs.Scripts.{after_base_put, after_base_remove, after_delete, after_end, after_literal, after_set, after_unset, after_write, an_action, behind_literal, call_end, is_call_full, with_literal};
+ghost use Rattle.orc_script.specs.Scripts.{after_base_put, after_base_remove, after_delete, after_end, after_literal, after_create, after_modify, after_redeploy, after_set, after_unset, after_write, an_action, name_rules, service_alone, service_body_of, service_id_of, with_action, behind_literal, call_end, is_call_full, with_literal};
 ghost use Rattle.orc_lines.specs.Lawful.{AreDeclared, decls_in};
 ghost use Rattle.orc_script.specs.inside.Lawful.{AreSteps};
-ghost use Rattle.orc_lines.specs.Answers.{Takes};
+ghost use Rattle.orc_lines.specs.Answers.{ReadsLine, Takes};
+ghost use Rattle.orc_lines.specs.Rules.{checked};
+ghost use Rattle.orc_state.specs.Actions.{is_service_among};
+ghost use Rattle.orc_state.specs.Calls.{has_body, is_service};
 ghost use Rattle.orc_lines.specs.Work.{work_on};
 
+use crate::bodies::{begins_as_path, is_long_body, keep_body, read_body};
 use crate::places::{read_device_item, read_device_path};
 use crate::script::{Part, Script};
 use crate::step::ScriptStep;
-use orc_call::{Action, Call, MOST_ACTIONS};
+use orc_call::{Action, Call, MOST_ACTIONS, Put};
 use orc_io::Steps;
-use orc_lines::{Declared, Keyword, LineFault, breaks, cut, read_data_path, read_put};
+use orc_lines::{
+    Declared, Keyword, LineFault, breaks, cut, read_data_path, read_put, read_service_path,
+};
 use orc_path::{is_identifier_counted, is_long_name};
-use orc_state::{Rule, is_named_by};
+use orc_state::{Rule, is_service_among};
 use orc_text::{Memory, Row, Text};
 use std::alloc::Global;
 use std::mem::replace;
@@ -49,7 +55,7 @@ impl Script {
             return breaks(Rule::Size);
         }
         let name = Text::from_str(alloc, name)?;
-        if is_named_by(self.actions.as_slice(), &name) {
+        if is_service_among(self.actions.as_slice(), &name) {
             return breaks(Rule::Duplicate);
         }
         self.part = Part::Literal;
@@ -58,15 +64,79 @@ impl Script {
         Ok(())
     }
 
+    // `PATH`, that of a service that no other action of the call names; the text is the path's.
+    fn read_service<L: Ledger>(
+        &self,
+        alloc: Global,
+        declared: &Declared,
+        rest: &str,
+        work: &mut Steps<L>,
+    ) -> Result<Text, LineFault>
+        ensures reads { ReadsLine (service_id_of declared.now self.now rest.now) result }
+        ensures lawful { IfOk result (λ id. IsTrue (is_service (decls_in declared.now) id)) }
+        ensures new { IfOk result (λ id. is_service_among self.now.actions id ≡ false) }
+        ensures room { OnOk result (is_call_full self.now ≡ false) }
+        ensures worked { work.new ≤ work.old + work_on rest.now }
+    {
+        if self.is_call_full() || cut(rest).is_some() {
+            return breaks(Rule::Line);
+        }
+        let lists = declared.services.as_slice();
+        let path = read_service_path(alloc, lists, &declared.data_schema, rest, work)?;
+        let id = path.text(alloc)?;
+        if is_service_among(self.actions.as_slice(), &id) {
+            return breaks(Rule::Duplicate);
+        }
+        Ok(id)
+    }
+
+    // `redeploy PATH`.
+    #[tactic(auto, unfolding(crate::specs::Scripts::after_redeploy))]
+    fn take_redeploy<L: Ledger>(
+        &mut self,
+        alloc: Global,
+        declared: &Declared,
+        rest: &str,
+        work: &mut Steps<L>,
+    ) -> Result<(), LineFault>
+        ensures takes { Takes (after_redeploy declared.now self.old rest.now) self.new result }
+        ensures lawful { (most : ℕ) → AreSteps (decls_in declared.now) most self.old
+            → self.old.part ≡ Part.Call → OnOk result (AreSteps (decls_in declared.now) most self.new) }
+        ensures worked { work.new ≤ work.old + work_on rest.now }
+    {
+        let id = self.read_service(alloc, declared, rest, work)?;
+        self.actions.push(Action::Redeploy(id))?;
+        Ok(())
+    }
+
+    // `delete PATH`.
+    fn take_delete_service<L: Ledger>(
+        &mut self,
+        alloc: Global,
+        declared: &Declared,
+        rest: &str,
+        work: &mut Steps<L>,
+    ) -> Result<(), LineFault>
+        ensures takes { Takes (service_alone Action.Delete declared.now self.old rest.now) self.new result }
+        ensures lawful { (most : ℕ) → AreSteps (decls_in declared.now) most self.old
+            → self.old.part ≡ Part.Call → OnOk result (AreSteps (decls_in declared.now) most self.new) }
+        ensures worked { work.new ≤ work.old + work_on rest.now }
+    {
+        let id = self.read_service(alloc, declared, rest, work)?;
+        self.actions.push(Action::Delete(id))?;
+        Ok(())
+    }
+
     // `delete NAME`.
-    #[tactic(auto, unfolding(crate::specs::Scripts::after_delete))]
-    fn take_delete<L: Ledger>(
+    fn take_delete_name<L: Ledger>(
         &mut self,
         alloc: Global,
         name: &str,
         work: &mut Steps<L>,
     ) -> Result<(), LineFault>
-        ensures takes { Takes (after_delete self.old name.now) self.new result }
+        ensures takes { Takes
+            (checked (name_rules self.old name.now) (Ok (with_action self.old (Action.Delete name.now))))
+            self.new result }
         ensures lawful { (decls : Decls) (most : ℕ) → AreSteps decls most self.old
             → self.old.part ≡ Part.Call → OnOk result (AreSteps decls most self.new) }
         ensures worked { work.new ≤ work.old + work_on name.now }
@@ -78,10 +148,106 @@ impl Script {
             return breaks(Rule::Size);
         }
         let name = Text::from_str(alloc, name)?;
-        if is_named_by(self.actions.as_slice(), &name) {
+        if is_service_among(self.actions.as_slice(), &name) {
             return breaks(Rule::Duplicate);
         }
         self.actions.push(Action::Delete(name))?;
+        Ok(())
+    }
+
+    // `delete ID`.
+    #[tactic(auto, unfolding(crate::specs::Scripts::after_delete))]
+    fn take_delete<L: Ledger>(
+        &mut self,
+        alloc: Global,
+        declared: &Declared,
+        rest: &str,
+        work: &mut Steps<L>,
+    ) -> Result<(), LineFault>
+        ensures takes { Takes (after_delete declared.now self.old rest.now) self.new result }
+        ensures lawful { (most : ℕ) → AreSteps (decls_in declared.now) most self.old
+            → self.old.part ≡ Part.Call → OnOk result (AreSteps (decls_in declared.now) most self.new) }
+        ensures worked { work.new ≤ work.old + work_on rest.now }
+    {
+        if begins_as_path(rest.as_bytes()) {
+            return self.take_delete_service(alloc, declared, rest, work);
+        }
+        self.take_delete_name(alloc, rest, work)
+    }
+
+    // `PATH JSON`: the id of a service that no other action of the call names, and its body.
+    fn read_bodied<L: Ledger>(
+        &self,
+        alloc: Global,
+        declared: &Declared,
+        rest: &str,
+        work: &mut Steps<L>,
+    ) -> Result<(Text, Row<Put>), LineFault>
+        ensures reads { ReadsLine (service_body_of declared.now self.now rest.now) result }
+        ensures lawful { IfOk result (λ made. IsTrue (is_service (decls_in declared.now) made.0)) }
+        ensures bodied { IfOk result (λ made. IsTrue (has_body (decls_in declared.now) made.0 made.1)) }
+        ensures new { IfOk result (λ made. is_service_among self.now.actions made.0 ≡ false) }
+        ensures room { OnOk result (is_call_full self.now ≡ false) }
+        ensures worked { work.new ≤ work.old + work_on rest.now }
+    {
+        if self.is_call_full() {
+            return breaks(Rule::Line);
+        }
+        let Some((word, text)) = cut(rest) else {
+            return breaks(Rule::Line);
+        };
+        if text.is_empty() {
+            return breaks(Rule::Line);
+        }
+        let lists = declared.services.as_slice();
+        let path = read_service_path(alloc, lists, &declared.data_schema, word, work)?;
+        let found = read_body(alloc, &declared.data_schema, &path, text.as_bytes())?;
+        if is_long_body(&found) {
+            return breaks(Rule::Size);
+        }
+        let id = path.text(alloc)?;
+        if is_service_among(self.actions.as_slice(), &id) {
+            return breaks(Rule::Duplicate);
+        }
+        let body = keep_body(alloc, &declared.data_schema, &path, found)?;
+        Ok((id, body))
+    }
+
+    // `create PATH JSON`.
+    #[tactic(auto, unfolding(crate::specs::Scripts::after_create))]
+    fn take_create<L: Ledger>(
+        &mut self,
+        alloc: Global,
+        declared: &Declared,
+        rest: &str,
+        work: &mut Steps<L>,
+    ) -> Result<(), LineFault>
+        ensures takes { Takes (after_create declared.now self.old rest.now) self.new result }
+        ensures lawful { (most : ℕ) → AreSteps (decls_in declared.now) most self.old
+            → self.old.part ≡ Part.Call → OnOk result (AreSteps (decls_in declared.now) most self.new) }
+        ensures worked { work.new ≤ work.old + work_on rest.now }
+    {
+        let made = self.read_bodied(alloc, declared, rest, work)?;
+        self.actions.push(Action::Create(made.0, made.1))?;
+        Ok(())
+    }
+
+    // `modify PATH JSON`.
+    #[tactic(auto, unfolding(crate::specs::Scripts::after_modify))]
+    fn take_modify<L: Ledger>(
+        &mut self,
+        alloc: Global,
+        declared: &Declared,
+        rest: &str,
+        work: &mut Steps<L>,
+    ) -> Result<(), LineFault>
+        ensures takes { Takes (after_modify declared.now self.old rest.now) self.new result }
+        ensures lawful { (most : ℕ) → AreSteps (decls_in declared.now) most self.old
+            → self.old.part ≡ Part.Call → OnOk result (AreSteps (decls_in declared.now) most self.new) }
+        ensures worked { work.new ≤ work.old + work_on rest.now }
+    {
+        let made = self.read_bodied(alloc, declared, rest, work)?;
+        self.actions.push(Action::Modify(made.0, made.1))?;
         Ok(())
     }
 
@@ -102,7 +268,8 @@ impl Script {
         if self.is_call_full() {
             return breaks(Rule::Line);
         }
-        let put = read_put(alloc, true, &declared.data_schema, false, rest, work)?;
+        let lists = declared.services.as_slice();
+        let put = read_put(alloc, Some(lists), &declared.data_schema, false, rest, work)?;
         self.actions.push(Action::Set(put))?;
         Ok(())
     }
@@ -124,7 +291,8 @@ impl Script {
         if self.is_call_full() || cut(rest).is_some() {
             return breaks(Rule::Line);
         }
-        let path = read_data_path(alloc, &declared.data_schema, rest, work)?;
+        let lists = declared.services.as_slice();
+        let path = read_data_path(alloc, lists, &declared.data_schema, rest, work)?;
         self.actions.push(Action::Unset(path))?;
         Ok(())
     }
@@ -212,8 +380,11 @@ impl Script {
         ensures worked { work.new ≤ work.old + work_on rest.now }
     {
         match word {
+            Keyword::Create => self.take_create(alloc, declared, rest, work),
+            Keyword::Modify => self.take_modify(alloc, declared, rest, work),
+            Keyword::Redeploy => self.take_redeploy(alloc, declared, rest, work),
             Keyword::Literal => self.take_literal(alloc, rest, work),
-            Keyword::Delete => self.take_delete(alloc, rest, work),
+            Keyword::Delete => self.take_delete(alloc, declared, rest, work),
             Keyword::Set => self.take_set(alloc, declared, rest, work),
             Keyword::Unset => self.take_unset(alloc, declared, rest, work),
             Keyword::Base => self.take_base_put(alloc, declared, rest, work),

@@ -2,6 +2,7 @@
 //! what was declared.
 #![tactic(auto)]
 
+mod bodies;
 mod call_block;
 mod places;
 mod read;

@@ -47,7 +47,7 @@ pub(crate) fn read_device_item<L: Ledger>(
     let device = Text::from_str(alloc, name)?;
     let plain = Schema::plain(alloc);
     let schema = declared.schema_named(&device, &plain);
-    let put = read_put(alloc, false, schema, is_long_name(name), item, work)?;
+    let put = read_put(alloc, None, schema, is_long_name(name), item, work)?;
     if !declared.names.has(&device) {
         return breaks(Rule::Unknown);
     }

@@ -23,8 +23,8 @@ use Rattle.orc_template.specs.Expansions.{Expanding, Failed, expanded, reads_exp
 use Rattle.orc_template.specs.Laws.{ExpansionsAreFixed}
 use Rattle.orc_template.specs.TheReaders.{the_readers}
 use Rattle.orc_services.specs.Services.{Serving, Instance, expansion_at, expansion_of, instance_of}
-use Rattle.orc_services.specs.Settling.{Settled, as_literal, settled_all, settled_by, settled_one}
-use Rattle.orc_services.specs.Laws.{SettledIsFixedByReads, SettledStands}
+use Rattle.orc_services.specs.Expanded.{ExpandedTo, as_literal, expanded_actions, expanded_by, expanded_action}
+use Rattle.orc_services.specs.Laws.{ExpandedIsFixedByReads, ExpandedStands}
 use Rattle.orc_services.specs.declared.list.ServiceList.{ServiceList}
 use Rattle.orc_expr.proofs.Sound.{All-front, All-back}
 
@@ -55,8 +55,8 @@ module _ (law : ExpansionsAreFixed) (lists : List ServiceList) (devices : Device
       (expansion_fixed view other (instance_of lists id)
       (subst (Shares view other) (literal_reads devices.names id (expansion_of (on view) id)) shares))
 
-  one_fixed : (view other : Viewed) (action : Action) → Shares view other (settled_one (on view) action).reads
-      → settled_one (on other) action ≡ settled_one (on view) action
+  one_fixed : (view other : Viewed) (action : Action) → Shares view other (expanded_action (on view) action).reads
+      → expanded_action (on other) action ≡ expanded_action (on view) action
   one_fixed view other (Create id body) shares = service_fixed view other id shares
   one_fixed view other (Modify id body) shares = service_fixed view other id shares
   one_fixed view other (Redeploy id) shares = service_fixed view other id shares
@@ -70,33 +70,33 @@ module _ (law : ExpansionsAreFixed) (lists : List ServiceList) (devices : Device
   back_shared view other reads more shares =
       record { shapes = shares.shapes; read = All-back (SharesRead view other) reads more shares.read }
 
-  -- what is shared is what an action read, and, where it is settled, what the later ones read
-  first_shared : (view other : Viewed) (o : Result Action Answer) (reads : List Read) (later : Settled (List Action))
-      → Shares view other (settled_by o reads later).reads → Shares view other reads
+  -- what is shared is what an action read, and, where it is expanded, what the later ones read
+  first_shared : (view other : Viewed) (o : Result Action Answer) (reads : List Read) (later : ExpandedTo (List Action))
+      → Shares view other (expanded_by o reads later).reads → Shares view other reads
   first_shared view other (Ok action) reads later shares = front_shared view other reads later.reads shares
   first_shared view other (Err answer) reads later shares = shares
 
-  later_same : (view other : Viewed) (o : Result Action Answer) (reads : List Read) (later later' : Settled (List Action))
-      → (Shares view other later.reads → later' ≡ later) → Shares view other (settled_by o reads later).reads
-      → settled_by o reads later' ≡ settled_by o reads later
+  later_same : (view other : Viewed) (o : Result Action Answer) (reads : List Read) (later later' : ExpandedTo (List Action))
+      → (Shares view other later.reads → later' ≡ later) → Shares view other (expanded_by o reads later).reads
+      → expanded_by o reads later' ≡ expanded_by o reads later
   later_same view other (Ok action) reads later later' fixed shares =
-      ap (settled_by (Ok action) reads) (fixed (back_shared view other reads later.reads shares))
+      ap (expanded_by (Ok action) reads) (fixed (back_shared view other reads later.reads shares))
   later_same view other (Err answer) reads later later' fixed shares = refl
 
-  pub all_fixed : (view other : Viewed) (actions : List Action) → Shares view other (settled_all (on view) actions).reads
-      → settled_all (on other) actions ≡ settled_all (on view) actions
+  pub all_fixed : (view other : Viewed) (actions : List Action) → Shares view other (expanded_actions (on view) actions).reads
+      → expanded_actions (on other) actions ≡ expanded_actions (on view) actions
   all_fixed view other [] shares = refl
   all_fixed view other (action ∷ actions) shares =
-      let one = settled_one (on view) action in
-      let later = settled_all (on view) actions in
-      ap (λ (x : Settled Action). settled_by x.outcome x.reads (settled_all (on other) actions))
+      let one = expanded_action (on view) action in
+      let later = expanded_actions (on view) actions in
+      ap (λ (x : ExpandedTo Action). expanded_by x.outcome x.reads (expanded_actions (on other) actions))
       (one_fixed view other action (first_shared view other one.outcome one.reads later shares))
-      ∙ later_same view other one.outcome one.reads later (settled_all (on other) actions) (all_fixed view other actions) shares
+      ∙ later_same view other one.outcome one.reads later (expanded_actions (on other) actions) (all_fixed view other actions) shares
 
-pub settled_fixed : ExpansionsAreFixed → SettledIsFixedByReads
-settled_fixed law lists devices actions view other shares = all_fixed law lists devices view other actions shares
+pub expanded_fixed : ExpansionsAreFixed → ExpandedIsFixedByReads
+expanded_fixed law lists devices actions view other shares = all_fixed law lists devices view other actions shares
 
-pub settled_stands : SettledIsFixedByReads → UntouchedIsShared → SettledStands
-settled_stands fixed untouched lists devices actions shapes old new off =
+pub expanded_stands : ExpandedIsFixedByReads → UntouchedIsShared → ExpandedStands
+expanded_stands fixed untouched lists devices actions shapes old new off =
     fixed lists devices actions (record { items = old; shapes = shapes }) (record { items = new; shapes = shapes })
     (untouched old new shapes _ off)

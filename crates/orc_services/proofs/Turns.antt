@@ -1,4 +1,4 @@
--- Actions that are settled one after another.
+-- Actions that are expanded one after another.
 use Rattle.std.proofs.Common.{◌≡◌, ℕ, List, [], ◌∷◌, ◌++◌, refl, sym, ap, subst, ◌∙◌, append_assoc, append-nil}
 use Rattle.std.specs.declared.option.Option.{Option}
 use Rattle.std.specs.declared.option.Option.TheVariants.{None, Some}
@@ -16,25 +16,25 @@ use Rattle.orc_path.specs.Configurations.{Config}
 use Rattle.orc_call.specs.declared.answer.Answer.TheVariants.{Expand}
 use Rattle.orc_call.specs.declared.call.Action.TheVariants.{Literal}
 use Rattle.orc_call.specs.declared.call.DevicePut.{DevicePut}
-use Rattle.orc_services.specs.declared.settling.Expanded.TheVariants.{Written, Fault}
+use Rattle.orc_services.specs.declared.actions.Expanded.TheVariants.{Written, Fault}
 use Rattle.orc_services.specs.inside.Answering.{Expands}
-use Rattle.orc_services.specs.Settling.{Settled, as_literal, settled_all, settled_by, settled_one, with_settled, writes_of, Settles}
+use Rattle.orc_services.specs.Expanded.{ExpandedTo, as_literal, expanded_actions, expanded_by, expanded_action, with_expanded, writes_of, ExpandsTo}
 use Rattle.orc_services.specs.declared.list.ServiceList.{ServiceList}
 
--- some that are settled, in front of what later ones come to
+-- some that are expanded, in front of what later ones come to
 abbrev pub with_actions : List Action → Result (List Action) Answer → Result (List Action) Answer
 with_actions front (Ok actions) = Ok (front ++ actions)
 with_actions front (Err answer) = Err answer
 
-abbrev pub behind : List Action → List Read → Settled (List Action) → Settled (List Action)
+abbrev pub behind : List Action → List Read → ExpandedTo (List Action) → ExpandedTo (List Action)
 behind front reads later = record { outcome = with_actions front later.outcome; reads = reads ++ later.reads }
 
 -- the same, with what was read before the first
 abbrev pub Stands : Serving → List Read → List Action → List Action → List Read → List Action → Type 0
-Stands s old all front reads left = behind front reads (settled_all s left) ≡ behind [] old (settled_all s all)
+Stands s old all front reads left = behind front reads (expanded_actions s left) ≡ behind [] old (expanded_actions s all)
 
 mapped_twice : (front : List Action) (a : Action) (o : Result (List Action) Answer)
-    → with_actions front (with_settled a o) ≡ with_actions (front ++ a ∷ []) o
+    → with_actions front (with_expanded a o) ≡ with_actions (front ++ a ∷ []) o
 mapped_twice front a (Ok actions) = ap Ok (sym (append_assoc front (a ∷ []) actions))
 mapped_twice front a (Err answer) = refl
 
@@ -42,71 +42,76 @@ mapped_none : (o : Result (List Action) Answer) → with_actions [] o ≡ o
 mapped_none (Ok actions) = refl
 mapped_none (Err answer) = refl
 
--- one more is settled
-pub settled_more : (s : Serving) (old : List Read) (all front left later : List Action) (reads new : List Read) (action a : Action)
-    → Stands s old all front reads left → left ≡ action ∷ later → Ok a ≡ (settled_one s action).outcome → new ≡ reads ++ (settled_one s action).reads
+-- one more is expanded
+pub expanded_more : (s : Serving) (old : List Read) (all front left later : List Action) (reads new : List Read) (action a : Action)
+    → Stands s old all front reads left → left ≡ action ∷ later → Ok a ≡ (expanded_action s action).outcome → new ≡ reads ++ (expanded_action s action).reads
     → Stands s old all (front ++ a ∷ []) new later
-settled_more s old all front left later reads new action a stands first outcome added =
-    let rest = settled_all s later in
-    let one = settled_one s action in
-    let turn : behind (front ++ a ∷ []) new rest ≡ behind front reads (settled_by (Ok a) one.reads rest) =
+expanded_more s old all front left later reads new action a stands first outcome added =
+    let rest = expanded_actions s later in
+    let one = expanded_action s action in
+    let turn : behind (front ++ a ∷ []) new rest ≡ behind front reads (expanded_by (Ok a) one.reads rest) =
     ap (λ (n : List Read). behind (front ++ a ∷ []) n rest) added
     ∙ sym (ap (λ (o : Result (List Action) Answer). record { outcome = o; reads = reads ++ (one.reads ++ rest.reads) }) (mapped_twice front a rest.outcome)
     ∙ ap (λ (r : List Read). record { outcome = with_actions (front ++ a ∷ []) rest.outcome; reads = r }) (sym (append_assoc reads one.reads rest.reads))) in
     turn
-    ∙ ap (λ (o : Result Action Answer). behind front reads (settled_by o one.reads rest)) outcome
-    ∙ ap (λ (l : List Action). behind front reads (settled_all s l)) (sym first) ∙ stands
+    ∙ ap (λ (o : Result Action Answer). behind front reads (expanded_by o one.reads rest)) outcome
+    ∙ ap (λ (l : List Action). behind front reads (expanded_actions s l)) (sym first) ∙ stands
 
 -- one can't be
-pub settled_stops : (s : Serving) (old : List Read) (all front left later : List Action) (reads new : List Read) (action : Action) (answer : Answer)
-    → Stands s old all front reads left → left ≡ action ∷ later → Err answer ≡ (settled_one s action).outcome → new ≡ reads ++ (settled_one s action).reads
-    → Settles (settled_all s all) old new (Err answer)
-settled_stops s old all front left later reads new action answer stands first outcome added =
-    let one = settled_one s action in
-    let whole : behind front reads (settled_by (Err answer) one.reads (settled_all s later)) ≡ behind [] old (settled_all s all) =
-    ap (λ (o : Result Action Answer). behind front reads (settled_by o one.reads (settled_all s later))) outcome
-    ∙ ap (λ (l : List Action). behind front reads (settled_all s l)) (sym first) ∙ stands in (
-      ap (λ (x : Settled (List Action)). x.outcome) whole ∙ mapped_none (settled_all s all).outcome,
-      added ∙ ap (λ (x : Settled (List Action)). x.reads) whole,
+pub expanded_stops : (s : Serving) (old : List Read) (all front left later : List Action) (reads new : List Read) (action : Action) (answer : Answer)
+    → Stands s old all front reads left → left ≡ action ∷ later → Err answer ≡ (expanded_action s action).outcome → new ≡ reads ++ (expanded_action s action).reads
+    → ExpandsTo (expanded_actions s all) old new (Err answer)
+expanded_stops s old all front left later reads new action answer stands first outcome added =
+    let one = expanded_action s action in
+    let whole : behind front reads (expanded_by (Err answer) one.reads (expanded_actions s later)) ≡ behind [] old (expanded_actions s all) =
+    ap (λ (o : Result Action Answer). behind front reads (expanded_by o one.reads (expanded_actions s later))) outcome
+    ∙ ap (λ (l : List Action). behind front reads (expanded_actions s l)) (sym first) ∙ stands in (
+      ap (λ (x : ExpandedTo (List Action)). x.outcome) whole ∙ mapped_none (expanded_actions s all).outcome,
+      added ∙ ap (λ (x : ExpandedTo (List Action)). x.reads) whole,
     )
 
 -- all are
-pub settled_whole : (s : Serving) (old : List Read) (all front left : List Action) (reads : List Read)
-    → Stands s old all front reads left → left ≡ [] → Settles (settled_all s all) old reads (Ok front)
-settled_whole s old all front left reads stands none =
-    let whole : behind front reads (settled_all s []) ≡ behind [] old (settled_all s all) =
-    ap (λ (l : List Action). behind front reads (settled_all s l)) (sym none) ∙ stands in (
-      ap Ok (sym (append-nil front)) ∙ ap (λ (x : Settled (List Action)). x.outcome) whole ∙ mapped_none (settled_all s all).outcome,
-      sym (append-nil reads) ∙ ap (λ (x : Settled (List Action)). x.reads) whole,
+pub expanded_whole : (s : Serving) (old : List Read) (all front left : List Action) (reads : List Read)
+    → Stands s old all front reads left → left ≡ [] → ExpandsTo (expanded_actions s all) old reads (Ok front)
+expanded_whole s old all front left reads stands none =
+    let whole : behind front reads (expanded_actions s []) ≡ behind [] old (expanded_actions s all) =
+    ap (λ (l : List Action). behind front reads (expanded_actions s l)) (sym none) ∙ stands in (
+      ap Ok (sym (append-nil front)) ∙ ap (λ (x : ExpandedTo (List Action)). x.outcome) whole ∙ mapped_none (expanded_actions s all).outcome,
+      sym (append-nil reads) ∙ ap (λ (x : ExpandedTo (List Action)). x.reads) whole,
     )
 
 -- the literal service of a list's entry, of none, and of no path
 pub of_list : (s : Serving) (names : List (List ℕ)) (id : List ℕ) (path : List PathStep) (found : Option ServiceList) (it : ServiceList) (old new : List Read)
     (outcome : Result Action Answer) → found ≡ Some it
-    → Settles (as_literal names id (Some (expansion_at s (record { path = path; template = template_json it.template })))) old new outcome
-    → Settles (as_literal names id (option_map (expansion_at s) (option_map (λ (it : ServiceList). record { path = path; template = template_json it.template }) found))) old new outcome
-of_list s names id path found it old new outcome is settles =
-    subst (λ (o : Option ServiceList). Settles (as_literal names id (option_map (expansion_at s) (option_map (λ (it : ServiceList). record { path = path; template = template_json it.template }) o))) old new outcome)
-    (sym is) settles
+    → ExpandsTo (as_literal names id (Some (expansion_at s (record { path = path; template = template_json it.template })))) old new outcome
+    → ExpandsTo (as_literal names id (option_map (expansion_at s) (option_map (λ (it : ServiceList). record { path = path; template = template_json it.template }) found))) old new outcome
+of_list s names id path found it old new outcome is gives =
+    subst (λ (o : Option ServiceList). ExpandsTo (as_literal names id (option_map (expansion_at s) (option_map (λ (it : ServiceList). record { path = path; template = template_json it.template }) o))) old new outcome)
+    (sym is) gives
 
 -- that of an expansion that was made, and of one that met a fault
 pub literal_written : (names : List (List ℕ)) (id own : List ℕ) (trees : List Config) (writes : List DevicePut) (due : Result Expanding Failed)
     (old new : List Read) → own ≡ id → writes ≡ writes_of names trees → Expands due old new (Written trees)
-    → Settles (as_literal names id (Some due)) old new (Ok (Literal own writes))
+    → ExpandsTo (as_literal names id (Some due)) old new (Ok (Literal own writes))
 literal_written names id own trees writes due old new same made h =
-    subst (λ (d : Result Expanding Failed). Settles (as_literal names id (Some d)) old new (Ok (Literal own writes))) (sym h.1)
+    subst (λ (d : Result Expanding Failed). ExpandsTo (as_literal names id (Some d)) old new (Ok (Literal own writes))) (sym h.1)
     (ap (λ (i : List ℕ). Ok (Literal i writes)) same ∙ ap (λ (w : List DevicePut). Ok (Literal id w)) (made ∙ ap (writes_of names) h.2), h.3)
 
 pub literal_fails : (names : List (List ℕ)) (id own : List ℕ) (block rule : ℕ) (due : Result Expanding Failed)
     (old new : List Read) → own ≡ id → Expands due old new (Fault block rule)
-    → Settles (as_literal names id (Some due)) old new (Err (Expand own block rule))
+    → ExpandsTo (as_literal names id (Some due)) old new (Err (Expand own block rule))
 literal_fails names id own block rule due old new same h =
-    subst (λ (d : Result Expanding Failed). Settles (as_literal names id (Some d)) old new (Err (Expand own block rule))) (sym h.1)
+    subst (λ (d : Result Expanding Failed). ExpandsTo (as_literal names id (Some d)) old new (Err (Expand own block rule))) (sym h.1)
     (ap (λ (i : List ℕ). Err (Expand i block rule)) same, h.2)
 
 -- one that no list has reads and writes nothing
 pub of_none : (names : List (List ℕ)) (id own : List ℕ) (o : Option (Result Expanding Failed)) (writes : List DevicePut) (reads : List Read) → o ≡ None → own ≡ id
-    → writes ≡ [] → Settles (as_literal names id o) reads reads (Ok (Literal own writes))
+    → writes ≡ [] → ExpandsTo (as_literal names id o) reads reads (Ok (Literal own writes))
 of_none names id own o writes reads is same none =
-    subst (λ (x : Option (Result Expanding Failed)). Settles (as_literal names id x) reads reads (Ok (Literal own writes))) (sym is)
+    subst (λ (x : Option (Result Expanding Failed)). ExpandsTo (as_literal names id x) reads reads (Ok (Literal own writes))) (sym is)
     (ap (λ (i : List ℕ). Ok (Literal i writes)) same ∙ ap (λ (w : List DevicePut). Ok (Literal id w)) none, sym (append-nil reads))
+
+-- what was read apart, behind what was read before
+pub added_to : (old new read fresh due : List Read) → new ≡ old ++ read → read ≡ fresh ++ due → fresh ≡ [] → new ≡ old ++ due
+added_to old new read fresh due added gave none =
+    added ∙ ap (λ (l : List Read). old ++ l) (gave ∙ ap (λ (l : List Read). l ++ due) none)

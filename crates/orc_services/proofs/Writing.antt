@@ -12,7 +12,7 @@ use Rattle.orc_change.proofs.Exact.{entries_are}
 use Rattle.orc_call.specs.declared.call.DevicePut.{DevicePut}
 use Rattle.orc_services.specs.Fitting.{fits_writes}
 use Rattle.std.proofs.lemmas.List.{drop_all}
-use Rattle.orc_services.specs.Settling.{write_of, writes_of, writes_to}
+use Rattle.orc_services.specs.Expanded.{write_of, writes_of, writes_to}
 
 both : (a b : Bool) → a ≡ true → b ≡ true → (a && b) ≡ true
 both true b p q = q

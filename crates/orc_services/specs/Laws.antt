@@ -11,24 +11,24 @@ use Rattle.orc_expr.specs.Touches.{write_touches_any}
 use Rattle.orc_call.specs.declared.call.Action.{Action}
 use Rattle.orc_template.specs.Devices.{DeviceTable}
 use Rattle.orc_services.specs.Services.{Serving}
-use Rattle.orc_services.specs.Settling.{Settled, settled_all}
+use Rattle.orc_services.specs.Expanded.{ExpandedTo, expanded_actions}
 use Rattle.orc_services.specs.declared.list.ServiceList.{ServiceList}
 
 -- Two views of the data that share what a call's expansions read give the same actions, the same refusal and the same
 -- reads.
-abbrev pub SettledIsFixedByReads : Type 0
-SettledIsFixedByReads =
+abbrev pub ExpandedIsFixedByReads : Type 0
+ExpandedIsFixedByReads =
     (lists : List ServiceList) (devices : DeviceTable) (actions : List Action) (view : Viewed)
-    → IsFixedByReads (λ v. settled_all (record { lists = lists; devices = devices; view = v }) actions)
-    (λ settled. settled.reads) view
+    → IsFixedByReads (λ v. expanded_actions (record { lists = lists; devices = devices; view = v }) actions)
+    (λ expanded. expanded.reads) view
 
 -- What the actions of a call come to on data stands on other data under the same schema, where no path at which the two
 -- differ touches what was read.
-abbrev pub SettledStands : Type 0
-SettledStands =
+abbrev pub ExpandedStands : Type 0
+ExpandedStands =
     (lists : List ServiceList) (devices : DeviceTable) (actions : List Action)
     (shapes : List PathStep → List ℕ → Shape) (old new : Config)
-    → let on : Config → Settled (List Action) = λ items. settled_all
+    → let on : Config → ExpandedTo (List Action) = λ items. expanded_actions
     (record { lists = lists; devices = devices; view = record { items = items; shapes = shapes } }) actions in
     ((path : List PathStep) → get old path ≢ get new path
     → write_touches_any (on old).reads (write.At path) ≡ false)

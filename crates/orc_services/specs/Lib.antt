@@ -1,5 +1,5 @@
 pub mod Services
-pub mod Settling
+pub mod Expanded
 pub mod Fitting
 pub mod Laws
 pub mod inside

@@ -1,6 +1,6 @@
 //! Items of configurations as writes on devices.
 ghost use Rattle.std.specs.Prelude.{◌≡◌, ◌++◌, IfOk, OnOk, IsTrue};
-ghost use Rattle.orc_services.specs.Settling.{writes_of, writes_to};
+ghost use Rattle.orc_services.specs.Expanded.{writes_of, writes_to};
 ghost use Rattle.orc_services.specs.Fitting.{fits_writes};
 
 use orc_call::DevicePut;

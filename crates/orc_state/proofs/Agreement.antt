@@ -20,7 +20,7 @@ use Rattle.orc_path.specs.declared.item.Item.TheVariants.{Entry, Leaf}
 use Rattle.orc_state.specs.States.{config_of, expansion, has_id, is_same_text, opening, others, part}
 use Rattle.orc_state.specs.Actions.{is_named_by, live_after, live_step, new_services, names, touched}
 use Rattle.orc_state.specs.Clashes.{clash_at, clash_from, differs, least, lesser_unequal, rivals, unequal_among, unequal_of, unequal_on}
-use Rattle.orc_state.specs.Next.{after, clash, existence, invalid, refusal}
+use Rattle.orc_state.specs.Next.{after, clash, existence, invalid, refusal, expanded_call, expanded_to, unexpanded}
 use Rattle.orc_state.specs.Histories.{fold_from, IsUnrefused}
 use Rattle.orc_state.specs.Laws.{Agree, AllAgree, ServicesAgree}
 use Rattle.orc_call.specs.declared.answer.Answer.TheVariants.{Clash}
@@ -339,17 +339,20 @@ after_agree devices actions live h unique all a b c e = on (origin devices actio
 -- refusals
 
 pub unrefused_parts : (decls : Decls) (s : State) (call : Call) → refusal decls s call ≡ None
-    → (existence s.live call.actions ≡ None) × (clash decls.names s.live call.actions ≡ None)
+    → (existence s.live call.actions ≡ None) × (clash decls.names s.live (expanded_to (expanded_call decls s call)) ≡ None)
 unrefused_parts decls s call h =
+    let acts = expanded_call decls s call in
     let first = or_none (existence s.live call.actions) _ h in
-    (first.0, (or_none (invalid decls.data_schema _) (clash decls.names s.live call.actions) first.1).1)
+    let second = or_none (invalid decls.data_schema _) (option_or (unexpanded acts) (clash decls.names s.live (expanded_to acts))) first.1 in
+    (first.0, (or_none (unexpanded acts) (clash decls.names s.live (expanded_to acts)) second.1).1)
 
 fold_agree : (decls : Decls) (s : State) (calls : List Call) → IsUnrefused decls s calls → AreUnique s.live → AllAgree s.live
     → AllAgree (fold_from decls s calls).live
 fold_agree decls s [] h unique all = all
 fold_agree decls s (call ∷ calls) h unique all =
-    fold_agree decls (after decls s call) calls h.1 (after_unique decls.names call.actions s.live unique)
-    (after_agree decls.names call.actions s.live (unrefused_parts decls s call h.0).1 unique all)
+    let acts = expanded_to (expanded_call decls s call) in
+    fold_agree decls (after decls s call) calls h.1 (after_unique decls.names acts s.live unique)
+    (after_agree decls.names acts s.live (unrefused_parts decls s call h.0).1 unique all)
 
 pub living_agree : ServicesAgree
 living_agree decls history h =

@@ -28,7 +28,7 @@ use Rattle.orc_state.specs.States.{expansion, has_id, is_same_text, part}
 use Rattle.orc_state.specs.Actions.{live_after, name_each_once, new_services}
 use Rattle.orc_state.specs.Clashes.{clash_at, lesser_unequal, unequal_of, unequal_on}
 use Rattle.orc_state.specs.Laws.{IsClash}
-use Rattle.orc_state.specs.inside.Turns.{items_of}
+use Rattle.orc_state.specs.inside.Turns.{held_by, items_of}
 use Rattle.orc_state.specs.inside.Keeping.{IsStoreFor, clash_on}
 use Rattle.orc_state.specs.declared.state.Service.{Service}
 use Rattle.orc_state.proofs.Agreement.{AreUnique, first_in, in_cases, later_in, none_in_nil, on_none}
@@ -292,7 +292,7 @@ mover_made devices live d p x (Literal own ws ∷ actions) front m back is bring
     rest = flat_map (new_services devices) actions
 
     mine : Move
-    mine = record { service = own; old = []; new = items_of (part made d) }
+    mine = record { service = own; old = held_by live d own; new = items_of (part made d) }
 
     or_true : (b : Bool) → (b || true) ≡ true
     or_true true = refl

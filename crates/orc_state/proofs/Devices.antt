@@ -18,8 +18,8 @@ use Rattle.orc_refs.specs.declared.moves.Move.{Move}
 use Rattle.orc_refs.specs.declared.moves.BaseEdit.{BaseEdit}
 use Rattle.orc_state.specs.States.{State, name_of}
 use Rattle.orc_state.specs.Next.{clash}
-use Rattle.orc_state.specs.Touched.{is_touched, touched_devices}
-use Rattle.orc_state.specs.inside.Fitting.{FitActions}
+use Rattle.orc_state.specs.Touched.{is_touched_among, touched_among}
+use Rattle.orc_services.specs.Fitting.{FitActions}
 use Rattle.orc_state.specs.inside.Turns.{edits_of, move_of, turns_of}
 use Rattle.orc_state.specs.inside.Keeping.{AreChanges, ComesTo, IsBehind, IsChangeOf, IsOpenTo, IsStoreBehind, IsStoreFor, StaysOn, clash_on, picked}
 use Rattle.orc_state.specs.declared.state.Service.{Service}
@@ -38,7 +38,7 @@ asked-moves devices live d actions turns moves ts ms = ms ∙ ap (flat_map (move
 
 pub asked-start : (devices : List (List ℕ)) (live : List Service) (d : ℕ) (actions : List Action) (store : Store) (moves : List Move)
     → moves ≡ moves_in devices live d actions → IsOpenTo live actions → IsStoreFor live d store → StartAt store moves
-asked-start devices live d actions store moves ms open_to for = subst (StartAt store) (sym ms) (moves-start devices live d store actions for open_to.existence)
+asked-start devices live d actions store moves ms open_to for = subst (StartAt store) (sym ms) (moves-start devices live d store actions for)
 
 pub asked-distinct : (devices : List (List ℕ)) (live : List Service) (d : ℕ) (actions : List Action) (moves : List Move)
     → moves ≡ moves_in devices live d actions → IsOpenTo live actions → are_distinct moves ≡ true
@@ -55,14 +55,14 @@ pub came-behind : {E : Type 0} (devices : List (List ℕ)) (live : List Service)
     → edits ≡ flat_map (edits_of name) actions → name ≡ name_of devices d → IsOpenTo live actions → IsStoreFor live d store
     → IfOk result (ComesTo store moves edits d) → IfOk result (IsStoreBehind devices live actions d store)
 came-behind devices live d actions store name moves edits (Ok (Ok new)) ms es ns open_to for came =
-    moved-behind devices live d actions store new open_to.existence open_to.once for
+    moved-behind devices live d actions store new open_to.once for
     (subst (λ (e : List BaseEdit). IsMoved store (moves_in devices live d actions) e new)
     (es ∙ ap (λ (n : List ℕ). flat_map (edits_of n) actions) ns)
     (subst (λ (m : List Move). IsMoved store m edits new) ms came))
 came-behind devices live d actions store name moves edits (Ok (Err answer)) ms es ns open_to for came =
     clash_found devices live d actions (written_by store) came.0 came.1 open_to.once
     (after_unique devices actions live (named_unique live open_to.differ))
-    (λ id p. written-behind devices live d id p (written_by store) actions live open_to.once open_to.existence (for.of.writers id p))
+    (λ id p. written-behind devices live d id p (written_by store) actions live open_to.once (for.of.writers id p) (for.of.writers id p))
     (subst (λ (m : List Move). ClashesAt (writes_after m (written_by store)) m came.0 came.1) ms came.3)
     ∙ ap (λ (a : Answer). Some a) (sym came.2)
 came-behind devices live d actions store name moves edits (Err fault) ms es ns open_to for came = came
@@ -98,18 +98,14 @@ not_among p a (suc n) d le lt h =
         absurd (true_not_false (sym (ap (λ x. x || list_any (λ e. e == d) later) (ap (λ x. x == d) same ∙ itself d)) ∙ k))
     here false is same k = ap p (sym same) ∙ is
 
-pub untouched-stays : (devices : List (List ℕ)) (state : State) (call : Call) (actions : List Action) (live : List Service) (touched : List ℕ) (d : ℕ)
-    → live ≡ state.live → actions ≡ call.actions → touched ≡ touched_devices devices state call → IsOpenTo live actions → d < length devices
+pub untouched-stays : (devices : List (List ℕ)) (state : State) (actions : List Action) (live : List Service) (touched : List ℕ) (d : ℕ)
+    → live ≡ state.live → touched ≡ touched_among devices state actions → IsOpenTo live actions → d < length devices
     → list_any (λ e. e == d) touched ≡ false → StaysOn devices live actions d
-untouched-stays devices state call actions live touched d ls acts ts open_to lt off =
-    let quiet : is_touched devices state call d ≡ false =
-    not_among (is_touched devices state call) 0 (length devices) d (omega arith) (omega (arith, lt))
+untouched-stays devices state actions live touched d ls ts open_to lt off =
+    let quiet : is_touched_among devices state actions d ≡ false =
+    not_among (is_touched_among devices state actions) 0 (length devices) d (omega arith) (omega (arith, lt))
     (ap (list_any (λ e. e == d)) (sym ts) ∙ off) in
-    let open_here : IsOpenTo state.live call.actions =
-    subst (λ (l : List Service). IsOpenTo l call.actions) ls (subst (λ (a : List Action). IsOpenTo live a) acts open_to) in
-    subst (λ (l : List Service). StaysOn devices l actions d) (sym ls)
-    (subst (λ (a : List Action). StaysOn devices state.live a d) (sym acts)
-    (device-stays devices state d call.actions open_here.existence open_here.once quiet))
+    subst (λ (l : List Service). StaysOn devices l actions d) (sym ls) (device-stays devices state d actions open_to.once quiet)
 
 -- the changes of the first stores, which meet no clash
 pub record AreClear (devices : List (List ℕ)) (live : List Service) (actions : List Action) (stores : List Store) (changes : List (Option Store)) (n : ℕ) : Type 0 where

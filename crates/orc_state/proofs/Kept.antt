@@ -15,7 +15,7 @@ use Rattle.orc_call.specs.declared.call.Call.{Call}
 use Rattle.orc_call.specs.declared.call.Action.{Action}
 use Rattle.orc_state.specs.States.{declared_base, names_of, opening, put_all, puts_on}
 use Rattle.orc_state.specs.Actions.{bases_after, live_after, new_services}
-use Rattle.orc_state.specs.Next.{IsStateOf, after, refusal}
+use Rattle.orc_state.specs.Next.{IsStateOf, after, refusal, expanded_call, expanded_to}
 use Rattle.orc_state.specs.Calls.{is_lawful_name}
 use Rattle.orc_state.specs.Declarations.{AreDecls}
 use Rattle.orc_state.specs.declared.declarations.Decls.{Decls}
@@ -66,13 +66,14 @@ behind-complete devices actions live n is all =
 
 pub after-kept : (decls : Decls) (s : State) (call : Call) → IsStateOf decls s → refusal decls s call ≡ None → IsStateOf decls (after decls s call)
 after-kept decls s call kept h =
-    let count = bases-count decls.names call.actions s.bases in
-    let bases : length (bases_after decls.names call.actions s.bases) ≡ length decls.names = count ∙ kept.bases in
+    let acts = expanded_to (expanded_call decls s call) in
+    let count = bases-count decls.names acts s.bases in
+    let bases : length (bases_after decls.names acts s.bases) ≡ length decls.names = count ∙ kept.bases in
     record {
       bases = bases;
       complete =
-          behind-complete decls.names call.actions s.live (length (bases_after decls.names call.actions s.bases)) bases
-          (All-weaker (λ (x : Service). length x.parts ≡ length s.bases) (λ (x : Service). length x.parts ≡ length (bases_after decls.names call.actions s.bases))
+          behind-complete decls.names acts s.live (length (bases_after decls.names acts s.bases)) bases
+          (All-weaker (λ (x : Service). length x.parts ≡ length s.bases) (λ (x : Service). length x.parts ≡ length (bases_after decls.names acts s.bases))
           (λ x e. e ∙ sym count) s.live kept.complete);
       valid = after_valid decls s call h;
     }

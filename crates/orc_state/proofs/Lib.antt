@@ -1,4 +1,8 @@
 mod Lists
+mod Expanded
+mod Written
+mod GoingOn
+mod Planning
 mod Named
 pub mod Agreement
 pub mod Traces
@@ -26,3 +30,4 @@ mod Devices
 mod Writers
 mod Openings
 mod Changing
+mod Literals

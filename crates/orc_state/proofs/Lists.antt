@@ -7,6 +7,10 @@ pub or_first : (a b : Bool) → (a || b) ≡ false → a ≡ false
 or_first true b e = e
 or_first false b e = refl
 
+pub or_true : (a b : Bool) → b ≡ true → (a || b) ≡ true
+or_true true b h = refl
+or_true false b h = h
+
 pub or_second : (a b : Bool) → (a || b) ≡ false → b ≡ false
 or_second true b e = absurd cc
 or_second false b e = e

@@ -215,33 +215,3 @@ created_is_new live id writes h = on (lives live id) h
     on : (t : Bool) → cond t (Some (Exists id)) None ≡ None → t ≡ false
     on true e = cc
     on false e = refl
-
--- so of what lives an action names what it deletes
-one_deleted : (live : List Service) (s : Service) (action : Action) → Contains live s → existence_of live action ≡ None
-    → names action s.id ≡ deletes action s.id
-one_deleted live s (Literal id writes) c h =
-    All-contains (λ (x : Service). has_id id x ≡ false) live s (any_none (has_id id) live (created_is_new live id writes h)) c
-one_deleted live s (Delete id) c h = refl
-one_deleted live s other c h = refl
-
-named_deleted : (live : List Service) (s : Service) (actions : List Action) → Contains live s → existence live actions ≡ None
-    → is_named_by actions s.id ≡ is_deleted_by actions s.id
-named_deleted live s [] c h = refl
-named_deleted live s (action ∷ actions) c h =
-    ap (λ t. t || is_named_by actions s.id) (one_deleted live s action c (or_none_first (existence_of live action) (existence live actions) h))
-    ∙ ap (λ t. deletes action s.id || t) (named_deleted live s actions c (or_none_second (existence_of live action) (existence live actions) h))
-
--- the services behind actions are the living ones and those that are made, but for those that are deleted
-pub behind-kept : (devices : List (List ℕ)) (actions : List Action) (live : List Service) → existence live actions ≡ None → name_each_once actions ≡ true
-    → live_after devices actions live ≡ filter (λ s. not (is_deleted_by actions s.id)) (live ++ flat_map (new_services devices) actions)
-behind-kept devices actions live exist h =
-    let made = flat_map (new_services devices) actions in
-    let kept : Service → Bool = λ s. not (is_deleted_by actions s.id) in
-    let same : unnamed actions live ≡ filter kept live =
-    filter_agree (λ (s : Service). not (is_named_by actions s.id)) kept live
-    (All-weaker (Contains live) (λ s. not (is_named_by actions s.id) ≡ kept s) (λ s c. ap not (named_deleted live s actions c exist)) live (All-contains_itself live)) in
-    let all : filter kept made ≡ made = filter_all kept made (all_not (λ (s : Service). is_deleted_by actions s.id) made (all_made_kept devices actions h)) in
-    behind-once devices actions live h
-    ∙ ap (λ (l : List Service). l ++ made) same
-    ∙ ap (λ (l : List Service). filter kept live ++ l) (sym all)
-    ∙ sym (filter-append kept live made)

@@ -14,8 +14,6 @@ use Rattle.orc_path.specs.Order.{path_cmp}
 use Rattle.orc_path.specs.Items.{fits}
 use Rattle.orc_path.specs.Configurations.{Config, put_item, drop_item}
 use Rattle.orc_path.specs.declared.item.Item.{Item}
-use Rattle.orc_call.specs.declared.answer.Answer.{Answer}
-use Rattle.orc_call.specs.declared.answer.Answer.TheVariants.{Missing}
 use Rattle.orc_call.specs.declared.call.Action.{Action}
 use Rattle.orc_call.specs.declared.call.Action.TheVariants.{Literal, Delete, BasePut, BaseRemove}
 use Rattle.orc_refs.specs.Live.{live_writes}
@@ -25,16 +23,15 @@ use Rattle.orc_refs.specs.declared.moves.Move.{Move}
 use Rattle.orc_refs.specs.declared.moves.BaseEdit.TheVariants as edit
 use Rattle.orc_state.specs.States.{State, expansion, has_id, is_same_text, lives, name_of, part}
 use Rattle.orc_state.specs.Actions.{base_step, is_named_by, live_after, live_step, name_each_once, named, names, new_services}
-use Rattle.orc_state.specs.Next.{existence, existence_of}
-use Rattle.orc_state.specs.Touched.{is_held_by, is_touched_by}
-use Rattle.orc_state.specs.inside.Fitting.{fits_action, FitActions}
-use Rattle.orc_state.specs.inside.Turns.{edits_of, items_of, move_of, put_of, turns_of}
+use Rattle.orc_state.specs.Touched.{is_held_by, is_touched_by, is_written_by}
+use Rattle.orc_services.specs.Fitting.{fits_action, FitActions}
+use Rattle.orc_state.specs.inside.Turns.{edits_of, held_by, items_of, move_of, put_of, turns_of}
 use Rattle.orc_state.specs.inside.Keeping.{IsBehind, IsStoreFor, StaysOn, on_device}
 use Rattle.orc_state.specs.declared.state.Service.{Service}
 use Rattle.orc_state.proofs.Agreement.{first_in, later_in}
 use Rattle.orc_state.proofs.Lists.{any_none, not_true, or_first, or_second, true_not_false}
-use Rattle.orc_state.proofs.Named.{IsOnceIn, created_is_new, once_first, once_later, other_way}
-use Rattle.orc_state.proofs.Untouched.{blank_part, held, none_first, none_later}
+use Rattle.orc_state.proofs.Named.{IsOnceIn, once_first, once_later, other_way}
+use Rattle.orc_state.proofs.Untouched.{blank_part, held}
 
 -- what the service of a name writes
 
@@ -185,16 +182,42 @@ moves_in devices live device actions = flat_map (move_of live device) (flat_map 
 turned_true : (own id : List ℕ) → is_same_text own id ≡ true → is_same_text id own ≡ true
 turned_true own id h = (bytes_decides id own).1 (sym ((bytes_decides own id).0 h))
 
+-- a service that no action names doesn't move
+unmoved : (devices : List (List ℕ)) (live : List Service) (d : ℕ) (id : List ℕ) (actions : List Action) → is_named_by actions id ≡ false
+    → is_moved (moves_in devices live d actions) id ≡ false
+unmoved devices live d id [] h = refl
+unmoved devices live d id (Literal own ws ∷ actions) h =
+    ap (λ t. t || is_moved (moves_in devices live d actions) id) (other_way id own (or_first (is_same_text id own) (is_named_by actions id) h))
+    ∙ unmoved devices live d id actions (or_second (is_same_text id own) (is_named_by actions id) h)
+unmoved devices live d id (Delete own ∷ actions) h =
+    on (find (has_id own) live) (unmoved devices live d id actions (or_second (is_same_text id own) (is_named_by actions id) h))
+  where
+    on : (o : Option Service) → is_moved (moves_in devices live d actions) id ≡ false
+        → is_moved (option_map_or (λ (s : Service). record { service = own; old = items_of (part s d); new = [] } ∷ []) o []
+        ++ moves_in devices live d actions) id ≡ false
+    on None rest = rest
+    on (Some s) rest =
+        ap (λ t. t || is_moved (moves_in devices live d actions) id) (other_way id own (or_first (is_same_text id own) (is_named_by actions id) h)) ∙ rest
+unmoved devices live d id (other ∷ actions) h = unmoved devices live d id actions h
+
+-- what a service that doesn't move writes stays
+unmoved_writes : (ms : List Move) (writes : List ℕ → List PathStep → Option Item) (id : List ℕ) (p : List PathStep) → is_moved ms id ≡ false
+    → writes_after ms writes id p ≡ writes id p
+unmoved_writes [] writes id p h = refl
+unmoved_writes (m ∷ ms) writes id p h =
+    ap (λ t. cond t (put_at m.new p) (writes_after ms writes id p)) (or_first (is_same_text m.service id) (is_moved ms id) h)
+    ∙ unmoved_writes ms writes id p (or_second (is_same_text m.service id) (is_moved ms id) h)
+
 -- what services write behind a call is what the moves say
 pub written-behind : (devices : List (List ℕ)) (before : List Service) (d : ℕ) (id : List ℕ) (p : List PathStep)
     (writes : List ℕ → List PathStep → Option Item) (actions : List Action) (live : List Service)
-    → name_each_once actions ≡ true → existence before actions ≡ None → writes id p ≡ written live d id p
+    → name_each_once actions ≡ true → writes id p ≡ written before d id p → writes id p ≡ written live d id p
     → written (live_after devices actions live) d id p ≡ writes_after (moves_in devices before d actions) writes id p
-written-behind devices before d id p writes [] live once exist h = sym h
-written-behind devices before d id p writes (Literal own ws ∷ actions) live once exist h =
+written-behind devices before d id p writes [] live once first h = sym h
+written-behind devices before d id p writes (Literal own ws ∷ actions) live once first h =
     on (is_same_text own id) refl
     (λ same. written-behind devices before d id p writes actions (live_step devices live action) (once_later action actions once)
-    (none_later _ _ exist) (h ∙ sym (step_kept devices action live d id p same)))
+    first (h ∙ sym (step_kept devices action live d id p same)))
   where
     action : Action
     action = Literal own ws
@@ -214,10 +237,10 @@ written-behind devices before d id p writes (Literal own ws ∷ actions) live on
         ∙ sym (put_at-items (part made d) p)
         ∙ sym (ap (λ t. cond t (put_at (items_of (part made d)) p) rest) is)
     on false is later = later (other_way own id is) ∙ sym (ap (λ t. cond t (put_at (items_of (part made d)) p) rest) is)
-written-behind devices before d id p writes (Delete own ∷ actions) live once exist h =
+written-behind devices before d id p writes (Delete own ∷ actions) live once first h =
     by_found (find (has_id own) before) refl
     (λ same. written-behind devices before d id p writes actions (live_step devices live action) (once_later action actions once)
-    (none_later _ _ exist) (h ∙ sym (step_kept devices action live d id p same)))
+    first (h ∙ sym (step_kept devices action live d id p same)))
   where
     action : Action
     action = Delete own
@@ -233,34 +256,48 @@ written-behind devices before d id p writes (Delete own ∷ actions) live once e
         ∙ sym (ap (λ t. cond t None rest) is)
     on false is later = later (other_way own id is) ∙ sym (ap (λ t. cond t None rest) is)
 
-    there : (t : Bool) → lives before own ≡ t → existence_of before (Delete own) ≡ None → lives before own ≡ true
-    there true is none = is
-    there false is none = absurd (some_none (sym (ap (λ t. cond t None (Some (Missing own))) is) ∙ none))
-      where
-        some_none : {x : Answer} → Some x ≡ None → ⊥
-        some_none e = cc
+    -- one that doesn't live has nothing before or behind
+    away : (t : Bool) → is_same_text own id ≡ t → find (has_id own) before ≡ None
+        → (names action id ≡ false → written (live_after devices actions (live_step devices live action)) d id p ≡ rest)
+        → written (live_after devices (action ∷ actions) live) d id p ≡ rest
+    away true is none later =
+        step_named devices action actions live d id p (turned_true own id is) once
+        ∙ sym (unmoved_writes (moves_in devices before d actions) writes id p
+        (unmoved devices before d id actions (once_unnamed (named action) actions id (turned_true own id is) (once_first action actions once)))
+        ∙ first ∙ ap (λ i. written before d i p) (sym ((bytes_decides own id).0 is)) ∙ written-find before d own p
+        ∙ ap (λ o. option_map_or (λ (x : Service). get (part x d) p) o None) none)
+    away false is none later = later (other_way own id is)
 
     by_found : (o : Option Service) → find (has_id own) before ≡ o
         → (names action id ≡ false → written (live_after devices actions (live_step devices live action)) d id p ≡ rest)
         → written (live_after devices (action ∷ actions) live) d id p
         ≡ writes_after (option_map_or (λ (s : Service). record { service = own; old = items_of (part s d); new = [] } ∷ []) o []
         ++ moves_in devices before d actions) writes id p
-    by_found None none later = absurd (lives_found before own (there (lives before own) refl (none_first _ _ exist)) none)
+    by_found None none later = away (is_same_text own id) refl none later
     by_found (Some s) is later = on (is_same_text own id) refl later
-written-behind devices before d id p writes (other ∷ actions) live once exist h =
+written-behind devices before d id p writes (other ∷ actions) live once first h =
     written-behind devices before d id p writes actions (live_step devices live other) (once_later other actions once)
-    (none_later (existence_of before other) (existence before actions) exist) (h ∙ sym (step_kept devices other live d id p refl))
+    first (h ∙ sym (step_kept devices other live d id p refl))
+
+-- what a service held is what the store has of it
+held-start : (live : List Service) (d : ℕ) (store : Store) (own : List ℕ) (p : List PathStep) → IsStoreFor live d store
+    → put_at (held_by live d own) p ≡ written_by store own p
+held-start live d store own p for =
+    on (find (has_id own) live) ∙ sym (for.of.writers own p ∙ written-find live d own p)
+  where
+    on : (o : Option Service) → put_at (option_map_or (λ (s : Service). items_of (part s d)) o []) p
+        ≡ option_map_or (λ (s : Service). get (part s d) p) o None
+    on None = refl
+    on (Some s) = put_at-items (part s d) p
 
 -- each move starts at what its service writes
 pub moves-start : (devices : List (List ℕ)) (live : List Service) (d : ℕ) (store : Store) (actions : List Action) → IsStoreFor live d store
-    → existence live actions ≡ None → StartAt store (moves_in devices live d actions)
-moves-start devices live d store [] for exist = tt
-moves-start devices live d store (Literal own ws ∷ actions) for exist = (
-  λ p. sym (for.of.writers own p ∙ absent live d own p (created_is_new live own ws (none_first _ _ exist))),
-  moves-start devices live d store actions for (none_later _ _ exist),
-)
-moves-start devices live d store (Delete own ∷ actions) for exist =
-    on (find (has_id own) live) refl (moves-start devices live d store actions for (none_later _ _ exist))
+    → StartAt store (moves_in devices live d actions)
+moves-start devices live d store [] for = tt
+moves-start devices live d store (Literal own ws ∷ actions) for =
+    (λ p. held-start live d store own p for, moves-start devices live d store actions for)
+moves-start devices live d store (Delete own ∷ actions) for =
+    on (find (has_id own) live) refl (moves-start devices live d store actions for)
   where
     on : (o : Option Service) → find (has_id own) live ≡ o → StartAt store (moves_in devices live d actions)
         → StartAt store (option_map_or (λ (s : Service). record { service = own; old = items_of (part s d); new = [] } ∷ []) o []
@@ -271,27 +308,9 @@ moves-start devices live d store (Delete own ∷ actions) for exist =
           ∙ sym (for.of.writers own p ∙ written-find live d own p ∙ ap (λ o. option_map_or (λ (x : Service). get (part x d) p) o None) is),
       rest,
     )
-moves-start devices live d store (other ∷ actions) for exist =
-    moves-start devices live d store actions for (none_later (existence_of live other) (existence live actions) exist)
+moves-start devices live d store (other ∷ actions) for = moves-start devices live d store actions for
 
 -- no two moves name one service
-unmoved : (devices : List (List ℕ)) (live : List Service) (d : ℕ) (id : List ℕ) (actions : List Action) → is_named_by actions id ≡ false
-    → is_moved (moves_in devices live d actions) id ≡ false
-unmoved devices live d id [] h = refl
-unmoved devices live d id (Literal own ws ∷ actions) h =
-    ap (λ t. t || is_moved (moves_in devices live d actions) id) (other_way id own (or_first (is_same_text id own) (is_named_by actions id) h))
-    ∙ unmoved devices live d id actions (or_second (is_same_text id own) (is_named_by actions id) h)
-unmoved devices live d id (Delete own ∷ actions) h =
-    on (find (has_id own) live) (unmoved devices live d id actions (or_second (is_same_text id own) (is_named_by actions id) h))
-  where
-    on : (o : Option Service) → is_moved (moves_in devices live d actions) id ≡ false
-        → is_moved (option_map_or (λ (s : Service). record { service = own; old = items_of (part s d); new = [] } ∷ []) o []
-        ++ moves_in devices live d actions) id ≡ false
-    on None rest = rest
-    on (Some s) rest =
-        ap (λ t. t || is_moved (moves_in devices live d actions) id) (other_way id own (or_first (is_same_text id own) (is_named_by actions id) h)) ∙ rest
-unmoved devices live d id (other ∷ actions) h = unmoved devices live d id actions h
-
 pub moves-distinct : (devices : List (List ℕ)) (live : List Service) (d : ℕ) (actions : List Action) → name_each_once actions ≡ true
     → are_distinct (moves_in devices live d actions) ≡ true
 moves-distinct devices live d [] h = refl
@@ -374,13 +393,31 @@ idle store (m ∷ ms) id p start still = on (is_same_text m.service id) refl (id
         ∙ ap (λ i. written_by store i p) ((bytes_decides m.service id).0 is)
     on false is rest = rest
 
+-- what holds nothing there
+nothing_held : (devices : List (List ℕ)) (state : State) (d : ℕ) (own : List ℕ) → list_any (is_held_by own d) state.live ≡ false
+    → held_by state.live d own ≡ []
+nothing_held devices state d own h = on (find (has_id own) state.live) refl
+  where
+    on : (o : Option Service) → find (has_id own) state.live ≡ o → option_map_or (λ (s : Service). items_of (part s d)) o [] ≡ []
+    on None is = refl
+    on (Some s) is =
+        let found = found_in (has_id own) state.live s is in
+        let bare : is_held_by own d s ≡ false =
+        All-contains (λ (x : Service). is_held_by own d x ≡ false) state.live s (any_none (is_held_by own d) state.live h) found.0 in
+        items_empty _ (held (has_id own s) (part s d) found.1 bare)
+
 moves-idle : (devices : List (List ℕ)) (state : State) (d : ℕ) (actions : List Action) → list_any (is_touched_by devices state d) actions ≡ false
     → AreIdle (moves_in devices state.live d actions)
 moves-idle devices state d [] h = tt
-moves-idle devices state d (Literal own ws ∷ actions) h = (
-  (refl, items_empty _ (blank_part devices ws d (or_first _ (list_any (is_touched_by devices state d) actions) h))),
-  moves-idle devices state d actions (or_second _ (list_any (is_touched_by devices state d) actions) h),
-)
+moves-idle devices state d (Literal own ws ∷ actions) h =
+    let mine = is_written_by ws (name_of devices d) in
+    let both = or_first (mine || list_any (is_held_by own d) state.live) (list_any (is_touched_by devices state d) actions) h in (
+      (
+        nothing_held devices state d own (or_second mine (list_any (is_held_by own d) state.live) both),
+        items_empty _ (blank_part devices ws d (or_first mine (list_any (is_held_by own d) state.live) both)),
+      ),
+      moves-idle devices state d actions (or_second _ (list_any (is_touched_by devices state d) actions) h),
+    )
 moves-idle devices state d (Delete own ∷ actions) h =
     on (find (has_id own) state.live) refl (moves-idle devices state d actions (or_second (list_any (is_held_by own d) state.live) (list_any (is_touched_by devices state d) actions) h))
   where
@@ -410,28 +447,27 @@ base-stays devices state d (BaseRemove device path ∷ actions) base h =
 base-stays devices state d (other ∷ actions) base h =
     base-stays devices state d actions base (or_second (is_touched_by devices state d other) (list_any (is_touched_by devices state d) actions) h)
 
-pub device-stays : (devices : List (List ℕ)) (state : State) (d : ℕ) (actions : List Action) → existence state.live actions ≡ None
-    → name_each_once actions ≡ true → list_any (is_touched_by devices state d) actions ≡ false → StaysOn devices state.live actions d
-device-stays devices state d actions exist once off = λ store for. record {
+pub device-stays : (devices : List (List ℕ)) (state : State) (d : ℕ) (actions : List Action) → name_each_once actions ≡ true → list_any (is_touched_by devices state d) actions ≡ false → StaysOn devices state.live actions d
+device-stays devices state d actions once off = λ store for. record {
   edited = sym (base-stays devices state d actions store.base off);
   holds = record {
     sound = for.sound;
     of = record {
       over = refl;
       writers = λ id p.
-          sym (idle store (moves_in devices state.live d actions) id p (moves-start devices state.live d store actions for exist)
+          sym (idle store (moves_in devices state.live d actions) id p (moves-start devices state.live d store actions for)
           (moves-idle devices state d actions off))
-          ∙ sym (written-behind devices state.live d id p (written_by store) actions state.live once exist (for.of.writers id p));
+          ∙ sym (written-behind devices state.live d id p (written_by store) actions state.live once (for.of.writers id p) (for.of.writers id p));
     };
   };
 }
 
 -- a device whose store the moves lead on
 pub moved-behind : (devices : List (List ℕ)) (live : List Service) (d : ℕ) (actions : List Action) (store new : Store)
-    → existence live actions ≡ None → name_each_once actions ≡ true → IsStoreFor live d store
+    → name_each_once actions ≡ true → IsStoreFor live d store
     → IsMoved store (moves_in devices live d actions) (flat_map (edits_of (name_of devices d)) actions) new
     → IsBehind devices live actions d store.base new
-moved-behind devices live d actions store new exist once for moved = record {
+moved-behind devices live d actions store new once for moved = record {
   edited = moved.base ∙ edited-actions (name_of devices d) actions store.base;
   holds = record {
     sound = moved.store;
@@ -439,7 +475,7 @@ moved-behind devices live d actions store new exist once for moved = record {
       over = refl;
       writers = λ id p.
           moved.written id p
-          ∙ sym (written-behind devices live d id p (written_by store) actions live once exist (for.of.writers id p));
+          ∙ sym (written-behind devices live d id p (written_by store) actions live once (for.of.writers id p) (for.of.writers id p));
     };
   };
 }

@@ -1,11 +1,15 @@
 -- Services in slots: which one is found by a name, and what one that is added or taken away makes of them.
-use Rattle.std.proofs.Common.{◌≡◌, ℕ, zero, suc, ◌<◌, Bool, true, false, cond, not, ◌||◌, List, [], ◌∷◌, ◌++◌, ◌⊎◌, inl, inr, map, length, slice_index_or, slice_set, Bor, is_some, None, Some, refl, sym, ap, ◌∙◌, arith}
+use Rattle.std.proofs.Common.{◌≡◌, ℕ, zero, suc, ◌<◌, ◌==◌, Bool, true, false, cond, not, ◌||◌, List, [], ◌∷◌, ◌++◌, ◌⊎◌, inl, inr, map, length, remove, slice_index_or, slice_set, Bor, is_some, None, Some, refl, sym, ap, subst, ◌∙◌, arith, append-nil}
 use Rattle.std.specs.Prelude.{Option, slice_get, if◌then◌else◌}
 use Rattle.std.specs.Option.{option_copied, option_map_or}
+use Rattle.std.specs.Map.{lookup}
 use Rattle.std.specs.List.{find, list_any, AllByRecursion, IsDistinct}
 use Rattle.orc_state.specs.States.{has_id, is_same_text, lives, others}
 use Rattle.orc_state.specs.inside.Placed.{AreNamedOnce, IsPlaced, filled, is_at}
+use Rattle.orc_state.specs.inside.Turns.{AreFresh, left_by}
 use Rattle.orc_state.specs.declared.state.Service.{Service}
+use Rattle.std.proofs.lemmas.Bool.{eqb-true}
+use Rattle.std.proofs.lemmas.List.{nil_from_length}
 use Rattle.orc_state.proofs.Lists.{true_not_false}
 use Rattle.orc_state.proofs.Named.{is_text_itself, other_way}
 use Rattle.std.specs.Cmp.Lexicographic.{bytes_decides}
@@ -272,3 +276,46 @@ got (x ∷ slots) (suc place) slot within is = got slots place slot (omega (arit
 pub some_copied : (o : Option (Bor Service)) → is_some o ≡ is_some (option_copied o)
 some_copied None = refl
 some_copied (Some x) = refl
+
+-- what is unchanged is placed as before
+pub still_placed : (slots slots' : List (Option Service)) (rows rows' : List (List ℕ × ℕ)) → slots' ≡ slots → rows' ≡ rows
+    → IsPlaced slots (λ q. lookup (is_same_text q) rows) → IsPlaced slots' (λ q. lookup (is_same_text q) rows')
+still_placed slots slots' rows rows' same also is =
+    subst (λ (r : List (List ℕ × ℕ)). IsPlaced slots' (λ q. lookup (is_same_text q) r)) (sym also)
+    (subst (λ (l : List (Option Service)). IsPlaced l (λ q. lookup (is_same_text q) rows)) (sym same) is)
+
+-- of names that were taken away one more
+pub left_more : (live : List Service) (ids : List (List ℕ)) (id : List ℕ) → left_by live (ids ++ id ∷ []) ≡ others (left_by live ids) id
+left_more live [] id = refl
+left_more live (x ∷ ids) id = left_more (others live x) ids id
+
+pub not_zero : (n : ℕ) → (n == 0) ≡ false → 0 < n
+not_zero zero h = absurd (true_not_false h)
+not_zero (suc n) h = omega arith
+
+-- none comes
+pub none_come : (live services : List Service) → (length services == 0) ≡ true → live ≡ live ++ services
+none_come live services h = sym (ap (λ (l : List Service). live ++ l) (nil_from_length services (eqb-true _ _ h)) ∙ append-nil live)
+
+-- the first of services that come, with its name, and the others
+
+pub record IsCut (live : List Service) (names : List (List ℕ)) (services rest : List Service) (name : List ℕ) (s : Service) : Type 0 where
+  pub whole : services ≡ s ∷ rest
+  pub named : name ≡ s.id
+  pub others : names ≡ map (λ (x : Service). x.id) rest
+  pub fresh : lives live s.id ≡ false
+  pub later : AreFresh (live ++ s ∷ []) rest
+
+pub cut_first : (live : List Service) (names names' : List (List ℕ)) (services rest : List Service) (name : List ℕ) (s : Service)
+    → names ≡ map (λ (x : Service). x.id) services → AreFresh live services → 0 < length services
+    → name ≡ slice_index_or names 0 name → names' ≡ remove names 0 → s ≡ slice_index_or services 0 s → rest ≡ remove services 0
+    → IsCut live names' services rest name s
+cut_first live names names' [] rest name s is fresh some n ns v vs = absurd (omega (arith, some))
+cut_first live names names' (x ∷ xs) rest name s is fresh some n ns v vs = record {
+  whole = ap (λ (y : Service). y ∷ xs) (sym v) ∙ ap (λ (l : List Service). s ∷ l) (sym vs);
+  named = n ∙ ap (λ (l : List (List ℕ)). slice_index_or l 0 name) is ∙ ap (λ (y : Service). y.id) (sym v);
+  others = ns ∙ ap (λ (l : List (List ℕ)). remove l 0) is ∙ ap (map (λ (y : Service). y.id)) (sym vs);
+  fresh = ap (λ (y : Service). lives live y.id) v ∙ fresh.0;
+  later = subst (λ (l : List Service). AreFresh (live ++ s ∷ []) l) (sym vs)
+      (subst (λ (y : Service). AreFresh (live ++ y ∷ []) xs) (sym v) fresh.1);
+}

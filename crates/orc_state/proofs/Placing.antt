@@ -1,14 +1,15 @@
 -- The stores in their places, and the living services, behind a call.
-use Rattle.std.proofs.Common.{◌≡◌, ℕ, zero, suc, ◌+◌, ◌<◌, true, false, cond, not, ◌&&◌, ◌||◌, List, [], ◌∷◌, ◌++◌, ◌⊎◌, inl, inr, map, length, All, None, Some, get_or, slice_get, slice_set, refl, sym, ap, subst, ◌∙◌, arith, append-nil}
+use Rattle.std.proofs.Common.{◌≡◌, ℕ, zero, suc, ◌+◌, ◌<◌, Bool, true, false, cond, not, ◌&&◌, ◌||◌, List, [], ◌∷◌, ◌++◌, ◌⊎◌, inl, inr, map, length, All, None, Some, get_or, slice_get, slice_set, refl, sym, ap, subst, ◌∙◌, arith, append-nil}
 use Rattle.std.specs.declared.option.Option.{Option}
 use Rattle.std.specs.declared.result.Result.TheVariants.{Ok}
 use Rattle.std.specs.Option.{option_map_or, option_or}
+use Rattle.std.specs.Cmp.Lexicographic.{bytes_decides}
 use Rattle.std.specs.List.{filter, flat_map, fold, list_any, AllByRecursion, Contains}
 use Rattle.std.proofs.lemmas.Bool.{cases_lt}
 use Rattle.std.proofs.lemmas.List.{length-map}
 use Rattle.std.proofs.lemmas.Option.{slice_get_read}
 use Rattle.std.proofs.lemmas.Map.Keys.{IsDistinct-head, IsDistinct-tail}
-use Rattle.std.proofs.lemmas.List.Elements.{All-nil, All-cons, filter-append}
+use Rattle.std.proofs.lemmas.List.Elements.{All-nil, All-cons, filter-append, filter_agree}
 use Rattle.orc_path.specs.Configurations.{Config, overlay}
 use Rattle.orc_call.specs.declared.answer.Answer.{Answer}
 use Rattle.orc_call.specs.declared.call.Action.{Action}
@@ -17,21 +18,19 @@ use Rattle.orc_call.specs.declared.call.Call.{Call}
 use Rattle.orc_refs.specs.Live.{StoreIsOverlay, are_apart, overlaid}
 use Rattle.orc_refs.specs.Stores.{Store}
 use Rattle.orc_state.specs.States.{State, config_of, expansion, has_id, is_same_text, lives, name_of, others, part, tree_due}
-use Rattle.orc_state.specs.Actions.{base_step, bases_after, data_after, is_named_by, live_after, name_each_once, names, new_services, touched}
+use Rattle.orc_state.specs.Actions.{base_step, bases_after, is_named_by, live_after, name_each_once, names, new_services, touched}
 use Rattle.orc_state.specs.Clashes.{clash_at, clash_from}
-use Rattle.orc_state.specs.Next.{after, clash, existence, existence_of, invalid, refusal}
-use Rattle.orc_state.specs.inside.Behind.{IsDataBehind}
-use Rattle.orc_state.specs.inside.Deleted.{is_deleted_by}
+use Rattle.orc_state.specs.Next.{clash}
+use Rattle.orc_state.specs.inside.Behind.{changed_by}
 use Rattle.orc_state.specs.inside.Placed.{AreNamedOnce}
-use Rattle.orc_state.specs.inside.Turns.{AreNew, comers, left_by, turns_of}
+use Rattle.orc_state.specs.inside.Turns.{AreFresh, comers, left_by, turn_id, turns_of}
 use Rattle.orc_state.specs.inside.Keeping.{AreChanges, AreKept, IsBehind, IsStoreFor, clash_on, on_device, picked, placed}
 use Rattle.orc_state.specs.declared.declarations.Decls.{Decls}
 use Rattle.orc_state.specs.declared.state.Service.{Service}
 use Rattle.orc_state.proofs.Agreement.{AreUnique, in_cases, none_in_nil}
 use Rattle.orc_state.proofs.Kept.{behind-complete}
-use Rattle.orc_state.proofs.Lists.{filter_all, filter_neither, not_true, or_first, or_second, true_not_false}
-use Rattle.orc_state.proofs.Named.{all_not, behind-kept, created_is_new, is_text_itself, once_first, once_later, other_way}
-use Rattle.orc_state.proofs.Untouched.{none_first, none_later}
+use Rattle.orc_state.proofs.Lists.{filter_all, not_true, or_first, or_second, or_true, true_not_false}
+use Rattle.orc_state.proofs.Named.{behind-once, is_text_itself, once_first, once_later, other_way}
 
 some_same : {A : Type 0} {a b : A} → Some a ≡ Some b → a ≡ b
 some_same q = cc
@@ -218,59 +217,59 @@ placed-bases devices live actions stores changes count n new =
 
 -- living services
 
-pub taken-back : (live : List Service) (s : Service) → lives live s.id ≡ false → others (live ++ s ∷ []) s.id ≡ live
-taken-back live s new =
-    filter-append (λ (x : Service). not (has_id s.id x)) live (s ∷ [])
-    ∙ ap (λ l. l ++ filter (λ (x : Service). not (has_id s.id x)) (s ∷ [])) (filter_all (λ (x : Service). not (has_id s.id x)) live (all_not (has_id s.id) live (none live new)))
-    ∙ ap (λ t. live ++ cond (not t) (s ∷ []) []) (is_text_itself s.id)
-    ∙ append-nil live
+-- a name that one of the actions names is that of no living one that none of them names
+named_gone : (actions : List Action) (live : List Service) (id : List ℕ) → is_named_by actions id ≡ true
+    → lives (filter (λ (s : Service). not (is_named_by actions s.id)) live) id ≡ false
+named_gone actions [] id h = refl
+named_gone actions (s ∷ ss) id h = on (has_id id s) refl (is_named_by actions s.id) refl (named_gone actions ss id h)
   where
-    none : (xs : List Service) → lives xs s.id ≡ false → All (λ x. has_id s.id x ≡ false) xs
-    none [] h = All-nil (λ x. has_id s.id x ≡ false)
-    none (x ∷ xs) h = All-cons (λ y. has_id s.id y ≡ false) x xs (or_first (has_id s.id x) (lives xs s.id) h) (none xs (or_second (has_id s.id x) (lives xs s.id) h))
+    left : List Service
+    left = filter (λ (x : Service). not (is_named_by actions x.id)) ss
 
-pub one-removed : (live : List Service) (own : List ℕ) (actions : List Action)
-    → filter (λ s. not (is_deleted_by actions s.id)) (others live own) ≡ filter (λ s. not (is_deleted_by (Delete own ∷ actions) s.id)) live
-one-removed live own actions = filter_neither (has_id own) (λ (s : Service). is_deleted_by actions s.id) live
+    on : (t : Bool) → has_id id s ≡ t → (b : Bool) → is_named_by actions s.id ≡ b → lives left id ≡ false
+        → lives (cond (not b) (s ∷ left) left) id ≡ false
+    on t has true is rest = rest
+    on false has false is rest = ap (λ x. x || lives left id) has ∙ rest
+    on true has false is rest =
+        absurd (true_not_false (sym h ∙ sym (ap (is_named_by actions) ((bytes_decides s.id id).0 has)) ∙ is))
 
--- no service lives that one of the actions creates
-abbrev AreFresh : List Service → List Action → Type 0
-AreFresh live [] = Unit {0}
-AreFresh live (Literal id ws ∷ actions) = (lives live id ≡ false) × AreFresh live actions
-AreFresh live (other ∷ actions) = AreFresh live actions
+-- no service lives that one of the actions makes
+abbrev AreAway : List Service → List Action → Type 0
+AreAway live [] = Unit {0}
+AreAway live (Literal id ws ∷ actions) = (lives live id ≡ false) × AreAway live actions
+AreAway live (other ∷ actions) = AreAway live actions
 
-fresh : (live : List Service) (actions : List Action) → existence live actions ≡ None → AreFresh live actions
-fresh live [] h = tt
-fresh live (Literal id ws ∷ actions) h = (created_is_new live id ws (none_first _ _ h), fresh live actions (none_later _ _ h))
-fresh live (other ∷ actions) h = fresh live actions (none_later (existence_of live other) (existence live actions) h)
+away : (all : List Action) (live : List Service) (actions : List Action) → ((id : List ℕ) → is_named_by actions id ≡ true → lives live id ≡ false)
+    → AreAway live actions
+away all live [] h = tt
+away all live (Literal id ws ∷ actions) h = (
+  h id (ap (λ t. t || is_named_by actions id) (is_text_itself id)),
+  away all live actions (λ i is. h i (or_true (is_same_text i id) (is_named_by actions i) is)),
+)
+away all live (other ∷ actions) h = away all live actions (λ i is. h i (or_true (names other i) (is_named_by actions i) is))
 
 lives_more : (live : List Service) (s : Service) (id : List ℕ) → lives live id ≡ false → is_same_text s.id id ≡ false → lives (live ++ s ∷ []) id ≡ false
 lives_more [] s id h o = ap (λ t. t || false) o
 lives_more (x ∷ xs) s id h o =
     ap (λ t. t || lives (xs ++ s ∷ []) id) (or_first (has_id id x) (lives xs id) h) ∙ lives_more xs s id (or_second (has_id id x) (lives xs id) h) o
 
-fresh_more : (live : List Service) (s : Service) (actions : List Action) → is_named_by actions s.id ≡ false → AreFresh live actions → AreFresh (live ++ s ∷ []) actions
-fresh_more live s [] h f = tt
-fresh_more live s (Literal id ws ∷ actions) h f = (
+away_more : (live : List Service) (s : Service) (actions : List Action) → is_named_by actions s.id ≡ false → AreAway live actions → AreAway (live ++ s ∷ []) actions
+away_more live s [] h f = tt
+away_more live s (Literal id ws ∷ actions) h f = (
   lives_more live s id f.0 (or_first (is_same_text s.id id) (is_named_by actions s.id) h),
-  fresh_more live s actions (or_second (is_same_text s.id id) (is_named_by actions s.id) h) f.1,
+  away_more live s actions (or_second (is_same_text s.id id) (is_named_by actions s.id) h) f.1,
 )
-fresh_more live s (other ∷ actions) h f = fresh_more live s actions (or_second (names other s.id) (is_named_by actions s.id) h) f
+away_more live s (other ∷ actions) h f = away_more live s actions (or_second (names other s.id) (is_named_by actions s.id) h) f
 
-fresh_new : (devices : List (List ℕ)) (live : List Service) (actions : List Action) → name_each_once actions ≡ true → AreFresh live actions
-    → AreNew live (flat_map (turns_of devices) actions)
-fresh_new devices live [] once f = tt
-fresh_new devices live (Literal id ws ∷ actions) once f = (
+away_fresh : (devices : List (List ℕ)) (live : List Service) (actions : List Action) → name_each_once actions ≡ true → AreAway live actions
+    → AreFresh live (flat_map (new_services devices) actions)
+away_fresh devices live [] once f = tt
+away_fresh devices live (Literal id ws ∷ actions) once f = (
   f.0,
-  fresh_new devices (live ++ record { id = id; parts = expansion devices ws } ∷ []) actions (once_later (Literal id ws) actions once)
-      (fresh_more live (record { id = id; parts = expansion devices ws }) actions (not_true (is_named_by actions id) (once_first (Literal id ws) actions once)) f.1),
+  away_fresh devices (live ++ record { id = id; parts = expansion devices ws } ∷ []) actions (once_later (Literal id ws) actions once)
+      (away_more live (record { id = id; parts = expansion devices ws }) actions (not_true (is_named_by actions id) (once_first (Literal id ws) actions once)) f.1),
 )
-fresh_new devices live (Delete id ∷ actions) once f = fresh_new devices live actions (once_later (Delete id) actions once) f
-fresh_new devices live (other ∷ actions) once f = fresh_new devices live actions (once_later other actions once) f
-
-pub comers-new : (devices : List (List ℕ)) (live : List Service) (actions : List Action) → name_each_once actions ≡ true → existence live actions ≡ None
-    → AreNew live (flat_map (turns_of devices) actions)
-comers-new devices live actions once exist = fresh_new devices live actions once (fresh live actions exist)
+away_fresh devices live (other ∷ actions) once f = away_fresh devices live actions (once_later other actions once) f
 
 pub comers-made : (devices : List (List ℕ)) (actions : List Action)
     → flat_map comers (flat_map (turns_of devices) actions) ≡ flat_map (new_services devices) actions
@@ -279,40 +278,83 @@ comers-made devices (Literal id ws ∷ actions) = ap (λ l. record { id = id; pa
 comers-made devices (Delete id ∷ actions) = comers-made devices actions
 comers-made devices (other ∷ actions) = comers-made devices actions
 
-pub left-all : (live : List Service) (actions : List Action) → fold left_by live actions ≡ filter (λ s. not (is_deleted_by actions s.id)) live
-left-all live [] = sym (filter_all (λ (s : Service). true) live (every live))
+-- the names of the services that come or go are those that the actions name
+others_unnamed : (live : List Service) (own : List ℕ) (q : Service → Bool)
+    → filter q (others live own) ≡ filter (λ s. not (has_id own s || not (q s))) live
+others_unnamed [] own q = refl
+others_unnamed (s ∷ ss) own q = on (has_id own s) (q s) refl (others_unnamed ss own q)
+  where
+    left : List Service
+    left = filter (λ x. not (has_id own x || not (q x))) ss
+
+    on : (t b : Bool) → q s ≡ b → filter q (others ss own) ≡ left
+        → filter q (cond (not t) (s ∷ others ss own) (others ss own)) ≡ cond (not (t || not b)) (s ∷ left) left
+    on true b is rest = rest
+    on false true is rest = ap (λ t. cond t (s ∷ filter q (others ss own)) (filter q (others ss own))) is ∙ ap (λ l. s ∷ l) rest
+    on false false is rest = ap (λ t. cond t (s ∷ filter q (others ss own)) (filter q (others ss own))) is ∙ rest
+
+same_way : (a b : List ℕ) → is_same_text a b ≡ is_same_text b a
+same_way a b = on (is_same_text a b) refl (is_same_text b a) refl
+  where
+    on : (t : Bool) → is_same_text a b ≡ t → (u : Bool) → is_same_text b a ≡ u → t ≡ u
+    on true h true k = refl
+    on false h false k = refl
+    on true h false k = absurd (true_not_false (sym ((bytes_decides b a).1 (sym ((bytes_decides a b).0 h))) ∙ k))
+    on false h true k = absurd (true_not_false (sym ((bytes_decides a b).1 (sym ((bytes_decides b a).0 k))) ∙ h))
+
+not_twice : (b : Bool) → not (not b) ≡ b
+not_twice true = refl
+not_twice false = refl
+
+left_first : (devices : List (List ℕ)) (live : List Service) (own : List ℕ) (action : Action) (actions : List Action)
+    → ((id : List ℕ) → names action id ≡ is_same_text id own)
+    → left_by (others live own) (map turn_id (flat_map (turns_of devices) actions)) ≡ filter (λ s. not (is_named_by actions s.id)) (others live own)
+    → left_by (others live own) (map turn_id (flat_map (turns_of devices) actions)) ≡ filter (λ s. not (is_named_by (action ∷ actions) s.id)) live
+left_first devices live own action actions named_so rest =
+    rest ∙ others_unnamed live own (λ s. not (is_named_by actions s.id))
+    ∙ filter_agree (λ (s : Service). not (has_id own s || not (not (is_named_by actions s.id)))) (λ (s : Service). not (is_named_by (action ∷ actions) s.id))
+    (λ s. ap not (ap (λ t. has_id own s || t) (not_twice (is_named_by actions s.id))
+    ∙ ap (λ t. t || is_named_by actions s.id) (sym (named_so s.id)))) live
+
+pub left-unnamed : (devices : List (List ℕ)) (live : List Service) (actions : List Action)
+    → left_by live (map turn_id (flat_map (turns_of devices) actions)) ≡ filter (λ s. not (is_named_by actions s.id)) live
+left-unnamed devices live [] = sym (filter_all (λ (s : Service). true) live (every live))
   where
     every : (xs : List Service) → All (λ (s : Service). true ≡ true) xs
     every [] = All-nil (λ (s : Service). true ≡ true)
     every (x ∷ xs) = All-cons (λ (s : Service). true ≡ true) x xs refl (every xs)
-left-all live (Delete own ∷ actions) = left-all (others live own) actions ∙ one-removed live own actions
-left-all live (other ∷ actions) = left-all live actions
+left-unnamed devices live (Literal own ws ∷ actions) = left_first devices live own (Literal own ws) actions (λ id. refl) (left-unnamed devices (others live own) actions)
+left-unnamed devices live (Delete own ∷ actions) = left_first devices live own (Delete own) actions (λ id. refl) (left-unnamed devices (others live own) actions)
+left-unnamed devices live (other ∷ actions) = left-unnamed devices live actions
 
-pub live-behind : (devices : List (List ℕ)) (live more less : List Service) (actions : List Action) → name_each_once actions ≡ true
-    → existence live actions ≡ None → more ≡ live ++ flat_map comers (flat_map (turns_of devices) actions)
-    → less ≡ fold left_by more actions → less ≡ live_after devices actions live
-live-behind devices live more less actions once exist added removed =
-    removed ∙ left-all more actions
-    ∙ ap (filter (λ (s : Service). not (is_deleted_by actions s.id))) (added ∙ ap (λ l. live ++ l) (comers-made devices actions))
-    ∙ sym (behind-kept devices actions live exist once)
+-- the living services behind expanded actions are those that none of them names, and those that are made
+pub live-behind : (devices : List (List ℕ)) (live new : List Service) (actions : List Action) (ids : List (List ℕ)) (services : List Service)
+    → name_each_once actions ≡ true → ids ≡ map turn_id (flat_map (turns_of devices) actions)
+    → services ≡ flat_map comers (flat_map (turns_of devices) actions) → new ≡ left_by live ids ++ services → new ≡ live_after devices actions live
+live-behind devices live new actions ids services once is made whole =
+    whole
+    ∙ ap (λ (l : List (List ℕ)). left_by live l ++ services) is
+    ∙ ap (λ (l : List Service). l ++ services) (left-unnamed devices live actions)
+    ∙ ap (λ (l : List Service). filter (λ (s : Service). not (is_named_by actions s.id)) live ++ l) (made ∙ comers-made devices actions)
+    ∙ sym (behind-once devices actions live once)
 
--- the answer
+pub comers-fresh : (devices : List (List ℕ)) (live : List Service) (actions : List Action) (ids : List (List ℕ)) (services : List Service)
+    → name_each_once actions ≡ true → ids ≡ map turn_id (flat_map (turns_of devices) actions)
+    → services ≡ flat_map comers (flat_map (turns_of devices) actions) → AreFresh (left_by live ids) services
+comers-fresh devices live actions ids services once is made =
+    let rest = filter (λ (s : Service). not (is_named_by actions s.id)) live in
+    subst (λ (l : List Service). AreFresh (left_by live ids) l) (sym (made ∙ comers-made devices actions))
+    (subst (λ (l : List Service). AreFresh l (flat_map (new_services devices) actions))
+    (sym (ap (left_by live) is ∙ left-unnamed devices live actions))
+    (away_fresh devices rest actions once (away actions rest actions (λ id h. named_gone actions live id h))))
 
-pub refusal-is : (decls : Decls) (s : State) (call : Call) (config : Config) (found : Option Answer) → IsDataBehind decls s call (Ok config)
-    → clash decls.names s.live call.actions ≡ found → found ≡ refusal decls s call
-refusal-is decls s call config found behind is =
-    sym is
-    ∙ sym (ap (λ o. option_or o (option_or (invalid decls.data_schema (data_after call.actions s.data)) (clash decls.names s.live call.actions))) behind.1
-    ∙ ap (λ o. option_or o (clash decls.names s.live call.actions)) behind.2)
-
-pub after-is : (decls : Decls) (s : State) (call : Call) (config : Config) (bases : List Config) (live : List Service)
-    → IsDataBehind decls s call (Ok config) → bases ≡ bases_after decls.names call.actions s.bases
-    → live ≡ live_after decls.names call.actions s.live
-    → record { «data» = config; bases = bases; live = live } ≡ after decls s call
-after-is decls s call config bases live behind bs ls =
-    ap (λ (c : Config). record s { «data» = c; bases = bases; live = live }) behind.0
-    ∙ ap (λ (b : List Config). record s { «data» = data_after call.actions s.data; bases = b; live = live }) bs
-    ∙ ap (λ (l : List Service). record s { «data» = data_after call.actions s.data; bases = bases_after decls.names call.actions s.bases; live = l }) ls
+-- the state behind expanded actions
+pub after-is : (names : List (List ℕ)) (acts : List Action) (s : State) (config : Config) (bases : List Config) (live : List Service)
+    → bases ≡ bases_after names acts s.bases → live ≡ live_after names acts s.live
+    → record { «data» = config; bases = bases; live = live } ≡ changed_by names acts config s
+after-is names acts s config bases live bs ls =
+    ap (λ (b : List Config). record s { «data» = config; bases = b; live = live }) bs
+    ∙ ap (λ (l : List Service). record s { «data» = config; bases = bases_after names acts s.bases; live = l }) ls
 
 -- what is looked up in a state
 

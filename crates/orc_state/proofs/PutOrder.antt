@@ -24,7 +24,8 @@ use Rattle.orc_path.specs.declared.item.Item.TheVariants.{Entry, Leaf}
 use Rattle.orc_path.proofs.PathOrder.{path_cmp_total}
 use Rattle.orc_path.proofs.ConfigurationLaws.{same_config, same_path, path_ties, ways_are, get-enter_all}
 use Rattle.orc_call.specs.declared.call.Put.{Put}
-use Rattle.orc_state.specs.States.{put_all, fits_puts}
+use Rattle.orc_state.specs.States.{fits_puts}
+use Rattle.orc_state.specs.States.{put_all}
 use Rattle.orc_state.specs.inside.Orders.{is_at, KeepsOrder}
 
 -- what stands at a path behind the putting of an item there or below it

@@ -3,9 +3,10 @@ use Rattle.std.proofs.Common.{◌≡◌, ℕ, suc, Bool, true, false, cond, not,
 use Rattle.std.specs.declared.option.Option.{Option}
 use Rattle.std.specs.Prelude.{option_map}
 use Rattle.std.specs.Option.{option_map_or, option_or}
-use Rattle.std.specs.List.{filter, list_any}
+use Rattle.std.specs.List.{filter, list_all, list_any, Contains}
+use Rattle.std.specs.Cmp.{first_so}
 use Rattle.std.specs.FinMap.{get, entries}
-use Rattle.std.proofs.lemmas.List.Elements.{All-append, All-head, All-tail, All-drop, All-weaker}
+use Rattle.std.proofs.lemmas.List.Elements.{All-append, All-contains, All-head, All-tail, All-drop, All-weaker, Contains-append_left, Contains-push}
 use Rattle.std.proofs.Math.Seq.{drop-append_seam}
 use Rattle.std.specs.Cmp.Lexicographic.{bytes_decides}
 use Rattle.orc_path.specs.Steps.{PathStep}
@@ -13,20 +14,24 @@ use Rattle.orc_path.specs.declared.item.Item.{Item}
 use Rattle.orc_call.specs.declared.answer.Answer.TheVariants.{Clash, Exists, Missing}
 use Rattle.orc_call.specs.declared.call.Call.{Call}
 use Rattle.orc_call.specs.declared.call.Action.{Action}
-use Rattle.orc_call.specs.declared.call.Action.TheVariants.{Literal, Delete}
+use Rattle.orc_call.specs.declared.call.Action.TheVariants.{Create, Modify, Redeploy, Literal, Delete}
+use Rattle.orc_path.specs.Reading.{path_of}
 use Rattle.orc_call.specs.declared.call.DevicePut.{DevicePut}
 use Rattle.orc_state.specs.States.{has_id, is_same_text, lives, opening, others, part}
-use Rattle.orc_state.specs.Actions.{data_after, is_named_by, live_after, named, names, touched}
+use Rattle.orc_state.specs.Actions.{data_after, is_named_by, is_service_among, live_after, named, names, service_of, touched}
 use Rattle.orc_state.specs.Clashes.{clash_at, clash_from, differs, least, rivals, unequal_among, unequal_of, unequal_on}
-use Rattle.orc_state.specs.Next.{after, clash, existence, existence_of, invalid, refusal}
+use Rattle.orc_state.specs.Next.{after, clash, existence, existence_of, invalid, refusal, serving_on, expanded_call, expanded_to, unexpanded}
 use Rattle.orc_state.specs.Histories.{fold_from, IsUnrefused}
-use Rattle.orc_state.specs.Calls.{is_call}
+use Rattle.orc_state.specs.Calls.{is_action, is_call, is_lawful_name, is_write}
 use Rattle.orc_state.specs.Legal.{IsSame, AreDistinct}
 use Rattle.orc_state.specs.Laws.{Creates, Deletes, NamesOther, UnrefusedWithoutTrace, LegalWithoutTrace}
 use Rattle.orc_state.specs.declared.declarations.Decls.{Decls}
 use Rattle.orc_state.specs.declared.state.Service.{Service}
 use Rattle.orc_state.specs.States.{State}
 use Rattle.orc_state.proofs.Lists.{filter-filter, or_first, or_second}
+use Rattle.orc_state.proofs.DataLaws.{name_no_path}
+use Rattle.orc_state.proofs.Expanded.{other_unnamed}
+use Rattle.orc_state.proofs.Fits.{call-actions}
 use Rattle.orc_state.proofs.Named.{created_is_new, other_way}
 use Rattle.orc_state.proofs.Agreement.{least_none, map_nil, map_none, or_none, none_on, on_none, unrefused_parts}
 use Rattle.orc_state.proofs.Traces.{without, behind-without, gone_again, fold_from-append, after-without, deleted_leaves_no_trace}
@@ -110,18 +115,24 @@ touched_without (action ∷ actions) live id h =
 
 -- a call that isn't refused isn't refused without a service that it doesn't name
 
-existence_one : (live : List Service) (action : Action) (id : List ℕ) → names action id ≡ false
+abbrev names_too : Action → List ℕ → Bool
+names_too action id = option_map_or (λ own. is_same_text id own) (service_of action) false
+
+existence_one : (live : List Service) (action : Action) (id : List ℕ) → names_too action id ≡ false
     → existence_of (others live id) action ≡ existence_of live action
+existence_one live (Create own body) id h = ap (λ t. cond t (Some (Exists own)) None) (living_without live own id (other_way id own h))
+existence_one live (Modify own body) id h = ap (λ t. cond t None (Some (Missing own))) (living_without live own id (other_way id own h))
+existence_one live (Redeploy own) id h = ap (λ t. cond t None (Some (Missing own))) (living_without live own id (other_way id own h))
 existence_one live (Literal own writes) id h = ap (λ t. cond t (Some (Exists own)) None) (living_without live own id (other_way id own h))
 existence_one live (Delete own) id h = ap (λ t. cond t None (Some (Missing own))) (living_without live own id (other_way id own h))
 existence_one live other id h = refl
 
-existence_without : (live : List Service) (actions : List Action) (id : List ℕ) → is_named_by actions id ≡ false
+existence_without : (live : List Service) (actions : List Action) (id : List ℕ) → is_service_among actions id ≡ false
     → existence (others live id) actions ≡ existence live actions
 existence_without live [] id h = refl
 existence_without live (action ∷ actions) id h =
-    ap (λ o. option_or o (existence (others live id) actions)) (existence_one live action id (or_first (names action id) (is_named_by actions id) h))
-    ∙ ap (option_or (existence_of live action)) (existence_without live actions id (or_second (names action id) (is_named_by actions id) h))
+    ap (λ o. option_or o (existence (others live id) actions)) (existence_one live action id (or_first (names_too action id) (is_service_among actions id) h))
+    ∙ ap (option_or (existence_of live action)) (existence_without live actions id (or_second (names_too action id) (is_service_among actions id) h))
 
 clash_without : (devices : List (List ℕ)) (live : List Service) (actions : List Action) (id : List ℕ) → is_named_by actions id ≡ false
     → clash devices live actions ≡ None → clash devices (others live id) actions ≡ None
@@ -136,12 +147,18 @@ refusal_without : (decls : Decls) (s : State) (call : Call) (id : List ℕ) → 
 refusal_without decls s call id other h =
     let exist = existence s.live call.actions in
     let broken = invalid decls.data_schema (data_after call.actions s.data) in
-    let clashes = clash decls.names s.live call.actions in
-    let first = or_none exist (option_or broken clashes) h in
-    let second = or_none broken clashes first.1 in
-    ap (λ o. option_or o (option_or broken (clash decls.names (others s.live id) call.actions))) (existence_without s.live call.actions id other ∙ first.0)
-    ∙ ap (λ o. option_or o (clash decls.names (others s.live id) call.actions)) second.0
-    ∙ clash_without decls.names s.live call.actions id other second.1
+    let found = expanded_call decls s call in
+    let acts = expanded_to found in
+    let clashes = clash decls.names s.live acts in
+    let less = clash decls.names (others s.live id) acts in
+    let first = or_none exist (option_or broken (option_or (unexpanded found) clashes)) h in
+    let second = or_none broken (option_or (unexpanded found) clashes) first.1 in
+    let third = or_none (unexpanded found) clashes second.1 in
+    ap (λ o. option_or o (option_or broken (option_or (unexpanded found) less))) (existence_without s.live call.actions id other ∙ first.0)
+    ∙ ap (λ o. option_or o (option_or (unexpanded found) less)) second.0
+    ∙ ap (λ o. option_or o less) third.0
+    ∙ clash_without decls.names s.live acts id
+    (other_unnamed (serving_on decls (data_after call.actions s.data)) call.actions id other) third.1
 
 calls_without : (decls : Decls) (s : State) (calls : List Call) (id : List ℕ) → All (NamesOther id) calls
     → IsUnrefused decls s calls → IsUnrefused decls (without id s) calls
@@ -165,11 +182,11 @@ unrefused_joined decls s (call ∷ a) b h k = (h.0, unrefused_joined decls (afte
 
 -- the state behind the two calls, and what comes later
 same_behind : (decls : Decls) (s : State) (before between later : List Call) (create delete : Call) (id : List ℕ) (writes : List DevicePut)
-    → Creates create id writes → Deletes delete id → lives (fold_from decls s before).live id ≡ false → All (NamesOther id) between
+    → Creates create id writes → Deletes delete id → path_of id ≡ None → lives (fold_from decls s before).live id ≡ false → All (NamesOther id) between
     → fold_from decls s (before ++ create ∷ [] ++ between ++ delete ∷ [] ++ later) ≡ fold_from decls s (before ++ between ++ later)
-same_behind decls s before between later create delete id writes makes goes absent other =
+same_behind decls s before between later create delete id writes makes goes none absent other =
     fold_from-append decls s (before ++ create ∷ [] ++ between ++ delete ∷ []) later
-    ∙ ap (λ (z : State). fold_from decls z later) (deleted_leaves_no_trace decls s before between create delete id writes makes goes absent other)
+    ∙ ap (λ (z : State). fold_from decls z later) (deleted_leaves_no_trace decls s before between create delete id writes makes goes none absent other)
     ∙ sym (fold_from-append decls s (before ++ between) later)
 
 -- the service didn't live before
@@ -183,7 +200,7 @@ absent_before decls s before rest create id writes makes h =
     (or_none (existence_of at.live (Literal id writes)) None (sym (ap (existence at.live) makes) ∙ exist)).0
 
 pub unrefused_without : UnrefusedWithoutTrace
-unrefused_without decls s before between later create delete id writes makes goes other h =
+unrefused_without decls s before between later create delete id writes makes goes none other h =
     let at = fold_from decls s before in
     let upto = unrefused_front decls s (before ++ create ∷ [] ++ between ++ delete ∷ []) later h in
     let made = unrefused_front decls s (before ++ create ∷ [] ++ between) (delete ∷ []) upto in
@@ -196,7 +213,7 @@ unrefused_without decls s before between later create delete id writes makes goe
     let second : IsUnrefused decls at between =
     subst (λ (z : State). IsUnrefused decls z between) (gone_again decls at create id writes makes absent) (calls_without decls (after decls at create) between id other middle) in
     let third : IsUnrefused decls (fold_from decls s (before ++ between)) later =
-    subst (λ (z : State). IsUnrefused decls z later) (deleted_leaves_no_trace decls s before between create delete id writes makes goes absent other)
+    subst (λ (z : State). IsUnrefused decls z later) (deleted_leaves_no_trace decls s before between create delete id writes makes goes none absent other)
     (unrefused_back decls s (before ++ create ∷ [] ++ between ++ delete ∷ []) later h) in
     unrefused_joined decls s (before ++ between) later (unrefused_joined decls s before between first second) third
 
@@ -220,17 +237,34 @@ two_less P less before between later create delete h =
     (less before (between ++ later) create
     (subst P (append_assoc (before ++ create ∷ []) between later) (less (before ++ create ∷ [] ++ between) later delete h)))
 
+-- a lawful literal service has a name that is no path's text
+literal_no_path : (decls : Decls) (create : Call) (id : List ℕ) (writes : List DevicePut) → Creates create id writes → is_call decls create ≡ true
+    → path_of id ≡ None
+literal_no_path decls create id writes makes h =
+    let all : list_all (is_action decls) (Literal id writes ∷ []) ≡ true = ap (list_all (is_action decls)) (sym makes) ∙ call-actions decls create h in
+    let one = first_so (is_action decls (Literal id writes)) true all in
+    name_no_path id (first_so (is_lawful_name id) _ (first_so _ (list_all (is_write decls) writes) one))
+
+created_there : (before between later : List Call) (create delete : Call)
+    → Contains (before ++ create ∷ [] ++ between ++ delete ∷ [] ++ later) create
+created_there before between later create delete =
+    Contains-append_left (before ++ create ∷ [] ++ between ++ delete ∷ []) later create
+    (Contains-append_left (before ++ create ∷ [] ++ between) (delete ∷ []) create
+    (Contains-append_left (before ++ create ∷ []) between create (Contains-push before create)))
+
 pub legal_without : LegalWithoutTrace
 legal_without decls before between later create delete id writes makes goes other legal =
     let s = opening decls in
     let made = unrefused_front decls s (before ++ create ∷ [] ++ between) (delete ∷ [])
     (unrefused_front decls s (before ++ create ∷ [] ++ between ++ delete ∷ []) later legal.unrefused) in
-    let absent = absent_before decls s before between create id writes makes made in (
+    let absent = absent_before decls s before between create id writes makes made in
+    let none = literal_no_path decls create id writes makes
+    (All-contains (λ call. IsTrue (is_call decls call)) _ create legal.lawful (created_there before between later create delete)) in (
       record {
         lawful = two_less (All (λ call. IsTrue (is_call decls call))) (All-less (λ call. IsTrue (is_call decls call)))
             before between later create delete legal.lawful;
-        unrefused = unrefused_without decls s before between later create delete id writes makes goes other legal.unrefused;
+        unrefused = unrefused_without decls s before between later create delete id writes makes goes none other legal.unrefused;
         distinct = two_less AreDistinct distinct_less before between later create delete legal.distinct;
       },
-      same_behind decls s before between later create delete id writes makes goes absent other,
+      same_behind decls s before between later create delete id writes makes goes none absent other,
     )

@@ -1,4 +1,4 @@
--- The devices that a call touches, by look-ups of the services that it deletes.
+-- The devices that a call touches, by look-ups of the services that it takes away.
 use Rattle.std.proofs.Common.{◌≡◌, ℕ, ◌<◌, Bool, true, false, ◌&&◌, ◌||◌, List, [], ◌∷◌, ◌++◌, map, length, All, Bor, Some, refl, sym, ap, subst, ◌∙◌, arith}
 use Rattle.std.specs.Prelude.{if◌then◌else◌}
 use Rattle.std.specs.Option.{option_to_list}
@@ -10,7 +10,7 @@ use Rattle.orc_call.specs.declared.call.Action.TheVariants.{Literal, Delete, Bas
 use Rattle.orc_state.specs.States.{State, IsComplete, has_id, is_same_text, name_of}
 use Rattle.orc_state.specs.Touched.{is_held_by, is_touched_by, is_written_by}
 use Rattle.orc_state.specs.inside.Placed.{AreNamedOnce}
-use Rattle.orc_state.specs.inside.Touching.{deleted_by, deleted_of, is_edited, is_edited_by, is_on}
+use Rattle.orc_state.specs.inside.Touching.{taken_by, taken_of, is_edited, is_edited_by, is_on}
 use Rattle.orc_state.specs.declared.state.Service.{Service}
 use Rattle.orc_state.proofs.Named.{other_way}
 
@@ -63,29 +63,29 @@ held_found d id (x ∷ xs) once = on (has_id id x) refl (held_found d id xs once
 
 module _ (names : List (List ℕ)) (state : State) (d : ℕ) (once : AreNamedOnce state.live) where
   one : (action : Action)
-      → (is_edited_by (name_of names d) action || list_any (is_on d) (option_to_list (deleted_by state.live action))) ≡ is_touched_by names state d action
-  one (Literal id writes) = sym (or_false (is_written_by writes (name_of names d)))
+      → (is_edited_by (name_of names d) action || list_any (is_on d) (option_to_list (taken_by state.live action))) ≡ is_touched_by names state d action
+  one (Literal id writes) = ap (λ t. is_written_by writes (name_of names d) || t) (sym (held_found d id state.live once))
   one (Delete id) = sym (held_found d id state.live once)
   one (BasePut put) = sym (or_false (is_same_text put.device (name_of names d)))
   one (BaseRemove device path) = sym (or_false (is_same_text device (name_of names d)))
   one other = refl
 
   all : (actions : List Action)
-      → (is_edited (name_of names d) actions || list_any (is_on d) (deleted_of state.live actions)) ≡ list_any (is_touched_by names state d) actions
+      → (is_edited (name_of names d) actions || list_any (is_on d) (taken_of state.live actions)) ≡ list_any (is_touched_by names state d) actions
   all [] = refl
   all (action ∷ actions) =
       let edits = is_edited_by (name_of names d) action in
       let later = is_edited (name_of names d) actions in
-      let own = list_any (is_on d) (option_to_list (deleted_by state.live action)) in
-      let rest = list_any (is_on d) (deleted_of state.live actions) in
-      ap (λ t. (edits || later) || t) (any-append (is_on d) (option_to_list (deleted_by state.live action)) (deleted_of state.live actions))
+      let own = list_any (is_on d) (option_to_list (taken_by state.live action)) in
+      let rest = list_any (is_on d) (taken_of state.live actions) in
+      ap (λ t. (edits || later) || t) (any-append (is_on d) (option_to_list (taken_by state.live action)) (taken_of state.live actions))
       ∙ crossed edits later own rest
       ∙ ap (λ t. t || (later || rest)) (one action)
       ∙ ap (λ t. is_touched_by names state d action || t) (all actions)
 
   -- what the code looks at
   pub touched_so : (acts actions : List Action) (refs items : List (Bor Service)) → acts ≡ actions → refs ≡ items
-      → map (λ (x : Bor Service). x.now) items ≡ deleted_of state.live acts
+      → map (λ (x : Bor Service). x.now) items ≡ taken_of state.live acts
       → (is_edited (name_of names d) acts || list_any (λ (x : Bor Service). is_on d x.now) refs) ≡ list_any (is_touched_by names state d) actions
   touched_so acts actions refs items same are these =
       ap (λ (l : List (Bor Service)). is_edited (name_of names d) acts || list_any (λ (x : Bor Service). is_on d x.now) l) are
@@ -106,13 +106,14 @@ module _ (P : Service → Type 0) (live : List Service) (h : All P live) where
           on true rest = All-cons P x [] (All-head P x xs g) (All-nil P)
           on false rest = rest
 
-  one_deleted : (action : Action) → All P (option_to_list (deleted_by live action))
-  one_deleted (Delete id) = found (has_id id)
-  one_deleted other = All-nil P
+  one_taken : (action : Action) → All P (option_to_list (taken_by live action))
+  one_taken (Literal id writes) = found (has_id id)
+  one_taken (Delete id) = found (has_id id)
+  one_taken other = All-nil P
 
-  all_deleted : (actions : List Action) → All P (deleted_of live actions)
-  all_deleted [] = All-nil P
-  all_deleted (action ∷ actions) = All-append P (option_to_list (deleted_by live action)) (deleted_of live actions) (one_deleted action) (all_deleted actions)
+  all_taken : (actions : List Action) → All P (taken_of live actions)
+  all_taken [] = All-nil P
+  all_taken (action ∷ actions) = All-append P (option_to_list (taken_by live action)) (taken_of live actions) (one_taken action) (all_taken actions)
 
 behind_refs : (P : Service → Type 0) (refs : List (Bor Service)) → All P (map (λ (x : Bor Service). x.now) refs) → All (λ (x : Bor Service). P x.now) refs
 behind_refs P [] h = All-nil (λ (x : Bor Service). P x.now)
@@ -120,11 +121,11 @@ behind_refs P (x ∷ refs) h =
     All-cons (λ (y : Bor Service). P y.now) x refs (All-head P x.now (map (λ (y : Bor Service). y.now) refs) h)
     (behind_refs P refs (All-tail P x.now (map (λ (y : Bor Service). y.now) refs) h))
 
-pub deleted_complete : (state : State) (n d : ℕ) (actions : List Action) (refs items : List (Bor Service)) → IsComplete state
-    → length state.bases ≡ n → d < n → refs ≡ items → map (λ (x : Bor Service). x.now) items ≡ deleted_of state.live actions
+pub taken_complete : (state : State) (n d : ℕ) (actions : List Action) (refs items : List (Bor Service)) → IsComplete state
+    → length state.bases ≡ n → d < n → refs ≡ items → map (λ (x : Bor Service). x.now) items ≡ taken_of state.live actions
     → All (λ (x : Bor Service). d < length x.now.parts) refs
-deleted_complete state n d actions refs items complete bases within are these =
+taken_complete state n d actions refs items complete bases within are these =
     let P : Service → Type 0 = λ x. d < length x.parts in
     let all : All P state.live = All-weaker (λ (x : Service). length x.parts ≡ length state.bases) P (λ x e. omega (arith, e, bases, within)) state.live complete in
     subst (λ (l : List (Bor Service)). All (λ (x : Bor Service). d < length x.now.parts) l) (sym are)
-    (behind_refs P items (subst (All P) (sym these) (all_deleted P state.live all actions)))
+    (behind_refs P items (subst (All P) (sym these) (all_taken P state.live all actions)))

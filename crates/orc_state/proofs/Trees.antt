@@ -10,8 +10,12 @@ use Rattle.orc_path.specs.Configurations.{Config, IsConfig, drop_item, put_item}
 use Rattle.orc_path.proofs.ConfigurationLaws.{IsConfig-empty, IsConfig-put_item, IsConfig-drop_item, IsConfig-overlay}
 use Rattle.orc_refs.specs.Live.{overlaid}
 use Rattle.orc_state.specs.States.{is_same_text, declared_base, config_of, name_of, part, put_all, puts_on, expansion, opening}
-use Rattle.orc_state.specs.Actions.{bases_after, live_after, live_step, new_services, names}
-use Rattle.orc_state.specs.Next.{after}
+use Rattle.orc_state.specs.Actions.{bases_after, data_after, live_after, live_step, new_services, names}
+use Rattle.orc_state.specs.Next.{after, expanded_call, expanded_to}
+use Rattle.orc_state.specs.Declarations.{AreDecls}
+use Rattle.orc_template.specs.Laws.{WrittenIsTyped}
+use Rattle.orc_state.proofs.Written.{is_expanded, expanded_may}
+use Rattle.std.proofs.lemmas.List.Sums.{AllPass-from_list_all}
 use Rattle.orc_state.specs.Histories.{fold_from}
 use Rattle.orc_schema.specs.Schemas.{SchemaTable}
 use Rattle.orc_state.specs.Calls.{is_item_at, is_put, is_write, is_device, is_action, schema_in, schema_named}
@@ -83,22 +87,22 @@ overlaid_config (a ∷ rest) d base h c =
     overlaid_config rest d _ (All-tail WritesConfigs a rest h)
     (IsConfig-overlay (part a d) base (IsConfig-config_of a.parts d (h 0 a (omega arith))) c)
 
-made_configs : (decls : Decls) (action : Action) → is_action decls action ≡ true → All WritesConfigs (new_services decls.names action)
+made_configs : (decls : Decls) (action : Action) → is_expanded decls action ≡ true → All WritesConfigs (new_services decls.names action)
 made_configs decls (Literal id writes) h =
     All-cons WritesConfigs (record { id = id; parts = expansion decls.names writes }) []
-    (expansion_configs decls decls.names writes (second_so _ (list_all (is_write decls) writes) h)) (All-nil WritesConfigs)
+    (expansion_configs decls decls.names writes h) (All-nil WritesConfigs)
 made_configs decls other h = All-nil WritesConfigs
 
-behind_configs : (decls : Decls) (actions : List Action) (live : List Service) → All (λ action. is_action decls action ≡ true) actions
+behind_configs : (decls : Decls) (actions : List Action) (live : List Service) → All (λ action. is_expanded decls action ≡ true) actions
     → All WritesConfigs live → All WritesConfigs (live_after decls.names actions live)
 behind_configs decls [] live h c = c
 behind_configs decls (action ∷ actions) live h c =
-    behind_configs decls actions (live_step decls.names live action) (All-tail (λ (a : Action). is_action decls a ≡ true) action actions h)
+    behind_configs decls actions (live_step decls.names live action) (All-tail (λ (a : Action). is_expanded decls a ≡ true) action actions h)
     (All-append WritesConfigs _ _ (All-filter (λ x. _) WritesConfigs live c)
-    (made_configs decls action (All-head (λ (a : Action). is_action decls a ≡ true) action actions h)))
+    (made_configs decls action (All-head (λ (a : Action). is_expanded decls a ≡ true) action actions h)))
 
 -- an edit of a base leaves a configuration
-edited_config : (decls : Decls) (name : List ℕ) (action : Action) → is_action decls action ≡ true → KeepsBase IsConfig name action
+edited_config : (decls : Decls) (name : List ℕ) (action : Action) → is_expanded decls action ≡ true → KeepsBase IsConfig name action
 edited_config decls name (BasePut put) h base c = on (is_same_text put.device name)
   where
     item : is_item_at put.path put.item ≡ true
@@ -118,27 +122,29 @@ edited_config decls name other h base c = c
 abbrev AreConfigs : List Config → Type 0
 AreConfigs bases = (d : ℕ) → IsConfig (config_of bases d)
 
-edited_configs : (decls : Decls) (actions : List Action) (bases : List Config) → All (λ action. is_action decls action ≡ true) actions
+edited_configs : (decls : Decls) (actions : List Action) (bases : List Config) → All (λ action. is_expanded decls action ≡ true) actions
     → AreConfigs bases → AreConfigs (bases_after decls.names actions bases)
 edited_configs decls actions bases h c d =
     let name = name_of decls.names d in
     base_kept IsConfig decls.names actions bases d
-    (All-weaker (λ (a : Action). is_action decls a ≡ true) (KeepsBase IsConfig name) (λ a is. edited_config decls name a is) actions h) (c d)
+    (All-weaker (λ (a : Action). is_expanded decls a ≡ true) (KeepsBase IsConfig name) (λ a is. edited_config decls name a is) actions h) (c d)
 
-fold_configs : (decls : Decls) (s : State) (calls : List Call) → AreActions decls calls
-    → All WritesConfigs s.live → AreConfigs s.bases
-    → All WritesConfigs (fold_from decls s calls).live × AreConfigs (fold_from decls s calls).bases
-fold_configs decls s [] h live bases = (live, bases)
-fold_configs decls s (call ∷ calls) h live bases =
-    let lawful : Call → Type 0 = λ c. All (λ action. is_action decls action ≡ true) c.actions in
-    let now = All-head lawful call calls h in
-    fold_configs decls (after decls s call) calls (All-tail lawful call calls h)
-    (behind_configs decls call.actions s.live now live) (edited_configs decls call.actions s.bases now bases)
+module _ (law : WrittenIsTyped) (decls : Decls) (is : AreDecls decls) where
+  fold_configs : (s : State) (calls : List Call) → AreActions decls calls → All WritesConfigs s.live → AreConfigs s.bases
+      → All WritesConfigs (fold_from decls s calls).live × AreConfigs (fold_from decls s calls).bases
+  fold_configs s [] h live bases = (live, bases)
+  fold_configs s (call ∷ calls) h live bases =
+      let lawful : Call → Type 0 = λ c. All (λ action. is_action decls action ≡ true) c.actions in
+      let acts = expanded_to (expanded_call decls s call) in
+      let now = expanded_may decls is law (data_after call.actions s.data) call.actions (All-head lawful call calls h) in
+      fold_configs (after decls s call) calls (All-tail lawful call calls h)
+      (behind_configs decls acts s.live now live) (edited_configs decls acts s.bases now bases)
 
-pub trees_are_configs : TreeIsConfiguration
-trees_are_configs decls history d devices_are calls_are =
+pub trees_are_configs : WrittenIsTyped → TreeIsConfiguration
+trees_are_configs law decls history d is calls_are =
     let s = state_of decls history in
+    let devices_are : All (λ device. is_device decls.schemas device ≡ true) decls.devices = AllPass-from_list_all (is_device decls.schemas) decls.devices is.devices in
     let both =
-    fold_configs decls (opening decls) history calls_are (All-nil WritesConfigs)
+    fold_configs law decls is (opening decls) history calls_are (All-nil WritesConfigs)
     (λ n. IsConfig-config_of (map declared_base decls.devices) n (opening_configs decls.schemas decls.devices devices_are)) in
     overlaid_config s.live d (config_of s.bases d) both.0 (both.1 d)

@@ -25,8 +25,10 @@ use Rattle.orc_call.specs.declared.call.Action.TheVariants.{Literal, BasePut, Ba
 use Rattle.orc_call.specs.declared.call.DevicePut.{DevicePut}
 use Rattle.orc_refs.specs.Live.{overlaid}
 use Rattle.orc_state.specs.States.{config_of, declared_base, expansion, is_same_text, name_of, names_of, opening, part, put_all, puts_on}
-use Rattle.orc_state.specs.Actions.{bases_after, live_after, live_step, new_services}
-use Rattle.orc_state.specs.Next.{after}
+use Rattle.orc_state.specs.Actions.{bases_after, data_after, live_after, live_step, new_services}
+use Rattle.orc_state.specs.Next.{after, expanded_call, expanded_to}
+use Rattle.orc_template.specs.Laws.{WrittenIsTyped}
+use Rattle.orc_state.proofs.Written.{is_expanded, named_there, expanded_may}
 use Rattle.orc_state.specs.Histories.{fold_from}
 use Rattle.orc_state.specs.Legal.{state_of}
 use Rattle.orc_state.specs.Calls.{device_named, is_action, is_device, is_put, is_write, schema_in, schema_named}
@@ -38,7 +40,6 @@ use Rattle.orc_state.specs.declared.state.Service.{Service}
 use Rattle.orc_state.specs.States.{State}
 use Rattle.orc_state.proofs.Bases.{KeepsBase, base_kept}
 use Rattle.orc_state.proofs.Fits.{base-items, list_all_weaker, write-item}
-use Rattle.orc_state.proofs.Named.{other_way}
 use Rattle.std.proofs.lemmas.Option.{slice_get-map}
 
 -- ---- the entries on the way to what is typed
@@ -186,14 +187,14 @@ module _ (decls : Decls) where
   abbrev WritesTyped : Service → Type 0
   WritesTyped service = (d : ℕ) → IsTypedUnder (own d) (part service d)
 
-  made_typed : (action : Action) → is_action decls action ≡ true → All WritesTyped (new_services decls.names action)
+  made_typed : (action : Action) → is_expanded decls action ≡ true → All WritesTyped (new_services decls.names action)
   made_typed (Literal id writes) h =
       All-cons WritesTyped (record { id = id; parts = expansion decls.names writes }) []
-      (expansion_typed decls.names writes (second_so _ (list_all (is_write decls) writes) h)) (All-nil WritesTyped)
+      (expansion_typed decls.names writes h) (All-nil WritesTyped)
   made_typed other h = All-nil WritesTyped
 
   abbrev IsAction : Action → Type 0
-  IsAction action = is_action decls action ≡ true
+  IsAction action = is_expanded decls action ≡ true
 
   behind_typed : (actions : List Action) (live : List Service) → All IsAction actions → All WritesTyped live → All WritesTyped (live_after decls.names actions live)
   behind_typed [] live h typed = typed
@@ -205,7 +206,7 @@ module _ (decls : Decls) where
   BasesTyped bases = (d : ℕ) → IsTypedUnder (own d) (config_of bases d)
 
   -- an edit of the base of the device of a name
-  edited_typed : (name : List ℕ) (action : Action) → is_action decls action ≡ true
+  edited_typed : (name : List ℕ) (action : Action) → is_expanded decls action ≡ true
       → KeepsBase (IsTypedUnder (schema_named decls.schemas decls.devices name)) name action
   edited_typed name (BasePut put) h base typed = on (is_same_text put.device name) refl
     where
@@ -239,14 +240,15 @@ module _ (decls : Decls) where
       base_kept (IsTypedUnder (own d)) decls.names actions bases d
       (All-weaker IsAction (KeepsBase (IsTypedUnder (own d)) name) (λ action is. edited_typed name action is) actions h) (typed d)
 
-  fold_typed : (state : State) (calls : List Call) → AreActions decls calls → All WritesTyped state.live → BasesTyped state.bases
+  fold_typed : AreDecls decls → WrittenIsTyped → (state : State) (calls : List Call) → AreActions decls calls → All WritesTyped state.live → BasesTyped state.bases
       → All WritesTyped (fold_from decls state calls).live × BasesTyped (fold_from decls state calls).bases
-  fold_typed state [] h live bases = (live, bases)
-  fold_typed state (call ∷ calls) h live bases =
-      let lawful : Call → Type 0 = λ c. All IsAction c.actions in
-      let now = All-head lawful call calls h in
-      fold_typed (after decls state call) calls (All-tail lawful call calls h)
-      (behind_typed call.actions state.live now live) (bases_typed call.actions state.bases now bases)
+  fold_typed is law state [] h live bases = (live, bases)
+  fold_typed is law state (call ∷ calls) h live bases =
+      let lawful : Call → Type 0 = λ c. All (λ (action : Action). is_action decls action ≡ true) c.actions in
+      let acts = expanded_to (expanded_call decls state call) in
+      let now = expanded_may decls is law (data_after call.actions state.data) call.actions (All-head lawful call calls h) in
+      fold_typed is law (after decls state call) calls (All-tail lawful call calls h)
+      (behind_typed acts state.live now live) (bases_typed acts state.bases now bases)
 
   overlaid_typed : (live : List Service) (d : ℕ) (base : Config) → All WritesTyped live → IsTypedUnder (own d) base
       → IsTypedUnder (own d) (overlaid (map (λ service. part service d) live) base)
@@ -256,31 +258,6 @@ module _ (decls : Decls) where
       (typed-overlay (own d) (part a d) base (All-head WritesTyped a rest h d) typed)
 
 -- ---- bases
-
--- the device at a place is the first of its name
-apart : (devices : List Device) (n : ℕ) (d : Device) (name : List ℕ) → slice_get devices n ≡ Some d
-    → AllByRecursion (λ other. is_same_text name other ≡ false) (names_of devices) → is_same_text name d.name ≡ false
-apart [] n d name e h = let not_so : None ≡ Some d = e in absurd cc
-apart (first ∷ rest) zero d name e h =
-    let same : first ≡ d = same_device first d e in subst (λ (x : Device). is_same_text name x.name ≡ false) same h.0
-  where
-    same_device : (x y : Device) → Some x ≡ Some y → x ≡ y
-    same_device x y e = cc
-apart (first ∷ rest) (suc n) d name e h = apart rest n d name e h.1
-
-named_there : (devices : List Device) (n : ℕ) (d : Device) → IsDistinct is_same_text (names_of devices) → slice_get devices n ≡ Some d
-    → device_named devices d.name ≡ Some d
-unfolding IsDistinct
-named_there [] n d h e = let not_so : None ≡ Some d = e in absurd cc
-named_there (first ∷ rest) zero d h e =
-    let same : first ≡ d = same_device first d e in
-    ap (λ t. if t then Some first else device_named rest d.name) ((bytes_decides d.name first.name).1 (sym (ap (λ (x : Device). x.name) same))) ∙ ap Some same
-  where
-    same_device : (x y : Device) → Some x ≡ Some y → x ≡ y
-    same_device x y e = cc
-named_there (first ∷ rest) (suc n) d h e =
-    ap (λ t. if t then Some first else device_named rest d.name) (other_way first.name d.name (apart rest n d first.name e h.0))
-    ∙ named_there rest n d h.1 e
 
 module _ (decls : Decls) (is : AreDecls decls) where
   base_typed : (d : ℕ) → IsTypedUnder (own decls d) (config_of (map declared_base decls.devices) d)
@@ -320,8 +297,8 @@ module _ (decls : Decls) (is : AreDecls decls) where
                   same y z e = cc
               found (first ∷ rest) (suc n) h e = found rest n (second_so (is_device decls.schemas first) (list_all (is_device decls.schemas) rest) h) e
 
-pub trees_are_typed : TreeIsTyped
-trees_are_typed decls history d is calls =
+pub trees_are_typed : WrittenIsTyped → TreeIsTyped
+trees_are_typed law decls history d is calls =
     let state = state_of decls history in
-    let both = fold_typed decls (opening decls) history calls (All-nil (WritesTyped decls)) (base_typed decls is) in
+    let both = fold_typed decls is law (opening decls) history calls (All-nil (WritesTyped decls)) (base_typed decls is) in
     overlaid_typed decls state.live d (config_of state.bases d) both.0 (both.1 d)

@@ -18,7 +18,7 @@ use Rattle.orc_call.specs.declared.call.DevicePut.{DevicePut}
 use Rattle.orc_refs.specs.Live.{overlaid}
 use Rattle.orc_state.specs.States.{config_of, expansion, has_id, is_same_text, lives, name_of, part, put_all, puts_on}
 use Rattle.orc_state.specs.Actions.{base_step, bases_after, live_after, live_step, names, new_services}
-use Rattle.orc_state.specs.Next.{existence, existence_of}
+use Rattle.orc_state.specs.Next.{expanded_call, expanded_to}
 use Rattle.orc_state.specs.Touched.{is_held_by, is_touched_by, is_written_by}
 use Rattle.orc_state.specs.Laws.{UntouchedStay}
 use Rattle.orc_state.specs.declared.declarations.Decls.{Decls}
@@ -118,28 +118,28 @@ held true m is h = holds_nothing m (on (len m == 0) h)
 held false m is h = absurd (false≢true is)
 
 module _ (decls : Decls) (state : State) (d : ℕ) where
-  quiet : (action : Action) → existence_of state.live action ≡ None → is_touched_by decls.names state d action ≡ false → IsQuiet d decls.names state.live action
-  quiet (Literal id writes) none off = (
-    All-weaker (λ (a : Service). has_id id a ≡ false) (λ (a : Service). has_id id a ≡ true → Blank d a) (λ a other named. absurd (false≢true (sym other ∙ named)))
-        state.live (any_none (has_id id) state.live (no_answer (lives state.live id) (Exists id) none)),
-    All-cons (Blank d) (record { id = id; parts = expansion decls.names writes }) [] (blank_part decls.names writes d off) (All-nil (Blank d)),
-  )
-  quiet (Delete id) none off = (
-    All-weaker (λ (a : Service). is_held_by id d a ≡ false) (λ (a : Service). has_id id a ≡ true → Blank d a) (λ a free named. held (has_id id a) (part a d) named free)
-        state.live (any_none (is_held_by id d) state.live off),
-    All-nil (Blank d),
-  )
-  quiet other none off = (All-weaker (λ (a : Service). Unit {0}) (λ (a : Service). names other a.id ≡ true → Blank d a) (λ a u named. absurd (false≢true named)) state.live (λ i x lt. tt), All-nil (Blank d))
+  -- a service of this name holds nothing there
+  free : (id : List ℕ) → list_any (is_held_by id d) state.live ≡ false → All (λ (a : Service). has_id id a ≡ true → Blank d a) state.live
+  free id off =
+      All-weaker (λ (a : Service). is_held_by id d a ≡ false) (λ (a : Service). has_id id a ≡ true → Blank d a) (λ a free named. held (has_id id a) (part a d) named free)
+      state.live (any_none (is_held_by id d) state.live off)
 
-  all_quiet : (actions : List Action) → existence state.live actions ≡ None → list_any (is_touched_by decls.names state d) actions ≡ false → All (IsQuiet d decls.names state.live) actions
-  all_quiet [] none off = All-nil (IsQuiet d decls.names state.live)
-  all_quiet (action ∷ actions) none off =
+  quiet : (action : Action) → is_touched_by decls.names state d action ≡ false → IsQuiet d decls.names state.live action
+  quiet (Literal id writes) off = (
+    free id (or_second (is_written_by writes (name_of decls.names d)) (list_any (is_held_by id d) state.live) off),
+    All-cons (Blank d) (record { id = id; parts = expansion decls.names writes }) []
+        (blank_part decls.names writes d (or_first (is_written_by writes (name_of decls.names d)) (list_any (is_held_by id d) state.live) off)) (All-nil (Blank d)),
+  )
+  quiet (Delete id) off = (free id off, All-nil (Blank d))
+  quiet other off = (All-weaker (λ (a : Service). Unit {0}) (λ (a : Service). names other a.id ≡ true → Blank d a) (λ a u named. absurd (false≢true named)) state.live (λ i x lt. tt), All-nil (Blank d))
+
+  all_quiet : (actions : List Action) → list_any (is_touched_by decls.names state d) actions ≡ false → All (IsQuiet d decls.names state.live) actions
+  all_quiet [] off = All-nil (IsQuiet d decls.names state.live)
+  all_quiet (action ∷ actions) off =
       let touches = is_touched_by decls.names state d action in
       let later = list_any (is_touched_by decls.names state d) actions in
-      let first = existence_of state.live action in
       All-cons (IsQuiet d decls.names state.live) action actions
-      (quiet action (none_first first (existence state.live actions) none) (or_first touches later off))
-      (all_quiet actions (none_later first (existence state.live actions) none) (or_second touches later off))
+      (quiet action (or_first touches later off)) (all_quiet actions (or_second touches later off))
 
 -- an action that doesn't touch a device leaves its base
 base_stays : (names : List (List ℕ)) (state : State) (d : ℕ) (action : Action) → is_touched_by names state d action ≡ false
@@ -151,11 +151,11 @@ base_stays names state d other off base = refl
 pub untouched_stay : UntouchedStay
 untouched_stay decls state call d unrefused off =
     let base = config_of state.bases d in
-    let stays : config_of (bases_after decls.names call.actions state.bases) d ≡ base =
-    base_kept (λ (b : Config). b ≡ base) decls.names call.actions state.bases d
+    let acts = expanded_to (expanded_call decls state call) in
+    let stays : config_of (bases_after decls.names acts state.bases) d ≡ base =
+    base_kept (λ (b : Config). b ≡ base) decls.names acts state.bases d
     (All-weaker (λ (action : Action). is_touched_by decls.names state d action ≡ false) (KeepsBase (λ (b : Config). b ≡ base) (name_of decls.names d))
-    (λ action none b is. base_stays decls.names state d action none b ∙ is) call.actions
-    (any_none (is_touched_by decls.names state d) call.actions off)) refl in
-    ap (λ (b : Config). laid d (live_after decls.names call.actions state.live) b) stays ∙
-    behind_quiet d decls.names call.actions state.live (config_of state.bases d)
-    (all_quiet decls state d call.actions (none_first (existence state.live call.actions) _ unrefused) off)
+    (λ action none b is. base_stays decls.names state d action none b ∙ is) acts
+    (any_none (is_touched_by decls.names state d) acts off)) refl in
+    ap (λ (b : Config). laid d (live_after decls.names acts state.live) b) stays ∙
+    behind_quiet d decls.names acts state.live (config_of state.bases d) (all_quiet decls state d acts off)

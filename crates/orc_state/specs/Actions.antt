@@ -5,12 +5,36 @@ use Rattle.std.specs.Option.{option_map_or}
 use Rattle.std.specs.List.{flat_map, fold, list_any}
 use Rattle.orc_path.specs.Configurations.{Config, put_item, drop_item}
 use Rattle.orc_call.specs.declared.call.Action.{Action}
-use Rattle.orc_call.specs.declared.call.Action.TheVariants.{Literal, Delete, Set, Unset, BasePut, BaseRemove}
-use Rattle.orc_state.specs.States.{expansion, is_same_text}
+use Rattle.orc_call.specs.declared.call.Action.TheVariants.{Create, Modify, Redeploy, Literal, Delete, Set, Unset, BasePut, BaseRemove}
+use Rattle.orc_path.specs.Steps.{PathStep}
+use Rattle.orc_path.specs.Reading.{path_of}
+use Rattle.orc_path.specs.declared.item.Item.TheVariants.{Entry}
+use Rattle.orc_call.specs.declared.call.Put.{Put}
+use Rattle.orc_state.specs.States.{expansion, is_same_text, put_all}
 use Rattle.orc_state.specs.declared.state.Service.{Service}
 
--- The service that an action names, if it names one. The kinds of actions that don't stand here aren't built yet: they
--- name no service and change nothing.
+-- the service that an action of a call names, if it names one
+abbrev pub service_of : Action → Option (List ℕ)
+service_of (Create id body) = Some id
+service_of (Modify id body) = Some id
+service_of (Redeploy id) = Some id
+service_of (Literal id writes) = Some id
+service_of (Delete id) = Some id
+service_of other = None
+
+-- one of the actions of a call names it
+abbrev pub is_service_among : List Action → List ℕ → Bool
+is_service_among actions id =
+    list_any (λ action. option_map_or (λ own. is_same_text id own) (service_of action) false) actions
+
+-- the actions of a call name each service at most once
+abbrev pub services_once : List Action → Bool
+services_once [] = true
+services_once (action ∷ actions) =
+    option_map_or (λ id. not (is_service_among actions id)) (service_of action) true && services_once actions
+
+-- The service that a expanded action names, if it names one. An action on a service of a list that isn't expanded names
+-- none and changes nothing.
 abbrev pub named : Action → Option (List ℕ)
 named (Literal id writes) = Some id
 named (Delete id) = Some id
@@ -30,9 +54,24 @@ name_each_once [] = true
 name_each_once (action ∷ actions) =
     option_map_or (λ id. not (is_named_by actions id)) (named action) true && name_each_once actions
 
--- the data behind an action: setting an item adds the entries on its way; removing a path that ends in keys removes
--- that entry and all below it, and removing another one that leaf
+-- with the entry of a service, which stands at a path, and its body
+abbrev pub enter_service : Option (List PathStep) → List Put → Config → Config
+enter_service None body config = config
+enter_service (Some path) body config = put_all body (put_item config path Entry)
+
+-- without that entry and all below it
+abbrev pub leave_service : Option (List PathStep) → Config → Config
+leave_service None config = config
+leave_service (Some path) config = drop_item config path
+
+-- The data behind an action. Creating a service adds its entry and its body, modifying it replaces all below its entry
+-- by the body, and deleting it removes the entry and all below; its id is the entry's path text, and that of a literal
+-- service is no path's. Setting an item adds the entries on its way; removing a path that ends in keys removes that
+-- entry and all below it, and removing another one that leaf.
 abbrev pub data_step : Config → Action → Config
+data_step config (Create id body) = enter_service (path_of id) body config
+data_step config (Modify id body) = enter_service (path_of id) body (leave_service (path_of id) config)
+data_step config (Delete id) = leave_service (path_of id) config
 data_step config (Set put) = put_item config put.path put.item
 data_step config (Unset path) = drop_item config path
 data_step config other = config
@@ -54,7 +93,7 @@ bases_after [] actions (base ∷ bases) = base ∷ bases
 bases_after (name ∷ names) actions (base ∷ bases) =
     fold (base_step name) base actions ∷ bases_after names actions bases
 
--- the services that an action makes: none or one
+-- the services that an action makes, once it is expanded: none or one
 abbrev pub new_services : List (List ℕ) → Action → List Service
 new_services devices (Literal id writes) = record { id = id; parts = expansion devices writes } ∷ []
 new_services devices other = []

@@ -1,7 +1,13 @@
 -- Which calls a call block can give, and which devices and data can be declared.
 use Rattle.std.specs.Prelude.{ℕ, ◌-◌, ◌^◌, Bool, true, false, ◌&&◌, ◌||◌, not, nat_le, nat_lt, List, [], ◌∷◌, length, take, Option, is_some, slice_get, if◌then◌else◌}
 use Rattle.std.specs.declared.option.Option.TheVariants.{Some}
-use Rattle.std.specs.List.{find, list_all}
+use Rattle.std.specs.List.{find, list_all, list_any}
+use Rattle.std.specs.FinMap.{empty, entries}
+use Rattle.std.specs.Ordering.{eq_by_cmp}
+use Rattle.orc_path.specs.Order.{path_cmp, is_prefix}
+use Rattle.orc_path.specs.Reading.{path_of}
+use Rattle.orc_services.specs.Services.{list_with}
+use Rattle.orc_services.specs.declared.list.ServiceList.{ServiceList}
 use Rattle.std.specs.Option.{option_map_or}
 use Rattle.orc_path.specs.Alphabet.{is_identifier, is_value}
 use Rattle.orc_path.specs.Limits.{is_long_name, is_long_path, is_long_value}
@@ -13,8 +19,8 @@ use Rattle.orc_schema.specs.Schemas.{SchemaTable, node_at, path_names, plain_tab
 use Rattle.orc_schema.specs.declared.line.Node.{Node}
 use Rattle.orc_schema.specs.declared.line.Node.TheVariants as node
 use Rattle.orc_typed.specs.Typed.{are_canonical_steps, is_in_schema, is_typed, stand}
-use Rattle.orc_state.specs.States.{device_list_path, is_same_text}
-use Rattle.orc_state.specs.Actions.{name_each_once}
+use Rattle.orc_state.specs.States.{device_list_path, is_same_text, put_all}
+use Rattle.orc_state.specs.Actions.{services_once}
 use Rattle.orc_state.specs.declared.declarations.Decls.{Decls}
 use Rattle.orc_state.specs.declared.declarations.Device.{Device}
 use Rattle.orc_state.specs.declared.lawful.TheConstants.{MOST_WRITES}
@@ -22,7 +28,7 @@ use Rattle.orc_call.specs.declared.call.TheConstants.{MOST_ACTIONS}
 use Rattle.orc_call.specs.declared.call.Put.{Put}
 use Rattle.orc_call.specs.declared.call.Call.{Call}
 use Rattle.orc_call.specs.declared.call.Action.{Action}
-use Rattle.orc_call.specs.declared.call.Action.TheVariants.{Literal, Delete, Set, Unset, BasePut, BaseRemove}
+use Rattle.orc_call.specs.declared.call.Action.TheVariants.{Create, Modify, Redeploy, Literal, Delete, Set, Unset, BasePut, BaseRemove}
 use Rattle.orc_call.specs.declared.call.DevicePut.{DevicePut}
 
 -- what a caller, a device and a literal service can be called: an identifier that keeps the limit
@@ -135,20 +141,57 @@ abbrev pub is_base_path : Decls → List ℕ → List PathStep → Bool
 is_base_path decls device path =
     is_some (device_named decls.devices device) && is_path_under (schema_named decls.schemas decls.devices device) path
 
--- an action that a call block gives; the other kinds are not built yet
+-- the path is at, under or above a list whose entries are services, so that only actions on these may name it
+abbrev pub is_served : List ServiceList → List PathStep → Bool
+is_served lists path = list_any (λ it. meets it.list path) lists
+
+-- the path of an entry of such a list, with its keys in canonical form
+abbrev pub is_service_path : Decls → List PathStep → Bool
+is_service_path decls path = is_data_path decls.data_schema path && is_some (list_with decls.services path)
+
+-- the id of a service: the text of such a path
+abbrev pub is_service : Decls → List ℕ → Bool
+is_service decls id = option_map_or (is_service_path decls) (path_of id) false
+
+-- an item of a body stands below the entry, where the schema has it
+abbrev pub is_body_item : SchemaTable → List PathStep → Put → Bool
+is_body_item schema entry put =
+    is_put schema put && (is_prefix entry put.path && nat_lt (length entry) (length put.path))
+
+-- these items are those rows below an entry
+abbrev pub are_below : List PathStep → List (List PathStep × Item) → List Put → Bool
+are_below entry [] [] = true
+are_below entry [] (put ∷ puts) = false
+are_below entry (row ∷ rows) [] = is_prefix row.0 entry && are_below entry rows []
+are_below entry (row ∷ rows) (put ∷ puts) =
+    if is_prefix row.0 entry then are_below entry rows (put ∷ puts)
+    else eq_by_cmp path_cmp row.0 put.path && are_below entry rows puts
+
+-- the body of a service: such items, which are, in path order, all that a configuration has below the entry
+abbrev pub is_body : SchemaTable → List PathStep → List Put → Bool
+is_body schema entry body =
+    nat_le (length body) MOST_WRITES && list_all (is_body_item schema entry) body
+    && are_below entry (entries (put_all body empty)) body
+
+abbrev pub has_body : Decls → List ℕ → List Put → Bool
+has_body decls id body = option_map_or (λ entry. is_body decls.data_schema entry body) (path_of id) false
+
+-- an action that a call block gives
 abbrev pub is_action : Decls → Action → Bool
+is_action decls (Create id body) = is_service decls id && has_body decls id body
+is_action decls (Modify id body) = is_service decls id && has_body decls id body
+is_action decls (Redeploy id) = is_service decls id
 is_action decls (Literal id writes) =
     is_lawful_name id && nat_le (length writes) MOST_WRITES && list_all (is_write decls) writes
-is_action decls (Delete id) = is_lawful_name id
-is_action decls (Set put) = is_data_item decls.data_schema put
-is_action decls (Unset path) = is_data_path decls.data_schema path
+is_action decls (Delete id) = is_lawful_name id || is_service decls id
+is_action decls (Set put) = is_data_item decls.data_schema put && not (is_served decls.services put.path)
+is_action decls (Unset path) = is_data_path decls.data_schema path && not (is_served decls.services path)
 is_action decls (BasePut write) = is_write decls write
 is_action decls (BaseRemove device path) = is_base_path decls device path
-is_action decls other = false
 
 -- a call that a call block gives: it has 1 to 64 actions, and names each service at most once
 abbrev pub is_call : Decls → Call → Bool
 is_call decls call =
     is_lawful_name call.caller && nat_lt call.number (2 ^ 64)
     && (nat_le 1 (length call.actions) && nat_le (length call.actions) MOST_ACTIONS)
-    && (list_all (is_action decls) call.actions && name_each_once call.actions)
+    && (list_all (is_action decls) call.actions && services_once call.actions)

@@ -1,6 +1,7 @@
 -- What users rely on, over whole histories.
-use Rattle.std.specs.Prelude.{◌≡◌, ℕ, ◌≤◌, true, false, List, [], ◌∷◌, ◌++◌, All, Contains, IsTrue, MatchOption, slice_get}
+use Rattle.std.specs.Prelude.{◌≡◌, ◌≢◌, ℕ, ◌≤◌, true, false, List, [], ◌∷◌, ◌++◌, All, Contains, IsTrue, MatchOption, slice_get}
 use Rattle.std.specs.declared.option.Option.TheVariants.{None, Some}
+use Rattle.std.specs.declared.result.Result.TheVariants.{Ok}
 use Rattle.std.specs.FinMap.{get}
 use Rattle.std.specs.declared.cmp.Ordering.TheVariants.{Less}
 use Rattle.orc_path.specs.Steps.{PathStep}
@@ -8,14 +9,22 @@ use Rattle.orc_path.specs.Order.{path_cmp, text_cmp}
 use Rattle.orc_path.specs.Configurations.{Config, IsConfig}
 use Rattle.orc_path.specs.declared.item.Item.{Item}
 use Rattle.orc_check.specs.Validity.{broken_of}
-use Rattle.orc_state.specs.States.{config_of, has_id, lives, name_of, opening, opening_data, part, tree_due}
-use Rattle.orc_state.specs.Actions.{is_named_by, live_after, touched}
-use Rattle.orc_state.specs.Next.{after, clash, refusal}
+use Rattle.orc_state.specs.States.{config_of, expansion, has_id, lives, name_of, opening, opening_data, part, tree_due}
+use Rattle.orc_path.specs.Reading.{path_of}
+use Rattle.orc_expr.specs.Touches.{Covers}
+use Rattle.orc_template.specs.Expansions.{Expanding}
+use Rattle.orc_services.specs.Expanded.{writes_of}
+use Rattle.orc_services.specs.Services.{Instance, expansion_at}
+use Rattle.orc_expr.specs.declared.read.Read.{Read}
+use Rattle.orc_expr.specs.declared.read.Target.{Target}
+use Rattle.orc_state.specs.Plans.{IsInsideOne, call_reads, call_targets}
+use Rattle.orc_state.specs.Actions.{data_after, is_service_among, live_after, touched}
+use Rattle.orc_state.specs.Next.{after, clash, expanded_call, refusal, serving_on}
 use Rattle.orc_state.specs.Histories.{fold_from, IsUnrefused}
 use Rattle.orc_typed.specs.Typed.{is_typed}
 use Rattle.orc_state.specs.Touched.{is_touched}
 use Rattle.orc_state.specs.Declarations.{AreDecls}
-use Rattle.orc_state.specs.Calls.{is_action, is_data_item, is_device, is_kept, is_lawful_name, schema_named}
+use Rattle.orc_state.specs.Calls.{is_action, is_data_item, is_kept, is_lawful_name, schema_named}
 use Rattle.orc_state.specs.Legal.{IsLegal, state_of}
 use Rattle.orc_state.specs.declared.declarations.Decls.{Decls}
 use Rattle.orc_call.specs.declared.answer.Answer.TheVariants.{Clash}
@@ -34,8 +43,7 @@ AreActions decls history = All (λ call. All (λ action. IsTrue (is_action decls
 abbrev pub TreeIsConfiguration : Type 0
 TreeIsConfiguration =
     (decls : Decls) (history : List Call) (device : ℕ)
-    → All (λ declared. IsTrue (is_device decls.schemas declared)) decls.devices → AreActions decls history
-    → IsConfig (tree_due (state_of decls history) device)
+    → AreDecls decls → AreActions decls history → IsConfig (tree_due (state_of decls history) device)
 
 -- Each item of it may stand there under the device's schema.
 abbrev pub TreeIsTyped : Type 0
@@ -48,7 +56,7 @@ TreeIsTyped =
 abbrev pub UntouchedStay : Type 0
 UntouchedStay =
     (decls : Decls) (state : State) (call : Call) (device : ℕ)
-    → refusal decls state call ≡ None → is_touched decls.names state call device ≡ false
+    → refusal decls state call ≡ None → is_touched decls state call device ≡ false
     → tree_due (after decls state call) device ≡ tree_due state device
 
 -- The data of a history of such actions is a configuration too.
@@ -111,7 +119,7 @@ OverlayIsOne =
 
 -- none of the call's actions names this service
 abbrev pub NamesOther : List ℕ → Call → Type 0
-NamesOther id call = is_named_by call.actions id ≡ false
+NamesOther id call = is_service_among call.actions id ≡ false
 
 -- the call makes a literal service, and does nothing else
 abbrev pub Creates : Call → List ℕ → List DevicePut → Type 0
@@ -121,13 +129,13 @@ Creates call id writes = call.actions ≡ Literal id writes ∷ []
 abbrev pub Deletes : Call → List ℕ → Type 0
 Deletes call id = call.actions ≡ Delete id ∷ []
 
--- Deleting a service leaves the state, and so each device's tree, as if it had never been created: whatever calls that
--- don't name it came between.
+-- Deleting a literal service, whose name is no path's text, leaves the state, and so each device's tree, as if it had
+-- never been created: whatever calls that don't name it came between.
 abbrev pub DeletedWithoutTrace : Type 0
 DeletedWithoutTrace =
     (decls : Decls) (state : State) (before between : List Call) (create delete : Call)
     (id : List ℕ) (writes : List DevicePut)
-    → Creates create id writes → Deletes delete id
+    → Creates create id writes → Deletes delete id → path_of id ≡ None
     → lives (fold_from decls state before).live id ≡ false → All (NamesOther id) between
     → fold_from decls state (before ++ create ∷ [] ++ between ++ delete ∷ [])
     ≡ fold_from decls state (before ++ between)
@@ -138,7 +146,7 @@ abbrev pub UnrefusedWithoutTrace : Type 0
 UnrefusedWithoutTrace =
     (decls : Decls) (state : State) (before between later : List Call) (create delete : Call)
     (id : List ℕ) (writes : List DevicePut)
-    → Creates create id writes → Deletes delete id → All (NamesOther id) between
+    → Creates create id writes → Deletes delete id → path_of id ≡ None → All (NamesOther id) between
     → IsUnrefused decls state (before ++ create ∷ [] ++ between ++ delete ∷ [] ++ later)
     → IsUnrefused decls state (before ++ between ++ later)
 
@@ -210,3 +218,26 @@ ClashIsLeast =
     (λ answer.
     (device : ℕ) × (path : List PathStep) × (id : List ℕ)
     × (answer ≡ Clash device path id) × IsLeastClash services live device path id)
+
+-- The literal service that an expanded action comes to holds on each device what the expansion wrote there.
+abbrev pub LiteralIsExpansion : Type 0
+LiteralIsExpansion =
+    (decls : Decls) (config : Config) (it : Instance) (e : Expanding) → AreDecls decls
+    → expansion_at (serving_on decls config) it ≡ Ok e
+    → expansion decls.names (writes_of decls.names e.written) ≡ e.written
+
+-- Each path of the data that a call changes lies inside one of its targets, whatever the data.
+abbrev pub ChangesAreTargets : Type 0
+ChangesAreTargets =
+    (decls : Decls) (actions : List Action) (config : Config) (path : List PathStep)
+    → All (λ action. IsTrue (is_action decls action)) actions
+    → get (data_after actions config) path ≢ get config path → IsInsideOne (call_targets actions) path
+
+-- What the actions of a call come to stands behind another call, where no target of that covers a read of its
+-- expansions.
+abbrev pub ExpandedStandsBehind : Type 0
+ExpandedStandsBehind =
+    (decls : Decls) (state : State) (call other : Call) → All (λ action. IsTrue (is_action decls action)) other.actions
+    → ((target : Target) (reading : Read) → Contains (call_targets other.actions) target
+    → Contains (call_reads decls state call) reading → Covers target reading → ⊥)
+    → expanded_call decls (after decls state other) call ≡ expanded_call decls state call

@@ -3,6 +3,7 @@ pub mod Actions
 pub mod Codes
 pub mod Clashes
 pub mod Next
+pub mod Plans
 pub mod Touched
 pub mod Histories
 pub mod Calls

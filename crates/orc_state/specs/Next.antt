@@ -1,14 +1,17 @@
 -- What a call does to a state, or why it is refused.
-use Rattle.std.specs.Prelude.{◌≡◌, ℕ, List, [], ◌∷◌, length, Option, option_map, if◌then◌else◌}
+use Rattle.std.specs.Prelude.{◌≡◌, ℕ, List, [], ◌∷◌, length, Option, Result, option_map, if◌then◌else◌}
+use Rattle.std.specs.declared.result.Result.TheVariants.{Ok, Err}
 use Rattle.std.specs.declared.option.Option.TheVariants.{None, Some}
 use Rattle.std.specs.Option.{option_or}
 use Rattle.orc_path.specs.Configurations.{Config}
-use Rattle.orc_schema.specs.Schemas.{SchemaTable}
+use Rattle.orc_schema.specs.Schemas.{SchemaTable, shape_at}
+use Rattle.orc_services.specs.Services.{Serving}
+use Rattle.orc_services.specs.Expanded.{expanded_actions}
 use Rattle.orc_check.specs.Validity.{broken_of}
 use Rattle.orc_call.specs.declared.answer.Answer.{Answer}
 use Rattle.orc_call.specs.declared.answer.Answer.TheVariants.{Exists, Missing, Invalid}
 use Rattle.orc_call.specs.declared.call.Action.{Action}
-use Rattle.orc_call.specs.declared.call.Action.TheVariants.{Literal, Delete}
+use Rattle.orc_call.specs.declared.call.Action.TheVariants.{Create, Modify, Redeploy, Literal, Delete}
 use Rattle.orc_call.specs.declared.call.Call.{Call}
 use Rattle.orc_state.specs.States.{IsComplete, lives}
 use Rattle.orc_state.specs.Actions.{bases_after, data_after, live_after, touched}
@@ -17,8 +20,11 @@ use Rattle.orc_state.specs.declared.declarations.Decls.{Decls}
 use Rattle.orc_state.specs.declared.state.Service.{Service}
 use Rattle.orc_state.specs.States.{State}
 
--- the action creates a service that lives, or deletes one that does not
+-- the action creates a service that lives, or modifies, redeploys or deletes one that does not
 abbrev pub existence_of : List Service → Action → Option Answer
+existence_of live (Create id body) = if lives live id then Some (Exists id) else None
+existence_of live (Modify id body) = if lives live id then None else Some (Missing id)
+existence_of live (Redeploy id) = if lives live id then None else Some (Missing id)
 existence_of live (Literal id writes) = if lives live id then Some (Exists id) else None
 existence_of live (Delete id) = if lives live id then None else Some (Missing id)
 existence_of live other = None
@@ -32,25 +38,55 @@ existence live (action ∷ actions) = option_or (existence_of live action) (exis
 abbrev pub invalid : SchemaTable → Config → Option Answer
 invalid schema config = option_map (λ breach. Invalid breach.path breach.rule) (broken_of schema config)
 
+-- what services stand on, where these are the data
+abbrev pub serving_on : Decls → Config → Serving
+serving_on decls config = record {
+  lists = decls.services;
+  devices = decls.table;
+  view = record { items = config; shapes = shape_at decls.data_schema };
+}
+
+-- What the actions of a call come to on a state, with the data behind all of them: each that creates, modifies or
+-- redeploys a service of a list is that of a literal one with the items of its expansion. Or the answer is the first
+-- that can't be expanded.
+abbrev pub expanded_call : Decls → State → Call → Result (List Action) Answer
+expanded_call decls state call =
+    (expanded_actions (serving_on decls (data_after call.actions state.data)) call.actions).outcome
+
+abbrev pub unexpanded : Result (List Action) Answer → Option Answer
+unexpanded (Ok actions) = None
+unexpanded (Err answer) = Some answer
+
+abbrev pub expanded_to : Result (List Action) Answer → List Action
+expanded_to (Ok actions) = actions
+expanded_to (Err answer) = []
+
 -- the clash of the services that a call names with the other ones that live behind it
 abbrev pub clash : List (List ℕ) → List Service → List Action → Option Answer
 clash devices live actions =
     let behind = live_after devices actions live in clash_from behind (touched actions behind) 0 devices
 
 -- Why a call is refused, if it is: the first action at fault, else what is broken in the data behind all its actions,
--- else a clash.
-abbrev pub refusal : Decls → State → Call → Option Answer
-refusal decls state call = option_or (existence state.live call.actions) (option_or
-    (invalid decls.data_schema (data_after call.actions state.data))
-    (clash decls.names state.live call.actions))
+-- else the first service that can't be expanded on it, else a clash.
+abbrev pub refusal_by : Decls → State → Call → Result (List Action) Answer → Option Answer
+refusal_by decls state call actions = option_or (existence state.live call.actions) (option_or
+    (invalid decls.data_schema (data_after call.actions state.data)) (option_or
+    (unexpanded actions)
+    (clash decls.names state.live (expanded_to actions))))
 
--- the state behind a call that is not refused
-abbrev pub after : Decls → State → Call → State
-after decls state call = record state {
+abbrev pub refusal : Decls → State → Call → Option Answer
+refusal decls state call = refusal_by decls state call (expanded_call decls state call)
+
+-- the state behind a call that is not refused, by what its actions come to
+abbrev pub after_by : Decls → State → Call → List Action → State
+after_by decls state call actions = record state {
   «data» = data_after call.actions state.data;
-  bases = bases_after decls.names call.actions state.bases;
-  live = live_after decls.names call.actions state.live;
+  bases = bases_after decls.names actions state.bases;
+  live = live_after decls.names actions state.live;
 }
+
+abbrev pub after : Decls → State → Call → State
+after decls state call = after_by decls state call (expanded_to (expanded_call decls state call))
 
 -- What each call keeps: there is a base for each declared device, and a part of each living service; and the data is
 -- valid.

@@ -67,9 +67,6 @@ expansion names writes = map (λ name. put_all (puts_on name writes) empty) name
 abbrev pub fits_puts : List Put → Bool
 fits_puts puts = list_all (λ put. fits put.path put.item) puts
 
-abbrev pub fits_writes : List DevicePut → Bool
-fits_writes writes = list_all (λ write. fits write.path write.item) writes
-
 -- the state
 
 -- the list of the devices in the data, and the entry of the device of a name

@@ -1,6 +1,6 @@
 -- The devices that a call touches: those on which a service that it names writes, behind it or before it, and those
 -- whose base it edits.
-use Rattle.std.specs.Prelude.{ℕ, Bool, false, ◌&&◌, ◌==◌, not, List, length}
+use Rattle.std.specs.Prelude.{ℕ, Bool, false, ◌&&◌, ◌||◌, ◌==◌, not, List, length}
 use Rattle.std.specs.FinMap.{len}
 use Rattle.std.specs.List.{filter, list_any, range_with_len}
 use Rattle.orc_call.specs.declared.call.Action.{Action}
@@ -8,6 +8,8 @@ use Rattle.orc_call.specs.declared.call.Action.TheVariants.{Literal, Delete, Bas
 use Rattle.orc_call.specs.declared.call.Call.{Call}
 use Rattle.orc_call.specs.declared.call.DevicePut.{DevicePut}
 use Rattle.orc_state.specs.States.{has_id, is_same_text, name_of, part}
+use Rattle.orc_state.specs.Next.{expanded_call, expanded_to}
+use Rattle.orc_state.specs.declared.declarations.Decls.{Decls}
 use Rattle.orc_state.specs.declared.state.Service.{Service}
 use Rattle.orc_state.specs.States.{State}
 
@@ -19,18 +21,28 @@ is_written_by writes name = list_any (λ write. is_same_text write.device name) 
 abbrev pub is_held_by : List ℕ → ℕ → Service → Bool
 is_held_by id device service = has_id id service && not (len (part service device) == 0)
 
--- the action makes a service that writes on the device, deletes one that has an item on it, or edits its base
+-- the action, once it is expanded, makes a service that writes on the device, takes one away that has an item on it, or
+-- edits its base
 abbrev pub is_touched_by : List (List ℕ) → State → ℕ → Action → Bool
-is_touched_by names state device (Literal id writes) = is_written_by writes (name_of names device)
+is_touched_by names state device (Literal id writes) =
+    is_written_by writes (name_of names device) || list_any (is_held_by id device) state.live
 is_touched_by names state device (Delete id) = list_any (is_held_by id device) state.live
 is_touched_by names state device (BasePut put) = is_same_text put.device (name_of names device)
 is_touched_by names state device (BaseRemove name path) = is_same_text name (name_of names device)
 is_touched_by names state device other = false
 
--- one of the actions of a call touches the device
-abbrev pub is_touched : List (List ℕ) → State → Call → ℕ → Bool
-is_touched names state call device = list_any (is_touched_by names state device) call.actions
+-- one of these actions touches the device
+abbrev pub is_touched_among : List (List ℕ) → State → List Action → ℕ → Bool
+is_touched_among names state actions device = list_any (is_touched_by names state device) actions
 
--- the numbers of the devices that a call touches on a state, ascending
-abbrev pub touched_devices : List (List ℕ) → State → Call → List ℕ
-touched_devices names state call = filter (is_touched names state call) (range_with_len 0 (length names))
+abbrev pub touched_among : List (List ℕ) → State → List Action → List ℕ
+touched_among names state actions = filter (is_touched_among names state actions) (range_with_len 0 (length names))
+
+-- a call touches the device
+abbrev pub is_touched : Decls → State → Call → ℕ → Bool
+is_touched decls state call device =
+    is_touched_among decls.names state (expanded_to (expanded_call decls state call)) device
+
+-- the numbers of the devices that it touches on a state, ascending
+abbrev pub touched_devices : Decls → State → Call → List ℕ
+touched_devices decls state call = touched_among decls.names state (expanded_to (expanded_call decls state call))

@@ -1,4 +1,3 @@
-pub mod Fitting
 pub mod Behind
 pub mod Deleted
 pub mod Orders

@@ -1,59 +1,58 @@
 //! What is put in place at the end of a call.
-ghost use Rattle.std.specs.Prelude.{◌≡◌, ◌++◌, ◌<◌, ◌≤◌, length, slice_set, OnOk, OnErr};
+ghost use Rattle.std.specs.Prelude.{◌≡◌, ◌++◌, ◌<◌, ◌≤◌, length, map, slice_set, IfOk, OnOk};
 ghost use Rattle.std.specs.Option.{option_map_or};
-ghost use Rattle.std.specs.List.{flat_map, fold};
-ghost use Rattle.orc_state.specs.inside.Turns.{AreNew, comers, left_by};
+ghost use Rattle.std.specs.List.{flat_map};
+ghost use Rattle.orc_state.specs.inside.Turns.{comers, turn_id};
 ghost use Rattle.orc_state.specs.inside.Keeping.{placed};
 
-use crate::living::Living;
+use crate::Service;
 use crate::turns::Turn;
-use orc_call::Action;
 use orc_refs::Refs;
-use orc_text::Memory;
+use orc_text::{Memory, Text};
 use std::alloc::Global;
 
-/// Adds the services that come. After want of memory none of them is left.
-pub(crate) fn add_all(alloc: Global, live: &mut Living, turns: Vec<Turn>) -> Result<(), Memory>
-    requires { AreNew live.old turns.items }
-    ensures ok { OnOk result (live.new ≡ live.old ++ flat_map comers turns.items) }
-    ensures err { OnErr result (live.new ≡ live.old) }
+// Adds the service that comes, if one does.
+fn push_comer(services: &mut Vec<Service>, turn: Turn) -> Result<(), Memory>
+    ensures { OnOk result (services.new.items ≡ services.old.items ++ comers turn) }
 {
-    let mut turns = turns;
-    if turns.is_empty() {
-        return Ok(());
-    }
-    match turns.remove(0) {
+    match turn {
         Turn::Comes(service) => {
-            let id = service.id.copy(alloc)?;
-            live.add(alloc, service)?;
-            match add_all(alloc, live, turns) {
-                Ok(()) => Ok(()),
-                Err(Memory) => {
-                    live.remove(&id);
-                    Err(Memory)
-                }
-            }
+            services.push(service)?;
+            Ok(())
         }
-        Turn::Goes(_) => add_all(alloc, live, turns),
+        Turn::Goes(_) => Ok(()),
     }
 }
 
-// Takes the service away that an action deletes, if it deletes one.
-fn remove_by(live: &mut Living, action: &Action)
-    ensures { live.new ≡ left_by live.old action.now }
+/// The services that come.
+pub(crate) fn comers(alloc: Global, turns: Vec<Turn>) -> Result<Vec<Service>, Memory>
+    ensures { IfOk result (λ services. services.items ≡ flat_map comers turns.items) }
 {
-    match action {
-        Action::Delete(id) => live.remove(id),
-        _ => {}
+    let mut services = Vec::new(alloc);
+    for turn in turns {
+        push_comer(&mut services, turn)?;
     }
+    Ok(services)
 }
 
-/// Takes the services away that actions delete.
-pub(crate) fn remove_deleted(live: &mut Living, actions: &[Action])
-    ensures { live.new ≡ fold left_by live.old actions.now }
+/// The names of the services that come or go.
+pub(crate) fn turn_ids(alloc: Global, turns: &[Turn]) -> Result<Vec<Text>, Memory>
+    ensures { IfOk result (λ ids. ids.items ≡ map turn_id turns.now) }
 {
-    for action in actions {
-        remove_by(live, action);
+    let mut ids = Vec::new(alloc);
+    for turn in turns {
+        ids.push(turn_id(turn).copy(alloc)?)?;
+    }
+    Ok(ids)
+}
+
+// The name of the service that comes or goes.
+fn turn_id(turn: &Turn) -> &Text
+    ensures { result.now ≡ turn_id turn.now }
+{
+    match turn {
+        Turn::Comes(service) => &service.id,
+        Turn::Goes(id) => id,
     }
 }
 

@@ -1,19 +1,21 @@
 //! The data: what it is at the opening, what actions make of it, and what is broken in it.
 ghost use Rattle.std.specs.Prelude.{◌≡◌, None, All, codes, IfOk, OnOk, IsTrue};
 ghost use Rattle.orc_check.specs.Validity.{broken_of};
-ghost use Rattle.orc_state.specs.States.{device_entry, fits_puts, opening_data};
-ghost use Rattle.orc_state.specs.Actions.{data_after, data_step};
+ghost use Rattle.orc_path.specs.Reading.{path_of};
+ghost use Rattle.orc_services.specs.Fitting.{fits_action, is_entry_id, FitActions};
+ghost use Rattle.orc_state.specs.States.{device_entry, fits_puts, opening_data, put_all};
+ghost use Rattle.orc_state.specs.Actions.{data_after, data_step, enter_service, leave_service};
 ghost use Rattle.orc_state.specs.Calls.{is_lawful_name};
 ghost use Rattle.orc_state.specs.Next.{invalid};
 ghost use Rattle.std.specs.List.{list_any};
-ghost use Rattle.orc_state.specs.inside.Behind.{is_on_data};
-ghost use Rattle.orc_state.specs.inside.Fitting.{fits_action, FitActions};
+ghost use Rattle.orc_state.specs.inside.Behind.{begins_as_path, is_on_data};
 
 use crate::base::tree_of;
 use orc_call::{Action, Answer, Put};
 use orc_check::{CheckFault, valid};
 use orc_path::{Item, Name, Path, Step};
 use orc_schema::Schema;
+use orc_services::path_of_id;
 use orc_text::{Memory, Row, Text};
 use orc_tree::Tree;
 use std::alloc::Global;
@@ -55,24 +57,90 @@ pub fn opening_data(alloc: Global, names: &[Text], puts: &[Put]) -> Result<Tree,
     Ok(tree)
 }
 
+// Sets items, one after another.
+fn put_all(data: &mut Tree, alloc: Global, puts: &[Put]) -> Result<(), Memory>
+    requires { IsTrue (fits_puts puts.now) }
+    ensures { OnOk result («data».new ≡ put_all puts.now «data».old) }
+{
+    for put in puts {
+        data.set(put.path.copy(alloc)?, put.item.copy(alloc)?)?;
+    }
+    Ok(())
+}
+
+// Adds the entry of the service of an id, and its body.
+fn enter_service(data: &mut Tree, alloc: Global, id: &Text, body: &[Put]) -> Result<(), Memory>
+    requires entry { IsTrue (is_entry_id id.now) }
+    requires body { IsTrue (fits_puts body.now) }
+    ensures { OnOk result («data».new ≡ enter_service (path_of id.now) body.now «data».old) }
+{
+    match path_of_id(alloc, id)? {
+        Some(path) => {
+            data.set(path, Item::Entry)?;
+            put_all(data, alloc, body)
+        }
+        None => Ok(()),
+    }
+}
+
+// Removes the entry of the service of an id, and all below it.
+fn leave_service(data: &mut Tree, alloc: Global, id: &Text) -> Result<(), Memory>
+    ensures { OnOk result («data».new ≡ leave_service (path_of id.now) «data».old) }
+{
+    match path_of_id(alloc, id)? {
+        Some(path) => data.remove(&path),
+        None => Ok(()),
+    }
+}
+
 // Does an action on the data.
 fn do_on_data(alloc: Global, data: &mut Tree, action: &Action) -> Result<(), Memory>
     requires { IsTrue (fits_action action.now) }
     ensures { OnOk result («data».new ≡ data_step «data».old action.now) }
 {
     match action {
+        Action::Create(id, body) => enter_service(data, alloc, id, body.as_slice()),
+        Action::Modify(id, body) => {
+            leave_service(data, alloc, id)?;
+            enter_service(data, alloc, id, body.as_slice())
+        }
+        Action::Delete(id) => leave_service(data, alloc, id),
         Action::Set(put) => data.set(put.path.copy(alloc)?, put.item.copy(alloc)?),
         Action::Unset(path) => data.remove(path),
-        // The others are on services, or not built yet.
+        // The others leave the data.
         _ => Ok(()),
     }
 }
 
-// Whether one of the actions is on the data.
+// Whether the text begins as that of a path.
+fn begins_as_path(text: &str) -> bool
+    ensures { result ≡ begins_as_path text.now }
+{
+    match text.as_bytes() {
+        [first, ..] => *first == b'/',
+        [] => false,
+    }
+}
+
+// Whether an action may change the data.
+fn changes_data(action: &Action) -> bool
+    ensures { result ≡ is_on_data action.now }
+{
+    match action {
+        Action::Create(_, _) => true,
+        Action::Modify(_, _) => true,
+        Action::Delete(id) => begins_as_path(id.as_str()),
+        Action::Set(_) => true,
+        Action::Unset(_) => true,
+        _ => false,
+    }
+}
+
+// Whether one of the actions may.
 fn is_on_data(actions: &[Action]) -> bool
     ensures { result ≡ list_any is_on_data actions.now }
 {
-    actions.iter().any(|action| matches!(action, Action::Set(_) | Action::Unset(_)))
+    actions.iter().any(|action| changes_data(action))
 }
 
 /// The data behind actions, done in their order.

@@ -5,6 +5,8 @@ ghost use Rattle.orc_state.specs.States.{name_of};
 use orc_call::Put;
 use orc_path::Path;
 use orc_schema::Schema;
+use orc_services::ServiceList;
+use orc_template::Devices;
 use orc_text::{Row, Text};
 
 /// The most devices of a bundle.
@@ -24,8 +26,10 @@ pub struct Device {
 
 /// The declarations: their text as the journal stores it, which is the bytes of the bundle before its
 /// line `script`; the schemas of devices, first the plain one and then one for each type of devices;
-/// the devices with their names; and the schema of the data with the items of the `data` lines; all
-/// in the order of declaration.
+/// the devices with their names; the schema of the data with the items of the `data` lines; and the
+/// lists of the data whose entries are services, each with its template; all in the order of
+/// declaration. The table has the names, the schemas and the places of the devices' own among these,
+/// as expansions take them.
 #[derive(Drop)]
 pub struct Decls {
     pub text: Row<u8>,
@@ -34,6 +38,8 @@ pub struct Decls {
     pub devices: Row<Device>,
     pub data_schema: Schema,
     pub data: Row<Put>,
+    pub services: Row<ServiceList>,
+    pub table: Devices,
 }
 
 /// The name of the device of a number.

@@ -1,7 +1,8 @@
 //! What a literal service writes.
 ghost use Rattle.std.specs.Prelude.{◌≡◌, IfOk, IsTrue};
 ghost use Rattle.std.specs.FinMap.{empty};
-ghost use Rattle.orc_state.specs.States.{expansion, fits_writes, put_all, puts_on};
+ghost use Rattle.orc_services.specs.Fitting.{fits_writes};
+ghost use Rattle.orc_state.specs.States.{expansion, put_all, puts_on};
 
 use orc_call::DevicePut;
 use orc_text::{Memory, Row, Text};

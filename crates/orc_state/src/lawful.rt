@@ -1,121 +1,179 @@
 //! Which calls a call block can give.
-ghost use Rattle.std.specs.Prelude.{◌≡◌, [], false, option_map};
+ghost use Rattle.std.specs.Prelude.{◌≡◌, ◌&&◌, [], false, not, nat_le, length, option_map, IfOk};
+ghost use Rattle.orc_state.specs.declared.lawful.TheConstants.{MOST_WRITES};
 ghost use Rattle.std.specs.Option.{option_copied, option_map_or};
 ghost use Rattle.std.specs.List.{list_all};
 ghost use Rattle.orc_typed.specs.Typed.{are_canonical_steps, is_typed};
-ghost use Rattle.orc_state.specs.Actions.{is_named_by, name_each_once, named, names};
+ghost use Rattle.orc_state.specs.Actions.{is_service_among, service_of, services_once};
+ghost use Rattle.orc_state.specs.States.{is_same_text};
 ghost use Rattle.orc_state.specs.inside.Known.{is_known};
-ghost use Rattle.orc_state.specs.Calls.{blank_item, device_named, is_action, is_base_path, is_call, is_data_item, is_data_path, is_item_at, is_kept, is_lawful_item, is_lawful_name, is_path_under, is_write, schema_in};
+ghost use Rattle.orc_state.specs.Calls.{blank_item, device_named, has_body, is_action, is_base_path, is_call, is_data_item, is_data_path, is_item_at, is_kept, is_lawful_item, is_lawful_name, is_path_under, is_put, is_served, is_service, is_write, schema_in};
 
+use crate::served::{has_body, is_served, is_service};
 use crate::{Decls, Device};
 use orc_call::{Action, Call, DevicePut, MOST_ACTIONS, Put};
 use orc_path::{Item, Path, Step, is_identifier, is_long_name, is_long_value, is_value};
 use orc_schema::Schema;
-use orc_text::Text;
+use orc_text::{Memory, Text};
 use orc_typed::{has_canonical_keys, is_in_schema, is_typed};
 use std::alloc::Global;
 
 /// The most writes of a literal service.
 pub const MOST_WRITES: usize = 16_777_216;
 
-/// Whether a call block under these declarations can give the call.
-pub fn is_call(alloc: Global, decls: &Decls, call: &Call) -> bool
-    ensures { result ≡ is_call decls.now call.now }
+/// Whether a call block under these declarations can give the call. It wants memory for the path of a
+/// service alone.
+pub fn is_call(alloc: Global, decls: &Decls, call: &Call) -> Result<bool, Memory>
+    ensures { IfOk result (λ lawful. lawful ≡ is_call decls.now call.now) }
 {
     // Read, so that its range is known to the proof.
     let _number = call.number;
     if !is_lawful_name(call.caller.as_str()) {
-        return false;
+        return Ok(false);
     }
     let count = call.actions.len();
     if count < 1 || count > MOST_ACTIONS {
-        return false;
+        return Ok(false);
     }
-    are_actions(alloc, decls, call.actions.as_slice()) && name_each_once(call.actions.as_slice())
+    if !are_actions(alloc, decls, call.actions.as_slice())? {
+        return Ok(false);
+    }
+    Ok(services_once(call.actions.as_slice()))
 }
 
 // Whether a call block can give each of the actions.
-fn are_actions(alloc: Global, decls: &Decls, actions: &[Action]) -> bool
-    ensures { result ≡ list_all (is_action decls.now) actions.now }
+fn are_actions(alloc: Global, decls: &Decls, actions: &[Action]) -> Result<bool, Memory>
+    ensures { IfOk result (λ lawful. lawful ≡ list_all (is_action decls.now) actions.now) }
 {
-    actions.iter().all(|action| is_action(alloc, decls, action))
+    let mut rest = actions;
+    while let [action, later @ ..] = rest {
+        if !is_action(alloc, decls, action)? {
+            return Ok(false);
+        }
+        rest = later;
+    }
+    Ok(true)
 }
 
 // Whether the actions name each service at most once.
-fn name_each_once(actions: &[Action]) -> bool
-    ensures { result ≡ name_each_once actions.now }
+fn services_once(actions: &[Action]) -> bool
+    ensures { result ≡ services_once actions.now }
 {
     match actions {
         [] => true,
-        [action, later @ ..] => !names_again(action, later) && name_each_once(later),
+        [action, later @ ..] => !names_again(action, later) && services_once(later),
     }
 }
 
 // Whether later actions name the service that the action names.
 fn names_again(action: &Action, later: &[Action]) -> bool
-    ensures { result ≡ option_map_or (is_named_by later.now) (named action.now) false }
+    ensures { result ≡ option_map_or (is_service_among later.now) (service_of action.now) false }
 {
-    match named(action) {
-        Some(id) => is_named_by(later, id),
+    match service_of(action) {
+        Some(id) => is_service_among(later, id),
         None => false,
     }
 }
 
-/// Whether one of the actions names the service of this name.
-pub fn is_named_by(actions: &[Action], id: &Text) -> bool
-    ensures { result ≡ is_named_by actions.now id.now }
+/// Whether one of the actions of a call names the service of this id.
+pub fn is_service_among(actions: &[Action], id: &Text) -> bool
+    ensures { result ≡ is_service_among actions.now id.now }
 {
     actions.iter().any(|action| names(action, id))
 }
 
-// The service that an action names.
-fn named(action: &Action) -> Option<&Text>
-    ensures { option_copied result ≡ named action.now }
+// The service that an action of a call names.
+fn service_of(action: &Action) -> Option<&Text>
+    ensures { option_copied result ≡ service_of action.now }
 {
     match action {
+        Action::Create(id, _) => Some(id),
+        Action::Modify(id, _) => Some(id),
+        Action::Redeploy(id) => Some(id),
         Action::Literal(id, _) => Some(id),
         Action::Delete(id) => Some(id),
         _ => None,
     }
 }
 
-// Whether the action names the service of this name.
+// Whether the action names the service of this id.
 fn names(action: &Action, id: &Text) -> bool
-    ensures { result ≡ names action.now id.now }
+    ensures { result ≡ option_map_or (λ own. is_same_text id.now own) (service_of action.now) false }
 {
-    match named(action) {
+    match service_of(action) {
         Some(own) => *id == *own,
         None => false,
     }
 }
 
 // Whether a call block can give the action.
-fn is_action(alloc: Global, decls: &Decls, action: &Action) -> bool
-    ensures { result ≡ is_action decls.now action.now }
+fn is_action(alloc: Global, decls: &Decls, action: &Action) -> Result<bool, Memory>
+    ensures { IfOk result (λ lawful. lawful ≡ is_action decls.now action.now) }
 {
     match action {
-        Action::Literal(id, writes) => {
-            is_lawful_name(id.as_str())
-                && writes.len() <= MOST_WRITES
-                && are_writes(decls, writes.as_slice())
+        Action::Create(id, body) => is_bodied(alloc, decls, id, body.as_slice()),
+        Action::Modify(id, body) => is_bodied(alloc, decls, id, body.as_slice()),
+        Action::Redeploy(id) => is_service(alloc, decls, id),
+        Action::Literal(id, writes) => Ok(is_literal(decls, id, writes.as_slice())),
+        Action::Delete(id) => {
+            if is_lawful_name(id.as_str()) {
+                return Ok(true);
+            }
+            is_service(alloc, decls, id)
         }
-        Action::Delete(id) => is_lawful_name(id.as_str()),
-        Action::Set(put) => is_data_item(&decls.data_schema, put),
-        Action::Unset(path) => is_data_path(alloc, &decls.data_schema, path),
-        Action::BasePut(write) => is_write(decls, write),
-        Action::BaseRemove(device, path) => is_base_path(alloc, decls, device, path),
-        // The other kinds aren't built yet.
-        _ => false,
+        Action::Set(put) => Ok(is_settable(decls, put)),
+        Action::Unset(path) => Ok(is_removable(alloc, decls, path)),
+        Action::BasePut(write) => Ok(is_write(decls, write)),
+        Action::BaseRemove(device, path) => Ok(is_base_path(alloc, decls, device, path)),
     }
+}
+
+// Whether a call block can give the service and its body.
+fn is_bodied(alloc: Global, decls: &Decls, id: &Text, body: &[Put]) -> Result<bool, Memory>
+    ensures { IfOk result (λ is. is ≡ (is_service decls.now id.now && has_body decls.now id.now body.now)) }
+{
+    if !is_service(alloc, decls, id)? {
+        return Ok(false);
+    }
+    has_body(alloc, decls, id, body)
+}
+
+// Whether a call block can give a literal service.
+fn is_literal(decls: &Decls, id: &Text, writes: &[DevicePut]) -> bool
+    ensures { result ≡ (is_lawful_name id.now && nat_le (length writes.now) MOST_WRITES
+        && list_all (is_write decls.now) writes.now) }
+{
+    is_lawful_name(id.as_str()) && writes.len() <= MOST_WRITES && are_writes(decls, writes)
+}
+
+// Whether a line may set the item of the data.
+fn is_settable(decls: &Decls, put: &Put) -> bool
+    ensures { result ≡ (is_data_item decls.now.data_schema put.now
+        && not (is_served decls.now.services put.now.path)) }
+{
+    is_data_item(&decls.data_schema, put) && !is_served(decls.services.as_slice(), &put.path)
+}
+
+// Whether a line may remove the path of the data.
+fn is_removable(alloc: Global, decls: &Decls, path: &Path) -> bool
+    ensures { result ≡ (is_data_path decls.now.data_schema path.now
+        && not (is_served decls.now.services path.now)) }
+{
+    is_data_path(alloc, &decls.data_schema, path) && !is_served(decls.services.as_slice(), path)
+}
+
+// Whether the schema has the item there.
+pub(crate) fn is_put(schema: &Schema, put: &Put) -> bool
+    ensures { result ≡ is_put schema.now put.now }
+{
+    is_item_at(&put.path, &put.item) && is_typed(schema, &put.path, &put.item)
 }
 
 // Whether a line may name the item of the data.
 fn is_data_item(schema: &Schema, put: &Put) -> bool
     ensures { result ≡ is_data_item schema.now put.now }
 {
-    is_item_at(&put.path, &put.item)
-        && is_typed(schema, &put.path, &put.item)
-        && !is_kept(&put.path)
+    is_put(schema, put) && !is_kept(&put.path)
 }
 
 /// Whether a line may name the path of the data, and it can carry an item there.

@@ -1,5 +1,8 @@
 //! What users rely on, over whole histories. Each function does nothing: its contract is the law.
-ghost use Rattle.orc_state.specs.Laws.{TreeIsConfiguration, TreeIsTyped, UntouchedStay, DataIsConfiguration, DataIsValid, DevicesStay, ServicesAgree, OverlayIsOne, DeletedWithoutTrace, UnrefusedWithoutTrace, LegalWithoutTrace, OrderOfCreationIsFree, ClashIsLeast};
+ghost use Rattle.orc_state.specs.Laws.{ChangesAreTargets, ExpandedStandsBehind, LiteralIsExpansion, TreeIsConfiguration, TreeIsTyped, UntouchedStay, DataIsConfiguration, DataIsValid, DevicesStay, ServicesAgree, OverlayIsOne, DeletedWithoutTrace, UnrefusedWithoutTrace, LegalWithoutTrace, OrderOfCreationIsFree, ClashIsLeast};
+
+use orc_services::expanded_stands;
+use orc_template::written_is_typed;
 
 /// The services that a history of calls, none of them refused, leaves alive write no unequal items
 /// at one path of a device.
@@ -13,8 +16,8 @@ pub fn overlay_is_one()
     ensures { OverlayIsOne }
 {}
 
-/// Deleting a service leaves the state as if the service had never been created, whatever calls that
-/// don't name it came between.
+/// Deleting a literal service leaves the state as if the service had never been created, whatever
+/// calls that don't name it came between.
 pub fn deleted_without_trace()
     ensures { DeletedWithoutTrace }
 {}
@@ -39,12 +42,16 @@ pub fn order_of_creation_is_free()
 /// The tree of each device is a configuration: every entry on the way to an item is there.
 pub fn tree_is_configuration()
     ensures { TreeIsConfiguration }
-{}
+{
+    written_is_typed();
+}
 
 /// Each item of it may stand there under the device's schema.
 pub fn tree_is_typed()
     ensures { TreeIsTyped }
-{}
+{
+    written_is_typed();
+}
 
 /// A call that isn't refused changes no tree but those of the devices that it touches.
 pub fn untouched_stay()
@@ -73,3 +80,24 @@ pub fn devices_stay()
 pub fn clash_is_least()
     ensures { ClashIsLeast }
 {}
+
+/// The literal service that an expanded action comes to holds on each device what the expansion wrote
+/// there.
+pub fn literal_is_expansion()
+    ensures { LiteralIsExpansion }
+{
+    written_is_typed();
+}
+
+/// Each path of the data that a call changes lies inside one of its targets, whatever the data.
+pub fn changes_are_targets()
+    ensures { ChangesAreTargets }
+{}
+
+/// What the actions of a call come to stands behind another call, where no target of that covers a
+/// read of its expansions.
+pub fn expanded_stands_behind()
+    ensures { ExpandedStandsBehind }
+{
+    expanded_stands();
+}

@@ -7,12 +7,14 @@ mod base;
 mod commit;
 mod data;
 mod declarations;
+mod expanding;
 mod expansion;
 mod fault;
 mod lawful;
 mod laws;
 mod living;
 mod rule;
+mod served;
 mod services;
 mod state;
 mod stores;
@@ -24,13 +26,15 @@ pub use data::opening_data;
 pub use declarations::{Decls, Device, MOST_DEVICES, device_name};
 pub use fault::BundleFault;
 pub use lawful::{
-    MOST_WRITES, is_call, is_data_path, is_item_at, is_kept, is_lawful_name, is_named_by,
+    MOST_WRITES, is_call, is_data_path, is_item_at, is_kept, is_lawful_name, is_service_among,
 };
 pub use laws::{
-    clash_is_least, data_is_configuration, data_is_valid, deleted_without_trace, devices_stay,
-    legal_without_trace, order_of_creation_is_free, overlay_is_one, services_agree,
+    changes_are_targets, clash_is_least, data_is_configuration, data_is_valid,
+    deleted_without_trace, devices_stay, expanded_stands_behind, legal_without_trace,
+    literal_is_expansion, order_of_creation_is_free, overlay_is_one, services_agree,
     tree_is_configuration, tree_is_typed, unrefused_without_trace, untouched_stay,
 };
 pub use rule::Rule;
+pub use served::{is_body, is_served, meets};
 pub use state::{Service, State};
 pub use touched::touched_devices;

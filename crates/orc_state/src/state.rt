@@ -1,26 +1,27 @@
 //! The state of the orchestrator, and what a call does to it.
 ghost use Rattle.std.specs.Prelude.{◌≡◌, ◌≢◌, ◌<◌, ◌^◌, [], IfOk, IsTrue, Ok, None, All, length, map};
 ghost use Rattle.orc_check.specs.Validity.{broken_of};
-ghost use Rattle.orc_state.specs.States.{declared_base, fits_puts, opening, part, tree_due};
-ghost use Rattle.orc_state.specs.Actions.{name_each_once};
+ghost use Rattle.orc_services.specs.Fitting.{FitActions};
+ghost use Rattle.orc_state.specs.States.{IsComplete, declared_base, fits_puts, opening, part, tree_due};
+ghost use Rattle.orc_state.specs.Actions.{name_each_once, services_once};
 ghost use Rattle.orc_state.specs.Calls.{is_call};
 ghost use Rattle.orc_state.specs.Declarations.{AreDecls};
 ghost use Rattle.orc_state.specs.Metas.{IsMeta};
-ghost use Rattle.orc_state.specs.Next.{IsStateOf, after, refusal};
-ghost use Rattle.orc_state.specs.inside.Behind.{IsDataBehind};
-ghost use Rattle.orc_state.specs.inside.Fitting.{FitActions};
+ghost use Rattle.orc_state.specs.Next.{IsStateOf, after, clash, refusal};
+ghost use Rattle.orc_state.specs.inside.Behind.{IsDataBehind, changed_by};
 ghost use Rattle.orc_state.specs.inside.Keeping.{IsStoreFor};
 
 use crate::base::declared_base;
-use crate::commit::{add_all, place, remove_deleted};
+use crate::commit::{comers, place, turn_ids};
 use crate::data::{data_after, invalid_behind, opening_data};
+use crate::expanding::expanded;
 use crate::living::Living;
 use crate::services::existence;
 use crate::stores::stores_behind;
-use crate::touched::touched_devices;
+use crate::touched::touched_among;
 use crate::turns::turns;
 use crate::{Decls, Device};
-use orc_call::{Answer, Call};
+use orc_call::{Action, Answer, Call};
 use orc_path::Path;
 use orc_refs::{Meta, Refs, store_is_overlay};
 use orc_text::{Memory, Row, Text};
@@ -118,8 +119,10 @@ impl State {
     }
 
     /// Does a call, or answers why it is refused; then, and after want of memory, the state is as it
-    /// was. It looks at the services that the call names, at the devices that it touches, and at what
-    /// is written there; not at the other living services.
+    /// was. Its data actions are done first; then the services of lists that it creates, modifies or
+    /// redeploys are expanded on the new data. It looks at the services that the call names, at what
+    /// their templates read, at the devices that it touches, and at what is written there; not at the
+    /// other living services.
     pub fn next(
         &mut self,
         alloc: Global,
@@ -135,7 +138,7 @@ impl State {
         ensures kept { IsStateOf decls.now self.new }
     {
         match self.data_behind(alloc, decls, call)? {
-            Ok(data) => self.change(alloc, decls, call, data),
+            Ok(data) => self.go_on(alloc, decls, call, data),
             Err(found) => Ok(Some(found)),
         }
     }
@@ -162,9 +165,9 @@ impl State {
         }
     }
 
-    // Changes the stores and the living services and takes the new data, or answers with which service
-    // a new one clashes.
-    fn change(
+    // Goes on with the data behind a call: expands its services and does what its actions come to, or
+    // answers the first that can't be expanded or that clashes.
+    fn go_on(
         &mut self,
         alloc: Global,
         decls: &Decls,
@@ -172,7 +175,7 @@ impl State {
         next_data: Tree,
     ) -> Result<Option<Answer>, Memory>
         requires fit { FitActions call.now.actions }
-        requires once { IsTrue (name_each_once call.now.actions) }
+        requires once { IsTrue (services_once call.now.actions) }
         requires state { IsStateOf decls.now self.old }
         requires few { length decls.now.names < 2 ^ 32 }
         requires behind { IsDataBehind decls.now self.old call.now (Ok next_data) }
@@ -180,10 +183,35 @@ impl State {
         ensures done { result ≡ Ok None → self.new ≡ after decls.now self.old call.now }
         ensures refused { result ≢ Ok None → self.new ≡ self.old }
     {
-        let actions = call.actions.as_slice();
-        let names = decls.names.as_slice();
+        match expanded(alloc, decls, &next_data, call.actions.as_slice())? {
+            Ok(actions) => {
+                self.change(alloc, decls.names.as_slice(), actions.as_slice(), next_data)
+            }
+            Err(fault) => Ok(Some(fault)),
+        }
+    }
+
+    // Changes the stores and the living services by expanded actions and takes the new data, or answers
+    // with which service a new one clashes.
+    fn change(
+        &mut self,
+        alloc: Global,
+        names: &[Text],
+        actions: &[Action],
+        next_data: Tree,
+    ) -> Result<Option<Answer>, Memory>
+        requires fit { FitActions actions.now }
+        requires once { IsTrue (name_each_once actions.now) }
+        requires few { length names.now < 2 ^ 32 }
+        requires bases { length self.old.bases ≡ length names.now }
+        requires complete { IsComplete self.old }
+        ensures clash { IfOk result (λ refused. refused ≡ clash names.now self.old.live actions.now) }
+        ensures done { result ≡ Ok None
+            → self.new ≡ changed_by names.now actions.now next_data self.old }
+        ensures refused { result ≢ Ok None → self.new ≡ self.old }
+    {
         let turns = turns(alloc, names, actions)?;
-        let touched = touched_devices(alloc, names, self, call)?;
+        let touched = touched_among(alloc, names, self, actions)?;
         self.live.names_differ();
         let found = stores_behind(
             alloc,
@@ -196,8 +224,9 @@ impl State {
         )?;
         match found {
             Ok(changes) => {
-                add_all(alloc, &mut self.live, turns)?;
-                remove_deleted(&mut self.live, actions);
+                let ids = turn_ids(alloc, turns.as_slice())?;
+                let services = comers(alloc, turns)?;
+                self.live.exchange(alloc, ids.as_slice(), services)?;
                 let stores = mem::replace(&mut self.stores, Row::new(alloc)).into_vec();
                 self.stores = Row::from_vec(place(stores, changes.into_vec()));
                 self.data = next_data;

@@ -6,7 +6,7 @@ ghost use Rattle.orc_refs.specs.Clashes.{IsCause};
 ghost use Rattle.orc_refs.specs.Moves.{BringWhole, IsMoved, StartAt, are_distinct, edit_fits, writes_after};
 ghost use Rattle.orc_refs.specs.Stores.{written_by};
 ghost use Rattle.orc_state.specs.States.{name_of};
-ghost use Rattle.orc_state.specs.inside.Fitting.{FitActions};
+ghost use Rattle.orc_services.specs.Fitting.{FitActions};
 ghost use Rattle.orc_state.specs.inside.Turns.{turns_of};
 ghost use Rattle.orc_state.specs.inside.Keeping.{AreBehind, AreKept, ComesTo, IsChangeOf, IsOpenTo, IsStoreBehind, IsStoreFor, StaysOn};
 

@@ -3,95 +3,120 @@ ghost use Rattle.std.specs.Prelude.{◌≡◌, ◌<◌, ◌^◌, ◌||◌, All, 
 ghost use Rattle.std.specs.List.{list_any};
 ghost use Rattle.std.specs.Option.{option_copied};
 ghost use Rattle.orc_state.specs.States.{IsComplete, name_of};
-ghost use Rattle.orc_state.specs.Touched.{is_touched_by, is_written_by, touched_devices};
-ghost use Rattle.orc_state.specs.inside.Touching.{deleted_by, deleted_of, is_edited, is_edited_by, is_on};
+ghost use Rattle.orc_services.specs.Fitting.{FitActions};
+ghost use Rattle.orc_state.specs.Touched.{is_touched_by, is_written_by, touched_among, touched_devices};
+ghost use Rattle.orc_state.specs.inside.Touching.{is_edited, is_edited_by, is_on, taken_by, taken_of};
 
+use crate::data::data_after;
+use crate::expanding::expanded;
 use crate::living::Living;
-use crate::{Service, State};
+use crate::{Decls, Service, State};
 use orc_call::{Action, Call, DevicePut};
 use orc_text::{Memory, Row, Text};
 use std::alloc::Global;
 
 /// The numbers of the devices that a call touches, ascending: those on which a service that it makes
-/// writes, those on which one that it deletes has an item, and those whose base it edits.
+/// writes, those on which one that it takes away has an item, and those whose base it edits. It asks
+/// that the call isn't refused.
 pub fn touched_devices(
+    alloc: Global,
+    decls: &Decls,
+    state: &State,
+    call: &Call,
+) -> Result<Row<u32>, Memory>
+    requires fit { FitActions call.now.actions }
+    requires few { length decls.now.names < 2 ^ 32 }
+    requires complete { IsComplete state.now }
+    requires bases { length state.now.bases ≡ length decls.now.names }
+    ensures { IfOk result (λ devices. devices ≡ touched_devices decls.now state.now call.now) }
+{
+    let actions = call.actions.as_slice();
+    let data = data_after(alloc, state.data(), actions)?;
+    match expanded(alloc, decls, &data, actions)? {
+        Ok(actions) => touched_among(alloc, decls.names.as_slice(), state, actions.as_slice()),
+        Err(_) => Ok(Row::new(alloc)),
+    }
+}
+
+/// The same of expanded actions.
+pub(crate) fn touched_among(
     alloc: Global,
     names: &[Text],
     state: &State,
-    call: &Call,
+    actions: &[Action],
 ) -> Result<Row<u32>, Memory>
     requires few { length names.now < 2 ^ 32 }
     requires complete { IsComplete state.now }
     requires bases { length state.now.bases ≡ length names.now }
-    ensures { IfOk result (λ devices. devices ≡ touched_devices names.now state.now call.now) }
+    ensures { IfOk result (λ devices. devices ≡ touched_among names.now state.now actions.now) }
 {
-    let actions = call.actions.as_slice();
-    let deleted = deleted(alloc, &state.live, actions)?;
+    let taken = taken(alloc, &state.live, actions)?;
     let mut devices = Row::new(alloc);
     for device in 0..names.len() as u32 {
-        if is_touched(names, state, actions, deleted.as_slice(), device) {
+        if is_touched(names, state, actions, taken.as_slice(), device) {
             devices.push(device)?;
         }
     }
     Ok(devices)
 }
 
-/// The living services that actions delete, each looked up once.
-pub(crate) fn deleted<'a>(
+/// The living services that actions take away, each looked up once.
+pub(crate) fn taken<'a>(
     alloc: Global,
     live: &'a Living,
     actions: &[Action],
 ) -> Result<Vec<&'a Service>, Memory>
     ensures { IfOk result (λ services.
-        map (λ service. service.now) services.items ≡ deleted_of live.now actions.now) }
+        map (λ service. service.now) services.items ≡ taken_of live.now actions.now) }
 {
-    let mut deleted = Vec::new(alloc);
+    let mut taken = Vec::new(alloc);
     for action in actions {
-        if let Some(service) = deleted_by(live, action) {
-            deleted.push(service)?;
+        if let Some(service) = taken_by(live, action) {
+            taken.push(service)?;
         }
     }
-    Ok(deleted)
+    Ok(taken)
 }
 
-// The living service that an action deletes.
-fn deleted_by<'a>(live: &'a Living, action: &Action) -> Option<&'a Service>
-    ensures { option_copied result ≡ deleted_by live.now action.now }
+// The living service that an action takes away.
+fn taken_by<'a>(live: &'a Living, action: &Action) -> Option<&'a Service>
+    ensures { option_copied result ≡ taken_by live.now action.now }
 {
     match action {
+        Action::Literal(id, _) => live.find(id),
         Action::Delete(id) => live.find(id),
         _ => None,
     }
 }
 
-/// Whether one of the actions touches the device, given the living services that they delete.
+/// Whether one of the actions touches the device, given the living services that they take away.
 pub(crate) fn is_touched(
     names: &[Text],
     state: &State,
     actions: &[Action],
-    deleted: &[&Service],
+    taken: &[&Service],
     device: u32,
 ) -> bool
     requires device { device < length names.now }
     requires complete { IsComplete state.now }
     requires bases { length state.now.bases ≡ length names.now }
-    requires deleted { map (λ service. service.now) deleted.now ≡ deleted_of state.now.live actions.now }
+    requires taken { map (λ service. service.now) taken.now ≡ taken_of state.now.live actions.now }
     ensures { result ≡ list_any (is_touched_by names.now state.now device) actions.now }
 {
     state.live.names_differ();
-    touches(names, actions, deleted, device)
+    touches(names, actions, taken, device)
 }
 
 // Whether one of the actions makes a service that writes on the device or edits its base, or one of
 // the services has an item there.
-fn touches(names: &[Text], actions: &[Action], deleted: &[&Service], device: u32) -> bool
+fn touches(names: &[Text], actions: &[Action], taken: &[&Service], device: u32) -> bool
     requires device { device < length names.now }
-    requires complete { All (λ service. device < length service.now.parts) deleted.now }
+    requires complete { All (λ service. device < length service.now.parts) taken.now }
     ensures { result
         ≡ (is_edited (name_of names.now device) actions.now
-        || list_any (λ service. is_on device service.now) deleted.now) }
+        || list_any (λ service. is_on device service.now) taken.now) }
 {
-    is_edited(actions, &names[device as usize]) || is_any_on(deleted, device)
+    is_edited(actions, &names[device as usize]) || is_any_on(taken, device)
 }
 
 // Whether one of the actions makes a service that writes on the device of this name, or edits its

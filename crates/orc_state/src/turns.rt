@@ -4,8 +4,8 @@ ghost use Rattle.std.specs.Option.{option_copied};
 ghost use Rattle.std.specs.List.{flat_map};
 ghost use Rattle.orc_refs.specs.Moves.{AreWhole, BringWhole};
 ghost use Rattle.orc_state.specs.States.{part};
-ghost use Rattle.orc_state.specs.inside.Fitting.{fits_action, FitActions};
-ghost use Rattle.orc_state.specs.inside.Turns.{edits_of, items_of, move_of, turns_of};
+ghost use Rattle.orc_services.specs.Fitting.{fits_action, FitActions};
+ghost use Rattle.orc_state.specs.inside.Turns.{edits_of, held_by, items_of, move_of, turns_of};
 
 use crate::Service;
 use crate::expansion::expansion;
@@ -16,7 +16,7 @@ use orc_text::{Memory, Row, Text};
 use orc_tree::Tree;
 use std::alloc::Global;
 
-/// What a call does to a service that it names.
+/// What a expanded call does to a service that it names.
 #[derive(Drop)]
 pub(crate) enum Turn {
     /// It makes the service.
@@ -46,7 +46,7 @@ fn push_turn(
             turns.push(Turn::Goes(id.copy(alloc)?))?;
             Ok(())
         }
-        // The others name no service, or aren't built yet.
+        // The others name no service, or have been expanded.
         _ => Ok(()),
     }
 }
@@ -95,6 +95,16 @@ fn items_on(alloc: Global, service: &Service, device: u32) -> Result<Row<Put>, M
     }
 }
 
+// What the living service of a name holds on a device.
+fn held_by(alloc: Global, live: &Living, id: &Text, device: u32) -> Result<Row<Put>, Memory>
+    ensures { IfOk result (λ items. items ≡ held_by live.now device id.now) }
+{
+    match live.find(id) {
+        Some(service) => items_on(alloc, service, device),
+        None => Ok(Row::new(alloc)),
+    }
+}
+
 // Adds the move of a service on a device.
 fn push_move(
     alloc: Global,
@@ -109,10 +119,11 @@ fn push_move(
 {
     match turn {
         Turn::Comes(service) => {
+            let old = held_by(alloc, live, &service.id, device)?;
             let new = items_on(alloc, service, device)?;
             moves.push(Move {
                 service: service.id.copy(alloc)?,
-                old: Row::new(alloc),
+                old,
                 new,
             })?;
             Ok(())

@@ -28,7 +28,7 @@ use Rattle.orc_template.specs.Values.{Scene, Done, done, then_by, then_done, one
 use Rattle.orc_template.specs.Writing.{Ended, ends, go_on, with_value, with_done, differs_from, write_at, bad_leaf, leaf_written, leaf_done, entry_value_done, values_done, leaf_list_done, node_done, entry_written, member_done, object_done, members_done, list_done, entries_done, entry_done}
 use Rattle.orc_template.specs.Devices.{DeviceTable, device_of, schema_of_device}
 use Rattle.orc_template.specs.Blocks.{Blocks, no_block, block, block_count, blocks_inside, text_of_member}
-use Rattle.orc_template.specs.Expansions.{Expanding, Failed, fails, go_further, Ground, scene_at, told, condition_done, when_done, put_written, on_tree, on_schema, on_device, on_name, target_by, target_done, met_by, node_expanded, nodes_expanded, found_expanded, look_expanded, each_expanded, block_expanded, blocks_expanded, nothing_written, expanded, reads_expanded}
+use Rattle.orc_template.specs.Expansions.{Expanding, Failed, fails, go_further, Ground, told, condition_done, when_done, put_written, on_tree, on_schema, on_device, on_name, target_by, target_done, met_by, node_expanded, nodes_expanded, found_expanded, look_expanded, each_expanded, block_expanded, blocks_expanded, nothing_written, expanded, reads_expanded}
 use Rattle.orc_template.specs.declared.strings.Part.{Part}
 use Rattle.orc_template.specs.declared.strings.Part.TheVariants.{Written, Braced}
 use Rattle.orc_template.specs.declared.fault.TheConstants.{BAD_LEAF, SELF_CLASH, MANY_VALUES, UNKNOWN_DEVICE, NO_VALUE}

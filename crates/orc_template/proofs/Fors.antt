@@ -3,7 +3,6 @@ use Rattle.std.proofs.Common.{◌≡◌, ℕ, ◌++◌, List, Option, Some, None
 use Rattle.serde_json.specs.Data.{Data, null}
 use Rattle.serde_json.specs.View.{view}
 use Rattle.serde_json.specs.declared.value.Value.{Null, the_lemmas}
-use Rattle.orc_path.specs.Configurations.{Config}
 use Rattle.orc_path.specs.Steps.{PathStep}
 use Rattle.orc_expr.specs.declared.read.Read.{Read}
 use Rattle.orc_template.specs.Expansions.{Expanding, Failed, Ground, nodes_expanded, look_expanded}

@@ -1,11 +1,11 @@
 -- One thing behind another, as the code does them: what stands behind, and what is handed on.
-use Rattle.std.proofs.Common.{◌≡◌, ℕ, ◌++◌, List, Option, Some, None, Bool, Result, Ok, Err, slice_set, refl, sym, ap, ◌∙◌}
+use Rattle.std.proofs.Common.{◌≡◌, ℕ, ◌++◌, List, Option, Some, Result, Ok, Err, slice_set, sym, ap, ◌∙◌}
 use Rattle.std.specs.Prelude.{IsErrAnd}
 use Rattle.std.proofs.lemmas.Result.{err_from_is_err_and}
 use Rattle.orc_path.specs.Configurations.{Config}
 use Rattle.orc_expr.specs.declared.read.Read.{Read}
 use Rattle.orc_template.specs.Values.{Done, done, then_done, one_found, one_text, Does, GivesValue}
-use Rattle.orc_template.specs.Writing.{Ended, ends, go_on, with_done, Writes}
+use Rattle.orc_template.specs.Writing.{Ended, go_on, with_done, Writes}
 use Rattle.orc_template.specs.Expansions.{Expanding, Failed, fails, go_further, put_written}
 use Rattle.orc_template.specs.inside.Expanding.{Stops, Expands, numbered}
 use Rattle.orc_template.specs.declared.writing.Writing.{Writing}

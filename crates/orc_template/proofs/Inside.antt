@@ -1,5 +1,5 @@
 -- The blocks inside a block are those of its member.
-use Rattle.std.proofs.Common.{◌≡◌, ℕ, List, Option, Some, codes, refl}
+use Rattle.std.proofs.Common.{◌≡◌, Option, Some, codes, refl}
 use Rattle.std.specs.Option.{option_map_or}
 use Rattle.std.specs.Ordering.{nat_cmp, match_ordering}
 use Rattle.std.specs.Cmp.Lexicographic.{slice_cmp}

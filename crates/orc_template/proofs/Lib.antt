@@ -12,8 +12,8 @@ mod Forms
 mod Faulty
 mod Placing
 mod Targets
-mod Identifiers
 mod Fors
 mod Adding
 mod TypedPuts
 mod TypedWritten
+pub mod Texts

@@ -1,5 +1,5 @@
 -- What fits below a path.
-use Rattle.std.proofs.Common.{◌≡◌, ℕ, suc, nat_lt, true, List, [], ◌∷◌, ◌++◌, length, refl, ap, ◌∙◌, arith}
+use Rattle.std.proofs.Common.{◌≡◌, ℕ, suc, nat_lt, true, List, [], ◌∷◌, length, refl, ap, ◌∙◌, arith}
 use Rattle.std.specs.Prelude.{not}
 use Rattle.std.proofs.lemmas.Bool.Decides.{nat_tests}
 use Rattle.orc_path.specs.Steps.{PathStep, ends_in_keys, has_keys}

@@ -5,7 +5,6 @@ use Rattle.std.specs.Option.{option_map_or, option_and_then, unwrap_or}
 use Rattle.std.specs.List.{list_all}
 use Rattle.std.specs.Cmp.{first_so, second_so}
 use Rattle.std.specs.FinMap.{empty, get as get_item}
-use Rattle.std.specs.Str.Parse.{true_text}
 use Rattle.std.proofs.lemmas.Bool.{and_from, eq-eqb}
 use Rattle.std.proofs.lemmas.List.{map-append, length-map, length-set}
 use Rattle.std.proofs.lemmas.List.Folds.{list_all-append}
@@ -44,8 +43,8 @@ use Rattle.orc_template.specs.Values.{Scene, Done, done, then_by, string_done, f
 use Rattle.orc_template.specs.Writing.{Ended, ends, go_on, with_value, differs_from, write_at, bad_leaf, leaf_written, leaf_done, entry_value_done, values_done, leaf_list_done, node_done, entry_written, member_done, object_done, members_done, list_done, entries_done, entry_done}
 use Rattle.orc_template.specs.Devices.{DeviceTable, device_of, schema_of_device}
 use Rattle.orc_template.specs.Blocks.{Blocks, no_block, block, block_count, blocks_inside, text_of_member}
-use Rattle.orc_template.specs.Expansions.{Expanding, Failed, fails, go_further, Ground, scene_at, when_done, put_written, on_tree, on_schema, on_device, on_name, target_by, target_done, met_by, node_expanded, nodes_expanded, found_expanded, look_expanded, each_expanded, block_expanded, blocks_expanded, nothing_written, expanded}
-use Rattle.orc_template.specs.Laws.{MayStand, IsConfigUnder, AreDeviceTrees, WrittenIsTyped, is_short_value}
+use Rattle.orc_template.specs.Expansions.{Expanding, Failed, fails, go_further, Ground, scene_at, when_done, put_written, on_tree, on_schema, on_device, on_name, target_by, target_done, met_by, node_expanded, nodes_expanded, found_expanded, each_expanded, block_expanded, blocks_expanded, nothing_written, expanded}
+use Rattle.orc_template.specs.Laws.{IsConfigUnder, AreDeviceTrees, WrittenIsTyped, is_short_value}
 use Rattle.orc_template.specs.declared.fault.TheConstants.{BAD_LEAF, SELF_CLASH}
 use Rattle.orc_template.specs.declared.writing.Writing.{Writing}
 use Rattle.orc_template.proofs.Entries.{keyed_fits}

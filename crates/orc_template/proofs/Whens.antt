@@ -1,10 +1,10 @@
 -- A block at a node: its condition, its target and the blocks inside.
-use Rattle.std.proofs.Common.{◌≡◌, ℕ, ◌+◌, Bool, true, false, List, Result, Ok, Err, refl, sym, ap, subst, ◌∙◌, arith}
+use Rattle.std.proofs.Common.{◌≡◌, ℕ, ◌+◌, Bool, true, List, Result, Ok, Err, refl, sym, ap, subst, ◌∙◌, arith}
 use Rattle.std.specs.Prelude.{IsErrAnd}
 use Rattle.serde_json.specs.Data.{Data}
 use Rattle.orc_path.specs.Steps.{PathStep}
 use Rattle.orc_expr.specs.declared.read.Read.{Read}
-use Rattle.orc_template.specs.Values.{Done, done, Does}
+use Rattle.orc_template.specs.Values.{Done, Does}
 use Rattle.orc_template.specs.Blocks.{Blocks, blocks_inside}
 use Rattle.orc_template.specs.Expansions.{Expanding, Failed, Ground, scene_at, fails, go_further, when_done, target_done, met_by, node_expanded, blocks_expanded}
 use Rattle.orc_template.specs.Writing.{Ended}

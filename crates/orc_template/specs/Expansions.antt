@@ -12,12 +12,12 @@ use Rattle.orc_path.specs.Views.{Viewed}
 use Rattle.orc_path.specs.declared.item.Item.{Item}
 use Rattle.orc_call.specs.declared.call.Put.{Put}
 use Rattle.orc_expr.specs.Expressions.{Expression, Condition}
-use Rattle.orc_expr.specs.Looks.{nodes_of, judged, Judged}
+use Rattle.orc_expr.specs.Looks.{nodes_of, judged}
 use Rattle.orc_expr.specs.declared.read.Read.{Read}
 use Rattle.orc_schema.specs.Schemas.{SchemaTable}
 use Rattle.orc_template.specs.Readers.{Readers}
 use Rattle.orc_template.specs.Values.{Scene, Done, done, string_done}
-use Rattle.orc_template.specs.Writing.{Ended, ends, go_on, object_done}
+use Rattle.orc_template.specs.Writing.{Ended, ends, object_done}
 use Rattle.orc_template.specs.Devices.{DeviceTable, device_of, schema_of_device}
 use Rattle.orc_template.specs.Blocks.{Blocks, no_block, block, block_count, blocks_inside, text_of_member}
 use Rattle.orc_template.specs.declared.writing.Writing.{Writing}

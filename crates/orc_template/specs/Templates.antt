@@ -1,5 +1,5 @@
 -- Which JSON is a template of a list, and the first fault of what is none.
-use Rattle.std.specs.Prelude.{◌≡◌, ℕ, ◌+◌, Bool, true, false, not, ◌&&◌, List, [], ◌∷◌, codes, Option, Result, if◌then◌else◌}
+use Rattle.std.specs.Prelude.{◌≡◌, ℕ, ◌+◌, Bool, true, false, ◌&&◌, List, codes, Option, Result, if◌then◌else◌}
 use Rattle.std.specs.declared.option.Option.TheVariants.{None, Some}
 use Rattle.std.specs.declared.result.Result.TheVariants.{Ok, Err}
 use Rattle.std.specs.Option.{option_and_then, option_map_or, option_or, is_some}
@@ -8,9 +8,7 @@ use Rattle.serde_json.specs.Data.{Data, null, boolean, number, string, array, ob
 use Rattle.serde_json.specs.Find.{get, as_str, as_array, as_object}
 use Rattle.orc_path.specs.Steps.{PathStep}
 use Rattle.orc_value.specs.Canon.{same_text}
-use Rattle.orc_expr.specs.Expressions.{Expression, Condition}
 use Rattle.orc_expr.specs.Resolved.{Shapes, resolved}
-use Rattle.orc_schema.specs.Schemas.{SchemaTable, shape_at}
 use Rattle.orc_json.specs.Readings.{IsJson, IsNoJson}
 use Rattle.orc_template.specs.Readers.{Readers}
 use Rattle.orc_template.specs.Strings.{cut_parts}

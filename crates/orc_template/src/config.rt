@@ -11,9 +11,9 @@ ghost use Rattle.orc_template.specs.inside.Machine.{scene};
 ghost use Rattle.orc_template.specs.inside.Nodes.{node_of_name, member_at_name};
 
 use crate::fault::{BAD_LEAF, Halt};
-use crate::names::{name_behind, path_below};
 use crate::values::{key_texts, value_text};
 use crate::writing::Writing;
+use orc_json::{name_behind, path_below};
 use orc_path::{DataView, Item, Name, Path};
 use orc_schema::{LeafNode, Node, Schema};
 use orc_text::{Memory, Row, Text};

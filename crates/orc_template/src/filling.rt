@@ -1,5 +1,6 @@
 //! Strings whose expressions give their texts.
-ghost use Rattle.std.specs.Prelude.{◌≡◌, ◌++◌, [], Some, IfOk};
+ghost use Rattle.std.specs.Prelude.{◌≡◌, ◌++◌, [], Some, OnOk};
+ghost use Rattle.std.specs.String.{string_bytes};
 ghost use Rattle.orc_expr.specs.Parts.{expression_of};
 ghost use Rattle.orc_expr.specs.Looks.{texts_of};
 ghost use Rattle.orc_template.specs.Values.{one_found, one_text, expression_done, part_done, parts_done, string_done, Does, GivesValue};
@@ -75,13 +76,12 @@ fn part_text<V: DataView>(
     }
 }
 
-// One text behind another.
-fn joined(alloc: Global, front: &Text, more: &Text) -> Result<Text, Memory>
-    ensures { IfOk result (λ text. text ≡ front.now ++ more.now) }
+// Adds a text.
+fn push_text(text: &mut String, more: &Text) -> Result<(), Memory>
+    ensures { OnOk result (string_bytes text.new ≡ string_bytes text.old ++ more.now) }
 {
-    let mut both = String::from_str(alloc, front.as_str())?;
-    both.push_str(more.as_str())?;
-    Ok(Text::from_string(both))
+    text.push_str(more.as_str())?;
+    Ok(())
 }
 
 // The texts of parts, one behind another.
@@ -95,12 +95,12 @@ fn parts_text<V: DataView>(
     ensures { Does (parts_done (scene (V.viewed view.now) here.now) [] parts.now reads.old.reads)
         reads.new.reads result }
 {
-    let mut text = Text::new(alloc);
+    let mut text = String::new(alloc);
     for part in parts {
         let more = part_text(alloc, view, here, part, reads)?;
-        text = joined(alloc, &text, &more)?;
+        push_text(&mut text, &more)?;
     }
-    Ok(text)
+    Ok(Text::from_string(text))
 }
 
 /// The text of a string at a context, with its reads added.

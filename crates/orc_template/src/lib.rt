@@ -16,7 +16,6 @@ mod expansion;
 mod fault;
 mod filling;
 mod laws;
-mod names;
 mod readers;
 mod strings;
 mod template;

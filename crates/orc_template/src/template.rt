@@ -1,5 +1,5 @@
 //! Templates.
-ghost use Rattle.std.specs.Prelude.{◌≡◌, ℕ, List, ◌++◌, IfOk, OnOk, OnErr, MatchOption, map};
+ghost use Rattle.std.specs.Prelude.{◌≡◌, List, ◌++◌, IfOk, OnOk, OnErr, MatchOption, map};
 ghost use Rattle.std.specs.FinMap.{empty};
 ghost use Rattle.serde_json.specs.View.{view as json_view};
 ghost use Rattle.orc_json.specs.Readings.{IsJson, IsNoJson};
@@ -24,12 +24,26 @@ use orc_text::{Memory, Row, Text};
 use orc_tree::Tree;
 use serde_json::Value;
 use std::alloc::Global;
+use std::marker::Model;
 use std::mem;
 
-/// A template: its JSON, whose strings hold expressions.
+/// A template: the text of a JSON value, whose strings hold expressions.
 #[derive(Drop)]
 pub struct Template {
+    text: Row<u8>,
     json: Value,
+}
+
+impl Model for Template {
+    ghost use Rattle.std.specs.Prelude.{◌≡◌, ℕ, List, Some};
+    ghost use Rattle.serde_json.specs.View.{view as json_view};
+    ghost use Rattle.orc_template.specs.Said.{json_value};
+
+    ghost Value = { List ℕ };
+
+    ghost view = { λ template. template.text };
+
+    ghost invariant = { λ template. json_value template.text ≡ Some (json_view template.json) };
 }
 
 // The JSON value that bytes are the text of, where they are one.
@@ -47,6 +61,15 @@ fn parse(alloc: Global, bytes: &[u8]) -> Result<Option<Value>, Memory>
     }
 }
 
+// The text that bytes are.
+fn text_of(alloc: Global, bytes: &[u8]) -> Result<Row<u8>, Memory>
+    ensures { IfOk result (λ text. text ≡ bytes.now) }
+{
+    let mut text = Vec::with_capacity(alloc, bytes.len())?;
+    text.extend_from_slice(bytes)?;
+    Ok(Row::from_vec(text))
+}
+
 // Nothing is written on any device.
 fn nothing_written(alloc: Global, names: &[Text]) -> Result<Vec<Tree>, Memory>
     ensures { IfOk result (λ trees. trees.items ≡ map (λ name. empty) names.now) }
@@ -59,7 +82,7 @@ fn nothing_written(alloc: Global, names: &[Text]) -> Result<Vec<Tree>, Memory>
 }
 
 impl Template {
-    /// The template of a list of the data that bytes are the JSON text of. `NotJson` comes exactly
+    /// The template of a list of the data whose JSON text these bytes are. `NotJson` comes exactly
     /// where they are no JSON text; else the fault is that of the least block, and at one block
     /// `BadMember` goes before `BadExpr`.
     pub fn read(
@@ -68,9 +91,10 @@ impl Template {
         schema: &Schema,
         list: &Path,
     ) -> Result<Template, TemplateFault>
-        ensures { (readers : Readers) → AreReaders readers
+        ensures reads { (readers : Readers) → AreReaders readers
             → ReadsTemplate (record { readers = readers; shapes = shape_at schema.now; node = list.now }) bytes.now
             (read_result result) }
+        ensures text { IfOk result (λ template. template ≡ bytes.now) }
     {
         Template::read_bytes(alloc, bytes, schema, list)
     }
@@ -82,23 +106,26 @@ impl Template {
         schema: &Schema,
         list: &Path,
     ) -> Result<Template, TemplateFault>
-        ensures { ReadsTemplate (site (shape_at schema.now) list.now) bytes.now (read_result result) }
+        ensures reads { ReadsTemplate (site (shape_at schema.now) list.now) bytes.now (read_result result) }
+        ensures text { IfOk result (λ template. template ≡ bytes.now) }
     {
         match parse(alloc, bytes)? {
-            Some(json) => Template::checked(alloc, json, schema, list),
+            Some(json) => Template::checked(alloc, bytes, json, schema, list),
             None => Err(TemplateFault::NotJson),
         }
     }
 
-    // The template of a JSON value, or its first fault.
+    // The template of a JSON text and its value, or its first fault.
     fn checked(
         alloc: Global,
+        bytes: &[u8],
         json: Value,
         schema: &Schema,
         list: &Path,
     ) -> Result<Template, TemplateFault>
-        ensures { (bytes : List ℕ) → IsJson bytes (json_view json)
-            → ReadsTemplate (site (shape_at schema.now) list.now) bytes (read_result result) }
+        requires { IsJson bytes.now (json_view json) }
+        ensures reads { ReadsTemplate (site (shape_at schema.now) list.now) bytes.now (read_result result) }
+        ensures text { IfOk result (λ template. template ≡ bytes.now) }
     {
         let tree = Tree::new(alloc);
         let view = View {
@@ -107,18 +134,28 @@ impl Template {
         };
         match template_fault(alloc, &view, list, &json)? {
             Some(fault) => Err(fault),
-            None => Ok(Template { json }),
+            None => Ok(Template {
+                text: text_of(alloc, bytes)?,
+                json,
+            }),
         }
     }
 
     /// An equal template.
     pub fn copy(&self, alloc: Global) -> Result<Template, Memory>
-        ensures { IfOk result (λ template. template_json template ≡ template_json self.now) }
+        ensures { IfOk result (λ template. template ≡ self.now) }
     {
-        let _alloc = alloc;
         Ok(Template {
+            text: self.text.copy(alloc)?,
             json: self.json.clone()?,
         })
+    }
+
+    // Its JSON.
+    fn json(&self) -> &Value
+        ensures { json_view result.now ≡ template_json self.now }
+    {
+        &self.json
     }
 
     // What is written on each device, with its reads alone.
@@ -145,7 +182,7 @@ impl Template {
             DEPTH,
             instance,
             1,
-            blocks_inside(&self.json),
+            blocks_inside(self.json()),
             &mut expanding,
         );
         let Expanding {

@@ -2,7 +2,7 @@
 use Rattle.std.specs.Prelude.{◌≤◌, ◌^◌, ℕ, Bool, true, not, ◌&&◌, nat_le, nat_lt, length, IsTrue}
 use Rattle.std.specs.List.{list_all}
 use Rattle.orc_call.specs.declared.call.TheConstants.{MOST_ACTIONS}
-use Rattle.orc_state.specs.Actions.{is_named_by, name_each_once}
+use Rattle.orc_state.specs.Actions.{is_service_among, services_once}
 use Rattle.orc_state.specs.Calls.{is_action, is_lawful_name, is_write}
 use Rattle.orc_state.specs.declared.declarations.Decls.{Decls}
 use Rattle.orc_script.specs.Steps.{is_step}
@@ -17,12 +17,12 @@ has_caller s = is_lawful_name s.caller && nat_lt s.number (2 ^ 64)
 -- the open call has so many lawful actions at most, which name each service once
 abbrev pub are_begun : Decls → Script → Bool
 are_begun decls s = nat_le (length s.actions) MOST_ACTIONS
-    && (list_all (is_action decls) s.actions && name_each_once s.actions)
+    && (list_all (is_action decls) s.actions && services_once s.actions)
 
 -- the literal that is open has a lawful name, which is new, and lawful writes; the call has room for it
 abbrev pub is_literal_begun : Decls → Script → Bool
 is_literal_begun decls s = is_lawful_name s.name && list_all (is_write decls) s.writes
-    && (nat_lt (length s.actions) MOST_ACTIONS && not (is_named_by s.actions s.name))
+    && (nat_lt (length s.actions) MOST_ACTIONS && not (is_service_among s.actions s.name))
 
 -- the open call, and its actions
 abbrev pub is_open : Decls → Script → Part → Bool

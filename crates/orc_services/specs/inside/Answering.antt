@@ -3,8 +3,8 @@ use Rattle.std.specs.Prelude.{◌≡◌, ◌++◌, ℕ, List, Result}
 use Rattle.std.specs.declared.result.Result.TheVariants.{Ok, Err}
 use Rattle.orc_expr.specs.declared.read.Read.{Read}
 use Rattle.orc_template.specs.Expansions.{Expanding, Failed}
-use Rattle.orc_services.specs.declared.settling.Expanded.{Expanded}
-use Rattle.orc_services.specs.declared.settling.Expanded.TheVariants.{Written, Fault}
+use Rattle.orc_services.specs.declared.actions.Expanded.{Expanded}
+use Rattle.orc_services.specs.declared.actions.Expanded.TheVariants.{Written, Fault}
 
 -- what an expansion gave, and its reads behind those before
 abbrev pub Expands : Result Expanding Failed → List Read → List Read → Expanded → Type 0

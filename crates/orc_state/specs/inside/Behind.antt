@@ -1,20 +1,28 @@
 -- The data behind a call.
-use Rattle.std.specs.Prelude.{◌≡◌, Bool, true, false, Result}
+use Rattle.std.specs.Prelude.{◌≡◌, ◌==◌, ℕ, List, [], ◌∷◌, Bool, true, false, Result}
 use Rattle.std.specs.declared.option.Option.TheVariants.{None, Some}
 use Rattle.std.specs.declared.result.Result.TheVariants.{Ok, Err}
 use Rattle.std.specs.Option.{option_or}
 use Rattle.orc_path.specs.Configurations.{Config}
 use Rattle.orc_call.specs.declared.answer.Answer.{Answer}
 use Rattle.orc_call.specs.declared.call.Action.{Action}
-use Rattle.orc_call.specs.declared.call.Action.TheVariants.{Set, Unset}
+use Rattle.orc_call.specs.declared.call.Action.TheVariants.{Create, Modify, Delete, Set, Unset}
 use Rattle.orc_call.specs.declared.call.Call.{Call}
-use Rattle.orc_state.specs.Actions.{data_after}
+use Rattle.orc_state.specs.Actions.{bases_after, data_after, live_after}
 use Rattle.orc_state.specs.Next.{existence, invalid}
 use Rattle.orc_state.specs.declared.declarations.Decls.{Decls}
 use Rattle.orc_state.specs.States.{State}
 
--- an action sets or unsets an item of the data
+-- the text begins with a slash, as that of each path does
+abbrev pub begins_as_path : List ℕ → Bool
+begins_as_path [] = false
+begins_as_path (first ∷ rest) = first == 47
+
+-- an action may change the data: that of a service's entry, or of an item
 abbrev pub is_on_data : Action → Bool
+is_on_data (Create id body) = true
+is_on_data (Modify id body) = true
+is_on_data (Delete id) = begins_as_path id
 is_on_data (Set put) = true
 is_on_data (Unset path) = true
 is_on_data other = false
@@ -26,3 +34,11 @@ IsDataBehind decls state call (Ok config) =
     × (invalid decls.data_schema (data_after call.actions state.data) ≡ None)
 IsDataBehind decls state call (Err found) = option_or (existence state.live call.actions)
     (invalid decls.data_schema (data_after call.actions state.data)) ≡ Some found
+
+-- the state with these data, behind expanded actions
+abbrev pub changed_by : List (List ℕ) → List Action → Config → State → State
+changed_by names actions config state = record {
+  «data» = config;
+  bases = bases_after names actions state.bases;
+  live = live_after names actions state.live;
+}

@@ -17,7 +17,7 @@ use Rattle.orc_refs.specs.declared.moves.BaseEdit.{BaseEdit}
 use Rattle.orc_state.specs.States.{name_of, part}
 use Rattle.orc_state.specs.Actions.{base_step, live_after, name_each_once, touched}
 use Rattle.orc_state.specs.Clashes.{clash_at}
-use Rattle.orc_state.specs.Next.{clash, existence}
+use Rattle.orc_state.specs.Next.{clash}
 use Rattle.orc_state.specs.inside.Placed.{AreNamedOnce}
 use Rattle.orc_state.specs.declared.state.Service.{Service}
 
@@ -35,9 +35,8 @@ pub record AreKept (stores : List Store) (live : List Service) : Type 0 where
   pub each : (device : ℕ) (store : Store) → slice_get stores device ≡ Some store → IsStoreFor live device store
   pub parts : All (λ service. length service.parts ≡ length stores) live
 
--- no action is at fault at these living services, no two of which have one name, and the actions name each service once
+-- no two of these living services have one name, and the actions name each service once
 pub record IsOpenTo (live : List Service) (actions : List Action) : Type 0 where
-  pub existence : existence live actions ≡ None
   pub once : IsTrue (name_each_once actions)
   pub differ : AreNamedOnce live
 

@@ -1,5 +1,5 @@
 -- Services in slots, and the place of each by its name.
-use Rattle.std.specs.Prelude.{◌≡◌, ℕ, Bool, true, false, List, map, Option, slice_get}
+use Rattle.std.specs.Prelude.{◌≡◌, ℕ, ◌+◌, ◌≤◌, Bool, true, false, List, map, Option, Vec, vec_len, vec_capacity, slice_get}
 use Rattle.std.specs.declared.option.Option.TheVariants.{Some}
 use Rattle.std.specs.Option.{option_map_or, option_to_list}
 use Rattle.std.specs.List.{flat_map, IsDistinct}
@@ -23,3 +23,20 @@ pub record IsPlaced (slots : List (Option Service)) (place_of : List ℕ → Opt
 -- no two services have one name
 abbrev pub AreNamedOnce : List Service → Type 0
 AreNamedOnce live = IsDistinct is_same_text (map (λ service. service.id) live)
+
+-- there is room for so many more, in the slots and in the map of their places
+pub record HasRooms {Z : Type 0} (slots : Vec (Option Service) Z) (free count : ℕ) : Type 0 where
+  pub slot : vec_len slots + count ≤ vec_capacity slots
+  pub place : count ≤ free
+
+-- there are as many slots and as much room as before
+pub record KeepsRooms {Z : Type 0} (slots slots' : Vec (Option Service) Z) (free free' : ℕ) : Type 0 where
+  pub len : vec_len slots' ≡ vec_len slots
+  pub slot : vec_capacity slots ≤ vec_capacity slots'
+  pub place : free ≤ free'
+
+-- there is a slot more, and no room is lost but its own
+pub record UsesRoom {Z : Type 0} (slots slots' : Vec (Option Service) Z) (free free' : ℕ) : Type 0 where
+  pub len : vec_len slots' ≡ vec_len slots + 1
+  pub slot : vec_capacity slots ≤ vec_capacity slots'
+  pub place : free ≤ free' + 1

@@ -1,4 +1,4 @@
--- What touches a device: edits of it by its name, and the services that are deleted.
+-- What touches a device: edits of it by its name, and the services that are taken away.
 use Rattle.std.specs.Prelude.{ℕ, Bool, false, ◌==◌, not, List, Option}
 use Rattle.std.specs.declared.option.Option.TheVariants.{None}
 use Rattle.std.specs.Option.{option_to_list}
@@ -21,14 +21,15 @@ is_edited_by name other = false
 abbrev pub is_edited : List ℕ → List Action → Bool
 is_edited name actions = list_any (is_edited_by name) actions
 
--- the living service that an action deletes
-abbrev pub deleted_by : List Service → Action → Option Service
-deleted_by live (Delete id) = find (has_id id) live
-deleted_by live other = None
+-- the living service that a expanded action takes away: it is made anew, or deleted
+abbrev pub taken_by : List Service → Action → Option Service
+taken_by live (Literal id writes) = find (has_id id) live
+taken_by live (Delete id) = find (has_id id) live
+taken_by live other = None
 
--- those that actions delete
-abbrev pub deleted_of : List Service → List Action → List Service
-deleted_of live actions = flat_map (λ action. option_to_list (deleted_by live action)) actions
+-- those that actions take away
+abbrev pub taken_of : List Service → List Action → List Service
+taken_of live actions = flat_map (λ action. option_to_list (taken_by live action)) actions
 
 -- the service has an item on the device
 abbrev pub is_on : ℕ → Service → Bool

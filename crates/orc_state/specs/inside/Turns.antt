@@ -1,6 +1,6 @@
 -- What a call does to the services that it names, and what that asks of the store of one device.
 use Rattle.std.specs.Prelude.{◌≡◌, ℕ, false, List, [], ◌∷◌, ◌++◌, map, if◌then◌else◌}
-use Rattle.std.specs.List.{find}
+use Rattle.std.specs.List.{find, fold}
 use Rattle.std.specs.Option.{option_map_or}
 use Rattle.std.specs.FinMap.{entries}
 use Rattle.orc_path.specs.Steps.{PathStep}
@@ -30,10 +30,14 @@ put_of row = record { path = row.0; item = row.1 }
 abbrev pub items_of : Config → List Put
 items_of config = map put_of (entries config)
 
--- the move of a service on a device: from nothing to what it writes there, or from that to nothing
+-- what the living service of a name holds on a device
+abbrev pub held_by : List Service → ℕ → List ℕ → List Put
+held_by live device id = option_map_or (λ service. items_of (part service device)) (find (has_id id) live) []
+
+-- the move of a service on a device: from what it holds there, if it lives, to what it writes; or to nothing
 abbrev pub move_of : List Service → ℕ → Turn → List Move
 move_of live device (Comes service) =
-    record { service = service.id; old = []; new = items_of (part service device) } ∷ []
+    record { service = service.id; old = held_by live device service.id; new = items_of (part service device) } ∷ []
 move_of live device (Goes id) = option_map_or
     (λ service. record { service = id; old = items_of (part service device); new = [] } ∷ [])
     (find (has_id id) live) []
@@ -50,13 +54,16 @@ abbrev pub comers : Turn → List Service
 comers (Comes service) = service ∷ []
 comers (Goes id) = []
 
--- each service that comes has a name that none of the living ones has, nor one of those that come before it
-abbrev pub AreNew : List Service → List Turn → Type 0
-AreNew live [] = Unit {0}
-AreNew live (Comes service ∷ turns) = (lives live service.id ≡ false) × AreNew (live ++ service ∷ []) turns
-AreNew live (Goes id ∷ turns) = AreNew live turns
+-- each of these services has a name that none of the living ones has, nor one of those in front of it
+abbrev pub AreFresh : List Service → List Service → Type 0
+AreFresh live [] = Unit {0}
+AreFresh live (service ∷ services) = (lives live service.id ≡ false) × AreFresh (live ++ service ∷ []) services
 
--- the living services without the one that an action deletes
-abbrev pub left_by : List Service → Action → List Service
-left_by live (Delete id) = others live id
-left_by live other = live
+-- the name of the service that comes or goes
+abbrev pub turn_id : Turn → List ℕ
+turn_id (Comes service) = service.id
+turn_id (Goes id) = id
+
+-- the living services without those of these names
+abbrev pub left_by : List Service → List (List ℕ) → List Service
+left_by live ids = fold others live ids

@@ -1,4 +1,4 @@
-use Rattle.std.proofs.Common.{◌≡◌, Some, sym, ◌∙◌}
+use Rattle.std.proofs.Common.{◌≡◌, Some, option_map, sym, ◌∙◌}
 use Rattle.orc_lines.proofs.CanonicalItems.{carries_same, value_known}
 use Rattle.orc_lines.proofs.KeptPaths.{still_open}
 use Rattle.orc_lines.proofs.items.read_leaf.Goals as goal
@@ -12,4 +12,4 @@ returns-clause-lawful g c =
     (value_known c.in_ok-value.value value c.in_ok-value.ensures.lawful found)
 
 pub returns-clause-free : goal.returns-clause-free
-returns-clause-free g c = still_open c.canonical_put.result c.args.of_data c.in-Some.path c.canonical_put.ensures.kept (sym c.if-is_barred.ensures)
+returns-clause-free g c = still_open c.canonical_put.result (option_map (λ lists. lists.now) c.args.lists) c.in-Some.path c.canonical_put.ensures.names (sym c.if-is_barred.ensures)

@@ -1,5 +1,5 @@
 use Rattle.std.proofs.Common.{◌≡◌, ◌++◌, rules}
-use Rattle.orc_services.specs.Settling.{writes_to}
+use Rattle.orc_services.specs.Expanded.{writes_to}
 use Rattle.orc_services.proofs.Writing.{pushed_fit}
 use Rattle.orc_services.proofs.writes.push_writes.Goals as goal
 

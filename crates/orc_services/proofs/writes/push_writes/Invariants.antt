@@ -1,5 +1,5 @@
 use Rattle.std.proofs.Common.{◌≡◌, ◌++◌, map}
-use Rattle.orc_services.specs.Settling.{write_of, writes_to}
+use Rattle.orc_services.specs.Expanded.{write_of, writes_to}
 use Rattle.orc_services.proofs.writes.push_writes.Given as goal
 
 -- those so far, and those of the rows that are left

@@ -1,6 +1,6 @@
 use Rattle.std.proofs.Common.{◌≡◌, ◌++◌, drop, IsTrue}
 use Rattle.orc_services.specs.Fitting.{fits_writes}
-use Rattle.orc_services.specs.Settling.{writes_of}
+use Rattle.orc_services.specs.Expanded.{writes_of}
 use Rattle.orc_services.proofs.writes.writes_of.Given as goal
 
 -- those so far, and those of the devices that are left

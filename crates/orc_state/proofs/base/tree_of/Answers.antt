@@ -2,7 +2,8 @@ use Rattle.std.proofs.Common.{rules, ◌≡◌, ◌∙◌, List, subst, sym, ap,
 use Rattle.std.specs.FinMap.{empty}
 use Rattle.std.specs.Vec.Iter.{into_iter_items}
 use Rattle.orc_call.specs.declared.call.Put.{Put}
-use Rattle.orc_state.specs.States.{fits_puts, put_all}
+use Rattle.orc_state.specs.States.{fits_puts}
+use Rattle.orc_state.specs.States.{put_all}
 use Rattle.orc_state.proofs.PutOrder.{put_all-kept}
 use Rattle.orc_state.proofs.base.tree_of.Goals as goal
 

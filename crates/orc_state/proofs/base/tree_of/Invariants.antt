@@ -1,7 +1,8 @@
 use Rattle.std.proofs.Common.{◌≡◌, IsTrue}
 use Rattle.std.specs.FinMap.{empty}
 use Rattle.std.specs.Vec.Iter.{into_iter_items}
-use Rattle.orc_state.specs.States.{fits_puts, put_all}
+use Rattle.orc_state.specs.States.{fits_puts}
+use Rattle.orc_state.specs.States.{put_all}
 use Rattle.orc_state.proofs.base.tree_of.Given as goal
 
 -- to put the items that are left gives the whole

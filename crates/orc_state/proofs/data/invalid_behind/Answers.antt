@@ -7,14 +7,18 @@ use Rattle.orc_path.specs.Configurations.{Config}
 use Rattle.orc_check.specs.Validity.{Breach}
 use Rattle.orc_call.specs.declared.answer.Answer.TheVariants.{Invalid}
 use Rattle.orc_call.specs.declared.call.Action.{Action}
-use Rattle.orc_call.specs.declared.call.Action.TheVariants.{Set, Unset}
-use Rattle.orc_state.specs.Actions.{data_after, data_step}
+use Rattle.orc_call.specs.declared.call.Action.TheVariants.{Create, Modify, Delete, Set, Unset}
+use Rattle.orc_state.specs.Actions.{data_after, data_step, leave_service}
+use Rattle.orc_state.proofs.DataLaws.{no_slash_no_path}
 use Rattle.orc_state.specs.Next.{invalid}
 use Rattle.orc_state.specs.inside.Behind.{is_on_data}
 use Rattle.orc_state.proofs.Lists.{or_first, or_second}
 use Rattle.orc_state.proofs.data.invalid_behind.Goals as goal
 
 step_leaves : (action : Action) (config : Config) → is_on_data action ≡ false → data_step config action ≡ config
+step_leaves (Create id body) config h = absurd (false≢true (sym h))
+step_leaves (Modify id body) config h = absurd (false≢true (sym h))
+step_leaves (Delete id) config h = ap (λ o. leave_service o config) (no_slash_no_path id h)
 step_leaves (Set put) config h = absurd (false≢true (sym h))
 step_leaves (Unset path) config h = absurd (false≢true (sym h))
 step_leaves other config h = refl

@@ -1,4 +1,3 @@
-use Rattle.std.proofs.Common.{◌≡◌}
 use Rattle.orc_state.proofs.Openings.{idle-store}
 use Rattle.orc_state.proofs.state.idle_store.Goals as goal
 

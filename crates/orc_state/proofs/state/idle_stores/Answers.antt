@@ -1,7 +1,6 @@
-use Rattle.std.proofs.Common.{◌≡◌, ◌+◌, ◌++◌, ◌∷◌, [], List, All, map, take, sym, subst, ap, ◌∙◌}
+use Rattle.std.proofs.Common.{◌≡◌, ◌+◌, ◌++◌, ◌∷◌, [], All, map, take, sym, subst, ap, ◌∙◌}
 use Rattle.std.proofs.lemmas.List.{map-append, take_more}
 use Rattle.orc_state.specs.declared.declarations.Device.{Device}
-use Rattle.orc_refs.specs.Stores.{Store}
 use Rattle.orc_state.specs.States.{declared_base}
 use Rattle.orc_state.specs.inside.Keeping.{IsStoreFor}
 use Rattle.orc_state.proofs.Openings.{more-bases, one-more}

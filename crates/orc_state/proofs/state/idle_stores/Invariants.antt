@@ -1,4 +1,4 @@
-use Rattle.std.proofs.Common.{◌≡◌, [], List, All, map, take}
+use Rattle.std.proofs.Common.{◌≡◌, [], All, map, take}
 use Rattle.orc_refs.specs.Stores.{Store}
 use Rattle.orc_state.specs.States.{declared_base}
 use Rattle.orc_state.specs.inside.Keeping.{IsStoreFor}

@@ -6,7 +6,7 @@ use Rattle.orc_state.proofs.turns.push_move.Goals as goal
 
 pub returns-in_ok-push-in-Comes-clause-whole : goal.returns-in_ok-push-in-Comes-clause-whole
 returns-in_ok-push-in-Comes-clause-whole c =
-    let move : Move = record { service = c.in_ok-copy-in-Comes.field-0; old = c.new-in-Comes.result; new = c.in_ok-new-in-Comes.new } in
+    let move : Move = record { service = c.in_ok-copy-in-Comes.field-0; old = c.in_ok-old-in-Comes.old; new = c.in_ok-new-in-Comes.new } in
     let more : c.push.new.self.items ≡ c.args.moves.now.items ++ move ∷ [] = search rules in
     subst BringWhole (sym more) (bring-more c.args.moves.now.items move c.requires c.in_ok-new-in-Comes.ensures.whole)
 

@@ -1,4 +1,4 @@
-use Rattle.std.proofs.Common.{◌≡◌, ℕ, ◌+◌, ◌++◌, drop, List, [], ◌∷◌, Ok, Err, sym, ap, subst, ◌∙◌, string_bytes}
+use Rattle.std.proofs.Common.{◌≡◌, ℕ, ◌+◌, drop, List, ◌∷◌, Ok, Err, sym, ap, subst, ◌∙◌, string_bytes}
 use Rattle.std.specs.Prelude.{IsTrue}
 use Rattle.std.proofs.lemmas.List.{at_drop_more}
 use Rattle.serde_json.specs.View.{view, items_view, members_view}
@@ -12,9 +12,8 @@ use Rattle.orc_json.specs.Findings.{below}
 use Rattle.orc_template.specs.Writing.{Writes, write_at, members_done, entries_done, entry_done, go_on}
 use Rattle.orc_template.specs.inside.Machine.{scene}
 use Rattle.orc_template.specs.inside.Nodes.{member_at_name}
-use Rattle.orc_template.specs.declared.writing.Writing.{Writing}
 use Rattle.orc_template.proofs.Handed.{wrote_more, stops_whole}
-use Rattle.orc_template.proofs.Entries.{keyed_fits, keys_fail, entry_fails, entry_goes_on}
+use Rattle.orc_template.proofs.Entries.{keyed_fits, entry_fails, entry_goes_on}
 use Rattle.orc_template.proofs.Paths.{leaf_fits}
 use Rattle.orc_template.proofs.config.+config.Goals as goal
 

@@ -1,4 +1,4 @@
-use Rattle.std.proofs.Common.{Bor, codes, ap, sym, subst, ◌∙◌}
+use Rattle.std.proofs.Common.{Bor, codes, ap, sym, subst}
 use Rattle.std.specs.Option.{unwrap_or}
 use Rattle.serde_json.specs.Data.{Data, null}
 use Rattle.serde_json.specs.Find.{get}

@@ -1,4 +1,4 @@
-use Rattle.std.proofs.Common.{ℕ, List, Bor, subst, ap, sym}
+use Rattle.std.proofs.Common.{ℕ, List, Bor, subst}
 use Rattle.serde_json.specs.View.{view}
 use Rattle.serde_json.specs.Find.{as_str}
 use Rattle.orc_value.specs.Json.{canon_of_json}

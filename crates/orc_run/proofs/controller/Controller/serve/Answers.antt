@@ -15,7 +15,11 @@ use Rattle.orc_run.proofs.Answering.{at_once, is_committing, same_view, says, wa
 use Rattle.orc_run.proofs.Outcomes.{AreLaws}
 use Rattle.orc_run.proofs.Ranges.{touched_are_devices}
 use Rattle.orc_run.proofs.Servings.{at_once_among}
+use Rattle.orc_state.proofs.Fits.{call-fits}
 use Rattle.orc_run.proofs.controller.Controller.serve.Goals as goal
+
+pub touched_devices-requires-clause-fit : goal.touched_devices-requires-clause-fit
+touched_devices-requires-clause-fit g c = call-fits c.args.decls.now c.args.call.now c.requires.call
 
 pub returns-then-not-self : goal.returns-then-not-self
 returns-then-not-self g c sound =
@@ -72,16 +76,14 @@ commit-requires-clause-touched g c =
     let same = same_view disk decls sound.0 old sound.1 c.if-not-self.false call c.answer_or_apply.new.self c.answer_or_apply.ensures.rest
     (c.in_ok-answer.ensures.due (ap (λ (o : Option Answer). Ok o) c.in-None.is)) in
     c.in_ok-devices.ensures
-    ∙ ap (λ (l : List (List ℕ)). touched_devices l old.past.state call) c.as_slice-2.ensures
-    ∙ ap (λ (s : State). touched_devices decls.names s call) sound.1.behind.state
-    ∙ ap (λ (w : View g.row.D.Denot). touched_devices decls.names (state_of decls w.known) call) (sym same)
+    ∙ ap (λ (s : State). touched_devices decls s call) sound.1.behind.state
+    ∙ ap (λ (w : View g.row.D.Denot). touched_devices decls (state_of decls w.known) call) (sym same)
 
 pub commit-requires-clause-devices : goal.commit-requires-clause-devices
 commit-requires-clause-devices g c =
     let old = c.args.self.now in
     let call = c.args.call.now in
-    touched_are_devices c.args.decls.now old.past.state call c.in_ok-devices.devices c.requires.decls
-    (c.in_ok-devices.ensures ∙ ap (λ (l : List (List ℕ)). touched_devices l old.past.state call) c.as_slice-2.ensures)
+    touched_are_devices c.args.decls.now old.past.state call c.in_ok-devices.devices c.requires.decls c.in_ok-devices.ensures
 
 pub returns-in-None : goal.returns-in-None
 returns-in-None g c sound =

@@ -3,7 +3,6 @@ use Rattle.std.specs.Prelude.{Option, MatchOption, slice_get}
 use Rattle.std.specs.declared.option.Option.TheVariants.{Some}
 use Rattle.orc_call.specs.declared.call.Call.{Call}
 use Rattle.orc_state.specs.Legal.{AnswersAtOnce, IsNew, IsSame}
-use Rattle.orc_state.specs.declared.declarations.Decls.{Decls}
 use Rattle.orc_run.proofs.past.Past.repeated.Goals as goal
 
 pub answer_at-requires : goal.answer_at-requires

@@ -1,5 +1,4 @@
 use Rattle.std.proofs.Common.{ap, ◌∙◌}
-use Rattle.std.proofs.lemmas.Result.{err_from_is_err_and}
 use Rattle.orc_template.specs.Expansions.{expanded, device_parts}
 use Rattle.orc_template.specs.Said.{template_json}
 use Rattle.orc_template.specs.inside.Machine.{the_readers}

@@ -7,7 +7,7 @@ use Rattle.orc_template.specs.inside.Machine.{the_readers}
 use Rattle.orc_template.proofs.ReadBack.{readers_read, readers_same}
 use Rattle.orc_template.proofs.template.Template.read.Goals as goal
 
-pub returns : goal.returns
-returns c = λ readers are.
+pub returns-clause-reads : goal.returns-clause-reads
+returns-clause-reads c = λ readers are.
     subst (λ (r : Readers). ReadsTemplate (record { readers = r; shapes = shape_at c.args.schema.now; node = c.args.list.now }) c.args.bytes.now (read_result c.read_bytes.result))
-    (readers_same the_readers readers readers_read are) c.read_bytes.ensures
+    (readers_same the_readers readers readers_read are) c.read_bytes.ensures.reads

@@ -1,7 +1,7 @@
 use Rattle.std.proofs.Common.{ℕ, List, Err, map, sym, ap, ◌∙◌}
 use Rattle.std.specs.FinMap.{empty}
 use Rattle.serde_json.specs.View.{items_view}
-use Rattle.orc_template.specs.Blocks.{blocks_of}
+use Rattle.orc_template.specs.Blocks.{blocks_of, blocks_inside}
 use Rattle.orc_template.specs.Devices.{DeviceTable}
 use Rattle.orc_template.specs.Expansions.{expanded, blocks_expanded}
 use Rattle.orc_template.specs.Said.{template_json}
@@ -19,7 +19,7 @@ returns-in-Ok g c =
     let json = template_json c.args.self.now in
     let v = g.V.DataView.viewed c.args.view.now in
     let start = expanding_of (record { written = c.in_ok-nothing_written.field-0; reads = c.new.result }) in
-    let whole = begins the_readers devices here json v (blocks_of (items_view c.blocks_inside.result.now)) start c.blocks_inside.ensures
+    let whole = begins the_readers devices here json v (blocks_of (items_view c.blocks_inside.result.now)) start (c.blocks_inside.ensures ∙ ap blocks_inside c.json.ensures)
     (c.in_ok-nothing_written.ensures ∙ ap (map (λ (name : List ℕ). empty)) (c.as_slice.ensures ∙ ap (λ (t : DeviceTable). t.names) c.devices.view_is)) c.new.ensures in
     writes_done (expanded the_readers devices here json v) (expanding_of c.do_blocks-done.new.expanding) c.from_vec.result c.from_vec.ensures (sym whole ∙ c.in-Ok.ensures)
 
@@ -30,7 +30,7 @@ returns-in-Err g c =
     let json = template_json c.args.self.now in
     let v = g.V.DataView.viewed c.args.view.now in
     let start = expanding_of (record { written = c.in_ok-nothing_written.field-0; reads = c.new.result }) in
-    let whole = begins the_readers devices here json v (blocks_of (items_view c.blocks_inside.result.now)) start c.blocks_inside.ensures
+    let whole = begins the_readers devices here json v (blocks_of (items_view c.blocks_inside.result.now)) start (c.blocks_inside.ensures ∙ ap blocks_inside c.json.ensures)
     (c.in_ok-nothing_written.ensures ∙ ap (map (λ (name : List ℕ). empty)) (c.as_slice.ensures ∙ ap (λ (t : DeviceTable). t.names) c.devices.view_is)) c.new.ensures in
     writes_failed (expanded the_readers devices here json v) (expanding_of c.do_blocks-done.new.expanding) c.in-Err.fault
     (expands_so (blocks_expanded (ground v devices) here 1 (blocks_of (items_view c.blocks_inside.result.now)) start) (expanded the_readers devices here json v) (expanding_of c.do_blocks-done.new.expanding) (Err c.in-Err.fault) whole

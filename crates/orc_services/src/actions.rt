@@ -1,0 +1,203 @@
+//! What actions on templated services come to.
+ghost use Rattle.std.specs.Prelude.{◌≡◌, ◌++◌, ℕ, List, [], IfOk, IsTrue, OnErr, OnOk, Result, Some};
+ghost use Rattle.std.specs.Option.{option_map};
+ghost use Rattle.orc_expr.specs.declared.read.Read.{Read};
+ghost use Rattle.orc_template.specs.TheReaders.{the_readers};
+ghost use Rattle.orc_template.specs.Expansions.{Expanding, Failed, expanded};
+ghost use Rattle.orc_template.specs.Said.{template_json};
+ghost use Rattle.orc_services.specs.Fitting.{fits_action, FitActions};
+ghost use Rattle.orc_services.specs.Services.{expansion_at, expansion_of, instance_at, serving};
+ghost use Rattle.orc_services.specs.Expanded.{as_literal, expanded_actions, expanded_action, ExpandsTo};
+ghost use Rattle.orc_services.specs.inside.Answering.{Expands};
+ghost use Rattle.orc_schema.specs.Schemas.{shape_at};
+
+use crate::list::{ServiceList, list_with, path_of_id};
+use crate::writes::writes_of;
+use orc_call::{Action, Answer};
+use orc_expr::ReadSet;
+use orc_path::Path;
+use orc_template::{Devices, ExpandFault, Template, View, the_readers_read_back};
+use orc_text::{Memory, Row, Text};
+use orc_tree::Tree;
+use std::alloc::Global;
+use std::mem;
+
+/// What was written on each device, or the block at fault and the rule.
+#[derive(Drop)]
+pub(crate) enum Expanded {
+    Written(Row<Tree>),
+    Fault(u32, u8),
+}
+
+// The expansion of a template at an instance of its list.
+fn expand(
+    alloc: Global,
+    template: &Template,
+    view: &View<'_>,
+    instance: &Path,
+    devices: &Devices,
+    reads: &mut ReadSet,
+) -> Result<Expanded, Memory>
+    ensures { IfOk result (Expands
+        (expanded the_readers devices.now instance.now (template_json template.now)
+        (record { items = view.now.tree.now; shapes = shape_at view.now.schema.now }))
+        reads.old.reads reads.new.reads) }
+{
+    the_readers_read_back();
+    match template.written(alloc, view, instance, devices, reads) {
+        Ok(trees) => Ok(Expanded::Written(trees)),
+        Err(ExpandFault::At { block, rule }) => Ok(Expanded::Fault(block, rule)),
+        Err(ExpandFault::Memory) => Err(Memory),
+    }
+}
+
+// A literal service with the items of an expansion, or the answer that it can't be expanded.
+fn literal(
+    alloc: Global,
+    devices: &Devices,
+    id: &Text,
+    expanded: Expanded,
+) -> Result<Result<Action, Answer>, Memory>
+    ensures outcome { (due : Result Expanding Failed) (old new : List Read) → Expands due old new expanded
+        → IfOk result (ExpandsTo (as_literal devices.now.names id.now (Some due)) old new) }
+    ensures fit { IfOk result (λ outcome. IfOk outcome (λ action. IsTrue (fits_action action))) }
+{
+    match expanded {
+        Expanded::Written(trees) => {
+            let writes = writes_of(alloc, devices.names.as_slice(), trees.as_slice())?;
+            Ok(Ok(Action::Literal(id.copy(alloc)?, writes)))
+        }
+        Expanded::Fault(block, rule) => Ok(Err(Answer::Expand(id.copy(alloc)?, block, rule))),
+    }
+}
+
+// The same of the service at a path.
+fn expand_at(
+    alloc: Global,
+    lists: &[ServiceList],
+    devices: &Devices,
+    view: &View<'_>,
+    id: &Text,
+    path: &Path,
+    reads: &mut ReadSet,
+) -> Result<Result<Action, Answer>, Memory>
+    ensures outcome { IfOk result (ExpandsTo
+        (as_literal devices.now.names id.now
+        (option_map (expansion_at (serving lists.now devices.now view.now)) (instance_at lists.now path.now)))
+        reads.old.reads reads.new.reads) }
+    ensures fit { IfOk result (λ outcome. IfOk outcome (λ action. IsTrue (fits_action action))) }
+{
+    match list_with(lists, path) {
+        Some(it) => {
+            let expanded = expand(alloc, &it.template, view, path, devices, reads)?;
+            literal(alloc, devices, id, expanded)
+        }
+        None => Ok(Ok(Action::Literal(id.copy(alloc)?, Row::new(alloc)))),
+    }
+}
+
+// The same of the service of an id.
+fn expand_service(
+    alloc: Global,
+    lists: &[ServiceList],
+    devices: &Devices,
+    view: &View<'_>,
+    id: &Text,
+    reads: &mut ReadSet,
+) -> Result<Result<Action, Answer>, Memory>
+    ensures outcome { IfOk result (ExpandsTo
+        (as_literal devices.now.names id.now (expansion_of (serving lists.now devices.now view.now) id.now))
+        reads.old.reads reads.new.reads) }
+    ensures fit { IfOk result (λ outcome. IfOk outcome (λ action. IsTrue (fits_action action))) }
+{
+    match path_of_id(alloc, id)? {
+        Some(path) => expand_at(alloc, lists, devices, view, id, &path, reads),
+        None => Ok(Ok(Action::Literal(id.copy(alloc)?, Row::new(alloc)))),
+    }
+}
+
+// What an action comes to.
+fn expand_action(
+    alloc: Global,
+    lists: &[ServiceList],
+    devices: &Devices,
+    view: &View<'_>,
+    action: &Action,
+    reads: &mut ReadSet,
+) -> Result<Result<Action, Answer>, Memory>
+    requires { IsTrue (fits_action action.now) }
+    ensures outcome { IfOk result (ExpandsTo (expanded_action (serving lists.now devices.now view.now) action.now)
+        reads.old.reads reads.new.reads) }
+    ensures fit { IfOk result (λ outcome. IfOk outcome (λ action. IsTrue (fits_action action))) }
+{
+    match action {
+        Action::Create(id, _) => expand_service(alloc, lists, devices, view, id, reads),
+        Action::Modify(id, _) => expand_service(alloc, lists, devices, view, id, reads),
+        Action::Redeploy(id) => expand_service(alloc, lists, devices, view, id, reads),
+        _ => Ok(Ok(action.copy(alloc)?)),
+    }
+}
+
+// The same of actions, in their order, or the answer that the first that can't be expanded gets.
+fn expand_all(
+    alloc: Global,
+    lists: &[ServiceList],
+    devices: &Devices,
+    view: &View<'_>,
+    actions: &[Action],
+    reads: &mut ReadSet,
+) -> Result<Result<Row<Action>, Answer>, Memory>
+    requires { FitActions actions.now }
+    ensures outcome { IfOk result (ExpandsTo (expanded_actions (serving lists.now devices.now view.now) actions.now)
+        reads.old.reads reads.new.reads) }
+    ensures fit { IfOk result (λ outcome. IfOk outcome FitActions) }
+{
+    let mut expanded = Row::new(alloc);
+    for action in actions {
+        match expand_action(alloc, lists, devices, view, action, reads)? {
+            Ok(action) => expanded.push(action)?,
+            Err(answer) => return Ok(Err(answer)),
+        }
+    }
+    Ok(Ok(expanded))
+}
+
+// Adds reads. After want of memory the reads are as they were.
+fn add_reads(alloc: Global, reads: &mut ReadSet, more: ReadSet) -> Result<(), Memory>
+    ensures ok { OnOk result (reads.new.reads ≡ reads.old.reads ++ more.reads) }
+    ensures err { OnErr result (reads.new.reads ≡ reads.old.reads) }
+{
+    let mut all = mem::replace(&mut reads.reads, Row::new(alloc)).into_vec();
+    let mut more = more.reads.into_vec();
+    let added = all.append(&mut more);
+    reads.reads = Row::from_vec(all);
+    match added {
+        Ok(()) => Ok(()),
+        Err(_) => Err(Memory),
+    }
+}
+
+/// What the actions of a call come to, once its data is done: each that creates, modifies or redeploys
+/// a service is that of a literal one with the items of its expansion on the data. Or the answer is
+/// the first that can't be expanded. What the expansions read is added, also where the answer is a
+/// fault; after want of memory nothing is added. It asks that each item that an action sets fits its
+/// path.
+pub fn expand_actions(
+    alloc: Global,
+    lists: &[ServiceList],
+    devices: &Devices,
+    view: &View<'_>,
+    actions: &[Action],
+    reads: &mut ReadSet,
+) -> Result<Result<Row<Action>, Answer>, Memory>
+    requires { FitActions actions.now }
+    ensures outcome { IfOk result (ExpandsTo (expanded_actions (serving lists.now devices.now view.now) actions.now)
+        reads.old.reads reads.new.reads) }
+    ensures fit { IfOk result (λ outcome. IfOk outcome FitActions) }
+    ensures memory { OnErr result (reads.new.reads ≡ reads.old.reads) }
+{
+    let mut read = ReadSet::new(alloc);
+    let outcome = expand_all(alloc, lists, devices, view, actions, &mut read)?;
+    add_reads(alloc, reads, read)?;
+    Ok(outcome)
+}

@@ -1,0 +1,290 @@
+-- What a call writes lies inside its targets, and what stands behind a call that fits.
+use Rattle.std.proofs.Common.{◌≡◌, ◌≢◌, ◌⊎◌, inl, inr, ℕ, zero, suc, ◌<◌, ◌≤◌, Bool, true, false, ◌&&◌, ◌||◌, List, [], ◌∷◌, ◌++◌, length, take, All, IsTrue, None, Some, refl, sym, ap, subst, ◌∙◌, cond, arith}
+use Rattle.std.specs.declared.option.Option.{Option}
+use Rattle.std.specs.declared.result.Result.{Result}
+use Rattle.std.specs.Option.{option_map_or}
+use Rattle.std.specs.List.{flat_map, list_all, list_any, Contains}
+use Rattle.std.specs.Cmp.{first_so, second_so}
+use Rattle.std.specs.FinMap.{get}
+use Rattle.std.specs.Ordering.{eq_by_cmp}
+use Rattle.std.proofs.lemmas.Bool.{and_from, cases_lt, false≢true}
+use Rattle.std.proofs.lemmas.List.{take-append-le}
+use Rattle.std.proofs.lemmas.List.Elements.{All-head, All-tail, Contains-append_left, Contains-append_right}
+use Rattle.orc_path.specs.Steps.{PathStep, ends_in_keys}
+use Rattle.orc_path.specs.Order.{is_prefix, path_cmp, step_eq}
+use Rattle.orc_path.specs.Configurations.{Config, IsWay, drop_item, is_removed_with, put_item}
+use Rattle.orc_path.specs.Reading.{path_of}
+use Rattle.orc_path.specs.declared.item.Item.{Item}
+use Rattle.orc_path.specs.declared.item.Item.TheVariants.{Entry}
+use Rattle.orc_path.specs.declared.item.Write.TheVariants as write
+use Rattle.orc_path.proofs.ConfigurationLaws.{get-drop_item, get-put_item-here, get-put_item-way, put_item_cases, same_path}
+use Rattle.orc_path.proofs.Extensions.{is_prefix_rest, is_prefix-append}
+use Rattle.orc_schema.specs.Schemas.{shape_at}
+use Rattle.orc_call.specs.declared.answer.Answer.{Answer}
+use Rattle.orc_call.specs.declared.call.Action.{Action}
+use Rattle.orc_call.specs.declared.call.Action.TheVariants.{Create, Modify, Delete, Set, Unset}
+use Rattle.orc_call.specs.declared.call.Call.{Call}
+use Rattle.orc_call.specs.declared.call.Put.{Put}
+use Rattle.orc_expr.specs.Touches.{Covers, IsInside, write_touches, write_touches_any}
+use Rattle.orc_expr.specs.declared.read.Read.{Read}
+use Rattle.orc_expr.specs.declared.read.Target.{Target}
+use Rattle.orc_expr.specs.declared.read.Target.TheVariants.{One, Under}
+use Rattle.orc_services.specs.Laws.{ExpandedStands}
+use Rattle.orc_services.specs.Expanded.{ExpandedTo, expanded_actions}
+use Rattle.orc_state.specs.States.{State, put_all}
+use Rattle.orc_state.specs.Actions.{data_after, data_step, enter_service, leave_service}
+use Rattle.orc_state.specs.Next.{serving_on, expanded_call}
+use Rattle.orc_state.specs.Calls.{has_body, is_action, is_body, is_body_item, is_put, is_service}
+use Rattle.orc_state.specs.Plans.{IsInsideOne, call_reads, call_targets, entry_targets, leave_targets, targets_of}
+use Rattle.orc_state.specs.Laws.{ChangesAreTargets, ExpandedStandsBehind}
+use Rattle.orc_state.specs.declared.declarations.Decls.{Decls}
+use Rattle.orc_state.proofs.Agreement.{first_in, later_in}
+
+-- what actions make of a path depends on what stands there alone
+
+here_at : (m : Config) (p : List PathStep) (item : Item) (q : List PathStep) → q ≡ p → get (put_item m p item) q ≡ Some item
+here_at m p item q same = ap (get (put_item m p item)) same ∙ get-put_item-here m p item
+
+put_same : (m n : Config) (p : List PathStep) (item : Item) (q : List PathStep) → get m q ≡ get n q
+    → get (put_item m p item) q ≡ get (put_item n p item) q
+put_same m n p item q h = on (put_item_cases m p item q) (put_item_cases n p item q)
+  where
+    on : ((q ≡ p) × (get (put_item m p item) q ≡ Some item)) ⊎ ((IsWay q p × (get (put_item m p item) q ≡ Some Entry)) ⊎ (get (put_item m p item) q ≡ get m q))
+        → ((q ≡ p) × (get (put_item n p item) q ≡ Some item)) ⊎ ((IsWay q p × (get (put_item n p item) q ≡ Some Entry)) ⊎ (get (put_item n p item) q ≡ get n q))
+        → get (put_item m p item) q ≡ get (put_item n p item) q
+    on (inl one) other = one.1 ∙ sym (here_at n p item q one.0)
+    on (inr (inl one)) other = one.1 ∙ sym (get-put_item-way n p item q one.0)
+    on (inr (inr one)) (inl other) = here_at m p item q other.0 ∙ sym other.1
+    on (inr (inr one)) (inr (inl other)) = get-put_item-way m p item q other.0 ∙ sym other.1
+    on (inr (inr one)) (inr (inr other)) = one ∙ h ∙ sym other
+
+drop_same : (m n : Config) (p q : List PathStep) → get m q ≡ get n q → get (drop_item m p) q ≡ get (drop_item n p) q
+drop_same m n p q h = get-drop_item m p q ∙ ap (λ o. cond (is_removed_with p q) None o) h ∙ sym (get-drop_item n p q)
+
+puts_same : (puts : List Put) (m n : Config) (q : List PathStep) → get m q ≡ get n q → get (put_all puts m) q ≡ get (put_all puts n) q
+puts_same [] m n q h = h
+puts_same (put ∷ puts) m n q h =
+    puts_same puts (put_item m put.path put.item) (put_item n put.path put.item) q (put_same m n put.path put.item q h)
+
+enter_same : (o : Option (List PathStep)) (body : List Put) (m n : Config) (q : List PathStep) → get m q ≡ get n q
+    → get (enter_service o body m) q ≡ get (enter_service o body n) q
+enter_same None body m n q h = h
+enter_same (Some path) body m n q h = puts_same body (put_item m path Entry) (put_item n path Entry) q (put_same m n path Entry q h)
+
+leave_same : (o : Option (List PathStep)) (m n : Config) (q : List PathStep) → get m q ≡ get n q → get (leave_service o m) q ≡ get (leave_service o n) q
+leave_same None m n q h = h
+leave_same (Some path) m n q h = drop_same m n path q h
+
+step_same : (action : Action) (m n : Config) (q : List PathStep) → get m q ≡ get n q → get (data_step m action) q ≡ get (data_step n action) q
+step_same (Create id body) m n q h = enter_same (path_of id) body m n q h
+step_same (Modify id body) m n q h =
+    enter_same (path_of id) body (leave_service (path_of id) m) (leave_service (path_of id) n) q (leave_same (path_of id) m n q h)
+step_same (Delete id) m n q h = leave_same (path_of id) m n q h
+step_same (Set put) m n q h = put_same m n put.path put.item q h
+step_same (Unset path) m n q h = drop_same m n path q h
+step_same other m n q h = h
+
+pub behind_same : (actions : List Action) (m n : Config) (q : List PathStep) → get m q ≡ get n q → get (data_after actions m) q ≡ get (data_after actions n) q
+behind_same [] m n q h = h
+behind_same (action ∷ actions) m n q h = behind_same actions (data_step m action) (data_step n action) q (step_same action m n q h)
+
+-- what an action changes lies inside one of its targets
+
+-- a front of a path below another is below it too, or on its way
+prefix_take : (entry path : List PathStep) (n : ℕ) → is_prefix entry path ≡ true → length entry ≤ n → is_prefix entry (take n path) ≡ true
+prefix_take [] path n h le = refl
+prefix_take (own ∷ entry) [] n h le = absurd (false≢true h)
+prefix_take (own ∷ entry) (step ∷ path) zero h le = absurd (omega (arith, le))
+prefix_take (own ∷ entry) (step ∷ path) (suc n) h le =
+    and_from (step_eq own step) (is_prefix entry (take n path)) (first_so (step_eq own step) (is_prefix entry path) h)
+    (prefix_take entry path n (second_so (step_eq own step) (is_prefix entry path) h) (omega (arith, le)))
+
+way_below : (entry path way : List PathStep) → is_prefix entry path ≡ true → IsWay way path → IsWay way entry ⊎ (is_prefix entry way ≡ true)
+way_below entry path way h is = on (cases_lt (length way) (length entry))
+  where
+    on : (length way < length entry) ⊎ (length entry ≤ length way) → IsWay way entry ⊎ (is_prefix entry way ≡ true)
+    on (inl less) =
+        let rest = is_prefix_rest entry path h in
+        inl (record {
+          shorter = less;
+          begins = is.begins ∙ ap (take (length way)) rest.1 ∙ take-append-le (length way) entry rest.0 (omega (arith, less));
+          keyed = is.keyed;
+        })
+    on (inr upto) = inr (ap (is_prefix entry) is.begins ∙ prefix_take entry path (length way) h upto)
+
+-- a path is below itself
+below_itself : (path : List PathStep) → is_prefix path path ≡ true
+below_itself path = subst (λ (q : List PathStep). is_prefix path q ≡ true) (append_none path) (is_prefix-append path [])
+  where
+    append_none : (xs : List PathStep) → xs ++ [] ≡ xs
+    append_none [] = refl
+    append_none (x ∷ xs) = ap (λ l. x ∷ l) (append_none xs)
+
+entry_changes : (path : List PathStep) (m : Config) (q : List PathStep) → IsInsideOne (entry_targets (Some path)) q ⊎ (get (put_item m path Entry) q ≡ get m q)
+entry_changes path m q = on (put_item_cases m path Entry q)
+  where
+    on : ((q ≡ path) × (get (put_item m path Entry) q ≡ Some Entry)) ⊎ ((IsWay q path × (get (put_item m path Entry) q ≡ Some Entry)) ⊎ (get (put_item m path Entry) q ≡ get m q))
+        → IsInsideOne (entry_targets (Some path)) q ⊎ (get (put_item m path Entry) q ≡ get m q)
+    on (inl one) = inl (One path, first_in (One path) (Under path ∷ []), inl one.0)
+    on (inr (inl one)) = inl (One path, first_in (One path) (Under path ∷ []), inr one.0)
+    on (inr (inr same)) = inr same
+
+-- an item of a body is put at or below the entry
+put_changes : (entry path : List PathStep) (item : Item) (m : Config) (q : List PathStep) → is_prefix entry path ≡ true
+    → IsInsideOne (entry_targets (Some entry)) q ⊎ (get (put_item m path item) q ≡ get m q)
+put_changes entry path item m q below = on (put_item_cases m path item q)
+  where
+    at : is_prefix entry q ≡ true → IsInsideOne (entry_targets (Some entry)) q
+    at h = (Under entry, later_in (One entry) (Under entry) (Under entry ∷ []) (first_in (Under entry) []), h)
+
+    way : IsWay q entry ⊎ (is_prefix entry q ≡ true) → IsInsideOne (entry_targets (Some entry)) q
+    way (inl above) = (One entry, first_in (One entry) (Under entry ∷ []), inr above)
+    way (inr h) = at h
+
+    on : ((q ≡ path) × (get (put_item m path item) q ≡ Some item)) ⊎ ((IsWay q path × (get (put_item m path item) q ≡ Some Entry)) ⊎ (get (put_item m path item) q ≡ get m q))
+        → IsInsideOne (entry_targets (Some entry)) q ⊎ (get (put_item m path item) q ≡ get m q)
+    on (inl one) = inl (at (ap (is_prefix entry) one.0 ∙ below))
+    on (inr (inl one)) = inl (way (way_below entry path q below one.0))
+    on (inr (inr same)) = inr same
+
+puts_change : (entry : List PathStep) (puts : List Put) (m : Config) (q : List PathStep) → list_all (λ put. is_prefix entry put.path) puts ≡ true
+    → IsInsideOne (entry_targets (Some entry)) q ⊎ (get (put_all puts m) q ≡ get m q)
+puts_change entry [] m q h = inr refl
+puts_change entry (put ∷ puts) m q h =
+    on (put_changes entry put.path put.item m q (first_so (is_prefix entry put.path) _ h))
+    (puts_change entry puts (put_item m put.path put.item) q (second_so (is_prefix entry put.path) _ h))
+  where
+    on : IsInsideOne (entry_targets (Some entry)) q ⊎ (get (put_item m put.path put.item) q ≡ get m q)
+        → IsInsideOne (entry_targets (Some entry)) q ⊎ (get (put_all puts (put_item m put.path put.item)) q ≡ get (put_item m put.path put.item) q)
+        → IsInsideOne (entry_targets (Some entry)) q ⊎ (get (put_all puts (put_item m put.path put.item)) q ≡ get m q)
+    on (inl one) later = inl one
+    on (inr one) (inl later) = inl later
+    on (inr one) (inr later) = inr (later ∙ one)
+
+body_below : (decls : Decls) (entry : List PathStep) (body : List Put) → is_body decls.data_schema entry body ≡ true
+    → list_all (λ put. is_prefix entry put.path) body ≡ true
+body_below decls entry body h =
+    weaker body (second_so _ (list_all (is_body_item decls.data_schema entry) body) (first_so _ _ h))
+  where
+    weaker : (puts : List Put) → list_all (is_body_item decls.data_schema entry) puts ≡ true → list_all (λ put. is_prefix entry put.path) puts ≡ true
+    weaker [] k = refl
+    weaker (put ∷ puts) k =
+        and_from (is_prefix entry put.path) (list_all (λ p. is_prefix entry p.path) puts)
+        (first_so (is_prefix entry put.path) _ (second_so (is_put decls.data_schema put) _ (first_so (is_body_item decls.data_schema entry put) _ k)))
+        (weaker puts (second_so (is_body_item decls.data_schema entry put) _ k))
+
+enter_changes : (decls : Decls) (o : Option (List PathStep)) (body : List Put) (m : Config) (q : List PathStep)
+    → option_map_or (λ entry. is_body decls.data_schema entry body) o false ≡ true
+    → IsInsideOne (entry_targets o) q ⊎ (get (enter_service o body m) q ≡ get m q)
+enter_changes decls None body m q h = inr refl
+enter_changes decls (Some entry) body m q h =
+    on (entry_changes entry m q) (puts_change entry body (put_item m entry Entry) q (body_below decls entry body h))
+  where
+    on : IsInsideOne (entry_targets (Some entry)) q ⊎ (get (put_item m entry Entry) q ≡ get m q)
+        → IsInsideOne (entry_targets (Some entry)) q ⊎ (get (put_all body (put_item m entry Entry)) q ≡ get (put_item m entry Entry) q)
+        → IsInsideOne (entry_targets (Some entry)) q ⊎ (get (put_all body (put_item m entry Entry)) q ≡ get m q)
+    on (inl one) later = inl one
+    on (inr one) (inl later) = inl later
+    on (inr one) (inr later) = inr (later ∙ one)
+
+-- removing a path takes what is at or below it
+drop_changes : (path : List PathStep) (m : Config) (q : List PathStep) → (is_prefix path q ≡ true) ⊎ (get (drop_item m path) q ≡ get m q)
+drop_changes path m q = on (is_removed_with path q) refl
+  where
+    below : (t : Bool) → cond t (is_prefix path q) (eq_by_cmp path_cmp path q) ≡ true → is_prefix path q ≡ true
+    below true h = h
+    below false h = subst (λ (x : List PathStep). is_prefix path x ≡ true) (same_path path q h) (below_itself path)
+
+    on : (t : Bool) → is_removed_with path q ≡ t → (is_prefix path q ≡ true) ⊎ (get (drop_item m path) q ≡ get m q)
+    on true is = inl (below (ends_in_keys path) is)
+    on false is = inr (get-drop_item m path q ∙ ap (λ t. cond t None (get m q)) is)
+
+leave_changes : (o : Option (List PathStep)) (m : Config) (q : List PathStep) → IsInsideOne (leave_targets o) q ⊎ (get (leave_service o m) q ≡ get m q)
+leave_changes None m q = inr refl
+leave_changes (Some path) m q = on (drop_changes path m q)
+  where
+    on : (is_prefix path q ≡ true) ⊎ (get (drop_item m path) q ≡ get m q) → IsInsideOne (leave_targets (Some path)) q ⊎ (get (drop_item m path) q ≡ get m q)
+    on (inl h) = inl (Under path, first_in (Under path) [], h)
+    on (inr same) = inr same
+
+leave_inside : (o : Option (List PathStep)) (q : List PathStep) → IsInsideOne (leave_targets o) q → IsInsideOne (entry_targets o) q
+leave_inside None q h = h
+leave_inside (Some path) q h = (h.0, later_in (One path) h.0 (Under path ∷ []) h.1, h.2)
+
+step_changes : (decls : Decls) (action : Action) (m : Config) (q : List PathStep) → is_action decls action ≡ true
+    → IsInsideOne (targets_of action) q ⊎ (get (data_step m action) q ≡ get m q)
+step_changes decls (Create id body) m q h = enter_changes decls (path_of id) body m q (second_so (is_service decls id) (has_body decls id body) h)
+step_changes decls (Modify id body) m q h =
+    on (leave_changes (path_of id) m q) (enter_changes decls (path_of id) body (leave_service (path_of id) m) q (second_so (is_service decls id) (has_body decls id body) h))
+  where
+    on : IsInsideOne (leave_targets (path_of id)) q ⊎ (get (leave_service (path_of id) m) q ≡ get m q)
+        → IsInsideOne (entry_targets (path_of id)) q ⊎ (get (enter_service (path_of id) body (leave_service (path_of id) m)) q ≡ get (leave_service (path_of id) m) q)
+        → IsInsideOne (entry_targets (path_of id)) q ⊎ (get (enter_service (path_of id) body (leave_service (path_of id) m)) q ≡ get m q)
+    on (inl one) later = inl (leave_inside (path_of id) q one)
+    on (inr one) (inl later) = inl later
+    on (inr one) (inr later) = inr (later ∙ one)
+step_changes decls (Delete id) m q h = leave_changes (path_of id) m q
+step_changes decls (Set put) m q h = on (put_item_cases m put.path put.item q)
+  where
+    on : ((q ≡ put.path) × (get (put_item m put.path put.item) q ≡ Some put.item)) ⊎ ((IsWay q put.path × (get (put_item m put.path put.item) q ≡ Some Entry)) ⊎ (get (put_item m put.path put.item) q ≡ get m q))
+        → IsInsideOne (One put.path ∷ []) q ⊎ (get (put_item m put.path put.item) q ≡ get m q)
+    on (inl one) = inl (One put.path, first_in (One put.path) [], inl one.0)
+    on (inr (inl one)) = inl (One put.path, first_in (One put.path) [], inr one.0)
+    on (inr (inr same)) = inr same
+step_changes decls (Unset path) m q h = on (drop_changes path m q)
+  where
+    on : (is_prefix path q ≡ true) ⊎ (get (drop_item m path) q ≡ get m q) → IsInsideOne (Under path ∷ []) q ⊎ (get (drop_item m path) q ≡ get m q)
+    on (inl below) = inl (Under path, first_in (Under path) [], below)
+    on (inr same) = inr same
+step_changes decls other m q h = inr refl
+
+behind_changes : (decls : Decls) (actions : List Action) (m : Config) (q : List PathStep) → All (λ action. is_action decls action ≡ true) actions
+    → IsInsideOne (call_targets actions) q ⊎ (get (data_after actions m) q ≡ get m q)
+behind_changes decls [] m q h = inr refl
+behind_changes decls (action ∷ actions) m q h =
+    on (step_changes decls action m q (All-head (λ (a : Action). is_action decls a ≡ true) action actions h))
+    (behind_changes decls actions (data_step m action) q (All-tail (λ (a : Action). is_action decls a ≡ true) action actions h))
+  where
+    on : IsInsideOne (targets_of action) q ⊎ (get (data_step m action) q ≡ get m q)
+        → IsInsideOne (call_targets actions) q ⊎ (get (data_after actions (data_step m action)) q ≡ get (data_step m action) q)
+        → IsInsideOne (targets_of action ++ call_targets actions) q ⊎ (get (data_after actions (data_step m action)) q ≡ get m q)
+    on (inl one) later = inl (one.0, Contains-append_left (targets_of action) (call_targets actions) one.0 one.1, one.2)
+    on (inr one) (inl later) = inl (later.0, Contains-append_right (targets_of action) (call_targets actions) later.0 later.1, later.2)
+    on (inr one) (inr later) = inr (later ∙ one)
+
+pub changes_are_targets : ChangesAreTargets
+changes_are_targets decls actions config path h differs = on (behind_changes decls actions config path h)
+  where
+    on : IsInsideOne (call_targets actions) path ⊎ (get (data_after actions config) path ≡ get config path) → IsInsideOne (call_targets actions) path
+    on (inl one) = one
+    on (inr same) = absurd (differs same)
+
+-- what a write touches is among the reads
+
+touched_one : (reads : List Read) (path : List PathStep) → write_touches_any reads (write.At path) ≡ true
+    → (reading : Read) × Contains reads reading × (write_touches (write.At path) reading ≡ true)
+touched_one [] path h = absurd (false≢true h)
+touched_one (r ∷ reads) path h = on (write_touches (write.At path) r) refl h (touched_one reads path)
+  where
+    on : (t : Bool) → write_touches (write.At path) r ≡ t → (t || write_touches_any reads (write.At path)) ≡ true
+        → (write_touches_any reads (write.At path) ≡ true → (reading : Read) × Contains reads reading × (write_touches (write.At path) reading ≡ true))
+        → (reading : Read) × Contains (r ∷ reads) reading × (write_touches (write.At path) reading ≡ true)
+    on true is e rest = (r, first_in r reads, is)
+    on false is e rest = let found = rest e in (found.0, later_in r found.0 reads found.1, found.2)
+
+pub stands_behind : ExpandedStands → ExpandedStandsBehind
+stands_behind law decls state call other lawful apart =
+    let old = data_after call.actions state.data in
+    let new = data_after call.actions (data_after other.actions state.data) in
+    ap (λ (x : ExpandedTo (List Action)). x.outcome)
+    (law decls.services decls.table call.actions (shape_at decls.data_schema) old new (λ path differs. untouched path differs (write_touches_any (call_reads decls state call) (write.At path)) refl))
+  where
+    untouched : (path : List PathStep)
+        → (get (data_after call.actions state.data) path ≡ get (data_after call.actions (data_after other.actions state.data)) path → ⊥)
+        → (t : Bool) → write_touches_any (call_reads decls state call) (write.At path) ≡ t → write_touches_any (call_reads decls state call) (write.At path) ≡ false
+    untouched path differs false is = is
+    untouched path differs true is =
+        let found = touched_one (call_reads decls state call) path is in
+        let inside = changes_are_targets decls other.actions state.data path lawful
+        (λ same. differs (behind_same call.actions state.data (data_after other.actions state.data) path (sym same))) in
+        absurd (apart inside.0 found.0 inside.1 found.1 (path, (inside.2, found.2)))

@@ -1,5 +1,0 @@
-use Rattle.std.proofs.Common.{length}
-use Rattle.orc_state.proofs.lawful.+name_each_once.Given as goal
-
-abbrev pub decreases-name_each_once : goal.decreases-name_each_once
-decreases-name_each_once l = length l.actions.now

@@ -1,0 +1,84 @@
+use Rattle.std.proofs.Common.{◌≡◌, ℕ, ◌∙◌, ◌==◌, ◌++◌, ◌∷◌, [], List, length, false, true, rules, arith, sym, ap, subst, append_assoc}
+use Rattle.std.proofs.lemmas.List.{length-map}
+use Rattle.orc_state.specs.inside.Placed.{filled}
+use Rattle.orc_state.specs.inside.Turns.{AreFresh}
+use Rattle.orc_state.specs.declared.state.Service.{Service}
+use Rattle.orc_state.proofs.Placed.{cut_first, none_come, not_zero}
+use Rattle.orc_state.proofs.living.+put_all.Goals as goal
+
+pub returns-then-is_empty-clause-more : goal.returns-then-is_empty-clause-more
+returns-then-is_empty-clause-more t c =
+    let ended : (length c.args.services.items == 0) ≡ true = search rules in
+    none_come (filled c.args.slots.now.items) c.args.services.items ended
+
+pub remove-requires : goal.remove-requires
+remove-requires t c =
+    let some : (length c.args.services.items == 0) ≡ false = search rules in
+    omega (
+      arith,
+      not_zero (length c.args.services.items) some,
+      c.args.names.ok.0,
+      ap (λ (l : List (List ℕ)). length l) c.requires.names,
+      length-map c.args.services.items (λ (s : Service). s.id),
+    )
+
+pub remove-requires-2 : goal.remove-requires-2
+remove-requires-2 t c =
+    let some : (length c.args.services.items == 0) ≡ false = search rules in
+    omega (arith, not_zero (length c.args.services.items) some, c.args.services.ok.0)
+
+pub put_in-requires-clause-id : goal.put_in-requires-clause-id
+put_in-requires-clause-id t c =
+    let some : (length c.args.services.items == 0) ≡ false = search rules in
+    let cut = cut_first (filled c.args.slots.now.items) c.args.names.items c.remove.new.self.items c.args.services.items c.remove-2.new.self.items
+    c.remove.result c.remove-2.result c.requires.names c.requires.fresh (not_zero (length c.args.services.items) some)
+    c.remove.ensures.value c.remove.ensures.items c.remove-2.ensures.value c.remove-2.ensures.items in
+    cut.named
+
+pub put_in-requires-clause-fresh : goal.put_in-requires-clause-fresh
+put_in-requires-clause-fresh t c =
+    let some : (length c.args.services.items == 0) ≡ false = search rules in
+    let cut = cut_first (filled c.args.slots.now.items) c.args.names.items c.remove.new.self.items c.args.services.items c.remove-2.new.self.items
+    c.remove.result c.remove-2.result c.requires.names c.requires.fresh (not_zero (length c.args.services.items) some)
+    c.remove.ensures.value c.remove.ensures.items c.remove-2.ensures.value c.remove-2.ensures.items in
+    cut.fresh
+
+pub put_in-requires-clause-room : goal.put_in-requires-clause-room
+put_in-requires-clause-room t c =
+    let some : (length c.args.services.items == 0) ≡ false = search rules in
+    let one = not_zero (length c.args.services.items) some in
+    record { slot = omega (arith, c.requires.room.slot, one); place = omega (arith, c.requires.room.place, one) }
+
+pub put_all-requires : goal.put_all-requires
+put_all-requires t c =
+    let some : (length c.args.services.items == 0) ≡ false = search rules in
+    let cut = cut_first (filled c.args.slots.now.items) c.args.names.items c.remove.new.self.items c.args.services.items c.remove-2.new.self.items
+    c.remove.result c.remove-2.result c.requires.names c.requires.fresh (not_zero (length c.args.services.items) some)
+    c.remove.ensures.value c.remove.ensures.items c.remove-2.ensures.value c.remove-2.ensures.items in
+    let count = ap (λ (l : List Service). length l) cut.whole in (
+      omega (arith, count),
+      (
+        c.put_in.ensures.placed,
+        (
+          cut.others,
+          (
+            subst (λ (l : List Service). AreFresh l c.remove-2.new.self.items) (sym c.put_in.ensures.more) cut.later,
+            record {
+              slot = omega (arith, c.requires.room.slot, c.put_in.ensures.room.len, c.put_in.ensures.room.slot, count);
+              place = omega (arith, c.requires.room.place, c.put_in.ensures.room.place, count);
+            },
+          ),
+        ),
+      ),
+    )
+
+pub returns-clause-more : goal.returns-clause-more
+returns-clause-more t c =
+    let some : (length c.args.services.items == 0) ≡ false = search rules in
+    let live = filled c.args.slots.now.items in
+    let rest = c.remove-2.new.self.items in
+    let cut = cut_first live c.args.names.items c.remove.new.self.items c.args.services.items rest
+    c.remove.result c.remove-2.result c.requires.names c.requires.fresh (not_zero (length c.args.services.items) some)
+    c.remove.ensures.value c.remove.ensures.items c.remove-2.ensures.value c.remove-2.ensures.items in
+    c.put_all.ensures.more ∙ ap (λ (l : List Service). l ++ rest) c.put_in.ensures.more ∙ append_assoc live (c.remove-2.result ∷ []) rest
+    ∙ ap (λ (l : List Service). live ++ l) (sym cut.whole)
