@@ -13,4 +13,6 @@ is_old() {
 if is_old; then
     "$top/.ci/build" </dev/null || exit 1
 fi
+# Definitions of a module may stand 5,000 in one another, each of which takes more than a kilobyte of the stack.
+ulimit -S -s 65536 2>/dev/null
 exec "$program" "$@"

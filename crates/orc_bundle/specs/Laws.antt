@@ -30,8 +30,8 @@ pub record IsSkipped (line : List ℕ) : Type 0 where
   pub utf8 : is_utf8 (text_of line) ≡ true
   pub skipped : is_skipped (text_of line) ≡ true
 
--- How many lines of a `yang` block are still to come behind these lines, where so many are in front of them. Behind the
--- line `script` there is no block.
+-- How many lines of a `yang` or `template` block are still to come behind these lines, where so many are in front of
+-- them. Behind the line `script` there is no block.
 abbrev pub left_of_block : ℕ → List (List ℕ) → ℕ
 left_of_block n [] = n
 left_of_block (suc n) (line ∷ later) = left_of_block n later
@@ -114,8 +114,9 @@ pub record FollowPreamble (preamble : Preamble) (kind : ℕ → List ℕ) (decls
   pub services : decls.services ≡ preamble.services
   pub kinds : IsTrue (list_all (is_kind preamble kind) decls.devices)
 
--- Each spelling of a bundle is read as that bundle, behind any lines that declare modules, types of devices and the
--- data schema: with comments and empty lines put in, and with carriage returns before line feeds.
+-- Each spelling of a bundle is read as that bundle, behind any lines that declare modules, types of devices, the data
+-- schema and templates, with no device and no item of the data among them: with comments and empty lines put in, and
+-- with carriage returns before line feeds.
 abbrev pub SpelledIsRead : Type 0
 SpelledIsRead =
     (bundle : Bundle) (preamble : Preamble) (kind : ℕ → List ℕ) (json : List ℕ → List Put → List ℕ)

@@ -193,11 +193,14 @@ pub fn read_bundle(alloc: Global, bytes: &[u8]) -> Result<Bundle, BundleFault>
 /// their hashes, a look through the 64 actions at most of an open call for the service of a line, one
 /// look at the names of a block's statements for their lengths, and one copy of the declarations' bytes.
 ///
-/// What isn't bounded by the bytes is claimed nowhere: what the JSON of a template or of a service's body
-/// costs, each of which is read once; what the schema of modules costs, since each
-/// line `datamodel` or `devicetype` copies the statements that it names, and groupings that use one
-/// another double the nodes with each statement; nor, where the declarations end, whether the opening
-/// data and each base are valid.
+/// What isn't bounded by the line is claimed nowhere: the looks through the lists that have templates,
+/// one by one, at each line of the data (`data`, `set`, `unset`), of a service of a list (`create`,
+/// `modify`, `redeploy`, `delete` of a path) and of a template, and at a line `template` through the
+/// items of the opening data so far too, so that many lists and many lines cost their product; what the
+/// JSON of a template or of a service's body costs, each of which is read once; what the schema of
+/// modules costs, since each line `datamodel` or `devicetype` copies the statements that it names, and
+/// groupings that use one another double the nodes with each statement; nor, where the declarations
+/// end, whether the opening data and each base are valid.
 pub fn read_counted<L: Ledger, M: Ledger>(
     alloc: Global,
     bytes: &[u8],

@@ -10,6 +10,7 @@ mod Named
 mod Single
 mod Ascending
 mod Shared
+mod Unders
 mod Listed
 mod Settled
 mod Running

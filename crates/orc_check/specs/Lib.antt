@@ -1,4 +1,5 @@
 pub mod Validity
+pub mod Found
 pub mod Answers
 pub mod Acceptance
 pub mod Laws

@@ -4,7 +4,7 @@ ghost use Rattle.std.specs.List.{fold};
 ghost use Rattle.std.specs.Ordering.{is_lt};
 ghost use Rattle.orc_path.specs.Steps.{is_name_behind};
 ghost use Rattle.orc_check.specs.Validity.{breach_cmp, breach_if, lesser_breach, plain_steps};
-ghost use Rattle.orc_check.specs.inside.Lent.{place_path, breach_of, found_breach};
+ghost use Rattle.orc_check.specs.Found.{place_path, breach_of, found_breach};
 
 use crate::order::order;
 use orc_path::{Name, Path, Step, is_identifier};

@@ -5,6 +5,7 @@
 #![tactic(auto)]
 
 mod acceptance;
+mod best;
 mod counting;
 mod fault;
 mod found;
@@ -23,10 +24,14 @@ mod runs;
 mod sharing;
 mod sought;
 mod spot;
+mod under;
 mod validity;
 
 pub use acceptance::{Accept, accepts, accepts_under};
+pub use best::Best;
 pub use fault::CheckFault;
 pub use laws::{least_breach_is_least, valid_is_typed};
+pub use reach::is_place;
 pub use rules::{KEY, KIND, LEAFREF, MANDATORY, MAX_ELEMENTS, MIN_ELEMENTS};
+pub use under::{row_of_steps, rows_under};
 pub use validity::{broken, valid};

@@ -4,7 +4,8 @@ ghost use Rattle.std.specs.List.{fold, flat_map};
 ghost use Rattle.std.specs.Option.{option_map_or};
 ghost use Rattle.orc_schema.specs.Schemas.{Ascends};
 ghost use Rattle.orc_check.specs.Validity.{lesser_breach, plain_steps, is_missing, count_breaches, node_breaches, line_breaches, place_breaches, places};
-ghost use Rattle.orc_check.specs.inside.Lent.{place_path, found_breach, has_too_many};
+ghost use Rattle.orc_check.specs.Found.{place_path, found_breach};
+ghost use Rattle.orc_check.specs.inside.Lent.{has_too_many};
 
 use crate::counting::{has_fewer, has_more};
 use crate::found::{Found, keep_if, place_steps};
@@ -80,9 +81,9 @@ fn keep_node<'a>(
     }
 }
 
-// The least of the best breach so far and of those of a line of the schema, where it is reached from
-// the place.
-fn keep_line<'a>(
+/// The least of the best breach so far and of those of a line of the schema, where it is reached from
+/// the place.
+pub(crate) fn keep_line<'a>(
     schema: &Schema,
     tree: &Tree,
     place: Option<&'a Path>,
@@ -122,9 +123,9 @@ fn keep_lines<'a>(
     kept
 }
 
-// The least of the best breach so far and of those at a place. It looks at the lines that lead on from
-// the place, and searches for the first of these.
-fn keep_place<'a>(
+/// The least of the best breach so far and of those at a place. It looks at the lines that lead on from
+/// the place, and searches for the first of these.
+pub(crate) fn keep_place<'a>(
     schema: &'a Schema,
     tree: &Tree,
     place: Option<&'a Path>,

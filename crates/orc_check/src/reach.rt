@@ -27,7 +27,7 @@ fn is_list(node: Option<&Node>) -> bool
 }
 
 /// Whether a row is an entry of a list of the schema.
-pub(crate) fn is_place(schema: &Schema, row: &(Path, Item)) -> bool
+pub fn is_place(schema: &Schema, row: &(Path, Item)) -> bool
     ensures { result ≡ is_place schema.now row.now }
 {
     is_in_schema(schema, &row.0, &row.1) && is_list(schema.node(row.0.steps.as_slice()))

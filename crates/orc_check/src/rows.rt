@@ -3,7 +3,7 @@ ghost use Rattle.std.specs.Prelude.{◌≡◌, not, None};
 ghost use Rattle.std.specs.List.{fold, flat_map};
 ghost use Rattle.std.specs.FinMap.{entries};
 ghost use Rattle.orc_check.specs.Validity.{is_of_kind, has_canonical_last_keys, row_breaches, lesser_breach};
-ghost use Rattle.orc_check.specs.inside.Lent.{found_breach};
+ghost use Rattle.orc_check.specs.Found.{found_breach};
 
 use crate::found::{Found, keep_at};
 use crate::instances::Instance;
@@ -14,8 +14,8 @@ use orc_schema::Schema;
 use orc_tree::Tree;
 use orc_typed::{has_canonical_keys, is_canonical_value, is_in_schema};
 
-// Whether the item is one of the schema, and a leaf's text a canonical one of its type.
-fn is_of_kind(schema: &Schema, row: &(Path, Item)) -> bool
+/// Whether the item is one of the schema, and a leaf's text a canonical one of its type.
+pub(crate) fn is_of_kind(schema: &Schema, row: &(Path, Item)) -> bool
     ensures { result ≡ is_of_kind schema.now row.now }
 {
     is_in_schema(schema, &row.0, &row.1) && is_canonical_value(schema, &row.0, &row.1)
@@ -31,8 +31,8 @@ fn has_canonical_last_keys(schema: &Schema, steps: &[Step]) -> bool
     }
 }
 
-// Whether those of a row's path are.
-fn has_row_keys(schema: &Schema, row: &(Path, Item)) -> bool
+/// Whether those of a row's path are.
+pub(crate) fn has_row_keys(schema: &Schema, row: &(Path, Item)) -> bool
     ensures { result ≡ has_canonical_last_keys schema.now row.now.0 }
 {
     has_canonical_last_keys(schema, row.0.steps.as_slice())

@@ -18,8 +18,8 @@ use orc_text::Text;
 use orc_tree::Tree;
 use std::cmp::Ordering;
 
-// Whether a path begins with the steps.
-fn begins_with(steps: &[Step], path: &[Step]) -> bool
+/// Whether a path begins with the steps.
+pub(crate) fn begins_with(steps: &[Step], path: &[Step]) -> bool
     ensures { result ≡ is_prefix steps.now path.now }
 {
     match steps {
@@ -37,8 +37,8 @@ fn order_paths(steps: &[Step], path: &[Step]) -> Ordering
     steps.cmp(path)
 }
 
-// Whether the first of the rows stands behind all that begin with the steps.
-fn begins_past(rows: &[(Path, Item)], steps: &[Step]) -> bool
+/// Whether the first of the rows stands behind all that begin with the steps.
+pub(crate) fn begins_past(rows: &[(Path, Item)], steps: &[Step]) -> bool
     ensures { result ≡ begins_past steps.now rows.now }
 {
     match rows.first() {

@@ -2,7 +2,7 @@
 ghost use Rattle.std.specs.Prelude.{◌≡◌, is_some};
 ghost use Rattle.orc_check.specs.Validity.{least_breach, breaches, broken_of};
 ghost use Rattle.orc_check.specs.Answers.{AnswersBreach};
-ghost use Rattle.orc_check.specs.inside.Lent.{found_breach};
+ghost use Rattle.orc_check.specs.Found.{found_breach};
 
 use crate::fault::CheckFault;
 use crate::found::{Found, path_of};

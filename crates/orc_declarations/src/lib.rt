@@ -1,5 +1,6 @@
 //! The declarations of a bundle: devices with their bases and rules, YANG modules, types of devices, the
-//! schema of the data and the opening data, read line by line up to the line `script`.
+//! schema of the data, the opening data and the templates of its lists, read line by line up to the line
+//! `script`.
 #![tactic(auto)]
 
 mod declarations;

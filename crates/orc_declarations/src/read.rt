@@ -43,7 +43,7 @@ fn check_opening(alloc: Global, declared: &Declared, number: u64) -> Result<(), 
     })
 }
 
-/// ReadsLine the declarations: up to the line `script`, or all lines where there is none. Nothing is declared
+/// Reads the declarations: up to the line `script`, or all lines where there is none. Nothing is declared
 /// before. The counts are those of `read_counted` of `orc_bundle`.
 pub fn read_declarations<'a, L: Ledger, M: Ledger>(
     alloc: Global,

@@ -148,6 +148,8 @@ call noc 3
 modify /vpn:vpns/l3vpn[acme] {"route-distinguisher": "65000:1", "site": [{"id": "berlin", "router": "pe1", "interface": "ge-0/0/1", "vlan": 101, "profile": "gold", "neighbor": "192.0.2.1", "neighbor-as": 64512}, {"id": "oslo", "router": "pe2", "interface": "ge-0/0/1", "vlan": 101, "profile": "bronze", "neighbor": "192.0.2.5", "neighbor-as": 64513}, {"id": "rome", "router": "pe3", "interface": "ge-0/0/1", "vlan": 101, "profile": "gold"}]}
 end
 settle
+show pe1
+show pe2
 show pe3
 
 # A body that can't be expanded: the profile has no MTU yet. Nothing changes.

@@ -43,6 +43,8 @@ call al 5
 create /vpn:l3vpn[b] {"endpoint":[{"id":"e1","pe":"r3"}]}
 end
 settle
+
+# A VPN without endpoints: its block is done nowhere, so it writes on no router. Its rd is stored in canonical form, as 1.
 call al 6
 create /vpn:l3vpn[b] {"rd":"+01"}
 end

@@ -52,8 +52,8 @@ delete /p:svc[s2]
 end
 settle
 
-# The data goes before expansions, and these before clashes. A profile without an MTU gives no text, an unknown one
-# breaks a leafref, and a service without a device names none.
+# A profile without an MTU gives no text, an unknown one breaks a leafref, and a service without a device names none.
+# (expansion-faults.orc has a call for each word of Expand, and what goes before what.)
 call al 7
 create /p:svc[s2] {"prof":"bare","pe":"r1"}
 end

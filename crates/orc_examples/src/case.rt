@@ -16,6 +16,7 @@
 //! - `says WORDS`: so the fault of the run before, which is one of its bundle, is explained
 //! - `refused TEXT`: each line of the text is a row `LINE RULE BUNDLE`, as `row` says
 //! - `taken TEXT`: each is a row `DEVICES STEPS BUNDLE`
+//! - either of them with `behind NAME` at its end: each bundle stands behind this text
 //! - `left NAME`: the disk of the run before now holds these bytes
 
 use crate::block::{bytes_of, filled, spelled, text_of};
@@ -234,21 +235,33 @@ impl<'a> Case<'a> {
         }
     }
 
-    // Holds each row of a text to what it says.
-    fn run_rows(&mut self, name: &str, rows: Rows) -> io::Result<Verdict> {
+    // Holds each row of a text to what it says, behind the text that the line names, if it names one.
+    fn run_rows(&mut self, line: &str, rows: Rows) -> io::Result<Verdict> {
         let alloc = self.alloc;
+        let (name, head) = line.split_once(" behind ").unwrap_or((line, ""));
+        let Some(head) = self.head(head)? else {
+            return Ok(Verdict::Unread);
+        };
         let Some(text) = text_of(alloc, self.text, "text", name)? else {
             return Ok(Verdict::Unread);
         };
         for row in text.as_str().lines() {
             self.runs = self.runs.saturating_add(1);
-            match rows.hold(alloc, row)? {
+            match rows.hold(alloc, head.as_str(), row)? {
                 Some(true) => {}
                 Some(false) => return Ok(Verdict::Differs(String::from_str(alloc, row)?)),
                 None => return Ok(Verdict::Unread),
             }
         }
         Ok(Verdict::Good)
+    }
+
+    // The text of this name, or nothing where there is no name.
+    fn head(&self, name: &str) -> io::Result<Option<String>> {
+        if name.is_empty() {
+            return Ok(Some(String::new(self.alloc)));
+        }
+        Ok(text_of(self.alloc, self.text, "text", name)?)
     }
 
     // The bytes of the bundle that the first word of a line names.

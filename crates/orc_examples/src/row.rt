@@ -23,10 +23,15 @@ pub(crate) enum Rows {
 }
 
 impl Rows {
-    /// Whether it is as a row says, and none where that is no row.
-    pub(crate) fn hold(self, alloc: Global, row: &str) -> Result<Option<bool>, AllocError> {
+    /// Whether it is as a row says, where its bundle stands behind the head, and none where that is no row.
+    pub(crate) fn hold(
+        self,
+        alloc: Global,
+        head: &str,
+        row: &str,
+    ) -> Result<Option<bool>, AllocError> {
         let (first, second, text) = parted(row);
-        let Some(bundle) = bundle_of(alloc, text)? else {
+        let Some(bundle) = bundle_of(alloc, head, text)? else {
             return Ok(None);
         };
         match self {
@@ -91,13 +96,18 @@ fn parted(row: &str) -> (&str, &str, &str) {
     (first, second, bundle)
 }
 
-// The bytes of a bundle in one line.
-fn bundle_of(alloc: Global, text: &str) -> Result<Option<Vec<u8>>, AllocError> {
+// The bytes of a bundle: the head, and what stands in one line.
+fn bundle_of(alloc: Global, head: &str, text: &str) -> Result<Option<Vec<u8>>, AllocError> {
     let Some(whole) = repeated(alloc, text)? else {
         return Ok(None);
     };
     let lines = whole.as_str().replace(alloc, "|", "\\n")?;
-    bytes_of(alloc, lines.as_str())
+    let Some(later) = bytes_of(alloc, lines.as_str())? else {
+        return Ok(None);
+    };
+    let mut bytes = Vec::from_slice(alloc, head.as_bytes())?;
+    bytes.extend_from_slice(later.as_slice())?;
+    Ok(Some(bytes))
 }
 
 // Whether a disk holds nothing.

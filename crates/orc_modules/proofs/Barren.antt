@@ -18,7 +18,8 @@ use Rattle.orc_modules.specs.Bases.{type_in}
 use Rattle.orc_modules.specs.Statements.{defines}
 use Rattle.orc_modules.specs.Bare.{brings_in, brings_at, may_bring, Brings}
 use Rattle.orc_modules.specs.Children.{block_part, grouping, is_deeper, deeper_at, deeper_in, brought, children_by, child}
-use Rattle.orc_modules.specs.inside.Known.{beside, beside_brings, AreBare, is_known}
+use Rattle.orc_modules.specs.inside.Beside.{beside, beside_brings}
+use Rattle.orc_modules.specs.inside.Known.{AreBare, is_known}
 use Rattle.orc_modules.specs.inside.Leaves.{leaf_brought, leaf_by, leaf_at}
 
 first_of_or : (a b : Bool) → (a || b) ≡ false → a ≡ false
@@ -29,11 +30,11 @@ rest_of_or : (a b : Bool) → (a || b) ≡ false → b ≡ false
 rest_of_or true b h = absurd (false≢true (sym h))
 rest_of_or false b h = h
 
-first_of_and : (a b : Bool) → (a && b) ≡ true → a ≡ true
+pub first_of_and : (a b : Bool) → (a && b) ≡ true → a ≡ true
 first_of_and true b h = refl
 first_of_and false b h = h
 
-rest_of_and : (a b : Bool) → (a && b) ≡ true → b ≡ true
+pub rest_of_and : (a b : Bool) → (a && b) ≡ true → b ≡ true
 rest_of_and true b h = h
 rest_of_and false b h = absurd (false≢true h)
 
@@ -104,7 +105,7 @@ module _ (modules : List Stmt) where
   as_deep (suc k) n a s h = let e : suc k + n ≡ suc (k + n) = omega arith in
       ap (λ m. may_bring m modules a s) e ∙ one_deeper (k + n) a s (as_deep k n a s h)
 
-  deep_too : (n m : ℕ) (a : List Stmt) (s : Stmt) → nat_le n m ≡ true → may_bring n modules a s ≡ false → may_bring m modules a s ≡ false
+  pub deep_too : (n m : ℕ) (a : List Stmt) (s : Stmt) → nat_le n m ≡ true → may_bring n modules a s ≡ false → may_bring m modules a s ≡ false
   deep_too n m a s le h = let e : m ≡ (m - n) + n = omega (arith, leb-true n m le) in
       ap (λ k. may_bring k modules a s) e ∙ as_deep (m - n) n a s h
 

@@ -4,5 +4,6 @@ pub mod Scopes
 pub mod Bases
 pub mod Children
 pub mod Bare
+pub mod Loops
 pub mod Stack
 pub mod inside

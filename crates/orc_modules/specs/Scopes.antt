@@ -1,21 +1,22 @@
 -- What the name of a typedef or of a grouping means where it stands: RFC 7950 sections 5.5, 6.4.1 and 7.1.4.
-use Rattle.std.specs.Prelude.{ℕ, Bool, List, [], ◌∷◌, Option, Some, None, is_some, codes, option_map, option_and_then, if◌then◌else◌, ◌&&◌}
-use Rattle.std.specs.List.{find, position, before_first, after_first}
+use Rattle.std.specs.Prelude.{ℕ, suc, Bool, List, [], ◌∷◌, Option, Some, None, is_some, codes, option_map, option_and_then, if◌then◌else◌, ◌&&◌}
+use Rattle.std.specs.List.{sum_by, find, position, before_first, after_first}
 use Rattle.std.specs.Option.{option_or}
 use Rattle.orc_value.specs.Canon.{same_text}
 use Rattle.orc_yang.specs.declared.statement.Stmt.{Stmt}
 use Rattle.orc_types.specs.Statements.{subs, argument, is_a}
 use Rattle.orc_types.specs.Paths.{is_colon}
-use Rattle.orc_modules.specs.declared.place.TheConstants.{MAX_CHAIN}
-use Rattle.orc_modules.specs.Statements.{defines, sub_text}
+use Rattle.orc_modules.specs.Statements.{defines, sub_text, leaders}
 
--- The modules, and how many typedefs, or nodes and groupings, stand in one another at most.
+-- The modules, and how many typedefs, or nodes and groupings, lead on to one another at most.
 pub record Modules : Type 0 where
   pub all : List Stmt
   pub most : ℕ
 
+-- A chain that ends goes through each statement that may lead on once at most, and then to one more: what leads on
+-- further leads back to itself.
 abbrev pub the_modules : List Stmt → Modules
-the_modules all = record { all = all; most = MAX_CHAIN }
+the_modules all = record { all = all; most = suc (sum_by leaders all) }
 
 -- a definition, with the statements around it, the innermost first
 pub record Found : Type 0 where

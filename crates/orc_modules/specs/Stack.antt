@@ -1,7 +1,7 @@
 -- The statements around a place, as the code holds them.
 use Rattle.std.specs.Prelude.{List, [], ◌∷◌}
 use Rattle.orc_yang.specs.declared.statement.Stmt.{Stmt}
-use Rattle.orc_modules.specs.declared.scope.Above.{Above, Top, Module, Under'}
+use Rattle.orc_modules.specs.declared.scope.Above.{Above, Top, Module, Under', Indexed'}
 use Rattle.orc_modules.specs.declared.scope.Found as declared
 use Rattle.orc_modules.specs.declared.place.Modules as carried
 use Rattle.orc_modules.specs.declared.place.Place as declared_place
@@ -13,6 +13,7 @@ abbrev pub stack : Above → List Stmt
 stack Top = []
 stack (Module s) = s.now ∷ []
 stack (Under' s p above) = s.now ∷ stack above
+stack (Indexed' b p above) = b.now ∷ stack above
 
 -- a definition as the code finds it
 abbrev pub found : declared.Found → scopes.Found

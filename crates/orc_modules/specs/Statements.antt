@@ -1,6 +1,6 @@
 -- What a statement says, and which statements are read.
-use Rattle.std.specs.Prelude.{ℕ, Bool, true, false, ◌&&◌, not, List, [], ◌∷◌, ◌++◌, Option, is_some, codes, option_map, unwrap_or, if◌then◌else◌}
-use Rattle.std.specs.List.{list_any}
+use Rattle.std.specs.Prelude.{ℕ, Bool, true, false, ◌+◌, ◌&&◌, ◌||◌, not, List, [], ◌∷◌, ◌++◌, map, Option, is_some, codes, option_map, unwrap_or, if◌then◌else◌}
+use Rattle.std.specs.List.{list_any, sum_by}
 use Rattle.orc_value.specs.Canon.{same_text}
 use Rattle.orc_yang.specs.declared.statement.Stmt.{Stmt}
 use Rattle.orc_yang.specs.declared.statement.Stmt.TheOpen.{Stmt-F}
@@ -8,7 +8,7 @@ use Rattle.orc_yang.specs.declared.statement.Stmt.TheViews.{out-Stmt}
 use Rattle.orc_yang.specs.declared.statement.Stmt.TheFolds.{para-Stmt}
 use Rattle.orc_types.specs.Statements.{keyword, subs, argument, is_a, first_of}
 use Rattle.orc_modules.specs.declared.word.Word.{Word}
-use Rattle.orc_modules.specs.declared.word.Word.TheVariants.{Module, Grouping, Container, List as ListOf, Leaf, LeafList, TypeName, Dropped, Idle}
+use Rattle.orc_modules.specs.declared.word.Word.TheVariants.{Module, Grouping, Container, List as ListOf, Leaf, LeafList, Uses, TypeName, Dropped, Idle}
 use Rattle.orc_modules.specs.Words.{word_of}
 
 abbrev pub word : Stmt → Word
@@ -40,6 +40,27 @@ holds_data Grouping = true
 holds_data Container = true
 holds_data ListOf = true
 holds_data _ = false
+
+-- a data definition: a node, or a `uses`, which stands for nodes
+abbrev pub is_data : Word → Bool
+is_data Container = true
+is_data ListOf = true
+is_data Leaf = true
+is_data LeafList = true
+is_data Uses = true
+is_data w = false
+
+-- A statement with this keyword and these statements below it may lead on to others: it is a typedef, or has data
+-- definitions.
+abbrev pub may_lead : List ℕ → List Stmt → Bool
+may_lead keyword ss = same_text keyword (codes "typedef") || list_any (λ t. is_data (word t)) ss
+
+abbrev pub leader_step : Stmt-F (Stmt × ℕ) → ℕ
+leader_step s = sum_by (λ t. t.1) s.subs + (if may_lead s.keyword (map (λ t. t.0) s.subs) then 1 else 0)
+
+-- how many such statements s is and has in it
+abbrev pub leaders : Stmt → ℕ
+leaders = para-Stmt ℕ leader_step
 
 -- Whether a statement of the second word is read in one of the first. Nothing below `type` is read here: orc_types
 -- tells what a whole `type` statement makes. A statement without effect is unread, and so is one that defines no

@@ -5,11 +5,12 @@ ghost use Rattle.orc_types.specs.Statements.{argument};
 ghost use Rattle.orc_modules.specs.Bare.{may_bring, Brings};
 ghost use Rattle.orc_modules.specs.Children.{grouping};
 ghost use Rattle.orc_modules.specs.Stack.{stack, found};
-ghost use Rattle.orc_modules.specs.inside.Known.{beside, beside_brings, AreBare, is_known};
+ghost use Rattle.orc_modules.specs.inside.Beside.{beside, beside_brings};
+ghost use Rattle.orc_modules.specs.inside.Known.{AreBare, is_known};
 
 use crate::parts::{Part, block_part, grouping};
 use crate::place::Modules;
-use crate::scope::{Above, Found, definition, prefix_of};
+use crate::scope::{Above, Found, definition, plain_name, prefix_of};
 use orc_text::Memory;
 use orc_types::{argument, has};
 use orc_yang::Stmt;
@@ -26,18 +27,19 @@ struct Known<'a> {
 }
 
 // The grouping of this name in the innermost block.
-fn beside<'a>(above: &'a Above<'a>, name: &str) -> Option<&'a Stmt>
+fn beside<'a, 'm>(above: &'a Above<'a, 'm>, name: &str) -> Option<&'a Stmt>
     ensures { option_map (λ s. s.now) result ≡ beside (stack above.now) name.now }
 {
     match above {
         Above::Top => None,
         Above::Module(stmt) => definition("grouping", name, stmt.subs.as_slice()),
         Above::Under(stmt, _) => definition("grouping", name, stmt.subs.as_slice()),
+        Above::Indexed(block, _) => block.definition("grouping", name),
     }
 }
 
 // The grouping that a `uses` in the block of another names, where it is one of the block that the other stands in.
-fn neighbour<'a>(above: &'a Above<'a>, here: &Stmt, stmt: &Stmt) -> Option<&'a Stmt>
+fn neighbour<'a, 'm>(above: &'a Above<'a, 'm>, here: &Stmt, stmt: &Stmt) -> Option<&'a Stmt>
     ensures beside { IfSome result (λ next. beside (stack above.now) (argument stmt.now) ≡ Some next.now) }
     ensures means { IfSome result (λ next. (modules : List Stmt)
         → grouping modules (here.now ∷ stack above.now) stmt.now
@@ -62,11 +64,11 @@ fn is_known(depth: usize, name: &str, known: &[Known<'_>]) -> bool
 // Whether it is clear that a grouping brings nothing, through groupings fewer than `depth` deep. Each that brings
 // nothing is looked at once.
 #[cycle(bare)]
-fn is_bare<'a>(
+fn is_bare<'a, 'm>(
     alloc: Global,
     depth: usize,
     modules: &Modules<'a>,
-    above: &'a Above<'a>,
+    above: &'a Above<'a, 'm>,
     here: &'a Stmt,
     known: &mut Vec<Known<'a>>,
 ) -> Result<bool, Memory>
@@ -78,6 +80,7 @@ fn is_bare<'a>(
     if depth == 0 {
         return Ok(false);
     }
+    modules.go_down(depth)?;
     if known.len() >= MAX_KNOWN {
         return Ok(false);
     }
@@ -109,11 +112,11 @@ fn is_bare<'a>(
 
 // The same of the grouping of this name in the innermost block.
 #[cycle(bare)]
-fn is_bare_named<'a>(
+fn is_bare_named<'a, 'm>(
     alloc: Global,
     depth: usize,
     modules: &Modules<'a>,
-    above: &'a Above<'a>,
+    above: &'a Above<'a, 'm>,
     name: &'a str,
     here: &'a Stmt,
     known: &mut Vec<Known<'a>>,
@@ -136,18 +139,63 @@ fn is_bare_named<'a>(
     }
 }
 
-/// Whether it is clear that a grouping brings no data node, through groupings fewer than `depth`
-/// deep: these all stand in one block, none has a definition of a name that is used, and each is
-/// looked at once.
-pub fn brings_nothing<'a>(
+// Whether the block around keeps what is known of its groupings.
+fn is_indexed(above: &Above<'_, '_>) -> bool {
+    match above {
+        Above::Top => false,
+        Above::Module(_) => false,
+        Above::Under(_, _) => false,
+        Above::Indexed(_, _) => true,
+    }
+}
+
+// Through how many groupings at most the one of this name in the innermost block is known to bring nothing.
+fn depth_beside(above: &Above<'_, '_>, name: &str) -> Option<usize>
+    ensures { IfSome result (λ d. (modules : List Stmt)
+        → beside_brings d modules (stack above.now) name.now ≡ false) }
+{
+    match above {
+        Above::Top => None,
+        Above::Module(_) => None,
+        Above::Under(_, _) => None,
+        Above::Indexed(block, _) => block.depth(name),
+    }
+}
+
+// Whether that is known, and so many are fewer than `depth`, or as many.
+fn is_shallow(depth: usize, above: &Above<'_, '_>, name: &str) -> bool
+    ensures { result ≡ true → (modules : List Stmt)
+        → beside_brings depth modules (stack above.now) name.now ≡ false }
+{
+    match depth_beside(above, name) {
+        Some(known) => {
+            if known <= depth {
+                return true;
+            }
+            false
+        },
+        None => false,
+    }
+}
+
+/// Whether it is clear that the grouping which a `uses` names brings no data node, through groupings
+/// fewer than `depth` deep: these all stand in one block, none has a definition of a name that is
+/// used, and each is looked at once; or it is known of the block.
+pub fn brings_nothing<'a, 'm>(
     alloc: Global,
     depth: usize,
     modules: &Modules<'a>,
-    bringer: &'a Found<'a>,
+    stmt: &Stmt,
+    bringer: &'a Found<'a, 'm>,
 ) -> Result<bool, Memory>
-    ensures { IfOk result (λ bare. bare ≡ true → may_bring depth modules.now.all.now
-        (bringer.now.here.now ∷ stack bringer.now.above) bringer.now.here.now ≡ false) }
+    ensures { IfOk result (λ bare. bare ≡ true → (around : List Stmt)
+        → grouping modules.now.all.now around stmt.now ≡ Some (found bringer.now)
+        → may_bring depth modules.now.all.now (bringer.now.here.now ∷ stack bringer.now.above)
+        bringer.now.here.now ≡ false) }
 {
+    if is_indexed(&bringer.above) {
+        return Ok(is_shallow(depth, &bringer.above, plain_name(argument(stmt))));
+    }
     let mut known = Vec::new(alloc);
     is_bare(
         alloc,
@@ -161,17 +209,17 @@ pub fn brings_nothing<'a>(
 
 /// The grouping that a `uses` names, where it isn't clear that it brings no data node, through
 /// groupings fewer than `depth` deep.
-pub fn bringer<'a>(
+pub fn bringer<'a, 'm>(
     alloc: Global,
     depth: usize,
     modules: &Modules<'a>,
-    above: &'a Above<'a>,
+    above: &'a Above<'a, 'm>,
     stmt: &Stmt,
-) -> Result<Option<Found<'a>>, Memory>
+) -> Result<Option<Found<'a, 'm>>, Memory>
     ensures { IfOk result (λ o. Brings depth modules.now.all.now (stack above.now) stmt.now (option_map found o)) }
 {
     match grouping(&*modules, above, stmt) {
-        Some(found) => match brings_nothing(alloc, depth, &*modules, &found)? {
+        Some(found) => match brings_nothing(alloc, depth, &*modules, stmt, &found)? {
             true => Ok(None),
             false => Ok(Some(found)),
         },

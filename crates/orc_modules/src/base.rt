@@ -19,7 +19,7 @@ use orc_yang::Stmt;
 use std::alloc::Global;
 
 // The name of the module around.
-fn home_of<'a>(alloc: Global, above: &'a Above<'a>) -> Result<Text, Memory>
+fn home_of<'a, 'm>(alloc: Global, above: &'a Above<'a, 'm>) -> Result<Text, Memory>
     ensures { IfOk result (λ home. home ≡ home_of (stack above.now)) }
 {
     match module_around(above) {
@@ -29,7 +29,11 @@ fn home_of<'a>(alloc: Global, above: &'a Above<'a>) -> Result<Text, Memory>
 }
 
 // A built-in type.
-fn built_in_named<'a>(alloc: Global, above: &'a Above<'a>, base: Base) -> Result<Named, Memory>
+fn built_in_named<'a, 'm>(
+    alloc: Global,
+    above: &'a Above<'a, 'm>,
+    base: Base,
+) -> Result<Named, Memory>
     ensures { IfOk result (λ named. named ≡ built_in_named (stack above.now) base) }
 {
     Ok(Named::Means(Meant {
@@ -137,7 +141,11 @@ fn named_typedef(
 }
 
 // The typedef that a `type` statement names.
-fn typedef<'a>(modules: &Modules<'a>, above: &'a Above<'a>, stmt: &Stmt) -> Option<Found<'a>>
+pub(crate) fn typedef<'a, 'm>(
+    modules: &Modules<'a>,
+    above: &'a Above<'a, 'm>,
+    stmt: &Stmt,
+) -> Option<Found<'a, 'm>>
     ensures { option_map found result
         ≡ meaning modules.now.all.now (codes "typedef") (argument stmt.now) (stack above.now) }
 {
@@ -145,11 +153,11 @@ fn typedef<'a>(modules: &Modules<'a>, above: &'a Above<'a>, stmt: &Stmt) -> Opti
 }
 
 // What the argument of a `type` statement stands for, behind fewer typedefs than `depth`.
-fn base_at<'a>(
+fn base_at<'a, 'm>(
     alloc: Global,
     depth: usize,
     modules: &Modules<'a>,
-    at: &Site<'a>,
+    at: &Site<'a, 'm>,
     stmt: &Stmt,
 ) -> Result<Named, Memory>
     ensures { IfOk result (λ named. named ≡ base_of depth modules.now.all.now (stack at.now.above.now) stmt.now) }
@@ -157,6 +165,7 @@ fn base_at<'a>(
     if depth == 0 {
         return Ok(Named::Endless);
     }
+    modules.go_down(depth)?;
     if let Some(base) = built_in(alloc, argument(stmt))? {
         return built_in_named(alloc, at.above, base);
     }
@@ -173,10 +182,10 @@ fn base_at<'a>(
 }
 
 // What a whole `type` statement makes of it.
-fn typed_at<'a>(
+fn typed_at<'a, 'm>(
     alloc: Global,
     modules: &Modules<'a>,
-    at: &Site<'a>,
+    at: &Site<'a, 'm>,
     stmt: &Stmt,
 ) -> Result<Option<Typed>, Memory>
     ensures { IfOk result (λ typed.
@@ -187,10 +196,10 @@ fn typed_at<'a>(
 }
 
 // The type by the `type` below a statement.
-pub(crate) fn typed_in<'a>(
+pub(crate) fn typed_in<'a, 'm>(
     alloc: Global,
     modules: &Modules<'a>,
-    at: &Site<'a>,
+    at: &Site<'a, 'm>,
     stmt: &'a Stmt,
 ) -> Result<Option<Typed>, Memory>
     ensures { IfOk result (λ typed.
@@ -209,10 +218,10 @@ pub(crate) fn typed_in<'a>(
 
 /// What the argument of a `type` statement stands for where it stands: a built-in type, or the
 /// typedef that the name means.
-pub fn base_of<'a>(
+pub fn base_of<'a, 'm>(
     alloc: Global,
     modules: &Modules<'a>,
-    above: &'a Above<'a>,
+    above: &'a Above<'a, 'm>,
     stmt: &Stmt,
 ) -> Result<Named, Memory>
     ensures { IfOk result (λ named.
@@ -222,10 +231,10 @@ pub fn base_of<'a>(
 }
 
 /// What a whole `type` statement makes of it, where neither it nor a typedef is at fault.
-pub fn type_at<'a>(
+pub fn type_at<'a, 'm>(
     alloc: Global,
     modules: &Modules<'a>,
-    above: &'a Above<'a>,
+    above: &'a Above<'a, 'm>,
     stmt: &Stmt,
 ) -> Result<Option<Typed>, Memory>
     ensures { IfOk result (λ typed.
@@ -235,10 +244,10 @@ pub fn type_at<'a>(
 }
 
 /// The type of a leaf, a leaf-list or a typedef, by the `type` below it.
-pub fn type_in<'a>(
+pub fn type_in<'a, 'm>(
     alloc: Global,
     modules: &Modules<'a>,
-    above: &'a Above<'a>,
+    above: &'a Above<'a, 'm>,
     stmt: &'a Stmt,
 ) -> Result<Option<Typed>, Memory>
     ensures { IfOk result (λ typed.

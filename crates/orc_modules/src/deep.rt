@@ -13,11 +13,11 @@ use orc_yang::Stmt;
 use std::alloc::Global;
 
 // Whether nodes and groupings below a statement stand in one another `depth` deep or more.
-pub(crate) fn is_deeper<'a>(
+pub(crate) fn is_deeper<'a, 'm>(
     alloc: Global,
     depth: usize,
     modules: &Modules<'a>,
-    at: &Site<'a>,
+    at: &Site<'a, 'm>,
     stmt: &'a Stmt,
     left: &mut u64,
 ) -> Result<bool, Memory>
@@ -26,6 +26,7 @@ pub(crate) fn is_deeper<'a>(
     if depth == 0 {
         return Ok(true);
     }
+    modules.go_down(depth)?;
     for sub in stmt.subs.as_slice() {
         match block_part(sub) {
             Part::Node => {
@@ -61,10 +62,10 @@ pub(crate) fn is_deeper<'a>(
 
 /// Whether a `uses` is taken to lead to itself: what it brings stands in one another as deep as that.
 /// It wants memory where more than 1,000,000 statements would be looked at.
-pub fn leads_past<'a>(
+pub fn leads_past<'a, 'm>(
     alloc: Global,
     modules: &Modules<'a>,
-    above: &'a Above<'a>,
+    above: &'a Above<'a, 'm>,
     stmt: &Stmt,
 ) -> Result<bool, Memory>
     ensures { IfOk result (λ past.
@@ -90,10 +91,10 @@ pub fn leads_past<'a>(
 }
 
 /// Whether nodes and groupings below a statement are taken to lead to themselves.
-pub fn is_too_deep<'a>(
+pub fn is_too_deep<'a, 'm>(
     alloc: Global,
     modules: &Modules<'a>,
-    above: &'a Above<'a>,
+    above: &'a Above<'a, 'm>,
     stmt: &'a Stmt,
 ) -> Result<bool, Memory>
     ensures { IfOk result (λ deep. deep ≡ is_deeper modules.now.most modules.now.all.now (stack above.now) stmt.now) }

@@ -21,14 +21,14 @@ use orc_yang::Stmt;
 use std::alloc::Global;
 
 // The grouping that a `uses` names, where it may bring nodes.
-fn bringer_of_leaf<'a>(
+fn bringer_of_leaf<'a, 'm>(
     alloc: Global,
     depth: usize,
     modules: &Modules<'a>,
-    above: &'a Above<'a>,
+    above: &'a Above<'a, 'm>,
     name: &str,
     stmt: &Stmt,
-) -> Result<Option<Found<'a>>, Memory>
+) -> Result<Option<Found<'a, 'm>>, Memory>
     ensures { IfOk result (λ o.
         option_map_or (λ g. leaf_brought depth (modules_of modules.now) (g.here ∷ g.above) name.now (subs g.here))
         (grouping modules.now.all.now (stack above.now) stmt.now) None
@@ -39,12 +39,13 @@ fn bringer_of_leaf<'a>(
     bringer(alloc, depth, modules, above, stmt)
 }
 
-// The type of the leaf of this name that a block has, through groupings fewer than `depth` deep.
-fn leaf_brought<'a>(
+// The type of the leaf of this name that a block has, through groupings fewer than `depth` deep. It goes no further
+// down than a look at how deep they are has gone.
+fn leaf_brought<'a, 'm>(
     alloc: Global,
     depth: usize,
     modules: &Modules<'a>,
-    at: &Site<'a>,
+    at: &Site<'a, 'm>,
     name: &str,
     block: &'a [Stmt],
     left: &mut u64,
@@ -94,11 +95,11 @@ fn leaf_brought<'a>(
 }
 
 // The type of the leaf of this name that a grouping brings, none where it leads to itself.
-fn leaf_of_grouping<'a>(
+fn leaf_of_grouping<'a, 'm>(
     alloc: Global,
     modules: &Modules<'a>,
     name: &str,
-    bringer: &'a Found<'a>,
+    bringer: &'a Found<'a, 'm>,
     left: &mut u64,
 ) -> Result<Option<Option<Typed>>, Memory>
     ensures { IfOk result (λ typed.
@@ -123,10 +124,10 @@ fn leaf_of_grouping<'a>(
 }
 
 // The type of the leaf of this name that a block has.
-fn leaf_in_block<'a>(
+fn leaf_in_block<'a, 'm>(
     alloc: Global,
     modules: &Modules<'a>,
-    at: &Site<'a>,
+    at: &Site<'a, 'm>,
     name: &str,
     block: &'a [Stmt],
 ) -> Result<Option<Option<Typed>>, Memory>
@@ -157,10 +158,10 @@ fn leaf_in_block<'a>(
 
 /// The type of the leaf of this name that a block has, where it has one. It wants memory where more
 /// than 1,000,000 statements would be looked at.
-pub fn leaf_type<'a>(
+pub fn leaf_type<'a, 'm>(
     alloc: Global,
     modules: &Modules<'a>,
-    above: &'a Above<'a>,
+    above: &'a Above<'a, 'm>,
     block: &'a [Stmt],
     name: &str,
 ) -> Result<Option<Option<Typed>>, Memory>

@@ -5,21 +5,29 @@
 
 mod bare;
 mod base;
+mod block;
 mod deep;
+mod firsts;
 mod leaves;
+mod loops;
 mod meant;
+mod most;
 mod names;
+mod order;
 mod parts;
 mod place;
 mod scope;
+mod shallow;
 mod statements;
 mod visits;
 mod word;
 
 pub use bare::{bringer, brings_nothing};
 pub use base::{base_of, takes_type, type_at, type_in};
+pub use block::Block;
 pub use deep::{is_too_deep, leads_past};
 pub use leaves::leaf_type;
+pub use loops::{is_type_loop, is_uses_loop};
 pub use meant::{Meant, Named, Typed};
 pub use names::child_names;
 pub use parts::{Part, block_part, grouping};

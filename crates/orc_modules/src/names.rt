@@ -17,13 +17,13 @@ use orc_yang::Stmt;
 use std::alloc::Global;
 
 // The grouping that a `uses` names, where it may bring nodes.
-fn bringer_of_nodes<'a>(
+fn bringer_of_nodes<'a, 'm>(
     alloc: Global,
     depth: usize,
     modules: &Modules<'a>,
-    above: &'a Above<'a>,
+    above: &'a Above<'a, 'm>,
     stmt: &Stmt,
-) -> Result<Option<Found<'a>>, Memory>
+) -> Result<Option<Found<'a, 'm>>, Memory>
     ensures { IfOk result (λ o.
         option_map_or (λ g. brought depth modules.now.all.now (g.here ∷ g.above) (subs g.here))
         (grouping modules.now.all.now (stack above.now) stmt.now) []
@@ -33,12 +33,13 @@ fn bringer_of_nodes<'a>(
     bringer(alloc, depth, modules, above, stmt)
 }
 
-// Adds the names of the nodes of a block, through groupings fewer than `depth` deep.
-fn push_brought<'a>(
+// Adds the names of the nodes of a block, through groupings fewer than `depth` deep. It goes no further down than a
+// look at how deep they are has gone.
+fn push_brought<'a, 'm>(
     alloc: Global,
     depth: usize,
     modules: &Modules<'a>,
-    at: &Site<'a>,
+    at: &Site<'a, 'm>,
     block: &'a [Stmt],
     left: &mut u64,
     out: &mut Row<Text>,
@@ -83,10 +84,10 @@ fn push_brought<'a>(
 }
 
 // Adds the names that a grouping brings, none where it leads to itself.
-fn push_grouping<'a>(
+fn push_grouping<'a, 'm>(
     alloc: Global,
     modules: &Modules<'a>,
-    bringer: &'a Found<'a>,
+    bringer: &'a Found<'a, 'm>,
     left: &mut u64,
     out: &mut Row<Text>,
 ) -> Result<(), Memory>
@@ -114,10 +115,10 @@ fn push_grouping<'a>(
 /// The names of the data nodes of a block, in the order of the text, through its `uses`; one that
 /// leads to itself brings none. It wants memory where more than 1,000,000 statements would be looked
 /// at.
-pub fn child_names<'a>(
+pub fn child_names<'a, 'm>(
     alloc: Global,
     modules: &Modules<'a>,
-    above: &'a Above<'a>,
+    above: &'a Above<'a, 'm>,
     block: &'a [Stmt],
 ) -> Result<Row<Text>, Memory>
     ensures { IfOk result (λ names. names

@@ -36,7 +36,11 @@ pub fn block_part(stmt: &Stmt) -> Part
 }
 
 /// The grouping that a `uses` names.
-pub fn grouping<'a>(modules: &Modules<'a>, above: &'a Above<'a>, stmt: &Stmt) -> Option<Found<'a>>
+pub fn grouping<'a, 'm>(
+    modules: &Modules<'a>,
+    above: &'a Above<'a, 'm>,
+    stmt: &Stmt,
+) -> Option<Found<'a, 'm>>
     ensures { option_map found result ≡ grouping modules.now.all.now (stack above.now) stmt.now }
 {
     meaning(modules.all, "grouping", argument(stmt), above)

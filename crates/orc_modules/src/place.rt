@@ -1,17 +1,21 @@
 //! A statement where it stands, and the modules around it all.
-ghost use Rattle.std.specs.Prelude.{◌≡◌};
+ghost use Rattle.std.specs.Prelude.{◌≡◌, IfOk};
 ghost use Rattle.orc_modules.specs.Scopes.{the_modules};
 ghost use Rattle.orc_modules.specs.Stack.{modules_of};
 
+use crate::most::{added, all_leaders};
 use crate::scope::Above;
+use orc_text::Memory;
 use orc_yang::Stmt;
 
-/// So many typedefs, or nodes and groupings, that stand in one another are taken to lead back to
-/// themselves; fewer do not.
+/// So many leafrefs are followed.
 pub const MAX_CHAIN: usize = 1_000;
 
-/// The modules, and how many typedefs, or nodes and groupings, that stand in one another are taken
-/// to lead back to themselves.
+// So many typedefs, or nodes and groupings, are followed one inside another.
+const MAX_LEVELS: usize = 5_000;
+
+/// The modules, and how many typedefs, or nodes and groupings, can lead on to one another without
+/// leading back to themselves.
 #[derive(Clone, Copy)]
 pub struct Modules<'a> {
     pub all: &'a [Stmt],
@@ -19,22 +23,27 @@ pub struct Modules<'a> {
 }
 
 impl<'a> Modules<'a> {
-    /// Modules, of which 1,000 typedefs, or nodes and groupings, or more in one another are taken to
-    /// lead back to themselves.
-    pub fn of(all: &'a [Stmt]) -> Modules<'a>
-        ensures { modules_of result ≡ the_modules all.now }
+    /// Modules, with their typedefs, groupings and nodes counted.
+    pub fn of(all: &'a [Stmt]) -> Result<Modules<'a>, Memory>
+        ensures { IfOk result (λ modules. modules_of modules ≡ the_modules all.now) }
     {
-        Modules {
-            all,
-            most: MAX_CHAIN,
+        let most = added(all_leaders(all)?, 1)?;
+        Ok(Modules { all, most })
+    }
+
+    /// Goes one level further down, where `depth` levels are left. It wants memory past 5,000 levels.
+    pub fn go_down(&self, depth: usize) -> Result<(), Memory> {
+        if self.most.saturating_sub(depth) >= MAX_LEVELS {
+            return Err(Memory);
         }
+        Ok(())
     }
 }
 
 /// A statement where it stands: the statements around it, and those before it in the same block.
 #[derive(Clone, Copy)]
-pub struct Place<'a> {
-    pub above: &'a Above<'a>,
+pub struct Place<'a, 'm> {
+    pub above: &'a Above<'a, 'm>,
     pub before: &'a [Stmt],
     pub here: &'a Stmt,
 }

@@ -7,33 +7,36 @@ ghost use Rattle.orc_modules.specs.Scopes.{in_block_of, in_scope, outermost, mod
 ghost use Rattle.orc_modules.specs.Stack.{stack, found};
 ghost use Rattle.orc_modules.specs.Statements.{defines};
 
+use crate::block::Block;
 use crate::statements::{defines, sub_text};
 use orc_types::{argument, is_a};
 use orc_yang::Stmt;
 
 /// The statements around a place, the innermost first.
 #[derive(Clone, Copy)]
-pub enum Above<'a> {
+pub enum Above<'a, 'm> {
     /// None: the place is that of a module.
     Top,
     /// A module alone.
     Module(&'a Stmt),
     /// A statement, and those around it.
-    Under(&'a Stmt, &'a Above<'a>),
+    Under(&'a Stmt, &'a Above<'a, 'm>),
+    /// The same, with the definitions of its block by their names.
+    Indexed(&'a Block<'m>, &'a Above<'a, 'm>),
 }
 
 /// A definition, with the statements around it.
 #[derive(Clone, Copy)]
-pub struct Found<'a> {
-    pub above: Above<'a>,
+pub struct Found<'a, 'm> {
+    pub above: Above<'a, 'm>,
     pub here: &'a Stmt,
 }
 
 // Where the statements of a block stand. (An `Above` that is lent on lives as long as what it stands in; within this it
 // may be lent again.)
 #[derive(Clone, Copy)]
-pub(crate) struct Site<'a> {
-    pub(crate) above: &'a Above<'a>,
+pub(crate) struct Site<'a, 'm> {
+    pub(crate) above: &'a Above<'a, 'm>,
 }
 
 // The texts before the first colon and behind it.
@@ -128,29 +131,31 @@ pub fn owner_of<'a>(modules: &'a [Stmt], prefix: &str, around: &'a Stmt) -> Opti
 }
 
 // The outermost statement around.
-fn outermost<'a>(above: &'a Above<'a>, stmt: &'a Stmt) -> &'a Stmt
+fn outermost<'a, 'm>(above: &'a Above<'a, 'm>, stmt: &'a Stmt) -> &'a Stmt
     ensures { result.now ≡ outermost stmt.now (stack above.now) }
 {
     match above {
         Above::Top => stmt,
         Above::Module(next) => *next,
         Above::Under(next, outer) => outermost(*outer, *next),
+        Above::Indexed(next, outer) => outermost(*outer, next.here()),
     }
 }
 
 /// The module around.
-pub fn module_around<'a>(above: &'a Above<'a>) -> Option<&'a Stmt>
+pub fn module_around<'a, 'm>(above: &'a Above<'a, 'm>) -> Option<&'a Stmt>
     ensures { option_map (λ s. s.now) result ≡ module_around (stack above.now) }
 {
     match above {
         Above::Top => None,
         Above::Module(stmt) => Some(*stmt),
         Above::Under(stmt, outer) => Some(outermost(*outer, *stmt)),
+        Above::Indexed(block, outer) => Some(outermost(*outer, block.here())),
     }
 }
 
 // A module's own definition of a name.
-fn in_module<'a>(keyword: &str, name: &str, stmt: &'a Stmt) -> Option<Found<'a>>
+fn in_module<'a, 'm>(keyword: &str, name: &str, stmt: &'a Stmt) -> Option<Found<'a, 'm>>
     ensures { option_map found result ≡ in_block_of keyword.now name.now stmt.now [] }
 {
     match definition(keyword, name, stmt.subs.as_slice()) {
@@ -163,7 +168,11 @@ fn in_module<'a>(keyword: &str, name: &str, stmt: &'a Stmt) -> Option<Found<'a>>
 }
 
 /// The nearest definition of a name without a prefix.
-pub fn in_scope<'a>(keyword: &str, name: &str, above: &'a Above<'a>) -> Option<Found<'a>>
+pub fn in_scope<'a, 'm>(
+    keyword: &str,
+    name: &str,
+    above: &'a Above<'a, 'm>,
+) -> Option<Found<'a, 'm>>
     ensures { option_map found result ≡ in_scope keyword.now name.now (stack above.now) }
 {
     match above {
@@ -176,18 +185,25 @@ pub fn in_scope<'a>(keyword: &str, name: &str, above: &'a Above<'a>) -> Option<F
             }),
             None => in_scope(keyword, name, *outer),
         },
+        Above::Indexed(block, outer) => match block.definition(keyword, name) {
+            Some(here) => Some(Found {
+                above: *above,
+                here,
+            }),
+            None => in_scope(keyword, name, *outer),
+        },
     }
 }
 
 // The definition of a name in the module of a prefix.
-fn behind_prefix<'a>(
+fn behind_prefix<'a, 'm>(
     modules: &'a [Stmt],
     keyword: &str,
     prefix: &str,
     name: &str,
-    above: &'a Above<'a>,
+    above: &'a Above<'a, 'm>,
     around: &'a Stmt,
-) -> Option<Found<'a>>
+) -> Option<Found<'a, 'm>>
     ensures { option_map found result
         ≡ behind_prefix modules.now keyword.now prefix.now name.now (stack above.now) around.now }
 {
@@ -202,12 +218,12 @@ fn behind_prefix<'a>(
 
 /// What a name means: without a prefix, or with the module's own, it is looked for scope by scope
 /// outwards, else in the module of its prefix.
-pub fn meaning<'a>(
+pub fn meaning<'a, 'm>(
     modules: &'a [Stmt],
     keyword: &str,
     text: &str,
-    above: &'a Above<'a>,
-) -> Option<Found<'a>>
+    above: &'a Above<'a, 'm>,
+) -> Option<Found<'a, 'm>>
     ensures { option_map found result ≡ meaning modules.now keyword.now text.now (stack above.now) }
 {
     match split_name(text) {

@@ -18,7 +18,7 @@ use Rattle.orc_refs.specs.declared.moves.Meta.{Meta}
 use Rattle.orc_schema.specs.Schemas.{SchemaTable}
 use Rattle.orc_check.specs.declared.rules.TheConstants.{KIND, KEY, MANDATORY, MIN_ELEMENTS, MAX_ELEMENTS, LEAFREF}
 use Rattle.orc_json.specs.Written.{IsJsonTextOf}
-use Rattle.orc_template.specs.declared.fault.TheConstants.{NO_VALUE, MANY_VALUES, UNKNOWN_DEVICE, BAD_LEAF}
+use Rattle.orc_template.specs.declared.fault.TheConstants.{NO_VALUE, MANY_VALUES, UNKNOWN_DEVICE, BAD_LEAF, SELF_CLASH}
 use Rattle.orc_state.specs.States.{name_of}
 use Rattle.orc_state.specs.Texts.{action_lines}
 
@@ -92,6 +92,10 @@ validity_word rule =
 abbrev pub is_rule : ℕ → Bool
 is_rule rule = nat_le KIND rule && nat_le rule LEAFREF
 
+-- the number is that of a rule of expansion
+abbrev pub is_expansion_rule : ℕ → Bool
+is_expansion_rule rule = nat_le NO_VALUE rule && nat_le rule SELF_CLASH
+
 -- the word for a rule of expansion
 abbrev pub expansion_word : ℕ → List ℕ
 expansion_word rule =
@@ -116,13 +120,13 @@ answer_words names JournalFault = codes "JournalFault"
 answer_words names other = []
 
 -- an answer that calls get so far, the others are not built yet; where it names a device, the device is one of so many,
--- and where it names a rule, the rule is one of validity
+-- and where it names a rule, the rule is one of validity or of expansion
 abbrev pub is_answer_among : ℕ → Answer → Bool
 is_answer_among devices (Committed entry) = true
 is_answer_among devices (Exists id) = true
 is_answer_among devices (Missing id) = true
 is_answer_among devices (Invalid path rule) = is_rule rule
-is_answer_among devices (Expand id block rule) = true
+is_answer_among devices (Expand id block rule) = is_expansion_rule rule
 is_answer_among devices (Clash device path id) = nat_lt device devices
 is_answer_among devices (Reused entry) = true
 is_answer_among devices Down = true

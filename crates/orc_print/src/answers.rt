@@ -1,7 +1,7 @@
 //! The answers of calls.
 ghost use Rattle.std.specs.Prelude.{◌≡◌, length, IfOk, IsTrue};
 ghost use Rattle.orc_print.specs.inside.Adding.{Adds};
-ghost use Rattle.orc_print.specs.Printed.{answer_line, answer_words, expansion_word, is_answer_among, is_rule, validity_word};
+ghost use Rattle.orc_print.specs.Printed.{answer_line, answer_words, expansion_word, is_answer_among, is_expansion_rule, is_rule, validity_word};
 
 use orc_call::Answer;
 use orc_check::{KEY, KIND, MANDATORY, MAX_ELEMENTS, MIN_ELEMENTS};
@@ -110,6 +110,7 @@ fn validity_word(rule: u8) -> &'static str
 
 // The word for a rule of expansion.
 fn expansion_word(rule: u8) -> &'static str
+    requires { IsTrue (is_expansion_rule rule) }
     ensures { result.now ≡ expansion_word rule }
 {
     if rule == NO_VALUE {

@@ -1,5 +1,5 @@
--- What a refusal names: a device that is declared, a rule of validity.
-use Rattle.std.proofs.Common.{ℕ, suc, ◌+◌, ◌≤◌, ◌<◌, Bool, true, false, cond, List, [], ◌∷◌, length, None, Some, Ok, Err, Result, IsTrue, refl, arith}
+-- What a refusal names: a device that is declared, a rule of validity or of expansion.
+use Rattle.std.proofs.Common.{ℕ, suc, ◌+◌, ◌≤◌, ◌<◌, ◌≡◌, Bool, true, false, cond, List, [], ◌∷◌, length, None, Some, Ok, Err, Result, IsTrue, refl, arith}
 use Rattle.std.specs.Prelude.{nat_lt, option_map}
 use Rattle.std.specs.declared.option.Option.{Option}
 use Rattle.std.specs.Option.{option_or}
@@ -10,10 +10,13 @@ use Rattle.orc_state.specs.Actions.{data_after, live_after, touched}
 use Rattle.orc_state.specs.Clashes.{clash_at, clash_from, unequal_on}
 use Rattle.orc_state.specs.Next.{clash, existence, existence_of, invalid, refusal, serving_on, expanded_call, expanded_to, unexpanded}
 use Rattle.orc_expr.specs.declared.read.Read.{Read}
+use Rattle.orc_template.specs.declared.fault.TheConstants.{NO_VALUE, SELF_CLASH}
 use Rattle.orc_template.specs.Expansions.{Expanding, Failed}
-use Rattle.orc_services.specs.Services.{Serving, expansion_of}
+use Rattle.orc_template.specs.Laws.{FaultsAreNamed}
+use Rattle.orc_template.specs.TheReaders.{the_readers}
+use Rattle.orc_services.specs.Services.{Serving, Instance, expansion_at, expansion_of, instance_of}
 use Rattle.orc_services.specs.Expanded.{ExpandedTo, as_literal, expanded_actions, expanded_by, expanded_action, with_expanded}
-use Rattle.orc_print.specs.Printed.{is_answer_among}
+use Rattle.orc_print.specs.Printed.{is_answer_among, is_expansion_rule}
 use Rattle.orc_call.specs.declared.call.Action.{Action}
 use Rattle.orc_call.specs.declared.call.Action.TheVariants.{Create, Modify, Redeploy, Literal, Delete}
 use Rattle.orc_call.specs.declared.call.Call.{Call}
@@ -82,16 +85,28 @@ abbrev AnswersAmong : {X : Type 0} → ℕ → Result X Answer → Type 0
 AnswersAmong n (Ok x) = Unit {0}
 AnswersAmong n (Err answer) = IsTrue (is_answer_among n answer)
 
-literal_among : (n : ℕ) (names : List (List ℕ)) (id : List ℕ) (o : Option (Result Expanding Failed)) → AnswersAmong n (as_literal names id o).outcome
-literal_among n names id None = tt
-literal_among n names id (Some (Ok e)) = tt
-literal_among n names id (Some (Err failed)) = refl
+is_named : (rule : ℕ) → NO_VALUE ≤ rule → rule ≤ SELF_CLASH → IsTrue (is_expansion_rule rule)
+is_named rule h k = grind arith
 
-one_among : (n : ℕ) (s : Serving) (action : Action) → AnswersAmong n (expanded_action s action).outcome
-one_among n s (Create id body) = literal_among n s.devices.names id (expansion_of s id)
-one_among n s (Modify id body) = literal_among n s.devices.names id (expansion_of s id)
-one_among n s (Redeploy id) = literal_among n s.devices.names id (expansion_of s id)
-one_among n s other = tt
+-- a service that can't be expanded is answered by a rule of expansion
+expands_among : FaultsAreNamed → (n : ℕ) (s : Serving) (id : List ℕ) → AnswersAmong n (as_literal s.devices.names id (expansion_of s id)).outcome
+expands_among named n s id = of (instance_of s.lists id)
+  where
+    to : (it : Instance) (r : Result Expanding Failed) → expansion_at s it ≡ r → AnswersAmong n (as_literal s.devices.names id (Some r)).outcome
+    to it (Ok e) same = tt
+    to it (Err failed) same =
+        let h = named the_readers s.devices it.path it.template s.view failed same in
+        is_named failed.rule h.first_rule h.last_rule
+
+    of : (o : Option Instance) → AnswersAmong n (as_literal s.devices.names id (option_map (expansion_at s) o)).outcome
+    of None = tt
+    of (Some it) = to it (expansion_at s it) refl
+
+one_among : FaultsAreNamed → (n : ℕ) (s : Serving) (action : Action) → AnswersAmong n (expanded_action s action).outcome
+one_among named n s (Create id body) = expands_among named n s id
+one_among named n s (Modify id body) = expands_among named n s id
+one_among named n s (Redeploy id) = expands_among named n s id
+one_among named n s other = tt
 
 with_among : (n : ℕ) (action : Action) (o : Result (List Action) Answer) → AnswersAmong n o → AnswersAmong n (with_expanded action o)
 with_among n action (Ok actions) h = tt
@@ -102,17 +117,17 @@ by_among : (n : ℕ) (o : Result Action Answer) (reads : List Read) (later : Exp
 by_among n (Ok action) reads later h k = with_among n action later.outcome k
 by_among n (Err answer) reads later h k = h
 
-settled_among : (n : ℕ) (s : Serving) (actions : List Action) → AnswersAmong n (expanded_actions s actions).outcome
-settled_among n s [] = tt
-settled_among n s (action ∷ actions) =
-    by_among n (expanded_action s action).outcome (expanded_action s action).reads (expanded_actions s actions) (one_among n s action) (settled_among n s actions)
+all_among : FaultsAreNamed → (n : ℕ) (s : Serving) (actions : List Action) → AnswersAmong n (expanded_actions s actions).outcome
+all_among named n s [] = tt
+all_among named n s (action ∷ actions) =
+    by_among n (expanded_action s action).outcome (expanded_action s action).reads (expanded_actions s actions) (one_among named n s action) (all_among named n s actions)
 
 unexpanded_among : (n : ℕ) (o : Result (List Action) Answer) → AnswersAmong n o → IsAmong n (unexpanded o)
 unexpanded_among n (Ok actions) h = tt
 unexpanded_among n (Err answer) h = h
 
-pub refusal-among : (decls : Decls) (s : State) (call : Call) → IsAmong (length decls.names) (refusal decls s call)
-refusal-among decls s call =
+pub refusal-among : FaultsAreNamed → (decls : Decls) (s : State) (call : Call) → IsAmong (length decls.names) (refusal decls s call)
+refusal-among named decls s call =
     let n = length decls.names in
     let items = data_after call.actions s.data in
     let found = expanded_call decls s call in
@@ -121,5 +136,5 @@ refusal-among decls s call =
     let clashes = clash decls.names s.live settled in
     first_among n (existence s.live call.actions) (option_or (invalid decls.data_schema items) (option_or (unexpanded found) clashes)) (existence-among n s.live call.actions)
     (first_among n (invalid decls.data_schema items) (option_or (unexpanded found) clashes) (invalid-among n (broken_of decls.data_schema items) (broken_ruled decls.data_schema items))
-    (first_among n (unexpanded found) clashes (unexpanded_among n found (settled_among n (serving_on decls items) call.actions))
+    (first_among n (unexpanded found) clashes (unexpanded_among n found (all_among named n (serving_on decls items) call.actions))
     (clash_from-among n behind (touched settled behind) 0 decls.names (omega arith))))

@@ -3,6 +3,7 @@ use Rattle.std.proofs.Common.{◌≡◌, ℕ, List, [], length, IsTrue, Option, 
 use Rattle.orc_call.specs.declared.call.Call.{Call}
 use Rattle.orc_call.specs.declared.answer.Answer.{Answer}
 use Rattle.orc_state.specs.Legal.{AnswersAtOnce, state_of}
+use Rattle.orc_template.specs.Laws.{FaultsAreNamed}
 use Rattle.orc_print.specs.Printed.{is_answer_among}
 use Rattle.orc_run.specs.Views.{View, Rests, Outlives}
 use Rattle.orc_run.specs.Steps.{Breaks}
@@ -17,12 +18,12 @@ use Rattle.orc_run.specs.declared.stop.Stop.{Stop}
 use Rattle.orc_run.specs.declared.stop.Stop.TheVariants as ending
 use Rattle.orc_run.proofs.Refusals.{refusal-among, IsAmong}
 
--- the device that an answer names is one of the declared ones, and a rule one of validity
-pub at_once_among : (decls : Decls) (history : List Call) (call : Call) (given : Answer) → AnswersAtOnce decls history call given → IsTrue (is_answer_among (length decls.names) given)
-at_once_among decls history call _ (AnswersAtOnce.again n here) = refl
-at_once_among decls history call _ (AnswersAtOnce.reused n entry here same other) = refl
-at_once_among decls history call _ (AnswersAtOnce.refused given new refused) =
-    subst (λ (o : Option Answer). IsAmong (length decls.names) o) refused (refusal-among decls (state_of decls history) call)
+-- the device that an answer names is one of the declared ones, and a rule one of validity or of expansion
+pub at_once_among : FaultsAreNamed → (decls : Decls) (history : List Call) (call : Call) (given : Answer) → AnswersAtOnce decls history call given → IsTrue (is_answer_among (length decls.names) given)
+at_once_among named decls history call _ (AnswersAtOnce.again n here) = refl
+at_once_among named decls history call _ (AnswersAtOnce.reused n entry here same other) = refl
+at_once_among named decls history call _ (AnswersAtOnce.refused given new refused) =
+    subst (λ (o : Option Answer). IsAmong (length decls.names) o) refused (refusal-among named decls (state_of decls history) call)
 
 module _ {D : Type 0} (meaning : DiskMeaning D) (decls : Decls) (w : View D) (call : Call) (c : Controller D) (entries : List Entry)
     (rests : Rests meaning decls (view_of c entries)) (outlives : Outlives meaning decls w (view_of c entries)) (outcome : StepResult D) where

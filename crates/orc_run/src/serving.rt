@@ -21,6 +21,7 @@ use orc_append::Appended;
 use orc_call::{Answer, Call};
 use orc_disk::Disk;
 use orc_state::{Decls, touched_devices};
+use orc_template::faults_are_named;
 use orc_text::{Memory, Row};
 use std::alloc::Global;
 
@@ -48,6 +49,7 @@ impl<D: Disk> Controller<D> {
         if !self.up {
             return answered(alloc, decls.names.as_slice(), call, &Answer::Down);
         }
+        faults_are_named();
         // What a deletion touches is told by the state before it.
         let devices = touched_devices(alloc, decls, &self.past.state, call)?;
         match self.past.answer_or_apply(alloc, decls, call)? {

@@ -20,7 +20,7 @@ use Rattle.orc_modules.specs.Bases.{base_of}
 use Rattle.orc_modules.specs.declared.meant.Typed.{Typed}
 use Rattle.orc_modules.specs.declared.meant.Named.{Named}
 use Rattle.orc_modules.specs.declared.meant.Named.TheVariants.{Means, Endless, Unclear}
-use Rattle.orc_modules.specs.Children.{leads_past}
+use Rattle.orc_modules.specs.Loops.{is_type_loop, is_uses_loop}
 use Rattle.orc_schema.specs.declared.fault.SchemaFault.{SchemaFault}
 use Rattle.orc_schema.specs.declared.fault.SchemaFault.TheVariants.{Unsupported, Unknown, Duplicate, BadArgument, NoKey, Loop, Memory}
 use Rattle.orc_schema.specs.declared.cuts.Mark.TheVariants.{Slash}
@@ -58,14 +58,10 @@ abbrev pub no_key : Place → Word → Option SchemaFault
 no_key p ListOf = fault_if (not (has (codes "key") (subs p.here))) (NoKey (argument p.here))
 no_key p w = None
 
--- 6: typedefs and groupings that lead on to one another without end
-abbrev pub is_endless : Named → Bool
-is_endless Endless = true
-is_endless _ = false
-
+-- 6: the name of a `type` or of a `uses` that leads to the very typedef or grouping that it stands in
 abbrev pub loops : Modules → Place → Word → Option SchemaFault
-loops ms p Uses = fault_if (leads_past ms.most ms.all p.above p.here) (Loop (argument p.here))
-loops ms p TypeName = fault_if (is_endless (base_of ms.most ms.all p.above p.here)) (Loop (argument p.here))
+loops ms p Uses = fault_if (is_uses_loop ms p.above p.here) (Loop (argument p.here))
+loops ms p TypeName = fault_if (is_type_loop ms p.above p.here) (Loop (argument p.here))
 loops ms p w = None
 
 -- the fault at a statement: the lowest number
@@ -107,8 +103,8 @@ abbrev pub first_below_enum : List Stmt → Option SchemaFault
 first_below_enum [] = None
 first_below_enum (v ∷ vs) = option_or (below_enum v) (first_below_enum vs)
 
--- what is at fault below a `type` whose typedef is at fault itself: any typedef may be restricted by `range`, `length`
--- and `enum` alone
+-- what is at fault below a `type` whose typedef is at fault itself, or leads to one that is: any typedef may be
+-- restricted by `range`, `length` and `enum` alone
 abbrev pub unclear_at : Stmt → Option SchemaFault
 unclear_at s = if is_idle (keyword s) then None
     else (if is_a (codes "range") s || is_a (codes "length") s then option_map of_type_fault (none_below s)
@@ -126,7 +122,7 @@ base_fault ms above t base = option_map of_type_fault (type_fault base t)
 
 abbrev pub named_fault : Modules → List Stmt → Stmt → Named → Option SchemaFault
 named_fault ms above t (Means m) = base_fault ms above t m.base
-named_fault ms above t Endless = None
+named_fault ms above t Endless = unclear_fault (subs t)
 named_fault ms above t Unclear = unclear_fault (subs t)
 
 abbrev pub type_fault_here : Modules → Place → Word → Option SchemaFault

@@ -50,7 +50,7 @@ pub(crate) fn keys_of(alloc: Global, stmt: &Stmt) -> Result<Row<Text>, Memory>
 }
 
 // Whether the statement around is a list that names this leaf as a key.
-fn is_key_of(alloc: Global, above: &Above<'_>, name: &str) -> Result<bool, Memory>
+fn is_key_of(alloc: Global, above: &Above<'_, '_>, name: &str) -> Result<bool, Memory>
     ensures { IfOk result (λ key. key ≡ is_key_of (stack above.now) name.now) }
 {
     match above {
@@ -58,11 +58,15 @@ fn is_key_of(alloc: Global, above: &Above<'_>, name: &str) -> Result<bool, Memor
         Above::Module(stmt) | Above::Under(stmt, _) => {
             Ok(contains_text(keys_of(alloc, *stmt)?.as_slice(), name))
         },
+        Above::Indexed(block, _) => Ok(contains_text(
+            keys_of(alloc, block.here())?.as_slice(),
+            name,
+        )),
     }
 }
 
 // Whether a statement is a leaf that the list around names as a key.
-fn is_key_leaf(alloc: Global, above: &Above<'_>, stmt: &Stmt) -> Result<bool, Memory>
+fn is_key_leaf(alloc: Global, above: &Above<'_, '_>, stmt: &Stmt) -> Result<bool, Memory>
     ensures { IfOk result (λ key. key ≡ is_key_leaf (stack above.now) stmt.now) }
 {
     if !is_a("leaf", stmt) {
@@ -85,7 +89,7 @@ fn takes(alloc: Global, typed: &Option<Typed>, text: &str) -> Result<bool, Memor
 fn fits_below(
     alloc: Global,
     modules: &Modules<'_>,
-    above: &Above<'_>,
+    above: &Above<'_, '_>,
     stmt: &Stmt,
     default: &Stmt,
 ) -> Result<bool, Memory>
@@ -106,7 +110,7 @@ fn fits_below(
 fn is_default_well(
     alloc: Global,
     modules: &Modules<'_>,
-    above: &Above<'_>,
+    above: &Above<'_, '_>,
     default: &Stmt,
 ) -> Result<bool, Memory>
     ensures { IfOk result (λ fits. fits ≡ is_default_well (modules_of modules.now) (stack above.now) default.now) }
@@ -115,6 +119,7 @@ fn is_default_well(
         Above::Top => Ok(true),
         Above::Module(stmt) => fits_below(alloc, modules, &Above::Top, *stmt, default),
         Above::Under(stmt, outer) => fits_below(alloc, modules, *outer, *stmt, default),
+        Above::Indexed(block, outer) => fits_below(alloc, modules, *outer, block.here(), default),
     }
 }
 
@@ -132,7 +137,7 @@ fn fits_inherited(alloc: Global, typed: &Option<Typed>) -> Result<bool, Memory>
 }
 
 // Whether the default of a leaf's typedefs fits it where it counts.
-fn inherits_well(alloc: Global, modules: &Modules<'_>, here: &Place<'_>) -> Result<bool, Memory>
+fn inherits_well(alloc: Global, modules: &Modules<'_>, here: &Place<'_, '_>) -> Result<bool, Memory>
     ensures { IfOk result (λ fits. fits ≡ inherits_well (modules_of modules.now) (place here.now)) }
 {
     if has("default", here.here.subs.as_slice()) {
@@ -170,7 +175,7 @@ fn is_empty_typed(typed: &Option<Typed>) -> bool
 fn is_empty_key(
     alloc: Global,
     modules: &Modules<'_>,
-    above: &Above<'_>,
+    above: &Above<'_, '_>,
     name: &str,
 ) -> Result<bool, Memory>
     ensures { IfOk result (λ empty. empty ≡ is_empty_leaf (modules_of modules.now)
@@ -186,7 +191,7 @@ fn is_empty_key(
 fn any_empty_key(
     alloc: Global,
     modules: &Modules<'_>,
-    above: &Above<'_>,
+    above: &Above<'_, '_>,
     names: &[Text],
 ) -> Result<bool, Memory>
     ensures { IfOk result (λ empty. empty ≡ list_any (λ name. is_empty_leaf (modules_of modules.now)
@@ -224,7 +229,7 @@ fn has_white_ends(text: &str) -> bool
 }
 
 // Whether the keys of a list are well.
-fn is_key_well(alloc: Global, modules: &Modules<'_>, here: &Place<'_>) -> Result<bool, Memory>
+fn is_key_well(alloc: Global, modules: &Modules<'_>, here: &Place<'_, '_>) -> Result<bool, Memory>
     ensures { IfOk result (λ well. well ≡ is_well (modules_of modules.now) (place here.now) Key) }
 {
     let names = words(alloc, argument(here.here))?;
@@ -262,7 +267,7 @@ fn is_import_well(stmt: &Stmt) -> bool
     is_identifier(argument(stmt)) && has("prefix", stmt.subs.as_slice())
 }
 
-fn is_leaf_well(alloc: Global, modules: &Modules<'_>, here: &Place<'_>) -> Result<bool, Memory>
+fn is_leaf_well(alloc: Global, modules: &Modules<'_>, here: &Place<'_, '_>) -> Result<bool, Memory>
     ensures { IfOk result (λ well. well ≡ is_well (modules_of modules.now) (place here.now) Leaf) }
 {
     if !is_typed_well(here.here) {
@@ -274,7 +279,7 @@ fn is_leaf_well(alloc: Global, modules: &Modules<'_>, here: &Place<'_>) -> Resul
 fn is_default_well_here(
     alloc: Global,
     modules: &Modules<'_>,
-    here: &Place<'_>,
+    here: &Place<'_, '_>,
 ) -> Result<bool, Memory>
     ensures { IfOk result (λ well. well ≡ is_well (modules_of modules.now) (place here.now) Default) }
 {
@@ -306,7 +311,7 @@ fn has_form(stmt: &Stmt, word: Word) -> bool
 fn is_well(
     alloc: Global,
     modules: &Modules<'_>,
-    here: &Place<'_>,
+    here: &Place<'_, '_>,
     word: Word,
 ) -> Result<bool, Memory>
     ensures { IfOk result (λ well. well ≡ is_well (modules_of modules.now) (place here.now) word) }
@@ -326,7 +331,7 @@ fn is_well(
 pub(crate) fn bad_argument(
     alloc: Global,
     modules: &Modules<'_>,
-    here: &Place<'_>,
+    here: &Place<'_, '_>,
     word: Word,
 ) -> Result<(), SchemaFault>
     ensures { Meets (bad_argument (modules_of modules.now) (place here.now) word) result }

@@ -17,7 +17,7 @@ use crate::line::{LeafNode, Node, SchemaLine, ValueListNode};
 use crate::links::{Nodes, is_cut, kind_at, link_fault, target_at};
 use crate::walk::first_fault;
 use crate::{Schema, SchemaFault};
-use orc_modules::{Above, MAX_CHAIN, Modules, is_too_deep};
+use orc_modules::{Above, Block, MAX_CHAIN, Modules, is_too_deep};
 use orc_text::{Copied, Memory, Row};
 use orc_types::argument;
 use orc_yang::Stmt;
@@ -26,25 +26,41 @@ use std::alloc::Global;
 // So many groupings are looked at for the nodes of all modules.
 const MAX_VISITS: u64 = 4_000_000;
 
-// Adds the nodes of one module.
-fn push_module(
+// Adds the nodes of one module, whose block this is.
+fn push_block<'a, 'm>(
     alloc: Global,
-    modules: &Modules<'_>,
-    stmt: &Stmt,
+    modules: &Modules<'a>,
+    block: &'a Block<'m>,
+    left: &mut u64,
+    out: &mut Row<Draft>,
+) -> Result<(), Memory>
+    ensures { OnOk result (out.new ≡ out.old
+        ++ drafts_below modules.now.most (modules_of modules.now) (in_module block.now) block.now) }
+{
+    let none = Row::new(alloc);
+    let stmt = block.here();
+    let at = Where {
+        above: &Above::Indexed(block, &Above::Top),
+        owner: argument(stmt),
+        names: &none,
+        keys: &none,
+    };
+    push_drafts(alloc, modules.most, &*modules, &at, stmt, left, out)
+}
+
+// Adds the nodes of one module.
+fn push_module<'a>(
+    alloc: Global,
+    modules: &Modules<'a>,
+    stmt: &'a Stmt,
     left: &mut u64,
     out: &mut Row<Draft>,
 ) -> Result<(), Memory>
     ensures { OnOk result (out.new ≡ out.old
         ++ drafts_below modules.now.most (modules_of modules.now) (in_module stmt.now) stmt.now) }
 {
-    let none = Row::new(alloc);
-    let at = Where {
-        above: &Above::Module(stmt),
-        owner: argument(stmt),
-        names: &none,
-        keys: &none,
-    };
-    push_drafts(alloc, modules.most, &*modules, &at, stmt, left, out)
+    let block = Block::of(alloc, stmt)?;
+    push_block(alloc, &*modules, &block, left, out)
 }
 
 // The nodes of the modules.
@@ -60,12 +76,20 @@ fn drafts_of(alloc: Global, modules: &Modules<'_>) -> Result<Row<Draft>, Memory>
 }
 
 // Whether nodes and groupings of a module stand in one another deeper than is looked at.
+fn is_deep_module(alloc: Global, modules: &Modules<'_>, stmt: &Stmt) -> Result<bool, Memory>
+    ensures { IfOk result (λ deep. deep ≡ is_deep_module (modules_of modules.now) stmt.now) }
+{
+    let block = Block::of(alloc, stmt)?;
+    is_too_deep(alloc, &*modules, &Above::Indexed(&block, &Above::Top), stmt)
+}
+
+// Whether those of any module do.
 fn any_deep(alloc: Global, modules: &Modules<'_>) -> Result<bool, Memory>
     ensures { IfOk result (λ deep. deep
         ≡ list_any (is_deep_module (modules_of modules.now)) modules.now.all.now) }
 {
     for stmt in modules.all {
-        if is_too_deep(alloc, &*modules, &Above::Module(stmt), stmt)? {
+        if is_deep_module(alloc, modules, stmt)? {
             return Ok(true);
         }
     }
@@ -207,7 +231,7 @@ fn schema_of(alloc: Global, modules: &[Stmt]) -> Result<Schema, SchemaFault>
     ensures builds { Builds modules.now result }
     ensures whole { IfOk result (λ s. IsWhole modules.now) }
 {
-    let modules = Modules::of(modules);
+    let modules = Modules::of(modules)?;
     match first_fault(alloc, &modules) {
         Err(fault) => Err(fault),
         Ok(()) => {

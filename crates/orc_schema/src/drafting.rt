@@ -36,8 +36,8 @@ pub const MAX_NODES: usize = 1_000_000;
 /// Where a block's nodes come to stand: the statements around it, the module that has them, the
 /// names down to it, and the keys of the list that it belongs to.
 #[derive(Clone, Copy)]
-pub(crate) struct Where<'a> {
-    pub(crate) above: &'a Above<'a>,
+pub(crate) struct Where<'a, 'm> {
+    pub(crate) above: &'a Above<'a, 'm>,
     pub(crate) owner: &'a str,
     pub(crate) names: &'a Row<Text>,
     pub(crate) keys: &'a Row<Text>,
@@ -65,7 +65,7 @@ pub(crate) fn qualified(alloc: Global, owner: &str, name: &str) -> Result<Text, 
 }
 
 // The names down to a node.
-fn names_at(alloc: Global, at: &Where<'_>, stmt: &Stmt) -> Result<Row<Text>, Memory>
+fn names_at(alloc: Global, at: &Where<'_, '_>, stmt: &Stmt) -> Result<Row<Text>, Memory>
     ensures { IfOk result (λ names. names ≡ names_at (where_of at.now) stmt.now) }
 {
     let mut names = at.names.copy(alloc)?;
@@ -209,7 +209,7 @@ fn key_at(keys: &[Text], stmt: &Stmt) -> Result<Option<u32>, Memory>
 fn leaf_node(
     alloc: Global,
     modules: &Modules<'_>,
-    at: &Where<'_>,
+    at: &Where<'_, '_>,
     stmt: &Stmt,
 ) -> Result<DraftNode, Memory>
     ensures { IfOk result (λ node. node ≡ draft_node (modules_of modules.now) (where_of at.now) stmt.now Leaf) }
@@ -241,7 +241,7 @@ fn list_node(alloc: Global, stmt: &Stmt) -> Result<DraftNode, Memory>
 fn leaf_list_node(
     alloc: Global,
     modules: &Modules<'_>,
-    at: &Where<'_>,
+    at: &Where<'_, '_>,
     stmt: &Stmt,
 ) -> Result<DraftNode, Memory>
     ensures { IfOk result (λ node. node ≡ draft_node (modules_of modules.now) (where_of at.now) stmt.now LeafList) }
@@ -258,7 +258,7 @@ fn leaf_list_node(
 fn draft_node(
     alloc: Global,
     modules: &Modules<'_>,
-    at: &Where<'_>,
+    at: &Where<'_, '_>,
     stmt: &Stmt,
 ) -> Result<DraftNode, Memory>
     ensures { IfOk result (λ node. node ≡ draft_node (modules_of modules.now) (where_of at.now) stmt.now
@@ -273,7 +273,12 @@ fn draft_node(
 }
 
 // The node that a statement defines.
-fn draft(alloc: Global, modules: &Modules<'_>, at: &Where<'_>, stmt: &Stmt) -> Result<Draft, Memory>
+fn draft(
+    alloc: Global,
+    modules: &Modules<'_>,
+    at: &Where<'_, '_>,
+    stmt: &Stmt,
+) -> Result<Draft, Memory>
     ensures { IfOk result (λ made. made ≡ draft (modules_of modules.now) (where_of at.now) stmt.now) }
 {
     Ok(Draft {
@@ -302,13 +307,13 @@ fn take_one(left: &mut u64) -> Result<(), Memory> {
 }
 
 // The grouping that a `uses` names, where it may define nodes.
-fn bringer_at<'a>(
+fn bringer_at<'a, 'm>(
     alloc: Global,
     depth: usize,
     modules: &Modules<'a>,
-    at: &Where<'a>,
+    at: &Where<'a, 'm>,
     stmt: &Stmt,
-) -> Result<Option<Found<'a>>, Memory>
+) -> Result<Option<Found<'a, 'm>>, Memory>
     ensures { IfOk result (λ o.
         option_map_or (λ g. drafts_below depth (modules_of modules.now) (in_grouping (where_of at.now) g) g.here)
         (grouping modules.now.all.now (stack at.now.above.now) stmt.now) []
@@ -321,11 +326,11 @@ fn bringer_at<'a>(
 // Adds the nodes that the statements below one define, which stand in one another at most `depth`
 // deep; where they are deeper, or more than `left` groupings are looked at, it wants memory.
 #[cycle(drafts)]
-pub(crate) fn push_drafts<'a>(
+pub(crate) fn push_drafts<'a, 'm>(
     alloc: Global,
     depth: usize,
     modules: &Modules<'a>,
-    at: &Where<'a>,
+    at: &Where<'a, 'm>,
     stmt: &'a Stmt,
     left: &mut u64,
     out: &mut Row<Draft>,
@@ -336,6 +341,7 @@ pub(crate) fn push_drafts<'a>(
     if depth == 0 {
         return Err(Memory);
     }
+    modules.go_down(depth)?;
     for sub in stmt.subs.as_slice() {
         match block_part(sub) {
             Part::Node => {
@@ -359,11 +365,11 @@ pub(crate) fn push_drafts<'a>(
 
 // Adds the nodes that the grouping of a `uses` defines.
 #[cycle(drafts)]
-fn push_uses<'a>(
+fn push_uses<'a, 'm>(
     alloc: Global,
     depth: usize,
     modules: &Modules<'a>,
-    at: &Where<'a>,
+    at: &Where<'a, 'm>,
     stmt: &Stmt,
     left: &mut u64,
     out: &mut Row<Draft>,

@@ -45,7 +45,7 @@ fn stands_once(word: Word) -> bool
 }
 
 // A second statement of its keyword.
-fn repeated(alloc: Global, here: &Place<'_>) -> Result<(), SchemaFault>
+fn repeated(alloc: Global, here: &Place<'_, '_>) -> Result<(), SchemaFault>
     ensures { Meets (repeated (place here.now)) result }
 {
     if has(here.here.keyword.as_str(), here.before) {
@@ -64,18 +64,19 @@ fn any_defines(keyword: &str, name: &str, block: &[Stmt]) -> bool
 }
 
 // Whether the name is defined in a block further out.
-fn is_defined_outside(keyword: &str, name: &str, above: &Above<'_>) -> bool
+fn is_defined_outside(keyword: &str, name: &str, above: &Above<'_, '_>) -> bool
     ensures { result ≡ is_some (in_scope keyword.now name.now (outer (stack above.now))) }
 {
     match above {
         Above::Top => false,
         Above::Module(_) => false,
         Above::Under(_, further) => in_scope(keyword, name, *further).is_some(),
+        Above::Indexed(_, further) => in_scope(keyword, name, *further).is_some(),
     }
 }
 
 // Whether a definition of this keyword and name is there already.
-fn is_defined(here: &Place<'_>) -> bool
+fn is_defined(here: &Place<'_, '_>) -> bool
     ensures { result ≡ is_defined (place here.now) }
 {
     let keyword = here.here.keyword.as_str();
@@ -84,7 +85,7 @@ fn is_defined(here: &Place<'_>) -> bool
 }
 
 // Whether the name of a typedef is taken.
-fn is_type_name_taken(alloc: Global, here: &Place<'_>) -> Result<bool, Memory>
+fn is_type_name_taken(alloc: Global, here: &Place<'_, '_>) -> Result<bool, Memory>
     ensures { IfOk result (λ taken. taken ≡ is_type_name_taken (place here.now)) }
 {
     if is_defined(here) {
@@ -98,7 +99,7 @@ fn is_type_name_taken(alloc: Global, here: &Place<'_>) -> Result<bool, Memory>
 }
 
 // Whether a prefix is the module's own.
-fn is_own_prefix(here: &Place<'_>, prefix: &str) -> bool
+fn is_own_prefix(here: &Place<'_, '_>, prefix: &str) -> bool
     ensures { result ≡ is_own_prefix (place here.now) prefix.now }
 {
     match module_around(here.above) {
@@ -115,7 +116,7 @@ fn any_imports_as(prefix: &str, block: &[Stmt]) -> bool
 }
 
 // Whether the prefix of an import is taken.
-fn is_prefix_taken(here: &Place<'_>, prefix: &str) -> bool
+fn is_prefix_taken(here: &Place<'_, '_>, prefix: &str) -> bool
     ensures { result ≡ is_prefix_taken (place here.now) prefix.now }
 {
     is_own_prefix(here, prefix) || any_imports_as(prefix, here.before)
@@ -144,7 +145,7 @@ fn none_seen(alloc: Global, seen: &Seen, names: &[Text]) -> Result<(), SchemaFau
 fn repeated_node(
     alloc: Global,
     modules: &Modules<'_>,
-    here: &Place<'_>,
+    here: &Place<'_, '_>,
     earlier: &Seen,
 ) -> Result<(), SchemaFault>
     requires { HasSame earlier.now (names_before (modules_of modules.now) (place here.now)) }
@@ -172,7 +173,7 @@ fn repeated_among(names: &[Text]) -> Option<&Text>
 }
 
 // A second `key`, or a key that is named twice.
-fn duplicate_key(alloc: Global, here: &Place<'_>) -> Result<(), SchemaFault>
+fn duplicate_key(alloc: Global, here: &Place<'_, '_>) -> Result<(), SchemaFault>
     ensures { Meets (duplicate_key (place here.now)) result }
 {
     if let Err(fault) = repeated(alloc, here) {
@@ -200,7 +201,7 @@ fn duplicate_if(alloc: Global, faulty: bool, name: &str) -> Result<(), SchemaFau
 }
 
 // The prefix of an import that is taken.
-fn duplicate_import(alloc: Global, here: &Place<'_>) -> Result<(), SchemaFault>
+fn duplicate_import(alloc: Global, here: &Place<'_, '_>) -> Result<(), SchemaFault>
     ensures { Meets (duplicate_prefix (place here.now)) result }
 {
     let prefix = sub_text("prefix", here.here);
@@ -212,7 +213,7 @@ fn duplicate_import(alloc: Global, here: &Place<'_>) -> Result<(), SchemaFault>
 pub(crate) fn duplicate(
     alloc: Global,
     modules: &Modules<'_>,
-    here: &Place<'_>,
+    here: &Place<'_, '_>,
     word: Word,
     earlier: &Seen,
 ) -> Result<(), SchemaFault>

@@ -6,7 +6,7 @@ ghost use Rattle.orc_schema.specs.declared.fault.SchemaFault.TheVariants.{Loop};
 ghost use Rattle.orc_types.specs.Statements.{argument};
 ghost use Rattle.orc_schema.specs.Names.{fault_if, unknown, duplicate, names_before};
 ghost use Rattle.orc_schema.specs.Arguments.{bad_argument};
-ghost use Rattle.orc_schema.specs.Faults.{innermost, is_leafref, is_leafref_type, has_no_default, unsupported, no_key, is_endless, loops, own_fault_here, fault_here};
+ghost use Rattle.orc_schema.specs.Faults.{innermost, is_leafref, is_leafref_type, has_no_default, unsupported, no_key, loops, own_fault_here, fault_here};
 ghost use Rattle.orc_schema.specs.inside.Meeting.{Meets};
 ghost use Rattle.orc_schema.specs.inside.Seen.{HasSame};
 
@@ -18,20 +18,21 @@ use crate::placement::stands_below;
 use crate::seen::Seen;
 use crate::type_faults::type_fault_here;
 use crate::typing::typed_around;
-use orc_modules::{Above, Modules, Named, Place, Typed, Word, base_of, leads_past, word_of};
+use orc_modules::{Above, Modules, Place, Typed, Word, is_type_loop, is_uses_loop, word_of};
 use orc_text::Memory;
 use orc_types::{LeafType, has};
 use orc_yang::Stmt;
 use std::alloc::Global;
 
 // The innermost of the statements around.
-fn innermost<'a>(above: &'a Above<'a>) -> Option<&'a Stmt>
+fn innermost<'a, 'm>(above: &'a Above<'a, 'm>) -> Option<&'a Stmt>
     ensures { option_map (λ s. s.now) result ≡ innermost (stack above.now) }
 {
     match above {
         Above::Top => None,
         Above::Module(stmt) => Some(*stmt),
         Above::Under(stmt, _) => Some(*stmt),
+        Above::Indexed(block, _) => Some(block.here()),
     }
 }
 
@@ -57,7 +58,7 @@ fn is_leafref(typed: &Option<Typed>) -> bool
 fn has_no_default(
     alloc: Global,
     modules: &Modules<'_>,
-    here: &Place<'_>,
+    here: &Place<'_, '_>,
     word: Word,
 ) -> Result<bool, Memory>
     ensures { IfOk result (λ faulty. faulty ≡ has_no_default (modules_of modules.now) (place here.now) word) }
@@ -72,7 +73,7 @@ fn has_no_default(
 fn unsupported(
     alloc: Global,
     modules: &Modules<'_>,
-    here: &Place<'_>,
+    here: &Place<'_, '_>,
     word: Word,
 ) -> Result<(), SchemaFault>
     ensures { Meets (unsupported (modules_of modules.now) (place here.now) word) result }
@@ -91,7 +92,7 @@ fn unsupported(
 }
 
 // A list without a key.
-fn no_key(alloc: Global, here: &Place<'_>, word: Word) -> Result<(), SchemaFault>
+fn no_key(alloc: Global, here: &Place<'_, '_>, word: Word) -> Result<(), SchemaFault>
     ensures { Meets (no_key (place here.now) word) result }
 {
     match word {
@@ -108,7 +109,7 @@ fn no_key(alloc: Global, here: &Place<'_>, word: Word) -> Result<(), SchemaFault
     }
 }
 
-// Ok, or that the statement's name leads on without end.
+// Ok, or that the statement's name leads back to where it stands.
 fn loop_if(alloc: Global, faulty: bool, stmt: &Stmt) -> Result<(), SchemaFault>
     ensures { Meets (fault_if faulty (Loop (argument stmt.now))) result }
 {
@@ -120,32 +121,23 @@ fn loop_if(alloc: Global, faulty: bool, stmt: &Stmt) -> Result<(), SchemaFault>
     Ok(())
 }
 
-fn is_endless(named: &Named) -> bool
-    ensures { result ≡ is_endless named.now }
-{
-    match named {
-        Named::Endless => true,
-        _ => false,
-    }
-}
-
-// A typedef or a grouping that leads on without end.
+// A typedef or a grouping that leads back to itself.
 fn loops(
     alloc: Global,
     modules: &Modules<'_>,
-    here: &Place<'_>,
+    here: &Place<'_, '_>,
     word: Word,
 ) -> Result<(), SchemaFault>
     ensures { Meets (loops (modules_of modules.now) (place here.now) word) result }
 {
     match word {
         Word::Uses => {
-            let past = leads_past(alloc, &*modules, here.above, here.here)?;
-            loop_if(alloc, past, here.here)
+            let faulty = is_uses_loop(alloc, &*modules, here.above, here.here)?;
+            loop_if(alloc, faulty, here.here)
         },
         Word::TypeName => {
-            let named = base_of(alloc, &*modules, here.above, here.here)?;
-            loop_if(alloc, is_endless(&named), here.here)
+            let faulty = is_type_loop(alloc, &*modules, here.above, here.here)?;
+            loop_if(alloc, faulty, here.here)
         },
         _ => Ok(()),
     }
@@ -155,7 +147,7 @@ fn loops(
 fn last_fault(
     alloc: Global,
     modules: &Modules<'_>,
-    here: &Place<'_>,
+    here: &Place<'_, '_>,
     word: Word,
 ) -> Result<(), SchemaFault>
     ensures { Meets (option_or (bad_argument (modules_of modules.now) (place here.now) word)
@@ -174,7 +166,7 @@ fn last_fault(
 fn own_fault_here(
     alloc: Global,
     modules: &Modules<'_>,
-    here: &Place<'_>,
+    here: &Place<'_, '_>,
     word: Word,
     earlier: &Seen,
 ) -> Result<(), SchemaFault>
@@ -197,7 +189,7 @@ fn own_fault_here(
 pub(crate) fn fault_here(
     alloc: Global,
     modules: &Modules<'_>,
-    here: &Place<'_>,
+    here: &Place<'_, '_>,
     earlier: &Seen,
 ) -> Result<(), SchemaFault>
     requires { HasSame earlier.now (names_before (modules_of modules.now) (place here.now)) }

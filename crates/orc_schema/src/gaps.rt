@@ -10,8 +10,8 @@ use std::alloc::Global;
 
 // Where the statements of a block stand.
 #[derive(Clone, Copy)]
-struct Inside<'a> {
-    above: &'a Above<'a>,
+struct Inside<'a, 'm> {
+    above: &'a Above<'a, 'm>,
 }
 
 // So many `uses` are looked at for one key.
@@ -19,11 +19,11 @@ const MAX_VISITS: u64 = 1_000_000;
 
 // Whether a `uses` of the block leads to no grouping, or on more than `depth` times. Past so many
 // that are left, it wants memory.
-fn is_incomplete_at<'a>(
+fn is_incomplete_at<'a, 'm>(
     alloc: Global,
     depth: usize,
     modules: &Modules<'a>,
-    at: &Inside<'a>,
+    at: &Inside<'a, 'm>,
     stmt: &'a Stmt,
     left: &mut u64,
 ) -> Result<bool, Memory>
@@ -33,6 +33,7 @@ fn is_incomplete_at<'a>(
     if depth == 0 {
         return Ok(true);
     }
+    modules.go_down(depth)?;
     for sub in stmt.subs.as_slice() {
         match block_part(sub) {
             Part::Uses => {
@@ -43,7 +44,7 @@ fn is_incomplete_at<'a>(
                 let Some(found) = grouping(&*modules, at.above, sub) else {
                     return Ok(true);
                 };
-                match brings_nothing(alloc, depth - 1, &*modules, &found)? {
+                match brings_nothing(alloc, depth - 1, &*modules, sub, &found)? {
                     true => {},
                     false => {
                         let inside = Inside {
@@ -71,10 +72,10 @@ fn is_incomplete_at<'a>(
 }
 
 // Whether a `uses` of the block of a statement, or of its groupings, leads to no grouping, or to itself.
-pub(crate) fn is_incomplete<'a>(
+pub(crate) fn is_incomplete<'a, 'm>(
     alloc: Global,
     modules: &Modules<'a>,
-    above: &'a Above<'a>,
+    above: &'a Above<'a, 'm>,
     stmt: &'a Stmt,
 ) -> Result<bool, Memory>
     ensures { IfOk result (λ found. found

@@ -35,7 +35,7 @@ pub(crate) fn contains_text(texts: &[Text], text: &str) -> bool
 }
 
 // Whether a `uses` names no grouping.
-fn is_unknown_grouping(modules: &Modules<'_>, here: &Place<'_>) -> bool
+fn is_unknown_grouping(modules: &Modules<'_>, here: &Place<'_, '_>) -> bool
     ensures { result ≡ is_unknown_grouping (modules_of modules.now) (place here.now) }
 {
     is_reference(argument(here.here)) && grouping(&*modules, here.above, here.here).is_none()
@@ -49,7 +49,11 @@ pub(crate) fn is_built_in(alloc: Global, name: &str) -> Result<bool, Memory>
 }
 
 // Whether a `type` names neither a built-in type nor a typedef.
-fn is_unknown_type(alloc: Global, modules: &Modules<'_>, here: &Place<'_>) -> Result<bool, Memory>
+fn is_unknown_type(
+    alloc: Global,
+    modules: &Modules<'_>,
+    here: &Place<'_, '_>,
+) -> Result<bool, Memory>
     ensures { IfOk result (λ unknown. unknown ≡ is_unknown_type (modules_of modules.now) (place here.now)) }
 {
     let name = argument(here.here);
@@ -66,7 +70,7 @@ fn is_unknown_type(alloc: Global, modules: &Modules<'_>, here: &Place<'_>) -> Re
 pub(crate) fn leaf_around(
     alloc: Global,
     modules: &Modules<'_>,
-    above: &Above<'_>,
+    above: &Above<'_, '_>,
     name: &str,
 ) -> Result<Option<Option<Typed>>, Memory>
     ensures { IfOk result (λ found. found ≡ option_map (λ c. typed (modules_of modules.now) c.above c.here)
@@ -77,6 +81,13 @@ pub(crate) fn leaf_around(
         Above::Module(stmt) | Above::Under(stmt, _) => {
             leaf_type(alloc, &*modules, above, stmt.subs.as_slice(), name)
         },
+        Above::Indexed(block, _) => leaf_type(
+            alloc,
+            &*modules,
+            above,
+            block.here().subs.as_slice(),
+            name,
+        ),
     }
 }
 
@@ -84,7 +95,7 @@ pub(crate) fn leaf_around(
 fn is_unknown_key(
     alloc: Global,
     modules: &Modules<'_>,
-    above: &Above<'_>,
+    above: &Above<'_, '_>,
     name: &str,
 ) -> Result<bool, Memory>
     ensures { IfOk result (λ unknown. unknown ≡ is_unknown_key (modules_of modules.now) (stack above.now) name.now) }
@@ -96,7 +107,7 @@ fn is_unknown_key(
 }
 
 // Whether each `uses` of the statement around leads to its groupings.
-fn is_complete(alloc: Global, modules: &Modules<'_>, above: &Above<'_>) -> Result<bool, Memory>
+fn is_complete(alloc: Global, modules: &Modules<'_>, above: &Above<'_, '_>) -> Result<bool, Memory>
     ensures { IfOk result (λ complete. complete ≡ is_complete (modules_of modules.now) (stack above.now)) }
 {
     match above {
@@ -104,6 +115,7 @@ fn is_complete(alloc: Global, modules: &Modules<'_>, above: &Above<'_>) -> Resul
         Above::Module(stmt) | Above::Under(stmt, _) => {
             Ok(!is_incomplete(alloc, &*modules, above, *stmt)?)
         },
+        Above::Indexed(block, _) => Ok(!is_incomplete(alloc, &*modules, above, block.here())?),
     }
 }
 
@@ -111,7 +123,7 @@ fn is_complete(alloc: Global, modules: &Modules<'_>, above: &Above<'_>) -> Resul
 fn first_unknown_key<'a>(
     alloc: Global,
     modules: &Modules<'_>,
-    above: &Above<'_>,
+    above: &Above<'_, '_>,
     names: &'a [Text],
 ) -> Result<Option<&'a Text>, Memory>
     ensures { IfOk result (λ found. option_map (λ name. name.now) found
@@ -126,7 +138,11 @@ fn first_unknown_key<'a>(
 }
 
 // A key that names no leaf of the list around.
-fn unknown_key(alloc: Global, modules: &Modules<'_>, here: &Place<'_>) -> Result<(), SchemaFault>
+fn unknown_key(
+    alloc: Global,
+    modules: &Modules<'_>,
+    here: &Place<'_, '_>,
+) -> Result<(), SchemaFault>
     ensures { Meets (option_map Unknown (unknown_key (modules_of modules.now) (place here.now))) result }
 {
     if !is_complete(alloc, modules, here.above)? {
@@ -157,7 +173,7 @@ fn unknown_if(alloc: Global, faulty: bool, stmt: &Stmt) -> Result<(), SchemaFaul
 pub(crate) fn unknown(
     alloc: Global,
     modules: &Modules<'_>,
-    here: &Place<'_>,
+    here: &Place<'_, '_>,
     word: Word,
 ) -> Result<(), SchemaFault>
     ensures { Meets (unknown (modules_of modules.now) (place here.now) word) result }

@@ -29,10 +29,10 @@ fn plain_fault(alloc: Global, base: &Base, stmt: &Stmt) -> Result<(), SchemaFaul
 }
 
 // A path with a prefix that no module has.
-fn strange_prefix(
+fn strange_prefix<'a, 'm>(
     alloc: Global,
     modules: &Modules<'_>,
-    above: &Above<'_>,
+    above: &'a Above<'a, 'm>,
     stmt: &Stmt,
 ) -> Result<(), SchemaFault>
     ensures { Meets (strange_prefix (modules_of modules.now) (stack above.now) stmt.now) result }
@@ -102,10 +102,10 @@ fn below_leafref(alloc: Global, before: &[Stmt], stmt: &Stmt) -> Result<(), Sche
 }
 
 // The same, with the prefixes of its path.
-fn leafref_fault_at(
+fn leafref_fault_at<'a, 'm>(
     alloc: Global,
     modules: &Modules<'_>,
-    above: &Above<'_>,
+    above: &'a Above<'a, 'm>,
     before: &[Stmt],
     stmt: &Stmt,
 ) -> Result<(), SchemaFault>
@@ -118,10 +118,10 @@ fn leafref_fault_at(
 }
 
 // The first fault below a leafref's `type`.
-fn leafref_fault(
+fn leafref_fault<'a, 'm>(
     alloc: Global,
     modules: &Modules<'_>,
-    above: &Above<'_>,
+    above: &'a Above<'a, 'm>,
     stmts: &[Stmt],
 ) -> Result<(), SchemaFault>
     ensures { Meets (leafref_fault (modules_of modules.now) (stack above.now) [] stmts.now) result }
@@ -135,10 +135,10 @@ fn leafref_fault(
 }
 
 // The first fault of a leafref's `type`, and below it.
-fn whole_leafref_fault(
+fn whole_leafref_fault<'a, 'm>(
     alloc: Global,
     modules: &Modules<'_>,
-    above: &Above<'_>,
+    above: &'a Above<'a, 'm>,
     stmt: &Stmt,
 ) -> Result<(), SchemaFault>
     ensures { Meets (base_fault (modules_of modules.now) (stack above.now) stmt.now Leafref) result }
@@ -152,10 +152,10 @@ fn whole_leafref_fault(
 }
 
 // The same of any `type`.
-fn base_fault(
+fn base_fault<'a, 'm>(
     alloc: Global,
     modules: &Modules<'_>,
-    above: &Above<'_>,
+    above: &'a Above<'a, 'm>,
     stmt: &Stmt,
     base: &Base,
 ) -> Result<(), SchemaFault>
@@ -208,7 +208,7 @@ fn is_range(stmt: &Stmt) -> bool
     is_a("range", stmt) || is_a("length", stmt)
 }
 
-// What is at fault at a statement below a `type` whose typedef is at fault itself.
+// What is at fault at a statement below a `type` whose typedef is at fault itself, or leads to one that is.
 fn unclear_at(alloc: Global, stmt: &Stmt) -> Result<(), SchemaFault>
     ensures { Meets (unclear_at stmt.now) result }
 {
@@ -236,10 +236,10 @@ fn unclear_fault(alloc: Global, stmts: &[Stmt]) -> Result<(), SchemaFault>
 }
 
 // The first fault of a `type` by what its name stands for.
-fn named_fault(
+fn named_fault<'a, 'm>(
     alloc: Global,
     modules: &Modules<'_>,
-    above: &Above<'_>,
+    above: &'a Above<'a, 'm>,
     stmt: &Stmt,
     named: &Named,
 ) -> Result<(), SchemaFault>
@@ -247,7 +247,7 @@ fn named_fault(
 {
     match named {
         Named::Means(meant) => base_fault(alloc, modules, above, stmt, &meant.base),
-        Named::Endless => Ok(()),
+        Named::Endless => unclear_fault(alloc, stmt.subs.as_slice()),
         Named::Unclear => unclear_fault(alloc, stmt.subs.as_slice()),
     }
 }
@@ -256,7 +256,7 @@ fn named_fault(
 pub(crate) fn type_fault_here(
     alloc: Global,
     modules: &Modules<'_>,
-    here: &Place<'_>,
+    here: &Place<'_, '_>,
     word: Word,
 ) -> Result<(), SchemaFault>
     ensures { Meets (type_fault_here (modules_of modules.now) (place here.now) word) result }

@@ -12,7 +12,7 @@ use std::alloc::Global;
 pub(crate) fn typed(
     alloc: Global,
     modules: &Modules<'_>,
-    above: &Above<'_>,
+    above: &Above<'_, '_>,
     stmt: &Stmt,
 ) -> Result<Option<Typed>, Memory>
     ensures { IfOk result (λ found. found ≡ typed (modules_of modules.now) (stack above.now) stmt.now) }
@@ -24,7 +24,7 @@ pub(crate) fn typed(
 pub(crate) fn typed_around(
     alloc: Global,
     modules: &Modules<'_>,
-    above: &Above<'_>,
+    above: &Above<'_, '_>,
 ) -> Result<Option<Typed>, Memory>
     ensures { IfOk result (λ found. found ≡ typed_around (modules_of modules.now) (stack above.now)) }
 {
@@ -32,5 +32,6 @@ pub(crate) fn typed_around(
         Above::Top => Ok(None),
         Above::Module(stmt) => typed(alloc, modules, &Above::Top, *stmt),
         Above::Under(stmt, outer) => typed(alloc, modules, *outer, *stmt),
+        Above::Indexed(block, outer) => typed(alloc, modules, *outer, block.here()),
     }
 }

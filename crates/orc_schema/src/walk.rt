@@ -10,7 +10,7 @@ ghost use Rattle.orc_schema.specs.inside.Seen.{all_seen};
 use crate::SchemaFault;
 use crate::faults::fault_here;
 use crate::seen::Seen;
-use orc_modules::{Above, Modules, Place, Word, child_names, is_read, word_of};
+use orc_modules::{Above, Block, Modules, Place, Word, child_names, is_read, word_of};
 use orc_text::{Memory, Text};
 use orc_yang::Stmt;
 use std::alloc::Global;
@@ -26,10 +26,10 @@ fn push_all(alloc: Global, more: &[Text], names: &mut Seen) -> Result<(), Memory
 }
 
 // Adds the names of the nodes that a statement gives to its block.
-fn add_names<'a>(
+fn add_names<'a, 'm>(
     alloc: Global,
     modules: &Modules<'a>,
-    above: &'a Above<'a>,
+    above: &'a Above<'a, 'm>,
     stmt: &'a Stmt,
     names: &mut Seen,
 ) -> Result<(), Memory>
@@ -41,11 +41,11 @@ fn add_names<'a>(
 }
 
 // The first fault below a statement, which stands first in the list.
-fn first_fault_below<'a>(
+fn first_fault_below<'a, 'm>(
     alloc: Global,
     modules: &Modules<'a>,
     stmt: &'a Stmt,
-    above: &'a Above<'a>,
+    above: &'a Above<'a, 'm>,
 ) -> Result<(), SchemaFault>
     ensures { Meets (first_some (fault_here (modules_of modules.now))
         (places_below stmt.now (stack above.now))) result }
@@ -82,6 +82,18 @@ fn first_fault_below<'a>(
     Ok(())
 }
 
+// The first fault below a module.
+fn first_fault_in<'a>(
+    alloc: Global,
+    modules: &Modules<'a>,
+    stmt: &'a Stmt,
+) -> Result<(), SchemaFault>
+    ensures { Meets (first_some (fault_here (modules_of modules.now)) (places_below stmt.now (stmt.now ∷ []))) result }
+{
+    let block = Block::of(alloc, stmt)?;
+    first_fault_below(alloc, &*modules, stmt, &Above::Indexed(&block, &Above::Top))
+}
+
 // The first fault of the modules' statements.
 pub(crate) fn first_fault(alloc: Global, modules: &Modules<'_>) -> Result<(), SchemaFault>
     ensures { Meets (first_some (fault_here (modules_of modules.now)) (module_places [] modules.now.all.now)) result }
@@ -98,7 +110,7 @@ pub(crate) fn first_fault(alloc: Global, modules: &Modules<'_>) -> Result<(), Sc
         if let Err(fault) = fault_here(alloc, &*modules, &place, &names) {
             return Err(fault);
         }
-        if let Err(fault) = first_fault_below(alloc, &*modules, here, &Above::Module(here)) {
+        if let Err(fault) = first_fault_in(alloc, &*modules, here) {
             return Err(fault);
         }
         add_names(alloc, &*modules, &Above::Top, here, &mut names)?;

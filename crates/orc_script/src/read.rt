@@ -18,7 +18,7 @@ use orc_text::Row;
 use std::alloc::Global;
 use std::sync::ledger::Ledger;
 
-/// ReadsLine the steps of the script, in front of which stand so many bytes and so many lines.
+/// Reads the steps of the script, in front of which stand so many bytes and so many lines.
 pub fn read_steps<L: Ledger, M: Ledger>(
     alloc: Global,
     declared: &Declared,

@@ -19,8 +19,8 @@ use Rattle.orc_path.specs.inside.Reading.{is_key_byte}
 use Rattle.orc_path.proofs.Plain.{is_plain_text-byte}
 use Rattle.orc_path.specs.Order.{is_prefix, path_cmp, step_eq}
 use Rattle.orc_path.specs.Steps.{PathStep, ends_in_keys, is_path}
-use Rattle.orc_path.specs.Configurations.{Config, IsConfig, IsWay, is_entry_of, is_removed_with, put_item}
-use Rattle.orc_path.specs.declared.item.Item.TheVariants.{Entry, Leaf}
+use Rattle.orc_path.specs.Configurations.{Config, IsConfig, IsWay, is_removed_with, put_item}
+use Rattle.orc_path.specs.declared.item.Item.TheVariants.{Entry}
 use Rattle.orc_path.proofs.ConfigurationLaws.{IsConfig-empty, IsConfig-put_item, IsConfig-drop_item, get-drop_item, get-put_item-elsewhere, same_path}
 use Rattle.orc_schema.specs.Schemas.{SchemaTable}
 use Rattle.orc_check.specs.Validity.{Breach, broken_of}
@@ -32,15 +32,12 @@ use Rattle.orc_call.specs.declared.call.Action.TheVariants.{Create, Modify, Dele
 use Rattle.orc_state.specs.States.{device_entry, enter_devices, is_same_text, opening, opening_data, put_all}
 use Rattle.orc_state.specs.Actions.{data_after, data_step, enter_service, leave_service}
 use Rattle.orc_state.specs.inside.Behind.{begins_as_path}
-use Rattle.orc_services.specs.Services.{list_with}
-use Rattle.orc_services.specs.declared.list.ServiceList.{ServiceList}
 use Rattle.orc_path.specs.Reading.{path_of}
 use Rattle.orc_path.specs.Texts.{path_text}
-use Rattle.orc_path.specs.Items.{fits}
 use Rattle.orc_path.proofs.PathOf.{text_of_path}
 use Rattle.orc_state.specs.Next.{after, clash, existence, invalid, refusal, expanded_call, expanded_to, unexpanded}
 use Rattle.orc_state.specs.Histories.{fold_from, IsUnrefused}
-use Rattle.orc_state.specs.Calls.{blank_item, has_body, is_action, is_body, is_body_item, is_data_item, is_data_path, is_item_at, is_kept, is_lawful_name, is_path_under, is_put, is_served, is_service, is_service_path}
+use Rattle.orc_state.specs.Calls.{has_body, is_action, is_body, is_body_item, is_data_item, is_data_path, is_kept, is_lawful_name, is_path_under, is_put, is_served, is_service, is_service_path}
 use Rattle.orc_state.specs.Laws.{AreActions, DataIsConfiguration, DataIsValid, DevicesStay}
 use Rattle.orc_state.specs.declared.declarations.Decls.{Decls}
 use Rattle.orc_state.specs.States.{State}
@@ -82,7 +79,7 @@ name_byte_key b h = grind arith
 start_byte : (b : ℕ) → is_name_start b ≡ true → is_name_byte b ≡ true
 start_byte b h = grind arith
 
-bytes_plain : (bs : List ℕ) → list_all is_name_byte bs ≡ true → is_plain_text bs ≡ true
+pub bytes_plain : (bs : List ℕ) → list_all is_name_byte bs ≡ true → is_plain_text bs ≡ true
 bytes_plain [] h = is_plain_text-nil
 bytes_plain (b ∷ bs) h =
     let byte = first_so (is_name_byte b) (list_all is_name_byte bs) h in

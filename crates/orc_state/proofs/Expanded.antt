@@ -15,10 +15,10 @@ use Rattle.orc_state.specs.States.{is_same_text}
 use Rattle.orc_state.specs.Actions.{is_named_by, is_service_among, name_each_once, named, service_of, services_once}
 use Rattle.orc_state.specs.Next.{expanded_to}
 
-ok_same : {X E : Type 0} (x y : X) → ◌≡◌ {A = Result X E} (Ok x) (Ok y) → x ≡ y
+pub ok_same : {X E : Type 0} (x y : X) → ◌≡◌ {A = Result X E} (Ok x) (Ok y) → x ≡ y
 ok_same x y h = cc
 
-err_no_ok : {X E : Type 0} (e : E) (y : X) → ◌≡◌ {A = Result X E} (Err e) (Ok y) → ⊥
+pub err_no_ok : {X E : Type 0} (e : E) (y : X) → ◌≡◌ {A = Result X E} (Err e) (Ok y) → ⊥
 err_no_ok e y h = cc
 
 literal_named : (names : List (List ℕ)) (id : List ℕ) (o : Option (Result Expanding Failed)) (a : Action)
@@ -27,7 +27,7 @@ literal_named names id None a h = ap named (sym (ok_same (Literal id []) a h))
 literal_named names id (Some (Ok e)) a h = ap named (sym (ok_same _ a h))
 literal_named names id (Some (Err failed)) a h = absurd (err_no_ok _ a h)
 
--- a expanded action names what the action named
+-- an expanded action names what the action named
 pub one_named : (s : Serving) (action a : Action) → (expanded_action s action).outcome ≡ Ok a → named a ≡ service_of action
 one_named s (Create id body) a h = literal_named s.devices.names id (expansion_of s id) a h
 one_named s (Modify id body) a h = literal_named s.devices.names id (expansion_of s id) a h
@@ -90,3 +90,21 @@ other_unnamed s actions id h = on (expanded_actions s actions).outcome refl
     on : (o : Result (List Action) Answer) → (expanded_actions s actions).outcome ≡ o → is_named_by (expanded_to o) id ≡ false
     on (Ok acts) is = all_named s actions acts is id ∙ h
     on (Err answer) is = refl
+
+-- an expanded action names, as actions of a call do, what the action named
+literal_serves : (names : List (List ℕ)) (id : List ℕ) (o : Option (Result Expanding Failed)) (a : Action)
+    → (as_literal names id o).outcome ≡ Ok a → service_of a ≡ Some id
+literal_serves names id None a h = ap service_of (sym (ok_same (Literal id []) a h))
+literal_serves names id (Some (Ok e)) a h = ap service_of (sym (ok_same _ a h))
+literal_serves names id (Some (Err failed)) a h = absurd (err_no_ok _ a h)
+
+pub one_serves : (s : Serving) (action a : Action) → (expanded_action s action).outcome ≡ Ok a → service_of a ≡ service_of action
+one_serves s (Create id body) a h = literal_serves s.devices.names id (expansion_of s id) a h
+one_serves s (Modify id body) a h = literal_serves s.devices.names id (expansion_of s id) a h
+one_serves s (Redeploy id) a h = literal_serves s.devices.names id (expansion_of s id) a h
+one_serves s (Literal id writes) a h = ap service_of (sym (ok_same (Literal id writes) a h))
+one_serves s (Delete id) a h = ap service_of (sym (ok_same (Delete id) a h))
+one_serves s (Set put) a h = ap service_of (sym (ok_same (Set put) a h))
+one_serves s (Unset path) a h = ap service_of (sym (ok_same (Unset path) a h))
+one_serves s (BasePut put) a h = ap service_of (sym (ok_same (BasePut put) a h))
+one_serves s (BaseRemove device path) a h = ap service_of (sym (ok_same (BaseRemove device path) a h))

@@ -31,3 +31,11 @@ mod Writers
 mod Openings
 mod Changing
 mod Literals
+mod Made
+mod Lone
+mod Presence
+mod Residents
+mod Sighting
+mod Standing
+mod Entering
+mod Numbers

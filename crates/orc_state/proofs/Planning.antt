@@ -29,6 +29,7 @@ use Rattle.orc_expr.specs.Touches.{Covers, IsInside, write_touches, write_touche
 use Rattle.orc_expr.specs.declared.read.Read.{Read}
 use Rattle.orc_expr.specs.declared.read.Target.{Target}
 use Rattle.orc_expr.specs.declared.read.Target.TheVariants.{One, Under}
+use Rattle.orc_revalidate.specs.Changes.{DiffersInside}
 use Rattle.orc_services.specs.Laws.{ExpandedStands}
 use Rattle.orc_services.specs.Expanded.{ExpandedTo, expanded_actions}
 use Rattle.orc_state.specs.States.{State, put_all}
@@ -272,12 +273,16 @@ touched_one (r ∷ reads) path h = on (write_touches (write.At path) r) refl h (
     on true is e rest = (r, first_in r reads, is)
     on false is e rest = let found = rest e in (found.0, later_in r found.0 reads found.1, found.2)
 
-pub stands_behind : ExpandedStands → ExpandedStandsBehind
-stands_behind law decls state call other lawful apart =
+-- all that the expansions of a call come to, with what they read, stands behind another one
+pub comes_same : ExpandedStands → (decls : Decls) (state : State) (call other : Call) → All (λ action. IsTrue (is_action decls action)) other.actions
+    → ((target : Target) (reading : Read) → Contains (call_targets other.actions) target
+    → Contains (call_reads decls state call) reading → Covers target reading → ⊥)
+    → expanded_actions (serving_on decls (data_after call.actions (data_after other.actions state.data))) call.actions
+    ≡ expanded_actions (serving_on decls (data_after call.actions state.data)) call.actions
+comes_same law decls state call other lawful apart =
     let old = data_after call.actions state.data in
     let new = data_after call.actions (data_after other.actions state.data) in
-    ap (λ (x : ExpandedTo (List Action)). x.outcome)
-    (law decls.services decls.table call.actions (shape_at decls.data_schema) old new (λ path differs. untouched path differs (write_touches_any (call_reads decls state call) (write.At path)) refl))
+    law decls.services decls.table call.actions (shape_at decls.data_schema) old new (λ path differs. untouched path differs (write_touches_any (call_reads decls state call) (write.At path)) refl)
   where
     untouched : (path : List PathStep)
         → (get (data_after call.actions state.data) path ≡ get (data_after call.actions (data_after other.actions state.data)) path → ⊥)
@@ -288,3 +293,20 @@ stands_behind law decls state call other lawful apart =
         let inside = changes_are_targets decls other.actions state.data path lawful
         (λ same. differs (behind_same call.actions state.data (data_after other.actions state.data) path (sym same))) in
         absurd (apart inside.0 found.0 inside.1 found.1 (path, (inside.2, found.2)))
+
+pub stands_behind : ExpandedStands → ExpandedStandsBehind
+stands_behind law decls state call other lawful apart =
+    ap (λ (x : ExpandedTo (List Action)). x.outcome) (comes_same law decls state call other lawful apart)
+
+-- so the data behind a lawful call differ inside its targets
+pub differs_inside : (decls : Decls) (actions : List Action) (config : Config) → All (λ action. IsTrue (is_action decls action)) actions
+    → DiffersInside (call_targets actions) config (data_after actions config)
+differs_inside decls actions config lawful = λ path differs.
+    changes_are_targets decls actions config path lawful (λ same. differs (sym same))
+
+pub differs_so : (actions given : List Action) (old first config : Config) → given ≡ actions → first ≡ old → config ≡ data_after given first
+    → DiffersInside (call_targets actions) old (data_after actions old) → DiffersInside (call_targets given) first config
+differs_so actions given old first config same is at h =
+    subst (DiffersInside (call_targets given) first) (sym at)
+    (subst (λ (c : Config). DiffersInside (call_targets given) c (data_after given c)) (sym is)
+    (subst (λ (l : List Action). DiffersInside (call_targets l) old (data_after l old)) (sym same) h))

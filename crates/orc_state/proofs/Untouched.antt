@@ -11,15 +11,14 @@ use Rattle.orc_path.specs.Configurations.{Config, drop_item, overlay, put_item}
 use Rattle.orc_path.specs.declared.item.Item.{Item}
 use Rattle.orc_path.proofs.ConfigurationLaws.{get-overlay, same_config}
 use Rattle.orc_call.specs.declared.answer.Answer.{Answer}
-use Rattle.orc_call.specs.declared.answer.Answer.TheVariants.{Exists}
 use Rattle.orc_call.specs.declared.call.Action.{Action}
 use Rattle.orc_call.specs.declared.call.Action.TheVariants.{Literal, Delete, BasePut, BaseRemove}
 use Rattle.orc_call.specs.declared.call.DevicePut.{DevicePut}
 use Rattle.orc_refs.specs.Live.{overlaid}
-use Rattle.orc_state.specs.States.{config_of, expansion, has_id, is_same_text, lives, name_of, part, put_all, puts_on}
+use Rattle.orc_state.specs.States.{config_of, expansion, has_id, is_same_text, name_of, part, put_all, puts_on}
 use Rattle.orc_state.specs.Actions.{base_step, bases_after, live_after, live_step, names, new_services}
 use Rattle.orc_state.specs.Next.{expanded_call, expanded_to}
-use Rattle.orc_state.specs.Touched.{is_held_by, is_touched_by, is_written_by}
+use Rattle.orc_state.specs.Touched.{is_held_by, is_touched_among, is_touched_by, is_written_by}
 use Rattle.orc_state.specs.Laws.{UntouchedStay}
 use Rattle.orc_state.specs.declared.declarations.Decls.{Decls}
 use Rattle.orc_state.specs.declared.state.Service.{Service}
@@ -33,13 +32,13 @@ module _ (d : ℕ) where
   abbrev Blank : Service → Type 0
   Blank a = part a d ≡ empty
 
-  abbrev laid : List Service → Config → Config
+  abbrev pub laid : List Service → Config → Config
   laid live base = overlaid (map (λ service. part service d) live) base
 
   overlay-empty : (base : Config) → overlay empty base ≡ base
   overlay-empty base = same_config (overlay empty base) base (λ q. get-overlay empty base q ∙ ap (λ (o : Option Item). option_or o (get base q)) (get-empty path_cmp q))
 
-  laid-blank : (a : Service) (rest : List Service) (base : Config) → Blank a → laid (a ∷ rest) base ≡ laid rest base
+  pub laid-blank : (a : Service) (rest : List Service) (base : Config) → Blank a → laid (a ∷ rest) base ≡ laid rest base
   laid-blank a rest base blank = ap (λ (b : Config). laid rest b) (ap (λ (top : Config). overlay top base) blank ∙ overlay-empty base)
 
   laid-blanks : (made : List Service) (base : Config) → All Blank made → laid made base ≡ base
@@ -106,7 +105,7 @@ none_later (Some x) b e = cc
 none_later None b e = e
 
 -- it holds nothing there
-holds_nothing : (m : Config) → (len m == 0) ≡ true → m ≡ empty
+pub holds_nothing : (m : Config) → (len m == 0) ≡ true → m ≡ empty
 holds_nothing m h = empty_of_len m (eqb-true _ _ h)
 
 pub held : (t : Bool) (m : Config) → t ≡ true → (t && not (len m == 0)) ≡ false → m ≡ empty
@@ -148,14 +147,18 @@ base_stays names state d (BasePut put) off base = ap (λ t. if t then put_item b
 base_stays names state d (BaseRemove device path) off base = ap (λ t. if t then drop_item base path else base) off
 base_stays names state d other off base = refl
 
-pub untouched_stay : UntouchedStay
-untouched_stay decls state call d unrefused off =
+-- so its base stays
+pub base_untouched : (decls : Decls) (state : State) (acts : List Action) (d : ℕ) → is_touched_among decls.names state acts d ≡ false
+    → config_of (bases_after decls.names acts state.bases) d ≡ config_of state.bases d
+base_untouched decls state acts d off =
     let base = config_of state.bases d in
-    let acts = expanded_to (expanded_call decls state call) in
-    let stays : config_of (bases_after decls.names acts state.bases) d ≡ base =
     base_kept (λ (b : Config). b ≡ base) decls.names acts state.bases d
     (All-weaker (λ (action : Action). is_touched_by decls.names state d action ≡ false) (KeepsBase (λ (b : Config). b ≡ base) (name_of decls.names d))
     (λ action none b is. base_stays decls.names state d action none b ∙ is) acts
-    (any_none (is_touched_by decls.names state d) acts off)) refl in
-    ap (λ (b : Config). laid d (live_after decls.names acts state.live) b) stays ∙
+    (any_none (is_touched_by decls.names state d) acts off)) refl
+
+pub untouched_stay : UntouchedStay
+untouched_stay decls state call d unrefused off =
+    let acts = expanded_to (expanded_call decls state call) in
+    ap (λ (b : Config). laid d (live_after decls.names acts state.live) b) (base_untouched decls state acts d off) ∙
     behind_quiet d decls.names acts state.live (config_of state.bases d) (all_quiet decls state d acts off)

@@ -33,8 +33,8 @@ services_once [] = true
 services_once (action ∷ actions) =
     option_map_or (λ id. not (is_service_among actions id)) (service_of action) true && services_once actions
 
--- The service that a expanded action names, if it names one. An action on a service of a list that isn't expanded names
--- none and changes nothing.
+-- The service that an expanded action names, if it names one. An action on a service of a list that isn't expanded
+-- names none and changes nothing.
 abbrev pub named : Action → Option (List ℕ)
 named (Literal id writes) = Some id
 named (Delete id) = Some id

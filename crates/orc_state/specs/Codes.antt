@@ -1,8 +1,9 @@
--- The codes of a service and of a state, which a model that is made of them needs.
+-- The codes of a service, of a state and of a snapshot, which a model that is made of them needs.
 use Rattle.std.specs.Prelude.{ℕ, List, refl}
 use Rattle.std.specs.Coded.{Coded, code_by, coded×, coded_ℕ, coded_list}
 use Rattle.orc_path.specs.Codes.{config_code}
 use Rattle.orc_path.specs.Configurations.{Config}
+use Rattle.orc_state.specs.Snapshots.{Snapshot}
 use Rattle.orc_state.specs.States.{State}
 use Rattle.orc_state.specs.declared.state.Service.{Service}
 
@@ -17,3 +18,9 @@ state_code =
     (coded× config_code (coded× (coded_list config_code) (coded_list service_code)))
     (λ state. (state.data, (state.bases, state.live)))
     (λ parts. record { «data» = parts.0; bases = parts.1.0; live = parts.1.1 }) (λ _. refl)
+
+abbrev pub snapshot_code : Coded Snapshot
+snapshot_code =
+    code_by (ℕ × (Config × Config)) (coded× coded_ℕ (coded× config_code config_code))
+    (λ snapshot. (snapshot.front, (snapshot.data, snapshot.known)))
+    (λ parts. record { front = parts.0; «data» = parts.1.0; known = parts.1.1 }) (λ _. refl)

@@ -1,8 +1,9 @@
 -- What users rely on, over whole histories.
-use Rattle.std.specs.Prelude.{◌≡◌, ◌≢◌, ℕ, ◌≤◌, true, false, List, [], ◌∷◌, ◌++◌, All, Contains, IsTrue, MatchOption, slice_get}
+use Rattle.std.specs.Prelude.{◌≡◌, ◌≢◌, ℕ, ◌<◌, ◌≤◌, length, true, false, List, [], ◌∷◌, ◌++◌, All, Contains, IsTrue, MatchOption, slice_get}
 use Rattle.std.specs.declared.option.Option.TheVariants.{None, Some}
 use Rattle.std.specs.declared.result.Result.TheVariants.{Ok}
 use Rattle.std.specs.FinMap.{get}
+use Rattle.std.specs.Option.{option_or}
 use Rattle.std.specs.declared.cmp.Ordering.TheVariants.{Less}
 use Rattle.orc_path.specs.Steps.{PathStep}
 use Rattle.orc_path.specs.Order.{path_cmp, text_cmp}
@@ -17,15 +18,18 @@ use Rattle.orc_services.specs.Expanded.{writes_of}
 use Rattle.orc_services.specs.Services.{Instance, expansion_at}
 use Rattle.orc_expr.specs.declared.read.Read.{Read}
 use Rattle.orc_expr.specs.declared.read.Target.{Target}
-use Rattle.orc_state.specs.Plans.{IsInsideOne, call_reads, call_targets}
+use Rattle.orc_queue.specs.Fitting.{FitTogether}
+use Rattle.orc_state.specs.Plans.{IsInsideOne, call_expansions, call_held, call_reads, call_targets, plan_refusal, planned}
+use Rattle.orc_state.specs.declared.plan.Plan.{Plan}
 use Rattle.orc_state.specs.Actions.{data_after, is_service_among, live_after, touched}
-use Rattle.orc_state.specs.Next.{after, clash, expanded_call, refusal, serving_on}
+use Rattle.orc_state.specs.Next.{after, clash, existence, expanded_call, expanded_to, invalid, refusal, serving_on}
 use Rattle.orc_state.specs.Histories.{fold_from, IsUnrefused}
 use Rattle.orc_typed.specs.Typed.{is_typed}
 use Rattle.orc_state.specs.Touched.{is_touched}
 use Rattle.orc_state.specs.Declarations.{AreDecls}
-use Rattle.orc_state.specs.Calls.{is_action, is_data_item, is_kept, is_lawful_name, schema_named}
+use Rattle.orc_state.specs.Calls.{is_action, is_call, is_data_item, is_kept, is_lawful_name, schema_named}
 use Rattle.orc_state.specs.Legal.{IsLegal, state_of}
+use Rattle.orc_state.specs.Making.{IsLeftBy, NamesService, is_instance_path, is_present_at, service_named}
 use Rattle.orc_state.specs.declared.declarations.Decls.{Decls}
 use Rattle.orc_call.specs.declared.answer.Answer.TheVariants.{Clash}
 use Rattle.orc_call.specs.declared.call.Action.{Action}
@@ -241,3 +245,107 @@ ExpandedStandsBehind =
     → ((target : Target) (reading : Read) → Contains (call_targets other.actions) target
     → Contains (call_reads decls state call) reading → Covers target reading → ⊥)
     → expanded_call decls (after decls state other) call ≡ expanded_call decls state call
+
+-- The entries of a list with a template are the living services: behind a legal history, of such a list, a service
+-- lives exactly where its entry stands in the data, at the path whose text is its name.
+abbrev pub ServiceLivesWhereItStands : Type 0
+ServiceLivesWhereItStands =
+    (decls : Decls) (history : List Call) (id : List ℕ) (path : List PathStep)
+    → AreDecls decls → IsLegal decls history → path_of id ≡ Some path → IsTrue (is_instance_path decls path)
+    → lives (state_of decls history).live id ≡ is_present_at (state_of decls history).data path
+
+-- Calls that don't name a service leave it as it is: where it lives it holds the same, and where it doesn't they don't
+-- make it.
+abbrev pub UnnamedServiceStays : Type 0
+UnnamedServiceStays =
+    (decls : Decls) (state : State) (calls : List Call) (id : List ℕ) → All (NamesOther id) calls
+    → service_named (fold_from decls state calls) id ≡ service_named state id
+
+-- A service that a call names is what its action leaves, where the call isn't refused: it holds its expansion on the
+-- data behind the call, or what its writes say, or is gone. So it stays, whatever calls come later that don't name it,
+-- also where they change the data.
+abbrev pub ServiceHoldsItsExpansion : Type 0
+ServiceHoldsItsExpansion =
+    (decls : Decls) (state : State) (call : Call) (later : List Call) (action : Action) (id : List ℕ)
+    → AreDecls decls → IsTrue (is_call decls call) → refusal decls state call ≡ None
+    → Contains call.actions action → NamesService action id → All (NamesOther id) later
+    → IsLeftBy decls (after decls state call).data action (service_named (fold_from decls state (call ∷ later)) id)
+
+-- the service is what the last call of a history that names it left
+pub record IsLastMade (decls : Decls) (history : List Call) (id : List ℕ) (service : Service) : Type 0 where
+  pub before : List Call
+  pub call : Call
+  pub later : List Call
+  pub whole : history ≡ before ++ call ∷ later
+  pub action : Action
+  pub among : Contains call.actions action
+  pub names : NamesService action id
+  pub other : All (NamesOther id) later
+  pub left : IsLeftBy decls (after decls (state_of decls before) call).data action (Some service)
+
+-- What a service holds that lives behind a legal history is what the last call that named it made.
+abbrev pub LivingIsLastMade : Type 0
+LivingIsLastMade =
+    (decls : Decls) (history : List Call) (id : List ℕ) (service : Service)
+    → AreDecls decls → IsLegal decls history → service_named (state_of decls history) id ≡ Some service
+    → IsLastMade decls history id service
+
+-- A call is refused for what refuses its plan, and else for a clash.
+abbrev pub PlanRefusesFirst : Type 0
+PlanRefusesFirst =
+    (decls : Decls) (state : State) (call : Call)
+    → refusal decls state call
+    ≡ option_or (plan_refusal decls state call)
+    (clash decls.names state.live (expanded_to (expanded_call decls state call)))
+
+-- A call that is planned and isn't refused leaves the tree and the base of each device that its plan doesn't hold.
+abbrev pub UnheldStay : Type 0
+UnheldStay =
+    (decls : Decls) (state : State) (front : ℕ) (call : Call) (plan : Plan) (device : ℕ)
+    → planned decls state front call ≡ Ok plan → refusal decls state call ≡ None
+    → device < length decls.names → (Contains plan.held.devices device → ⊥)
+    → (tree_due (after decls state call) device ≡ tree_due state device)
+    × (config_of (after decls state call).bases device ≡ config_of state.bases device)
+
+-- Each path of the data that a call changes lies inside a target of its plan, and its plan holds each service that it
+-- names.
+abbrev pub ChangesAreHeld : Type 0
+ChangesAreHeld =
+    (decls : Decls) (state : State) (front : ℕ) (call : Call) (plan : Plan)
+    → All (λ action. IsTrue (is_action decls action)) call.actions → planned decls state front call ≡ Ok plan
+    → ((path : List PathStep) → get (after decls state call).data path ≢ get state.data path
+    → IsInsideOne plan.held.targets path)
+    × ((id : List ℕ) → is_service_among call.actions id ≡ true → Contains plan.held.services id)
+
+-- A call has this plan on a state, another one has a plan there too, and what the two hold fits together.
+pub record ArePlannedTogether (decls : Decls) (state : State) (call other : Call) (plan : Plan) : Type 0 where
+  pub front : ℕ
+  pub own : planned decls state front call ≡ Ok plan
+  pub lawful : All (λ action. IsTrue (is_action decls action)) other.actions
+  pub other_front : ℕ
+  pub other_plan : Plan
+  pub another : planned decls state other_front other ≡ Ok other_plan
+  pub fit : FitTogether plan.held other_plan.held
+
+-- What is planned on a state stands behind another call that fits: no action is at fault there, they come to the same,
+-- the call holds the same, and its expansions are the same. So its plan there is the same but for the front, where the
+-- data is valid with it.
+abbrev pub PlanStands : Type 0
+PlanStands =
+    (decls : Decls) (state : State) (call other : Call) (plan : Plan)
+    → AreDecls decls → ArePlannedTogether decls state call other plan
+    → let behind = after decls state other in
+    (existence behind.live call.actions ≡ None)
+    × (expanded_call decls behind call ≡ expanded_call decls state call)
+    × (call_held decls behind call ≡ plan.held)
+    × (call_expansions decls behind call ≡ plan.expansions)
+    × ((front : ℕ) → invalid decls.data_schema (data_after call.actions behind.data) ≡ None
+    → planned decls behind front call ≡ Ok (record { front = front; held = plan.held; expansions = plan.expansions }))
+
+-- And what the call makes of each device that it holds is the same behind the other one.
+abbrev pub PlannedTreeIsStable : Type 0
+PlannedTreeIsStable =
+    (decls : Decls) (state : State) (call other : Call) (plan : Plan) (device : ℕ)
+    → AreDecls decls → ArePlannedTogether decls state call other plan
+    → device < length decls.names → Contains plan.held.devices device
+    → tree_due (after decls (after decls state other) call) device ≡ tree_due (after decls state call) device

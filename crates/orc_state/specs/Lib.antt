@@ -4,6 +4,7 @@ pub mod Codes
 pub mod Clashes
 pub mod Next
 pub mod Plans
+pub mod Snapshots
 pub mod Touched
 pub mod Histories
 pub mod Calls
@@ -14,3 +15,4 @@ pub mod Rules
 pub mod Laws
 pub mod inside
 pub mod Metas
+pub mod Making

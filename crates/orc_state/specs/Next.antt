@@ -1,5 +1,5 @@
 -- What a call does to a state, or why it is refused.
-use Rattle.std.specs.Prelude.{◌≡◌, ℕ, List, [], ◌∷◌, length, Option, Result, option_map, if◌then◌else◌}
+use Rattle.std.specs.Prelude.{◌≡◌, ℕ, Bool, List, [], ◌∷◌, length, Option, Result, option_map, if◌then◌else◌}
 use Rattle.std.specs.declared.result.Result.TheVariants.{Ok, Err}
 use Rattle.std.specs.declared.option.Option.TheVariants.{None, Some}
 use Rattle.std.specs.Option.{option_or}
@@ -21,18 +21,26 @@ use Rattle.orc_state.specs.declared.state.Service.{Service}
 use Rattle.orc_state.specs.States.{State}
 
 -- the action creates a service that lives, or modifies, redeploys or deletes one that does not
-abbrev pub existence_of : List Service → Action → Option Answer
-existence_of live (Create id body) = if lives live id then Some (Exists id) else None
-existence_of live (Modify id body) = if lives live id then None else Some (Missing id)
-existence_of live (Redeploy id) = if lives live id then None else Some (Missing id)
-existence_of live (Literal id writes) = if lives live id then Some (Exists id) else None
-existence_of live (Delete id) = if lives live id then None else Some (Missing id)
-existence_of live other = None
+abbrev pub service_fault : (List ℕ → Bool) → Action → Option Answer
+service_fault is_alive (Create id body) = if is_alive id then Some (Exists id) else None
+service_fault is_alive (Modify id body) = if is_alive id then None else Some (Missing id)
+service_fault is_alive (Redeploy id) = if is_alive id then None else Some (Missing id)
+service_fault is_alive (Literal id writes) = if is_alive id then Some (Exists id) else None
+service_fault is_alive (Delete id) = if is_alive id then None else Some (Missing id)
+service_fault is_alive other = None
 
--- the first such action of a call; each is looked at in the state before the call
+-- the first such action
+abbrev pub first_service_fault : (List ℕ → Bool) → List Action → Option Answer
+first_service_fault is_alive [] = None
+first_service_fault is_alive (action ∷ actions) =
+    option_or (service_fault is_alive action) (first_service_fault is_alive actions)
+
+-- the same of a call; each action is looked at in the state before the call
+abbrev pub existence_of : List Service → Action → Option Answer
+existence_of live action = service_fault (lives live) action
+
 abbrev pub existence : List Service → List Action → Option Answer
-existence live [] = None
-existence live (action ∷ actions) = option_or (existence_of live action) (existence live actions)
+existence live actions = first_service_fault (lives live) actions
 
 -- the least path of the data at which a rule is broken, and the first rule that is
 abbrev pub invalid : SchemaTable → Config → Option Answer

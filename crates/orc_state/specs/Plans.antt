@@ -1,21 +1,31 @@
--- What a call may write on any data, and what its expansions read.
-use Rattle.std.specs.Prelude.{ℕ, List, [], ◌∷◌, Option}
+-- What a call may write on any data, what it reads, and its plan on a state.
+use Rattle.std.specs.Prelude.{ℕ, List, [], ◌∷◌, ◌++◌, map, Option, Result}
 use Rattle.std.specs.declared.option.Option.TheVariants.{None, Some}
+use Rattle.std.specs.declared.result.Result.TheVariants.{Ok, Err}
 use Rattle.std.specs.List.{flat_map, Contains}
+use Rattle.std.specs.Option.{option_or, option_to_list}
 use Rattle.orc_path.specs.Steps.{PathStep}
 use Rattle.orc_path.specs.Reading.{path_of}
+use Rattle.orc_call.specs.declared.answer.Answer.{Answer}
 use Rattle.orc_call.specs.declared.call.Action.{Action}
-use Rattle.orc_call.specs.declared.call.Action.TheVariants.{Create, Modify, Delete, Set, Unset}
+use Rattle.orc_call.specs.declared.call.Action.TheVariants.{Create, Modify, Redeploy, Delete, Set, Unset}
 use Rattle.orc_call.specs.declared.call.Call.{Call}
 use Rattle.orc_expr.specs.Touches.{IsInside}
 use Rattle.orc_expr.specs.declared.read.Read.{Read}
+use Rattle.orc_expr.specs.declared.read.Read.TheVariants as read
 use Rattle.orc_expr.specs.declared.read.Target.{Target}
 use Rattle.orc_expr.specs.declared.read.Target.TheVariants.{One, Under}
+use Rattle.orc_queue.specs.declared.held.Held.{Held}
+use Rattle.orc_template.specs.Expansions.{Expanding, Failed, device_parts}
+use Rattle.orc_template.specs.declared.expansion.Expansion.{Expansion}
 use Rattle.orc_services.specs.Expanded.{expanded_actions}
-use Rattle.orc_state.specs.Actions.{data_after}
-use Rattle.orc_state.specs.Next.{serving_on}
+use Rattle.orc_services.specs.Services.{Serving, expansion_of}
+use Rattle.orc_state.specs.Actions.{data_after, service_of}
+use Rattle.orc_state.specs.Next.{existence, expanded_call, invalid, serving_on, unexpanded}
 use Rattle.orc_state.specs.States.{State}
+use Rattle.orc_state.specs.Touched.{touched_devices}
 use Rattle.orc_state.specs.declared.declarations.Decls.{Decls}
+use Rattle.orc_state.specs.declared.plan.Plan.{Plan}
 
 -- where the entry of a service may be written, with those on its way, and all below it
 abbrev pub entry_targets : Option (List PathStep) → List Target
@@ -47,3 +57,54 @@ IsInsideOne targets path = (target : Target) × Contains targets target × IsIns
 abbrev pub call_reads : Decls → State → Call → List Read
 call_reads decls state call =
     (expanded_actions (serving_on decls (data_after call.actions state.data)) call.actions).reads
+
+-- the services that actions name, in their order
+abbrev pub services_named : List Action → List (List ℕ)
+services_named actions = flat_map (λ action. option_to_list (service_of action)) actions
+
+-- what the call holds while it is under way: the devices that it touches, the services that it names, what its
+-- expansions and it itself read, and what it may write on any data
+abbrev pub call_held : Decls → State → Call → Held
+call_held decls state call = record {
+  devices = touched_devices decls state call;
+  services = services_named call.actions;
+  reads = record { reads = call_reads decls state call ++ map read.Service (services_named call.actions) };
+  targets = call_targets call.actions;
+}
+
+-- what an expansion writes on each device
+abbrev pub written_parts : Option (Result Expanding Failed) → Expansion
+written_parts None = record { parts = [] }
+written_parts (Some (Ok e)) = record { parts = device_parts 0 e.written }
+written_parts (Some (Err failed)) = record { parts = [] }
+
+-- the expansion of the service that an action creates, modifies or redeploys
+abbrev pub expansions_of : Serving → Action → List (List ℕ × Expansion)
+expansions_of s (Create id body) = (id, written_parts (expansion_of s id)) ∷ []
+expansions_of s (Modify id body) = (id, written_parts (expansion_of s id)) ∷ []
+expansions_of s (Redeploy id) = (id, written_parts (expansion_of s id)) ∷ []
+expansions_of s other = []
+
+-- those of a call on a state, on the data behind all its actions
+abbrev pub call_expansions : Decls → State → Call → List (List ℕ × Expansion)
+call_expansions decls state call =
+    flat_map (expansions_of (serving_on decls (data_after call.actions state.data))) call.actions
+
+-- Why a call can't be planned on a state, if it can't: the first action at fault, else what is broken in the data
+-- behind all its actions, else the first service that can't be expanded on it.
+abbrev pub plan_refusal : Decls → State → Call → Option Answer
+plan_refusal decls state call = option_or (existence state.live call.actions) (option_or
+    (invalid decls.data_schema (data_after call.actions state.data))
+    (unexpanded (expanded_call decls state call)))
+
+abbrev pub plan_unless : Option Answer → Plan → Result Plan Answer
+plan_unless None plan = Ok plan
+plan_unless (Some answer) plan = Err answer
+
+-- the plan of a call on a state, which is that of a front, or why there is none
+abbrev pub planned : Decls → State → ℕ → Call → Result Plan Answer
+planned decls state front call = plan_unless (plan_refusal decls state call) (record {
+  front = front;
+  held = call_held decls state call;
+  expansions = call_expansions decls state call;
+})

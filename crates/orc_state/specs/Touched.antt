@@ -23,13 +23,16 @@ is_held_by id device service = has_id id service && not (len (part service devic
 
 -- the action, once it is expanded, makes a service that writes on the device, takes one away that has an item on it, or
 -- edits its base
+abbrev pub touches_device : List ℕ → (List ℕ → ℕ → Bool) → ℕ → Action → Bool
+touches_device name holds device (Literal id writes) = is_written_by writes name || holds id device
+touches_device name holds device (Delete id) = holds id device
+touches_device name holds device (BasePut put) = is_same_text put.device name
+touches_device name holds device (BaseRemove own path) = is_same_text own name
+touches_device name holds device other = false
+
 abbrev pub is_touched_by : List (List ℕ) → State → ℕ → Action → Bool
-is_touched_by names state device (Literal id writes) =
-    is_written_by writes (name_of names device) || list_any (is_held_by id device) state.live
-is_touched_by names state device (Delete id) = list_any (is_held_by id device) state.live
-is_touched_by names state device (BasePut put) = is_same_text put.device (name_of names device)
-is_touched_by names state device (BaseRemove name path) = is_same_text name (name_of names device)
-is_touched_by names state device other = false
+is_touched_by names state device action =
+    touches_device (name_of names device) (λ id number. list_any (is_held_by id number) state.live) device action
 
 -- one of these actions touches the device
 abbrev pub is_touched_among : List (List ℕ) → State → List Action → ℕ → Bool

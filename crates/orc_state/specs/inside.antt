@@ -6,3 +6,4 @@ pub mod Touching
 pub mod Known
 pub mod Turns
 pub mod Keeping
+pub mod Sights

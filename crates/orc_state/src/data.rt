@@ -6,14 +6,19 @@ ghost use Rattle.orc_services.specs.Fitting.{fits_action, is_entry_id, FitAction
 ghost use Rattle.orc_state.specs.States.{device_entry, fits_puts, opening_data, put_all};
 ghost use Rattle.orc_state.specs.Actions.{data_after, data_step, enter_service, leave_service};
 ghost use Rattle.orc_state.specs.Calls.{is_lawful_name};
+ghost use Rattle.orc_revalidate.specs.Changes.{DiffersInside};
 ghost use Rattle.orc_state.specs.Next.{invalid};
+ghost use Rattle.orc_state.specs.Plans.{call_targets};
 ghost use Rattle.std.specs.List.{list_any};
 ghost use Rattle.orc_state.specs.inside.Behind.{begins_as_path, is_on_data};
 
 use crate::base::tree_of;
+use crate::targets::targets;
 use orc_call::{Action, Answer, Put};
-use orc_check::{CheckFault, valid};
+use orc_check::CheckFault;
+use orc_expr::Target;
 use orc_path::{Item, Name, Path, Step};
+use orc_revalidate::revalidate;
 use orc_schema::Schema;
 use orc_services::path_of_id;
 use orc_text::{Memory, Row, Text};
@@ -155,8 +160,9 @@ pub(crate) fn data_after(alloc: Global, data: &Tree, actions: &[Action]) -> Resu
     Ok(tree)
 }
 
-/// What is broken in the data behind actions, if anything is. Actions on services alone leave the data,
-/// which was valid: it isn't looked at again.
+/// What is broken in the data behind actions, if anything is. Literal services, redeploys and edits of
+/// bases leave the data, which was valid: behind these alone it isn't looked at again. Else it is looked
+/// at where the actions may have changed it.
 pub(crate) fn invalid_behind(
     alloc: Global,
     schema: &Schema,
@@ -166,19 +172,29 @@ pub(crate) fn invalid_behind(
 ) -> Result<Option<Answer>, Memory>
     requires valid { broken_of schema.now old.now ≡ None }
     requires behind { «data».now ≡ data_after actions.now old.now }
+    requires changed { DiffersInside (call_targets actions.now) old.now «data».now }
     ensures { IfOk result (λ found. found ≡ invalid schema.now «data».now) }
 {
     if !is_on_data(actions) {
         return Ok(None);
     }
-    invalid(alloc, schema, data)
+    let targets = targets(alloc, actions)?;
+    invalid(alloc, schema, old, data, targets.as_slice())
 }
 
-// What is broken in the data, if anything is.
-fn invalid(alloc: Global, schema: &Schema, data: &Tree) -> Result<Option<Answer>, Memory>
+// What is broken in data that differ from valid ones inside these targets, if anything is.
+fn invalid(
+    alloc: Global,
+    schema: &Schema,
+    old: &Tree,
+    data: &Tree,
+    targets: &[Target],
+) -> Result<Option<Answer>, Memory>
+    requires valid { broken_of schema.now old.now ≡ None }
+    requires changed { DiffersInside targets.now old.now «data».now }
     ensures { IfOk result (λ found. found ≡ invalid schema.now «data».now) }
 {
-    match valid(alloc, schema, data) {
+    match revalidate(alloc, schema, old, data, targets) {
         Ok(()) => Ok(None),
         Err(CheckFault::Broken { path, rule }) => Ok(Some(Answer::Invalid(path, rule))),
         Err(CheckFault::Memory) => Err(Memory),

@@ -1,7 +1,7 @@
 //! What the actions of a call come to.
 ghost use Rattle.std.specs.Prelude.{◌≡◌, IfOk};
 ghost use Rattle.orc_services.specs.Fitting.{FitActions};
-ghost use Rattle.orc_services.specs.Expanded.{expanded_actions};
+ghost use Rattle.orc_services.specs.Expanded.{ExpandsTo, expanded_actions};
 ghost use Rattle.orc_state.specs.Next.{serving_on};
 
 use crate::Decls;
@@ -14,7 +14,34 @@ use orc_tree::Tree;
 use std::alloc::Global;
 
 /// What actions come to, where these are the data behind all of them; or the first that can't be
-/// expanded.
+/// expanded. What the expansions read is added.
+pub(crate) fn expanded_reading(
+    alloc: Global,
+    decls: &Decls,
+    data: &Tree,
+    actions: &[Action],
+    reads: &mut ReadSet,
+) -> Result<Result<Row<Action>, Answer>, Memory>
+    requires { FitActions actions.now }
+    ensures outcome { IfOk result (ExpandsTo (expanded_actions (serving_on decls.now «data».now) actions.now)
+        reads.old.reads reads.new.reads) }
+    ensures fit { IfOk result (λ found. IfOk found FitActions) }
+{
+    let view = View {
+        tree: data,
+        schema: &decls.data_schema,
+    };
+    expand_actions(
+        alloc,
+        decls.services.as_slice(),
+        &decls.table,
+        &view,
+        actions,
+        reads,
+    )
+}
+
+/// The same where what was read isn't asked.
 pub(crate) fn expanded(
     alloc: Global,
     decls: &Decls,
@@ -27,16 +54,5 @@ pub(crate) fn expanded(
     ensures fit { IfOk result (λ found. IfOk found FitActions) }
 {
     let mut reads = ReadSet::new(alloc);
-    let view = View {
-        tree: data,
-        schema: &decls.data_schema,
-    };
-    expand_actions(
-        alloc,
-        decls.services.as_slice(),
-        &decls.table,
-        &view,
-        actions,
-        &mut reads,
-    )
+    expanded_reading(alloc, decls, data, actions, &mut reads)
 }

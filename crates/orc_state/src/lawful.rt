@@ -83,7 +83,7 @@ pub fn is_service_among(actions: &[Action], id: &Text) -> bool
 }
 
 // The service that an action of a call names.
-fn service_of(action: &Action) -> Option<&Text>
+pub(crate) fn service_of(action: &Action) -> Option<&Text>
     ensures { option_copied result ≡ service_of action.now }
 {
     match action {

@@ -1,5 +1,5 @@
 //! What users rely on, over whole histories. Each function does nothing: its contract is the law.
-ghost use Rattle.orc_state.specs.Laws.{ChangesAreTargets, ExpandedStandsBehind, LiteralIsExpansion, TreeIsConfiguration, TreeIsTyped, UntouchedStay, DataIsConfiguration, DataIsValid, DevicesStay, ServicesAgree, OverlayIsOne, DeletedWithoutTrace, UnrefusedWithoutTrace, LegalWithoutTrace, OrderOfCreationIsFree, ClashIsLeast};
+ghost use Rattle.orc_state.specs.Laws.{ChangesAreTargets, ExpandedStandsBehind, LiteralIsExpansion, LivingIsLastMade, ServiceHoldsItsExpansion, ServiceLivesWhereItStands, UnnamedServiceStays, TreeIsConfiguration, TreeIsTyped, UntouchedStay, DataIsConfiguration, DataIsValid, DevicesStay, ServicesAgree, OverlayIsOne, DeletedWithoutTrace, UnrefusedWithoutTrace, LegalWithoutTrace, OrderOfCreationIsFree, ClashIsLeast, PlanRefusesFirst, UnheldStay, ChangesAreHeld, PlanStands, PlannedTreeIsStable};
 
 use orc_services::expanded_stands;
 use orc_template::written_is_typed;
@@ -98,6 +98,66 @@ pub fn changes_are_targets()
 /// read of its expansions.
 pub fn expanded_stands_behind()
     ensures { ExpandedStandsBehind }
+{
+    expanded_stands();
+}
+
+/// The entries of a list with a template are the living services: behind a legal history such a
+/// service lives exactly where its entry stands in the data.
+pub fn service_lives_where_it_stands()
+    ensures { ServiceLivesWhereItStands }
+{}
+
+/// Calls that don't name a service leave it as it is.
+pub fn unnamed_service_stays()
+    ensures { UnnamedServiceStays }
+{}
+
+/// A service that a call names holds from then on what its expansion on the data behind the call
+/// wrote on each device, or what its writes say, or is gone; whatever calls come later that don't
+/// name it.
+pub fn service_holds_its_expansion()
+    ensures { ServiceHoldsItsExpansion }
+{
+    literal_is_expansion();
+}
+
+/// What a service holds that lives behind a legal history is what the last call that named it made.
+pub fn living_is_last_made()
+    ensures { LivingIsLastMade }
+{
+    literal_is_expansion();
+}
+
+/// A call is refused for what refuses its plan, and else for a clash.
+pub fn plan_refuses_first()
+    ensures { PlanRefusesFirst }
+{}
+
+/// A call that is planned and isn't refused leaves the tree and the base of each device that its plan
+/// doesn't hold.
+pub fn unheld_stay()
+    ensures { UnheldStay }
+{}
+
+/// Each path of the data that a call changes lies inside a target of its plan, which holds each service
+/// that the call names.
+pub fn changes_are_held()
+    ensures { ChangesAreHeld }
+{}
+
+/// What is planned on a state stands behind another call whose plan fits: it has no fault of existence,
+/// comes to the same actions, holds the same and writes the same.
+pub fn plan_stands()
+    ensures { PlanStands }
+{
+    literal_is_expansion();
+    expanded_stands();
+}
+
+/// And what it makes of each device that it holds is the same.
+pub fn planned_tree_is_stable()
+    ensures { PlannedTreeIsStable }
 {
     expanded_stands();
 }

@@ -10,14 +10,19 @@ mod declarations;
 mod expanding;
 mod expansion;
 mod fault;
+mod held;
+mod known;
 mod lawful;
 mod laws;
 mod living;
+mod plan;
 mod rule;
 mod served;
 mod services;
+mod snapshot;
 mod state;
 mod stores;
+mod targets;
 mod touched;
 mod turns;
 
@@ -29,12 +34,16 @@ pub use lawful::{
     MOST_WRITES, is_call, is_data_path, is_item_at, is_kept, is_lawful_name, is_service_among,
 };
 pub use laws::{
-    changes_are_targets, clash_is_least, data_is_configuration, data_is_valid,
+    changes_are_held, changes_are_targets, clash_is_least, data_is_configuration, data_is_valid,
     deleted_without_trace, devices_stay, expanded_stands_behind, legal_without_trace,
-    literal_is_expansion, order_of_creation_is_free, overlay_is_one, services_agree,
-    tree_is_configuration, tree_is_typed, unrefused_without_trace, untouched_stay,
+    literal_is_expansion, living_is_last_made, order_of_creation_is_free, overlay_is_one,
+    plan_refuses_first, plan_stands, planned_tree_is_stable, service_holds_its_expansion,
+    service_lives_where_it_stands, services_agree, tree_is_configuration, tree_is_typed,
+    unheld_stay, unnamed_service_stays, unrefused_without_trace, untouched_stay,
 };
+pub use plan::Plan;
 pub use rule::Rule;
 pub use served::{is_body, is_served, meets};
+pub use snapshot::Snapshot;
 pub use state::{Service, State};
 pub use touched::touched_devices;

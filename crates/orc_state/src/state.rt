@@ -1,26 +1,31 @@
 //! The state of the orchestrator, and what a call does to it.
 ghost use Rattle.std.specs.Prelude.{◌≡◌, ◌≢◌, ◌<◌, ◌^◌, [], IfOk, IsTrue, Ok, None, All, length, map};
 ghost use Rattle.orc_check.specs.Validity.{broken_of};
+ghost use Rattle.orc_revalidate.specs.Changes.{DiffersInside};
 ghost use Rattle.orc_services.specs.Fitting.{FitActions};
 ghost use Rattle.orc_state.specs.States.{IsComplete, declared_base, fits_puts, opening, part, tree_due};
-ghost use Rattle.orc_state.specs.Actions.{name_each_once, services_once};
+ghost use Rattle.orc_state.specs.Actions.{data_after, name_each_once, services_once};
 ghost use Rattle.orc_state.specs.Calls.{is_call};
 ghost use Rattle.orc_state.specs.Declarations.{AreDecls};
 ghost use Rattle.orc_state.specs.Metas.{IsMeta};
-ghost use Rattle.orc_state.specs.Next.{IsStateOf, after, clash, refusal};
+ghost use Rattle.orc_state.specs.Plans.{call_targets};
+ghost use Rattle.orc_state.specs.Next.{IsStateOf, after, clash, existence, refusal};
+ghost use Rattle.orc_state.specs.Snapshots.{IsSnapshotOf};
 ghost use Rattle.orc_state.specs.inside.Behind.{IsDataBehind, changed_by};
 ghost use Rattle.orc_state.specs.inside.Keeping.{IsStoreFor};
+ghost use Rattle.orc_state.specs.inside.Sights.{service_key};
 
 use crate::base::declared_base;
 use crate::commit::{comers, place, turn_ids};
 use crate::data::{data_after, invalid_behind, opening_data};
 use crate::expanding::expanded;
+use crate::known::known_behind;
 use crate::living::Living;
 use crate::services::existence;
 use crate::stores::stores_behind;
 use crate::touched::touched_among;
 use crate::turns::turns;
-use crate::{Decls, Device};
+use crate::{Decls, Device, Snapshot};
 use orc_call::{Action, Answer, Call};
 use orc_path::Path;
 use orc_refs::{Meta, Refs, store_is_overlay};
@@ -37,17 +42,21 @@ pub struct Service {
     pub parts: Row<Tree>,
 }
 
-/// The data; the store of each device, which has its base and its tree; and the living services.
+/// The data; the store of each device, which has its base and its tree; and the living services, once
+/// with what they write and once as a snapshot knows them.
 #[derive(Drop)]
 pub struct State {
     pub(crate) data: Tree,
     pub(crate) stores: Row<Refs>,
     pub(crate) live: Living,
+    // What lives on which devices once more, in pages that a snapshot shares.
+    pub(crate) known: Tree,
 }
 
 impl Model for State {
     ghost use Rattle.std.specs.Prelude.{map};
     ghost use Rattle.orc_state.specs.Codes.{state_code};
+    ghost use Rattle.orc_state.specs.Snapshots.{KnowsLiving};
     ghost use Rattle.orc_state.specs.States.{State};
     ghost use Rattle.orc_state.specs.inside.Keeping.{AreKept};
 
@@ -61,7 +70,7 @@ impl Model for State {
       live = state.live;
     } };
 
-    ghost invariant = { λ state. AreKept state.stores state.live };
+    ghost invariant = { λ state. AreKept state.stores state.live × KnowsLiving state.live state.known };
 }
 
 impl Service {
@@ -94,6 +103,7 @@ impl State {
             data,
             stores,
             live: Living::new(alloc),
+            known: Tree::new(alloc),
         })
     }
 
@@ -118,11 +128,26 @@ impl State {
         self.stores.as_slice()[device as usize].meta(path)
     }
 
+    /// A snapshot of the state, with the number that the caller gives of the calls committed by then.
+    /// It shares the pages of the data and of what lives, and costs the same however many there are.
+    pub fn snapshot(&self, alloc: Global, front: u64) -> Result<Snapshot, Memory>
+        ensures front { IfOk result (λ snapshot. snapshot.front ≡ front) }
+        ensures state { IfOk result (IsSnapshotOf self.now) }
+    {
+        Ok(Snapshot {
+            front,
+            data: self.data.copy(alloc)?,
+            known: self.known.copy(alloc)?,
+        })
+    }
+
     /// Does a call, or answers why it is refused; then, and after want of memory, the state is as it
     /// was. Its data actions are done first; then the services of lists that it creates, modifies or
     /// redeploys are expanded on the new data. It looks at the services that the call names, at what
     /// their templates read, at the devices that it touches, and at what is written there; not at the
-    /// other living services.
+    /// other living services. Of the data it looks at what the change can break, and at all of it where
+    /// that may have taken away what a leafref elsewhere leads to, where a leafref came whose target is
+    /// not the one key of a list, and where the change is large (`revalidate` of `orc_revalidate`).
     pub fn next(
         &mut self,
         alloc: Global,
@@ -143,6 +168,14 @@ impl State {
         }
     }
 
+    // Which of the actions creates a service that lives, or names one that doesn't.
+    fn existence(&self, alloc: Global, actions: &[Action]) -> Result<Option<Answer>, Memory>
+        requires { All (λ action. IsTrue (service_key action)) actions.now }
+        ensures { IfOk result (λ found. found ≡ existence self.now.live actions.now) }
+    {
+        existence(alloc, &self.known, actions)
+    }
+
     // The data behind a call, or why it is refused before services are looked at.
     fn data_behind(
         &self,
@@ -151,11 +184,14 @@ impl State {
         call: &Call,
     ) -> Result<Result<Tree, Answer>, Memory>
         requires fit { FitActions call.now.actions }
+        requires keys { All (λ action. IsTrue (service_key action)) call.now.actions }
         requires valid { broken_of decls.now.data_schema self.now.data ≡ None }
+        requires changed { DiffersInside (call_targets call.now.actions) self.now.data
+            (data_after call.now.actions self.now.data) }
         ensures { IfOk result (λ found. IsDataBehind decls.now self.now call.now found) }
     {
         let actions = call.actions.as_slice();
-        if let Some(found) = existence(alloc, &self.live, actions)? {
+        if let Some(found) = self.existence(alloc, actions)? {
             return Ok(Err(found));
         }
         let data = data_after(alloc, &self.data, actions)?;
@@ -176,6 +212,7 @@ impl State {
     ) -> Result<Option<Answer>, Memory>
         requires fit { FitActions call.now.actions }
         requires once { IsTrue (services_once call.now.actions) }
+        requires keys { All (λ action. IsTrue (service_key action)) call.now.actions }
         requires state { IsStateOf decls.now self.old }
         requires few { length decls.now.names < 2 ^ 32 }
         requires behind { IsDataBehind decls.now self.old call.now (Ok next_data) }
@@ -202,6 +239,7 @@ impl State {
     ) -> Result<Option<Answer>, Memory>
         requires fit { FitActions actions.now }
         requires once { IsTrue (name_each_once actions.now) }
+        requires keys { All (λ action. IsTrue (service_key action)) actions.now }
         requires few { length names.now < 2 ^ 32 }
         requires bases { length self.old.bases ≡ length names.now }
         requires complete { IsComplete self.old }
@@ -226,10 +264,12 @@ impl State {
             Ok(changes) => {
                 let ids = turn_ids(alloc, turns.as_slice())?;
                 let services = comers(alloc, turns)?;
+                let known = known_behind(alloc, &self.known, ids.as_slice(), services.as_slice())?;
                 self.live.exchange(alloc, ids.as_slice(), services)?;
                 let stores = mem::replace(&mut self.stores, Row::new(alloc)).into_vec();
                 self.stores = Row::from_vec(place(stores, changes.into_vec()));
                 self.data = next_data;
+                self.known = known;
                 Ok(None)
             }
             Err(answer) => Ok(Some(answer)),

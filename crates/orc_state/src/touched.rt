@@ -15,9 +15,10 @@ use orc_call::{Action, Call, DevicePut};
 use orc_text::{Memory, Row, Text};
 use std::alloc::Global;
 
-/// The numbers of the devices that a call touches, ascending: those on which a service that it makes
-/// writes, those on which one that it takes away has an item, and those whose base it edits. It asks
-/// that the call isn't refused.
+/// The numbers of the devices that a call touches, ascending: those on which a service that it creates,
+/// modifies or redeploys writes; those on which one that it modifies, redeploys or deletes has an item
+/// before it; and those whose base it edits. Of a call with a service that can't be expanded it gives
+/// none.
 pub fn touched_devices(
     alloc: Global,
     decls: &Decls,
@@ -139,8 +140,8 @@ fn is_edited_by(action: &Action, name: &Text) -> bool
     }
 }
 
-// Whether one of the writes is on the device of this name.
-fn is_written_by(writes: &[DevicePut], name: &Text) -> bool
+/// Whether one of the writes is on the device of this name.
+pub(crate) fn is_written_by(writes: &[DevicePut], name: &Text) -> bool
     ensures { result ≡ is_written_by writes.now name.now }
 {
     writes.iter().any(|write| write.device == *name)

@@ -16,7 +16,7 @@ use orc_text::{Memory, Row, Text};
 use orc_tree::Tree;
 use std::alloc::Global;
 
-/// What a expanded call does to a service that it names.
+/// What an expanded call does to a service that it names.
 #[derive(Drop)]
 pub(crate) enum Turn {
     /// It makes the service.

@@ -1,5 +1,5 @@
 -- What the contracts on templates rest on.
-use Rattle.std.specs.Prelude.{◌≡◌, ℕ, Bool, true, false, not, ◌&&◌, List, Ok, Some, IsTrue, length, slice_get}
+use Rattle.std.specs.Prelude.{◌≡◌, ℕ, ◌≤◌, Bool, true, false, not, ◌&&◌, List, Ok, Err, Some, IsTrue, length, slice_get}
 use Rattle.std.specs.FinMap.{get}
 use Rattle.serde_json.specs.Data.{Data}
 use Rattle.orc_path.specs.Alphabet.{is_value}
@@ -14,7 +14,9 @@ use Rattle.orc_schema.specs.Schemas.{SchemaTable}
 use Rattle.orc_typed.specs.Typed.{is_typed}
 use Rattle.orc_template.specs.Readers.{Readers, AreReaders}
 use Rattle.orc_template.specs.Devices.{DeviceTable, schema_of_device}
-use Rattle.orc_template.specs.Expansions.{Expanding, expanded, reads_expanded}
+use Rattle.orc_template.specs.Blocks.{Blocks, block_count, blocks_inside}
+use Rattle.orc_template.specs.Expansions.{Expanding, Failed, expanded, reads_expanded}
+use Rattle.orc_template.specs.declared.fault.TheConstants.{NO_VALUE, SELF_CLASH}
 
 -- There are readers that give the expression, and the condition, of each text that has one.
 abbrev pub TextsHaveReaders : Type 0
@@ -61,3 +63,17 @@ abbrev pub WrittenIsTyped : Type 0
 WrittenIsTyped =
     (readers : Readers) (devices : DeviceTable) (instance : List PathStep) (template : Data) (view : Viewed)
     (e : Expanding) → expanded readers devices instance template view ≡ Ok e → AreDeviceTrees devices e.written
+
+-- The rule is one of the five of an expansion, and the block one of these blocks.
+pub record IsFaultIn (blocks : Blocks) (failed : Failed) : Type 0 where
+  pub first_rule : NO_VALUE ≤ failed.rule
+  pub last_rule : failed.rule ≤ SELF_CLASH
+  pub first_block : 1 ≤ failed.block
+  pub last_block : failed.block ≤ block_count blocks
+
+-- An expansion that fails names one of its rules, and one of the template's blocks.
+abbrev pub FaultsAreNamed : Type 0
+FaultsAreNamed =
+    (readers : Readers) (devices : DeviceTable) (instance : List PathStep) (template : Data) (view : Viewed)
+    (failed : Failed) → expanded readers devices instance template view ≡ Err failed
+    → IsFaultIn (blocks_inside template) failed

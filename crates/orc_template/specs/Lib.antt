@@ -1,11 +1,13 @@
 pub mod Readers
 pub mod Strings
+pub mod Spelled
 pub mod Values
 pub mod Writing
 pub mod Devices
 pub mod Blocks
 pub mod Expansions
 pub mod Templates
+pub mod LeastFaults
 pub mod Said
 pub mod Laws
 pub mod TheReaders

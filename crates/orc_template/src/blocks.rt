@@ -6,7 +6,7 @@ ghost use Rattle.orc_template.specs.Blocks.{blocks_of, blocks_listed, blocks_ins
 use orc_text::Memory;
 use serde_json::Value;
 
-/// How deep a JSON text may nest (the limit of `serde_json`), and so blocks.
+/// More than a JSON text may nest (127 levels in `serde_json`), and so more than blocks do.
 pub(crate) const DEPTH: usize = 128;
 
 /// The text of a member of a block, where it has one.

@@ -3,14 +3,14 @@ ghost use Rattle.std.specs.Prelude.{◌≡◌, ◌<◌, length, Some, IfOk, code
 ghost use Rattle.serde_json.specs.View.{view as json_view, items_view};
 ghost use Rattle.orc_expr.specs.Parts.{expression_of};
 ghost use Rattle.orc_template.specs.Values.{Does};
-ghost use Rattle.orc_template.specs.Blocks.{blocks_of, text_of_member};
+ghost use Rattle.orc_template.specs.Blocks.{blocks_of, block_count, text_of_member};
 ghost use Rattle.orc_template.specs.Devices.{device_of};
 ghost use Rattle.orc_template.specs.Expansions.{condition_done, when_done, on_tree, on_schema, on_device, target_by, target_done, fails, blocks_expanded};
 ghost use Rattle.orc_template.specs.inside.Machine.{the_readers, scene, ground};
-ghost use Rattle.orc_template.specs.inside.Expanding.{expanding_of, Stops, Expands, Judges, numbered, node_in, each_in, block_in};
+ghost use Rattle.orc_template.specs.inside.Expanding.{expanding_of, Stops, Expands, Judges, numbered, IsBehind, node_in, each_in, block_in};
 
 use crate::Devices;
-use crate::blocks::{DEPTH, block_count, blocks_inside, number_behind, text_of};
+use crate::blocks::{DEPTH, block_count, blocks_inside, more, number_behind, text_of};
 use crate::config::do_object;
 use crate::fault::{BAD_LEAF, ExpandFault, Halt, MANY_VALUES, UNKNOWN_DEVICE};
 use crate::filling::fill;
@@ -345,6 +345,21 @@ fn do_block<V: DataView>(
     }
 }
 
+// The answer of a block behind others, which was done under the first number of these: its fault is
+// numbered behind theirs. So blocks are counted only where there is a fault.
+fn behind(front: &[Value], answer: Result<(), ExpandFault>) -> Result<(), ExpandFault>
+    ensures { IsBehind (block_count (blocks_of (items_view front.now))) answer result }
+{
+    match answer {
+        Ok(()) => Ok(()),
+        Err(ExpandFault::At { block, rule }) => Err(ExpandFault::At {
+            block: more(block, block_count(DEPTH, front)?)?,
+            rule,
+        }),
+        Err(ExpandFault::Memory) => Err(ExpandFault::Memory),
+    }
+}
+
 /// Blocks in their order, numbered from a number on.
 #[cycle(blocks)]
 pub(crate) fn do_blocks<V: DataView>(
@@ -363,19 +378,18 @@ pub(crate) fn do_blocks<V: DataView>(
     if left == 0 {
         return Err(ExpandFault::Memory);
     }
-    let mut number = first;
-    for block in blocks {
-        do_block(
+    for (at, block) in blocks.iter().enumerate() {
+        let answer = do_block(
             alloc,
             view,
             devices,
             left - 1,
             here,
-            number,
+            first,
             block,
             expanding,
-        )?;
-        number = number_behind(number, block_count(DEPTH, blocks_inside(block))?)?;
+        );
+        behind(&blocks[..at], answer)?;
     }
     Ok(())
 }

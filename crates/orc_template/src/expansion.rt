@@ -25,6 +25,21 @@ impl Expansion {
             parts: copied_parts(alloc, self.parts.as_slice())?,
         })
     }
+
+    /// The expansion of what is written on each device, in the order of the devices' numbers from 0
+    /// on: the items of each tree that has some, in path order. More trees than there are numbers of
+    /// devices is want of memory.
+    pub fn gathered(alloc: Global, written: &[Tree]) -> Result<Expansion, Memory>
+        ensures { IfOk result (λ expansion. expansion.parts ≡ device_parts 0 written.now) }
+    {
+        let mut parts = Row::new(alloc);
+        let mut number: u32 = 0;
+        for tree in written {
+            push_part(alloc, &mut parts, number, tree)?;
+            number = more(number, 1)?;
+        }
+        Ok(Expansion { parts })
+    }
 }
 
 impl Copied for Expansion {
@@ -73,17 +88,4 @@ fn push_part(
         return Ok(());
     }
     parts.push((number, puts))
-}
-
-/// The expansion of what is written on each device.
-pub(crate) fn gathered(alloc: Global, written: &[Tree]) -> Result<Expansion, Memory>
-    ensures { IfOk result (λ expansion. expansion.parts ≡ device_parts 0 written.now) }
-{
-    let mut parts = Row::new(alloc);
-    let mut number: u32 = 0;
-    for tree in written {
-        push_part(alloc, &mut parts, number, tree)?;
-        number = more(number, 1)?;
-    }
-    Ok(Expansion { parts })
 }

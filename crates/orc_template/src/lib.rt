@@ -29,8 +29,9 @@ pub use fault::{
     BAD_LEAF, ExpandFault, MANY_VALUES, NO_VALUE, SELF_CLASH, TemplateFault, UNKNOWN_DEVICE,
 };
 pub use laws::{
-    expansions_are_fixed_by_reads, readers_are_one, texts_have_readers, the_readers_read_back,
-    written_is_typed,
+    cut_strings_are_written, expansions_are_fixed_by_reads, expressions_fit_in_braces,
+    faults_are_named, least_fault_is_named, readers_are_one, strings_are_cut, texts_have_readers,
+    the_readers_read_back, written_is_typed,
 };
 pub use template::Template;
 pub use view::View;

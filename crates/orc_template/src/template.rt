@@ -15,7 +15,6 @@ ghost use Rattle.orc_template.specs.inside.Expanding.{FindsExpansion, FindsWriti
 use crate::blocks::{DEPTH, blocks_inside};
 use crate::checking::template_fault;
 use crate::expanding::{Expanding, do_blocks};
-use crate::expansion::gathered;
 use crate::{Devices, ExpandFault, Expansion, TemplateFault, View};
 use orc_expr::ReadSet;
 use orc_path::{DataView, Path};
@@ -210,7 +209,7 @@ impl Template {
             reads.new.reads (parts_result result) }
     {
         match self.write_alone(alloc, view, instance, devices, reads) {
-            Ok(written) => Ok(gathered(alloc, written.as_slice())?),
+            Ok(written) => Ok(Expansion::gathered(alloc, written.as_slice())?),
             Err(fault) => Err(fault),
         }
     }

@@ -1,26 +1,13 @@
 -- Paths, breaches and nodes that are lent in parts.
-use Rattle.std.specs.Prelude.{ℕ, Bool, false, not, nat_lt, List, [], ◌∷◌, ◌++◌, Option, Some, None, option_map, option_and_then, if◌then◌else◌}
+use Rattle.std.specs.Prelude.{ℕ, Bool, false, not, nat_lt, List, [], ◌∷◌, ◌++◌, Option, Some, None, option_and_then, if◌then◌else◌}
 use Rattle.std.specs.Option.{option_map_or}
-use denote.Ref.{Bor}
 use Rattle.orc_path.specs.Steps.{PathStep}
 use Rattle.orc_path.specs.Configurations.{Config}
 use Rattle.orc_schema.specs.Schemas.{SchemaTable, path_names}
 use Rattle.orc_schema.specs.declared.line.Node.{Node}
-use Rattle.orc_check.specs.declared.found.Found.{Found}
 use Rattle.orc_check.specs.declared.spot.Keyed.{Keyed}
 use Rattle.orc_check.specs.declared.spot.Spot.{Spot}
 use Rattle.orc_check.specs.Validity.{Breach, behind, goes_down, plain_steps, target_in, has_instance, entry_count}
-
--- the path of a place: none is the root
-abbrev pub place_path : Option (Bor (List PathStep)) → List PathStep
-place_path None = []
-place_path (Some path) = path.now
-
-abbrev pub breach_of : Found → Breach
-breach_of found = record { path = place_path found.place ++ plain_steps found.names.now; rule = found.rule }
-
-abbrev pub found_breach : Option Found → Option Breach
-found_breach best = option_map breach_of best
 
 -- the step of an entry with one key
 abbrev pub keyed_step : Keyed → PathStep

@@ -21,7 +21,7 @@ is_edited_by name other = false
 abbrev pub is_edited : List ℕ → List Action → Bool
 is_edited name actions = list_any (is_edited_by name) actions
 
--- the living service that a expanded action takes away: it is made anew, or deleted
+-- the living service that an expanded action takes away: it is made anew, or deleted
 abbrev pub taken_by : List Service → Action → Option Service
 taken_by live (Literal id writes) = find (has_id id) live
 taken_by live (Delete id) = find (has_id id) live

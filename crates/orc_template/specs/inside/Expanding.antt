@@ -41,6 +41,14 @@ numbered number (Ok x) = Ok x
 numbered number (Err (halt.Rule rule)) = Err (fault.At number rule)
 numbered number (Err halt.Memory) = Err fault.Memory
 
+-- An answer of a block that stands behind so many others and was done under the first number of these: its number is
+-- behind theirs; want of memory is free.
+abbrev pub IsBehind : ℕ → Result Unit ExpandFault → Result Unit ExpandFault → Type 0
+IsBehind count answer (Ok x) = answer ≡ Ok x
+IsBehind count answer (Err (fault.At number rule)) =
+    (first : ℕ) × (answer ≡ Err (fault.At first rule)) × (number ≡ first + count)
+IsBehind count answer (Err fault.Memory) = Unit {0}
+
 -- whether a block's condition holds, with the block's number
 abbrev pub Judges : ℕ → Done Bool → List Read → Result Bool ExpandFault → Type 0
 Judges n due new (Ok holds) = due ≡ done (Ok holds) new

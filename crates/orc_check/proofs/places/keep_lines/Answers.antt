@@ -6,7 +6,7 @@ use Rattle.orc_path.specs.Steps.{PathStep}
 use Rattle.orc_schema.specs.Schemas.{Ascends}
 use Rattle.orc_schema.specs.declared.line.SchemaLine.{SchemaLine}
 use Rattle.orc_check.specs.Validity.{Breach, line_breaches, lesser_breach}
-use Rattle.orc_check.specs.inside.Lent.{place_path, found_breach}
+use Rattle.orc_check.specs.Found.{place_path, found_breach}
 use Rattle.orc_check.specs.inside.Lines.{leads_on, is_before}
 use Rattle.orc_check.proofs.Ascending.{none_from, none_broken, ascends_drop, not_not}
 use Rattle.orc_check.proofs.places.keep_lines.Goals as goal

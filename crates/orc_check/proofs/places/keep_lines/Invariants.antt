@@ -1,7 +1,7 @@
 use Rattle.std.proofs.Common.{◌≡◌, drop}
 use Rattle.std.specs.List.{fold, flat_map}
 use Rattle.orc_check.specs.Validity.{line_breaches, lesser_breach}
-use Rattle.orc_check.specs.inside.Lent.{found_breach, place_path}
+use Rattle.orc_check.specs.Found.{found_breach, place_path}
 use Rattle.orc_check.proofs.places.keep_lines.Given as goal
 
 -- the best so far goes on to the least over the lines that are left

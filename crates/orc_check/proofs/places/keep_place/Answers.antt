@@ -6,7 +6,7 @@ use Rattle.orc_path.specs.Steps.{PathStep}
 use Rattle.orc_schema.specs.Schemas.{Ascends}
 use Rattle.orc_schema.specs.declared.line.SchemaLine.{SchemaLine}
 use Rattle.orc_check.specs.Validity.{Breach, line_breaches, lesser_breach}
-use Rattle.orc_check.specs.inside.Lent.{place_path, found_breach}
+use Rattle.orc_check.specs.Found.{place_path, found_breach}
 use Rattle.orc_check.specs.inside.Lines.{leads_on}
 use Rattle.orc_check.proofs.Ascending.{none_broken, ascends_drop}
 use Rattle.orc_check.proofs.places.keep_place.Goals as goal

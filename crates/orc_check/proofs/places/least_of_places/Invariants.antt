@@ -2,7 +2,7 @@ use Rattle.std.proofs.Common.{◌≡◌, map}
 use Rattle.std.specs.List.{fold, flat_map, filter}
 use Rattle.std.specs.FinMap.{entries}
 use Rattle.orc_check.specs.Validity.{place_breaches, is_place, lesser_breach}
-use Rattle.orc_check.specs.inside.Lent.{found_breach}
+use Rattle.orc_check.specs.Found.{found_breach}
 use Rattle.orc_check.proofs.places.least_of_places.Given as goal
 
 -- the best so far goes on to the least over the places that are left

@@ -5,7 +5,7 @@ use Rattle.std.specs.FinMap.{entries, is_sorted}
 use Rattle.orc_path.specs.Order.{path_cmp}
 use Rattle.orc_tree.proofs.Maps.{Rows}
 use Rattle.orc_check.specs.Validity.{row_breaches, lesser_breach}
-use Rattle.orc_check.specs.inside.Lent.{found_breach}
+use Rattle.orc_check.specs.Found.{found_breach}
 use Rattle.orc_check.proofs.Settled.{in_order, found_some, settled}
 use Rattle.orc_check.proofs.rows.least_of_rows.Goals as goal
 

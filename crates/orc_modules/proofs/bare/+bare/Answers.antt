@@ -6,7 +6,8 @@ use Rattle.orc_types.specs.Statements.{subs}
 use Rattle.orc_modules.specs.Bare.{may_bring, brings_at}
 use Rattle.orc_modules.specs.Children.{block_part}
 use Rattle.orc_modules.specs.Stack.{stack}
-use Rattle.orc_modules.specs.inside.Known.{AreBare, beside, is_known}
+use Rattle.orc_modules.specs.inside.Beside.{beside}
+use Rattle.orc_modules.specs.inside.Known.{AreBare, is_known}
 use Rattle.orc_modules.proofs.Barren.{known_of, brings-nothing, brings-uses}
 use Rattle.orc_modules.proofs.Chains.{any-past}
 use Rattle.orc_modules.proofs.bare.+bare.Goals.{is_bare-in-Uses+in-Some+in_ok-is_bare_named-in-Uses+in-true, is_bare-in-Nothing}

@@ -12,14 +12,14 @@ use Rattle.orc_schema.proofs.build.schema_of.Goals as goal
 
 pub returns-in-Err-clause-builds : goal.returns-in-Err-clause-builds
 returns-in-Err-clause-builds c = Gives-first (module_fault c.args.modules.now) (first_link_fault (drafts c.args.modules.now)) (drafts c.args.modules.now) c.in-Err.fault
-    (subst (λ ms. Meets (first_some (fault_here ms) (module_places [] ms.all)) (Err c.in-Err.fault)) c.of-modules.ensures c.in-Err.ensures)
+    (subst (λ ms. Meets (first_some (fault_here ms) (module_places [] ms.all)) (Err c.in-Err.fault)) c.in_ok-modules.ensures c.in-Err.ensures)
 
 pub returns-in_ok-drafts-in-Ok-clause-builds : goal.returns-in_ok-drafts-in-Ok-clause-builds
 returns-in_ok-drafts-in-Ok-clause-builds c = Gives-later (module_fault c.args.modules.now) (first_link_fault (drafts c.args.modules.now)) (drafts c.args.modules.now) _
-    (subst (λ ms. first_some (fault_here ms) (module_places [] ms.all) ≡ None) c.of-modules.ensures c.in-Ok.ensures)
-    (subst (λ ds. GivesTable (first_link_fault ds) ds c.table_of.result) (c.as_slice.ensures ∙ c.in_ok-drafts-in-Ok.ensures.drafts ∙ ap (λ ms. drafts_of ms ms.all) c.of-modules.ensures) c.table_of.ensures.table)
+    (subst (λ ms. first_some (fault_here ms) (module_places [] ms.all) ≡ None) c.in_ok-modules.ensures c.in-Ok.ensures)
+    (subst (λ ds. GivesTable (first_link_fault ds) ds c.table_of.result) (c.as_slice.ensures ∙ c.in_ok-drafts-in-Ok.ensures.drafts ∙ ap (λ ms. drafts_of ms ms.all) c.in_ok-modules.ensures) c.table_of.ensures.table)
 
 pub returns-in_ok-drafts-in-Ok-clause-whole : goal.returns-in_ok-drafts-in-Ok-clause-whole
 returns-in_ok-drafts-in-Ok-clause-whole c = all_whole c.args.modules.now c.as_slice.result.now c.table_of.result
-    (c.as_slice.ensures ∙ c.in_ok-drafts-in-Ok.ensures.drafts ∙ ap (λ ms. drafts_of ms ms.all) c.of-modules.ensures)
-    (subst (λ ms. list_any (is_deep_module ms) ms.all ≡ false) c.of-modules.ensures c.in_ok-drafts-in-Ok.ensures.whole) c.table_of.ensures.whole
+    (c.as_slice.ensures ∙ c.in_ok-drafts-in-Ok.ensures.drafts ∙ ap (λ ms. drafts_of ms ms.all) c.in_ok-modules.ensures)
+    (subst (λ ms. list_any (is_deep_module ms) ms.all ≡ false) c.in_ok-modules.ensures c.in_ok-drafts-in-Ok.ensures.whole) c.table_of.ensures.whole

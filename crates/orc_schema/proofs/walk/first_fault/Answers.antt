@@ -6,14 +6,14 @@ use Rattle.orc_schema.specs.inside.Seen.{HasSame}
 use Rattle.orc_schema.proofs.Seens.{none_seen, seen-grown}
 use Rattle.orc_schema.proofs.walk.first_fault.Goals as goal
 
-pub returns-in-Err-first_fault_below : goal.returns-in-Err-first_fault_below
-returns-in-Err-first_fault_below c = modules-fail (fault_here (modules_of c.args.modules.now)) c.args.modules.now.all.now c.loop-at.at c.index-all-at.result (omega (arith, c.loop-at-test.true)) (sym c.index-all-at.is)
-    c.in_default.ensures _ c.loop-at.invariant.left c.in-Err-first_fault_below.fault c.in-Err-first_fault_below.ensures
+pub returns-in-Err-first_fault_in : goal.returns-in-Err-first_fault_in
+returns-in-Err-first_fault_in c = modules-fail (fault_here (modules_of c.args.modules.now)) c.args.modules.now.all.now c.loop-at.at c.index-all-at.result (omega (arith, c.loop-at-test.true)) (sym c.index-all-at.is)
+    c.in_default.ensures _ c.loop-at.invariant.left c.in-Err-first_fault_in.fault c.in-Err-first_fault_in.ensures
 
 pub loop-at-preserved : goal.loop-at-preserved
 loop-at-preserved c = record {
   left = c.loop-at.invariant.left ∙ modules-past (fault_here (modules_of c.args.modules.now)) c.args.modules.now.all.now c.loop-at.at c.index-all-at.result (omega (arith, c.loop-at-test.true)) (sym c.index-all-at.is)
-      c.in_default.ensures c.in_default-first_fault_below.ensures;
+      c.in_default.ensures c.in_default-first_fault_in.ensures;
   names = seen-grown c.args.modules.now.most c.args.modules.now.all.now [] c.args.modules.now.all.now c.loop-at.at c.index-all-at.result (omega (arith, c.loop-at-test.true)) (sym c.index-all-at.is) _ _
       c.loop-at.invariant.names c.in_ok-add_names.ensures;
 }

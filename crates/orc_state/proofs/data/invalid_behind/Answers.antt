@@ -1,5 +1,5 @@
 -- Actions on services alone leave the data.
-use Rattle.std.proofs.Common.{◌≡◌, false, List, [], ◌∷◌, refl, sym, ap, ◌∙◌}
+use Rattle.std.proofs.Common.{◌≡◌, subst, false, List, [], ◌∷◌, refl, sym, ap, ◌∙◌}
 use Rattle.std.specs.Prelude.{option_map}
 use Rattle.std.specs.List.{list_any}
 use Rattle.std.proofs.lemmas.Bool.{false≢true}
@@ -13,6 +13,8 @@ use Rattle.orc_state.proofs.DataLaws.{no_slash_no_path}
 use Rattle.orc_state.specs.Next.{invalid}
 use Rattle.orc_state.specs.inside.Behind.{is_on_data}
 use Rattle.orc_state.proofs.Lists.{or_first, or_second}
+use Rattle.orc_expr.specs.declared.read.Target.{Target}
+use Rattle.orc_revalidate.specs.Changes.{DiffersInside}
 use Rattle.orc_state.proofs.data.invalid_behind.Goals as goal
 
 step_leaves : (action : Action) (config : Config) → is_on_data action ≡ false → data_step config action ≡ config
@@ -34,3 +36,7 @@ returns-then-not-is_on_data c =
     let schema = c.args.schema.now in
     let stays = leave c.args.actions.now c.args.old.now (sym c.is_on_data.ensures ∙ c.if-not-is_on_data.true) in
     sym (ap (λ (m : Config). invalid schema m) (c.requires.behind ∙ stays) ∙ ap (option_map (λ (b : Breach). Invalid b.path b.rule)) c.requires.valid)
+
+pub invalid-requires-clause-changed : goal.invalid-requires-clause-changed
+invalid-requires-clause-changed c =
+    subst (λ (ts : List Target). DiffersInside ts c.args.old.now c.args.data.now) (sym (c.as_slice.ensures ∙ c.in_ok-targets.ensures)) c.requires.changed

@@ -1,4 +1,4 @@
-use Rattle.std.proofs.Common.{ℕ, ◌+◌, Bool, List, ◌∷◌, Ok, codes, drop, sym, ap, ◌∙◌}
+use Rattle.std.proofs.Common.{◌≡◌, ℕ, ◌+◌, Bool, List, ◌∷◌, Ok, Err, codes, drop, sym, ap, ◌∙◌, arith}
 use Rattle.std.specs.Option.{option_and_then}
 use Rattle.std.proofs.lemmas.List.{at_drop_more}
 use Rattle.serde_json.specs.View.{view, items_view}
@@ -14,6 +14,7 @@ use Rattle.orc_template.proofs.Handed.{expands_so, expanded_more, expands_whole}
 use Rattle.orc_template.proofs.Forms.{mapped_some, mapped_none}
 use Rattle.orc_template.proofs.Fors.{nodes_found}
 use Rattle.orc_template.proofs.Whens.{when_told, when_fails, node_stops, node_ends}
+use Rattle.orc_template.proofs.Moved.{front_count, block_behind, count_more}
 use Rattle.orc_template.proofs.expanding.+blocks.Goals as goal
 
 pub do_node-returns-in_err-holds : goal.do_node-returns-in_err-holds
@@ -75,35 +76,49 @@ do_each-loop-node-preserved g t c =
     expanded_more (node_in gr n d c.node-item.result e) (nodes_expanded gr n d (inner gr n d) later) (expanding_of c.do_node.new.expanding)
     (each_in gr c.args.here.now n d (expression_of c.args.each.now) (expanding_of c.args.expanding.now)) tt front c.in_ok-do_node.ensures
 
-pub do_blocks-returns-in_err-do_block : goal.do_blocks-returns-in_err-do_block
-do_blocks-returns-in_err-do_block g t c =
-    let l = c.loop-block in
+pub do_blocks-loop-at-init : goal.do_blocks-loop-at-init
+do_blocks-loop-at-init g t c =
     let gr = ground (g.V.DataView.viewed c.args.view.now) c.args.devices.now in
-    let here = c.args.here.now in
-    let xs = c.args.blocks.now in
-    let later = drop (l.block-index + 1) xs in
-    let e = expanding_of l.expanding in
-    let d = view c.block-item.result in
-    let rest = λ (vs : List Value). blocks_expanded gr here l.number (blocks_of (items_view vs)) e in
-    let front = ap (λ (x : Value). rest (x ∷ later)) c.block-item.is ∙ sym (at_drop_more rest xs l.block-index _ c.loop-block-test.true) ∙ l.invariant in
-    expands_whole (block_in gr here l.number d e) (blocks_expanded gr here (l.number + 1 + block_count (blocks_inside d)) (blocks_of (items_view later))) (expanding_of c.do_block.new.expanding)
-    (blocks_expanded gr here c.args.first (blocks_of (items_view xs)) (expanding_of c.args.expanding.now)) c.from_residual.result c.in_err-do_block.field-0.0 front c.from_residual.ensures.1 c.in_err-do_block.ensures
+    let first : c.args.first + 0 ≡ c.args.first = omega arith in
+    ap (λ (n : ℕ). blocks_expanded gr c.args.here.now n (blocks_of (items_view c.args.blocks.now)) (expanding_of c.args.expanding.now)) first
 
-pub do_blocks-loop-block-preserved : goal.do_blocks-loop-block-preserved
-do_blocks-loop-block-preserved g t c =
-    let l = c.loop-block in
+pub do_blocks-returns-in_err-behind : goal.do_blocks-returns-in_err-behind
+do_blocks-returns-in_err-behind g t c =
+    let l = c.loop-at in
     let gr = ground (g.V.DataView.viewed c.args.view.now) c.args.devices.now in
     let here = c.args.here.now in
     let xs = c.args.blocks.now in
-    let later = drop (l.block-index + 1) xs in
+    let later = drop (l.at + 1) xs in
     let e = expanding_of l.expanding in
-    let new = expanding_of c.do_block.new.expanding in
-    let d = view c.block-item.result in
-    let rest = λ (vs : List Value). blocks_expanded gr here l.number (blocks_of (items_view vs)) e in
-    let front = ap (λ (x : Value). rest (x ∷ later)) c.block-item.is ∙ sym (at_drop_more rest xs l.block-index _ c.loop-block-test.true) ∙ l.invariant in
-    ap (λ (n : ℕ). blocks_expanded gr here n (blocks_of (items_view later)) new) (c.in_ok-number.ensures ∙ ap (λ (m : ℕ). l.number + 1 + m) (c.in_ok-block_count.ensures ∙ ap block_count c.blocks_inside.ensures))
-    ∙ expanded_more (block_in gr here l.number d e) (blocks_expanded gr here (l.number + 1 + block_count (blocks_inside d)) (blocks_of (items_view later))) new
-    (blocks_expanded gr here c.args.first (blocks_of (items_view xs)) (expanding_of c.args.expanding.now)) tt front c.in_ok-do_block.ensures
+    let d = view c.index-blocks-at.result in
+    let k = front_count xs l.at in
+    let n = c.args.first + k in
+    let rest = λ (vs : List Value). blocks_expanded gr here n (blocks_of (items_view vs)) e in
+    let front = ap (λ (x : Value). rest (x ∷ later)) c.index-blocks-at.is ∙ sym (at_drop_more rest xs l.at _ c.loop-at-test.true) ∙ l.invariant in
+    let did = block_behind gr k c.args.first d here e (expanding_of c.do_block-answer.new.expanding) c.do_block-answer.result (Err c.in_err-behind.field-0.0) c.do_block-answer.ensures c.in_err-behind.ensures in
+    expands_whole (block_in gr here n d e) (blocks_expanded gr here (n + 1 + block_count (blocks_inside d)) (blocks_of (items_view later))) (expanding_of c.do_block-answer.new.expanding)
+    (blocks_expanded gr here c.args.first (blocks_of (items_view xs)) (expanding_of c.args.expanding.now)) c.from_residual.result c.in_err-behind.field-0.0 front c.from_residual.ensures.1 did
+
+pub do_blocks-loop-at-preserved : goal.do_blocks-loop-at-preserved
+do_blocks-loop-at-preserved g t c =
+    let l = c.loop-at in
+    let gr = ground (g.V.DataView.viewed c.args.view.now) c.args.devices.now in
+    let here = c.args.here.now in
+    let xs = c.args.blocks.now in
+    let later = drop (l.at + 1) xs in
+    let e = expanding_of l.expanding in
+    let new = expanding_of c.do_block-answer.new.expanding in
+    let d = view c.index-blocks-at.result in
+    let k = front_count xs l.at in
+    let n = c.args.first + k in
+    let rest = λ (vs : List Value). blocks_expanded gr here n (blocks_of (items_view vs)) e in
+    let front = ap (λ (x : Value). rest (x ∷ later)) c.index-blocks-at.is ∙ sym (at_drop_more rest xs l.at _ c.loop-at-test.true) ∙ l.invariant in
+    let did = block_behind gr k c.args.first d here e new c.do_block-answer.result (Ok tt) c.do_block-answer.ensures c.in_ok-behind.ensures in
+    let counted = count_more xs l.at c.index-blocks-at.result _ c.loop-at-test.true c.index-blocks-at.is in
+    let number : c.args.first + front_count xs (l.at + 1) ≡ n + 1 + block_count (blocks_inside d) = omega (arith, counted) in
+    ap (λ (m : ℕ). blocks_expanded gr here m (blocks_of (items_view later)) new) number
+    ∙ expanded_more (block_in gr here n d e) (blocks_expanded gr here (n + 1 + block_count (blocks_inside d)) (blocks_of (items_view later))) new
+    (blocks_expanded gr here c.args.first (blocks_of (items_view xs)) (expanding_of c.args.expanding.now)) tt front did
 
 pub do_each-loop-node-init : goal.do_each-loop-node-init
 do_each-loop-node-init g t c =

@@ -5,11 +5,13 @@ use Rattle.orc_template.specs.Blocks.{blocks_of}
 use Rattle.orc_template.specs.Expansions.{nodes_expanded, blocks_expanded}
 use Rattle.orc_template.specs.inside.Machine.{ground}
 use Rattle.orc_template.specs.inside.Expanding.{expanding_of, inner, each_in}
+use Rattle.orc_template.proofs.Moved.{front_count}
 use Rattle.orc_template.proofs.expanding.+blocks.Given as goal
 
-abbrev pub invariant-do_blocks-loop-block : goal.invariant-do_blocks-loop-block
-invariant-do_blocks-loop-block g l =
-    blocks_expanded (ground (g.V.DataView.viewed l.fn.view) l.fn.devices) l.fn.here l.number (blocks_of (items_view (drop l.block-index l.fn.blocks))) (expanding_of l.expanding)
+-- the blocks behind those that were done
+abbrev pub invariant-do_blocks-loop-at : goal.invariant-do_blocks-loop-at
+invariant-do_blocks-loop-at g l =
+    blocks_expanded (ground (g.V.DataView.viewed l.fn.view) l.fn.devices) l.fn.here (l.fn.first + front_count l.fn.blocks l.at) (blocks_of (items_view (drop l.at l.fn.blocks))) (expanding_of l.expanding)
     ≡ blocks_expanded (ground (g.V.DataView.viewed l.fn.view) l.fn.devices) l.fn.here l.fn.first (blocks_of (items_view l.fn.blocks)) (expanding_of l.fn.expanding)
 
 abbrev pub invariant-do_each-loop-node : goal.invariant-do_each-loop-node

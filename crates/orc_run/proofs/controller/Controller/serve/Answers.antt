@@ -63,7 +63,7 @@ returns-in-Some g c sound =
 pub answered-requires-in-Some : goal.answered-requires-in-Some
 answered-requires-in-Some g c =
     subst (λ (names : List (List ℕ)). IsTrue (is_answer_among (length names) c.in-Some.answer)) (sym c.as_slice-in-Some.ensures)
-    (at_once_among c.args.decls.now c.args.self.now.past.history c.args.call.now c.in-Some.answer
+    (at_once_among c.faults_are_named.ensures c.args.decls.now c.args.self.now.past.history c.args.call.now c.in-Some.answer
     (subst (λ (o : Option Answer). IfSome o (AnswersAtOnce c.args.decls.now c.args.self.now.past.history c.args.call.now)) c.in-Some.is c.in_ok-answer.ensures.answer))
 
 pub commit-requires-clause-touched : goal.commit-requires-clause-touched

@@ -1,4 +1,4 @@
-use Rattle.std.proofs.Common.{◌≡◌, List, IfOk, IsTrue, sym, subst, ap, ◌∙◌}
+use Rattle.std.proofs.Common.{◌≡◌, List, All, IfOk, IsTrue, sym, subst, ap, ◌∙◌}
 use Rattle.std.specs.Prelude.{Option}
 use Rattle.std.specs.declared.result.Result.TheVariants.{Ok, Err}
 use Rattle.orc_call.specs.declared.answer.Answer.{Answer}
@@ -7,6 +7,8 @@ use Rattle.orc_services.specs.Expanded.{expanded_actions}
 use Rattle.orc_state.specs.Actions.{name_each_once}
 use Rattle.orc_state.specs.Next.{serving_on}
 use Rattle.orc_state.proofs.GoingOn.{changes_to, clash_refuses, found, once_expanded, refused_so}
+use Rattle.orc_state.proofs.Sighting.{made_keys}
+use Rattle.orc_state.specs.inside.Sights.{service_key}
 use Rattle.orc_state.proofs.state.State.go_on.Goals as goal
 
 pub change-requires-clause-once : goal.change-requires-clause-once
@@ -43,3 +45,11 @@ returns-in-Err-clause-refusal c =
     ap (λ (l : List Action). (expanded_actions (serving_on c.args.decls.now c.args.next_data) l).outcome) (sym c.as_slice.ensures)
     ∙ sym c.in_ok-actions.ensures.outcome ∙ c.in-Err.is in
     refused_so c.args.decls.now c.args.self.now c.args.call.now c.args.next_data c.requires.behind c.in-Err.fault is
+
+pub change-requires-clause-keys : goal.change-requires-clause-keys
+change-requires-clause-keys c =
+    let is : found c.args.decls.now c.args.self.now c.args.call.now c.args.next_data c.requires.behind ≡ Ok c.in-Ok.actions =
+    ap (λ (l : List Action). (expanded_actions (serving_on c.args.decls.now c.args.next_data) l).outcome) (sym c.as_slice.ensures)
+    ∙ sym c.in_ok-actions.ensures.outcome ∙ c.in-Ok.is in
+    subst (λ (l : List Action). All (λ action. IsTrue (service_key action)) l) (sym c.as_slice-in-Ok-2.ensures)
+    (made_keys (serving_on c.args.decls.now c.args.next_data) c.args.call.now.actions c.in-Ok.actions is c.requires.keys)

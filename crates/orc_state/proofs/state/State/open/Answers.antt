@@ -6,6 +6,7 @@ use Rattle.orc_state.specs.declared.declarations.Device.{Device}
 use Rattle.orc_state.proofs.Fits.{data-fits, devices-fit}
 use Rattle.orc_state.proofs.Kept.{decls-names}
 use Rattle.orc_state.proofs.Openings.{opened-kept}
+use Rattle.orc_state.proofs.Residents.{knows_nothing}
 use Rattle.orc_state.proofs.state.State.open.Goals as goal
 
 pub opening_data-requires-clause-names : goal.opening_data-requires-clause-names
@@ -23,4 +24,7 @@ idle_stores-requires c =
     (devices-fit c.args.decls.now.schemas c.args.decls.now.devices c.requires.devices)
 
 pub invariant_of-result : goal.invariant_of-result
-invariant_of-result c = opened-kept c.in_ok-stores.stores c.new.result c.new.ensures c.in_ok-stores.ensures.idle
+invariant_of-result c = (
+  opened-kept c.in_ok-stores.stores c.new.result c.new.ensures c.in_ok-stores.ensures.idle,
+  knows_nothing c.new.result c.new-2.result c.new.ensures c.new-2.ensures,
+)

@@ -4,7 +4,7 @@ use Rattle.std.proofs.lemmas.List.{at_drop_more}
 use Rattle.orc_path.specs.Configurations.{Config}
 use Rattle.orc_call.specs.declared.call.Put.{Put}
 use Rattle.orc_template.specs.Expansions.{device_part, device_parts}
-use Rattle.orc_template.proofs.expansion.gathered.Goals as goal
+use Rattle.orc_template.proofs.expansion.Expansion.gathered.Goals as goal
 
 pub loop-tree-preserved : goal.loop-tree-preserved
 loop-tree-preserved c =

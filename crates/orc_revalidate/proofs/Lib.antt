@@ -1,0 +1,13 @@
+mod Members
+mod Rowed
+mod Ordered
+mod Sames
+mod Uncut
+mod Instances
+mod Entered
+mod Fronted
+mod Standing
+mod Seen
+mod Within
+mod Genuine
+mod Least

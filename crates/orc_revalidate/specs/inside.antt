@@ -1,0 +1,4 @@
+-- What private contracts and proofs alone speak of.
+pub mod Inside
+pub mod Looked
+pub mod Led
