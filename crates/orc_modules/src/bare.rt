@@ -8,6 +8,7 @@ ghost use Rattle.orc_modules.specs.Stack.{stack, found};
 ghost use Rattle.orc_modules.specs.inside.Beside.{beside, beside_brings};
 ghost use Rattle.orc_modules.specs.inside.Known.{AreBare, is_known};
 
+use crate::looks::Looks;
 use crate::parts::{Part, block_part, grouping};
 use crate::place::Modules;
 use crate::scope::{Above, Found, definition, plain_name, prefix_of};
@@ -27,19 +28,24 @@ struct Known<'a> {
 }
 
 // The grouping of this name in the innermost block.
-fn beside<'a, 'm>(above: &'a Above<'a, 'm>, name: &str) -> Option<&'a Stmt>
+fn beside<'a, 'm>(looks: &Looks, above: &'a Above<'a, 'm>, name: &str) -> Option<&'a Stmt>
     ensures { option_map (λ s. s.now) result ≡ beside (stack above.now) name.now }
 {
     match above {
         Above::Top => None,
-        Above::Module(stmt) => definition("grouping", name, stmt.subs.as_slice()),
-        Above::Under(stmt, _) => definition("grouping", name, stmt.subs.as_slice()),
+        Above::Module(stmt) => definition(looks, "grouping", name, stmt.subs.as_slice()),
+        Above::Under(stmt, _) => definition(looks, "grouping", name, stmt.subs.as_slice()),
         Above::Indexed(block, _) => block.definition("grouping", name),
     }
 }
 
 // The grouping that a `uses` in the block of another names, where it is one of the block that the other stands in.
-fn neighbour<'a, 'm>(above: &'a Above<'a, 'm>, here: &Stmt, stmt: &Stmt) -> Option<&'a Stmt>
+fn neighbour<'a, 'm>(
+    looks: &Looks,
+    above: &'a Above<'a, 'm>,
+    here: &Stmt,
+    stmt: &Stmt,
+) -> Option<&'a Stmt>
     ensures beside { IfSome result (λ next. beside (stack above.now) (argument stmt.now) ≡ Some next.now) }
     ensures means { IfSome result (λ next. (modules : List Stmt)
         → grouping modules (here.now ∷ stack above.now) stmt.now
@@ -48,10 +54,10 @@ fn neighbour<'a, 'm>(above: &'a Above<'a, 'm>, here: &Stmt, stmt: &Stmt) -> Opti
     if prefix_of(argument(stmt)).is_some() {
         return None;
     }
-    if definition("grouping", argument(stmt), here.subs.as_slice()).is_some() {
+    if definition(looks, "grouping", argument(stmt), here.subs.as_slice()).is_some() {
         return None;
     }
-    beside(above, argument(stmt))
+    beside(looks, above, argument(stmt))
 }
 
 // Whether it is known of the grouping of this name.
@@ -81,6 +87,7 @@ fn is_bare<'a, 'm>(
         return Ok(false);
     }
     modules.go_down(depth)?;
+    modules.looks.visit(here.subs.len())?;
     if known.len() >= MAX_KNOWN {
         return Ok(false);
     }
@@ -88,7 +95,7 @@ fn is_bare<'a, 'm>(
         match block_part(sub) {
             Part::Node => return Ok(false),
             Part::Uses => {
-                let Some(next) = neighbour(above, here, sub) else {
+                let Some(next) = neighbour(modules.looks, above, here, sub) else {
                     return Ok(false);
                 };
                 match is_bare_named(
@@ -127,6 +134,7 @@ fn is_bare_named<'a, 'm>(
         → may_bring depth modules.now.all.now (here.now ∷ stack above.now) here.now ≡ false) }
     ensures known { OnOk result (AreBare modules.now.all.now (stack above.now) known.new.items) }
 {
+    modules.looks.pass(known.len());
     if is_known(depth, name, known.as_slice()) {
         return Ok(true);
     }

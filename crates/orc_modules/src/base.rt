@@ -149,7 +149,7 @@ pub(crate) fn typedef<'a, 'm>(
     ensures { option_map found result
         ≡ meaning modules.now.all.now (codes "typedef") (argument stmt.now) (stack above.now) }
 {
-    meaning(modules.all, "typedef", argument(stmt), above)
+    meaning(modules, "typedef", argument(stmt), above)
 }
 
 // What the argument of a `type` statement stands for, behind fewer typedefs than `depth`.
@@ -166,6 +166,7 @@ fn base_at<'a, 'm>(
         return Ok(Named::Endless);
     }
     modules.go_down(depth)?;
+    modules.looks.visit(1)?;
     if let Some(base) = built_in(alloc, argument(stmt))? {
         return built_in_named(alloc, at.above, base);
     }
@@ -175,6 +176,7 @@ fn base_at<'a, 'm>(
                 above: &Above::Under(found.here, &found.above),
             };
             let named = base_at(alloc, depth - 1, &*modules, &around, inner)?;
+            modules.looks.visit(named.weight())?;
             return named_typedef(alloc, argument_below("default", found.here), inner, named);
         }
     }

@@ -6,7 +6,7 @@ ghost use Rattle.orc_modules.specs.Statements.{defines};
 ghost use Rattle.orc_modules.specs.inside.Beside.{beside_brings};
 
 use crate::firsts::{named, names_of};
-use crate::scope::definition;
+use crate::scope::first_defined;
 use crate::shallow::{depth_of, depths_of};
 use indexmap::IndexMap;
 use orc_text::Memory;
@@ -88,7 +88,7 @@ impl<'m> Block<'m> {
         if keyword == "grouping" {
             return self.grouping(name);
         }
-        definition(keyword, name, self.here.subs.as_slice())
+        first_defined(keyword, name, self.here.subs.as_slice())
     }
 
     /// Through how many groupings at most the grouping of this name brings nothing, whatever is around

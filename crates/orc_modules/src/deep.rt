@@ -7,7 +7,6 @@ use crate::bare::bringer;
 use crate::parts::{Part, block_part, grouping};
 use crate::place::Modules;
 use crate::scope::{Above, Site};
-use crate::visits::{MAX_VISITS, visit};
 use orc_text::Memory;
 use orc_yang::Stmt;
 use std::alloc::Global;
@@ -19,7 +18,6 @@ pub(crate) fn is_deeper<'a, 'm>(
     modules: &Modules<'a>,
     at: &Site<'a, 'm>,
     stmt: &'a Stmt,
-    left: &mut u64,
 ) -> Result<bool, Memory>
     ensures { IfOk result (λ deep. deep ≡ is_deeper depth modules.now.all.now (stack at.now.above.now) stmt.now) }
 {
@@ -27,26 +25,25 @@ pub(crate) fn is_deeper<'a, 'm>(
         return Ok(true);
     }
     modules.go_down(depth)?;
+    modules.looks.visit(stmt.subs.len())?;
     for sub in stmt.subs.as_slice() {
         match block_part(sub) {
             Part::Node => {
-                visit(left)?;
                 let inside = Site {
                     above: &Above::Under(sub, at.above),
                 };
-                match is_deeper(alloc, depth - 1, &*modules, &inside, sub, left)? {
+                match is_deeper(alloc, depth - 1, &*modules, &inside, sub)? {
                     true => return Ok(true),
                     false => {},
                 }
             },
             Part::Uses => {
-                visit(left)?;
                 match bringer(alloc, depth - 1, &*modules, at.above, sub)? {
                     Some(found) => {
                         let inside = Site {
                             above: &Above::Under(found.here, &found.above),
                         };
-                        match is_deeper(alloc, depth - 1, &*modules, &inside, found.here, left)? {
+                        match is_deeper(alloc, depth - 1, &*modules, &inside, found.here)? {
                             true => return Ok(true),
                             false => {},
                         }
@@ -61,7 +58,6 @@ pub(crate) fn is_deeper<'a, 'm>(
 }
 
 /// Whether a `uses` is taken to lead to itself: what it brings stands in one another as deep as that.
-/// It wants memory where more than 1,000,000 statements would be looked at.
 pub fn leads_past<'a, 'm>(
     alloc: Global,
     modules: &Modules<'a>,
@@ -74,18 +70,10 @@ pub fn leads_past<'a, 'm>(
     match grouping(&*modules, above, stmt) {
         None => Ok(false),
         Some(found) => {
-            let mut left = MAX_VISITS;
             let inside = Site {
                 above: &Above::Under(found.here, &found.above),
             };
-            is_deeper(
-                alloc,
-                modules.most,
-                &*modules,
-                &inside,
-                found.here,
-                &mut left,
-            )
+            is_deeper(alloc, modules.most, &*modules, &inside, found.here)
         },
     }
 }
@@ -99,13 +87,5 @@ pub fn is_too_deep<'a, 'm>(
 ) -> Result<bool, Memory>
     ensures { IfOk result (λ deep. deep ≡ is_deeper modules.now.most modules.now.all.now (stack above.now) stmt.now) }
 {
-    let mut left = MAX_VISITS;
-    is_deeper(
-        alloc,
-        modules.most,
-        &*modules,
-        &Site { above },
-        stmt,
-        &mut left,
-    )
+    is_deeper(alloc, modules.most, &*modules, &Site { above }, stmt)
 }

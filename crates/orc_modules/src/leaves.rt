@@ -15,7 +15,6 @@ use crate::parts::{Part, block_part, grouping};
 use crate::place::Modules;
 use crate::scope::{Above, Found, Site};
 use crate::statements::defines;
-use crate::visits::{MAX_VISITS, visit};
 use orc_text::Memory;
 use orc_yang::Stmt;
 use std::alloc::Global;
@@ -48,7 +47,6 @@ fn leaf_brought<'a, 'm>(
     at: &Site<'a, 'm>,
     name: &str,
     block: &'a [Stmt],
-    left: &mut u64,
 ) -> Result<Option<Option<Typed>>, Memory>
     ensures { IfOk result (λ typed.
         typed ≡ leaf_brought depth (modules_of modules.now) (stack at.now.above.now) name.now block.now) }
@@ -56,16 +54,15 @@ fn leaf_brought<'a, 'm>(
     if depth == 0 {
         return Ok(None);
     }
+    modules.looks.visit(block.len())?;
     for stmt in block {
         match block_part(stmt) {
             Part::Node => {
-                visit(left)?;
                 if defines("leaf", name, stmt) {
                     return Ok(Some(typed_in(alloc, &*modules, &*at, stmt)?));
                 }
             },
             Part::Uses => {
-                visit(left)?;
                 match bringer_of_leaf(alloc, depth - 1, &*modules, at.above, name, stmt)? {
                     Some(found) => {
                         let here = found.here;
@@ -79,7 +76,6 @@ fn leaf_brought<'a, 'm>(
                             &inside,
                             name,
                             here.subs.as_slice(),
-                            left,
                         )? {
                             Some(typed) => return Ok(Some(typed)),
                             None => {},
@@ -100,7 +96,6 @@ fn leaf_of_grouping<'a, 'm>(
     modules: &Modules<'a>,
     name: &str,
     bringer: &'a Found<'a, 'm>,
-    left: &mut u64,
 ) -> Result<Option<Option<Typed>>, Memory>
     ensures { IfOk result (λ typed.
         typed ≡ leaf_of_grouping (modules_of modules.now) name.now (found bringer.now)) }
@@ -109,7 +104,7 @@ fn leaf_of_grouping<'a, 'm>(
     let inside = Site {
         above: &Above::Under(here, &bringer.above),
     };
-    if is_deeper(alloc, modules.most, &*modules, &inside, here, left)? {
+    if is_deeper(alloc, modules.most, &*modules, &inside, here)? {
         return Ok(None);
     }
     leaf_brought(
@@ -119,7 +114,6 @@ fn leaf_of_grouping<'a, 'm>(
         &inside,
         name,
         here.subs.as_slice(),
-        left,
     )
 }
 
@@ -134,7 +128,7 @@ fn leaf_in_block<'a, 'm>(
     ensures { IfOk result (λ typed.
         typed ≡ leaf_in_block (modules_of modules.now) (stack at.now.above.now) name.now block.now) }
 {
-    let mut left = MAX_VISITS;
+    modules.looks.visit(block.len())?;
     for stmt in block {
         match block_part(stmt) {
             Part::Node => {
@@ -144,7 +138,7 @@ fn leaf_in_block<'a, 'm>(
             },
             Part::Uses => {
                 if let Some(found) = grouping(&*modules, at.above, stmt) {
-                    match leaf_of_grouping(alloc, &*modules, name, &found, &mut left)? {
+                    match leaf_of_grouping(alloc, &*modules, name, &found)? {
                         Some(typed) => return Ok(Some(typed)),
                         None => {},
                     }
@@ -156,8 +150,7 @@ fn leaf_in_block<'a, 'm>(
     Ok(None)
 }
 
-/// The type of the leaf of this name that a block has, where it has one. It wants memory where more
-/// than 1,000,000 statements would be looked at.
+/// The type of the leaf of this name that a block has, where it has one.
 pub fn leaf_type<'a, 'm>(
     alloc: Global,
     modules: &Modules<'a>,

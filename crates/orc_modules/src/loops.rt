@@ -11,7 +11,6 @@ use crate::deep::leads_past;
 use crate::parts::{Part, block_part, grouping};
 use crate::place::Modules;
 use crate::scope::{Above, Found, Site};
-use crate::visits::{MAX_VISITS, visit};
 use orc_text::Memory;
 use orc_types::{argument, built_in, first_of, is_a};
 use orc_yang::Stmt;
@@ -165,6 +164,7 @@ fn type_leads<'a, 'm>(
         return Ok(false);
     }
     modules.go_down(depth)?;
+    modules.looks.visit(1)?;
     match typedef_of(alloc, &*modules, at.above, stmt)? {
         None => Ok(false),
         Some(next) => {
@@ -192,7 +192,6 @@ fn block_leads<'a, 'm>(
     at: &Site<'a, 'm>,
     stmt: &'a Stmt,
     goal: &Found<'_, '_>,
-    left: &mut u64,
 ) -> Result<bool, Memory>
     ensures { IfOk result (λ leads. leads
         ≡ block_leads depth modules.now.all.now (found goal.now) (stack at.now.above.now) stmt.now) }
@@ -201,20 +200,19 @@ fn block_leads<'a, 'm>(
         return Ok(false);
     }
     modules.go_down(depth)?;
+    modules.looks.visit(stmt.subs.len())?;
     for sub in stmt.subs.as_slice() {
         match block_part(sub) {
             Part::Node => {
-                visit(left)?;
                 let inside = Site {
                     above: &Above::Under(sub, at.above),
                 };
-                match block_leads(alloc, depth - 1, &*modules, &inside, sub, goal, left)? {
+                match block_leads(alloc, depth - 1, &*modules, &inside, sub, goal)? {
                     true => return Ok(true),
                     false => {},
                 }
             },
             Part::Uses => {
-                visit(left)?;
                 match grouping(&*modules, at.above, sub) {
                     Some(next) => {
                         if is_same(&next, goal) {
@@ -223,15 +221,7 @@ fn block_leads<'a, 'm>(
                         let inside = Site {
                             above: &Above::Under(next.here, &next.above),
                         };
-                        match block_leads(
-                            alloc,
-                            depth - 1,
-                            &*modules,
-                            &inside,
-                            next.here,
-                            goal,
-                            left,
-                        )? {
+                        match block_leads(alloc, depth - 1, &*modules, &inside, next.here, goal)? {
                             true => return Ok(true),
                             false => {},
                         }
@@ -262,19 +252,10 @@ fn uses_leads<'a, 'm>(
             if is_same(&next, goal) {
                 return Ok(true);
             }
-            let mut left = MAX_VISITS;
             let inside = Site {
                 above: &Above::Under(next.here, &next.above),
             };
-            block_leads(
-                alloc,
-                modules.most,
-                &*modules,
-                &inside,
-                next.here,
-                goal,
-                &mut left,
-            )
+            block_leads(alloc, modules.most, &*modules, &inside, next.here, goal)
         },
     }
 }
@@ -311,8 +292,7 @@ pub fn is_type_loop<'a, 'm>(
     }
 }
 
-/// Whether the name of a `uses` leads on without end, and to the very grouping that it stands in. It
-/// wants memory where more than 1,000,000 statements would be looked at.
+/// Whether the name of a `uses` leads on without end, and to the very grouping that it stands in.
 pub fn is_uses_loop<'a, 'm>(
     alloc: Global,
     modules: &Modules<'a>,

@@ -32,3 +32,29 @@ pub struct Typed {
     pub default: Option<Text>,
     pub home: Text,
 }
+
+impl Named {
+    /// How many texts and ranges it has, which each type that names it copies.
+    pub(crate) fn weight(&self) -> usize {
+        match self {
+            Named::Means(meant) => base_weight(&meant.base),
+            Named::Endless | Named::Unclear => 0,
+        }
+    }
+}
+
+fn base_weight(base: &Base) -> usize {
+    match base {
+        Base::Known(of_type) => type_weight(of_type),
+        Base::Decimal64 | Base::Enumeration | Base::Leafref => 0,
+    }
+}
+
+fn type_weight(of_type: &LeafType) -> usize {
+    match of_type {
+        LeafType::Int(kind) => kind.ranges.as_slice().len(),
+        LeafType::Str(lengths) => lengths.as_slice().len(),
+        LeafType::Enum(names) => names.len(),
+        LeafType::Decimal(_) | LeafType::Bool | LeafType::Empty | LeafType::Leafref(_) => 0,
+    }
+}

@@ -10,7 +10,6 @@ use crate::deep::is_deeper;
 use crate::parts::{Part, block_part, grouping};
 use crate::place::Modules;
 use crate::scope::{Above, Found, Site};
-use crate::visits::{MAX_VISITS, visit};
 use orc_text::{Memory, Row, Text};
 use orc_types::argument;
 use orc_yang::Stmt;
@@ -41,7 +40,6 @@ fn push_brought<'a, 'm>(
     modules: &Modules<'a>,
     at: &Site<'a, 'm>,
     block: &'a [Stmt],
-    left: &mut u64,
     out: &mut Row<Text>,
 ) -> Result<(), Memory>
     ensures { OnOk result (out.new
@@ -50,14 +48,13 @@ fn push_brought<'a, 'm>(
     if depth == 0 {
         return Ok(());
     }
+    modules.looks.visit(block.len())?;
     for stmt in block {
         match block_part(stmt) {
             Part::Node => {
-                visit(left)?;
                 out.push(Text::from_str(alloc, argument(stmt))?)?;
             },
             Part::Uses => {
-                visit(left)?;
                 match bringer_of_nodes(alloc, depth - 1, &*modules, at.above, stmt)? {
                     Some(found) => {
                         let here = found.here;
@@ -70,7 +67,6 @@ fn push_brought<'a, 'm>(
                             &*modules,
                             &inside,
                             here.subs.as_slice(),
-                            left,
                             out,
                         )?;
                     },
@@ -88,7 +84,6 @@ fn push_grouping<'a, 'm>(
     alloc: Global,
     modules: &Modules<'a>,
     bringer: &'a Found<'a, 'm>,
-    left: &mut u64,
     out: &mut Row<Text>,
 ) -> Result<(), Memory>
     ensures { OnOk result (out.new
@@ -98,7 +93,7 @@ fn push_grouping<'a, 'm>(
     let inside = Site {
         above: &Above::Under(here, &bringer.above),
     };
-    if is_deeper(alloc, modules.most, &*modules, &inside, here, left)? {
+    if is_deeper(alloc, modules.most, &*modules, &inside, here)? {
         return Ok(());
     }
     push_brought(
@@ -107,14 +102,12 @@ fn push_grouping<'a, 'm>(
         &*modules,
         &inside,
         here.subs.as_slice(),
-        left,
         out,
     )
 }
 
 /// The names of the data nodes of a block, in the order of the text, through its `uses`; one that
-/// leads to itself brings none. It wants memory where more than 1,000,000 statements would be looked
-/// at.
+/// leads to itself brings none.
 pub fn child_names<'a, 'm>(
     alloc: Global,
     modules: &Modules<'a>,
@@ -125,13 +118,13 @@ pub fn child_names<'a, 'm>(
         ≡ child_names (children modules.now.most modules.now.all.now (stack above.now) block.now)) }
 {
     let mut out = Row::new(alloc);
-    let mut left = MAX_VISITS;
+    modules.looks.visit(block.len())?;
     for stmt in block {
         match block_part(stmt) {
             Part::Node => out.push(Text::from_str(alloc, argument(stmt))?)?,
             Part::Uses => {
                 if let Some(found) = grouping(&*modules, above, stmt) {
-                    push_grouping(alloc, &*modules, &found, &mut left, &mut out)?;
+                    push_grouping(alloc, &*modules, &found, &mut out)?;
                 }
             },
             Part::Nothing => {},

@@ -43,5 +43,5 @@ pub fn grouping<'a, 'm>(
 ) -> Option<Found<'a, 'm>>
     ensures { option_map found result ≡ grouping modules.now.all.now (stack above.now) stmt.now }
 {
-    meaning(modules.all, "grouping", argument(stmt), above)
+    meaning(modules, "grouping", argument(stmt), above)
 }

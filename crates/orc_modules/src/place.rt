@@ -3,6 +3,7 @@ ghost use Rattle.std.specs.Prelude.{◌≡◌, IfOk};
 ghost use Rattle.orc_modules.specs.Scopes.{the_modules};
 ghost use Rattle.orc_modules.specs.Stack.{modules_of};
 
+use crate::looks::Looks;
 use crate::most::{added, all_leaders};
 use crate::scope::Above;
 use orc_text::Memory;
@@ -12,26 +13,27 @@ use orc_yang::Stmt;
 pub const MAX_CHAIN: usize = 1_000;
 
 // So many typedefs, or nodes and groupings, are followed one inside another.
-const MAX_LEVELS: usize = 5_000;
+const MAX_LEVELS: usize = 2_000;
 
 /// The modules, and how many typedefs, or nodes and groupings, can lead on to one another without
-/// leading back to themselves.
+/// leading back to themselves; and what may still be looked at.
 #[derive(Clone, Copy)]
 pub struct Modules<'a> {
     pub all: &'a [Stmt],
     pub most: usize,
+    pub looks: &'a Looks,
 }
 
 impl<'a> Modules<'a> {
     /// Modules, with their typedefs, groupings and nodes counted.
-    pub fn of(all: &'a [Stmt]) -> Result<Modules<'a>, Memory>
+    pub fn of(all: &'a [Stmt], looks: &'a Looks) -> Result<Modules<'a>, Memory>
         ensures { IfOk result (λ modules. modules_of modules ≡ the_modules all.now) }
     {
         let most = added(all_leaders(all)?, 1)?;
-        Ok(Modules { all, most })
+        Ok(Modules { all, most, looks })
     }
 
-    /// Goes one level further down, where `depth` levels are left. It wants memory past 5,000 levels.
+    /// Goes one level further down, where `depth` levels are left. It wants memory past 2,000 levels.
     pub fn go_down(&self, depth: usize) -> Result<(), Memory> {
         if self.most.saturating_sub(depth) >= MAX_LEVELS {
             return Err(Memory);

@@ -8,6 +8,8 @@ ghost use Rattle.orc_modules.specs.Stack.{stack, found};
 ghost use Rattle.orc_modules.specs.Statements.{defines};
 
 use crate::block::Block;
+use crate::looks::Looks;
+use crate::place::Modules;
 use crate::statements::{defines, sub_text};
 use orc_types::{argument, is_a};
 use orc_yang::Stmt;
@@ -69,17 +71,30 @@ pub fn plain_name(text: &str) -> &str
 }
 
 // The first statement of a block with this keyword and this argument.
-pub(crate) fn definition<'a>(keyword: &str, name: &str, block: &'a [Stmt]) -> Option<&'a Stmt>
+pub(crate) fn first_defined<'a>(keyword: &str, name: &str, block: &'a [Stmt]) -> Option<&'a Stmt>
     ensures { option_map (λ s. s.now) result ≡ find (defines keyword.now name.now) block.now }
 {
     block.iter().find(|stmt| defines(keyword, name, *stmt))
+}
+
+// The same, with what it looks at counted.
+pub(crate) fn definition<'a>(
+    looks: &Looks,
+    keyword: &str,
+    name: &str,
+    block: &'a [Stmt],
+) -> Option<&'a Stmt>
+    ensures { option_map (λ s. s.now) result ≡ find (defines keyword.now name.now) block.now }
+{
+    looks.pass(block.len());
+    first_defined(keyword, name, block)
 }
 
 /// The module of this name.
 pub fn module_called<'a>(modules: &'a [Stmt], name: &str) -> Option<&'a Stmt>
     ensures { option_map (λ s. s.now) result ≡ module_called modules.now name.now }
 {
-    definition("module", name, modules)
+    first_defined("module", name, modules)
 }
 
 /// Whether a prefix is the module's own.
@@ -155,10 +170,15 @@ pub fn module_around<'a, 'm>(above: &'a Above<'a, 'm>) -> Option<&'a Stmt>
 }
 
 // A module's own definition of a name.
-fn in_module<'a, 'm>(keyword: &str, name: &str, stmt: &'a Stmt) -> Option<Found<'a, 'm>>
+fn in_module<'a, 'm>(
+    looks: &Looks,
+    keyword: &str,
+    name: &str,
+    stmt: &'a Stmt,
+) -> Option<Found<'a, 'm>>
     ensures { option_map found result ≡ in_block_of keyword.now name.now stmt.now [] }
 {
-    match definition(keyword, name, stmt.subs.as_slice()) {
+    match definition(looks, keyword, name, stmt.subs.as_slice()) {
         Some(here) => Some(Found {
             above: Above::Module(stmt),
             here,
@@ -169,6 +189,7 @@ fn in_module<'a, 'm>(keyword: &str, name: &str, stmt: &'a Stmt) -> Option<Found<
 
 /// The nearest definition of a name without a prefix.
 pub fn in_scope<'a, 'm>(
+    looks: &Looks,
     keyword: &str,
     name: &str,
     above: &'a Above<'a, 'm>,
@@ -177,27 +198,39 @@ pub fn in_scope<'a, 'm>(
 {
     match above {
         Above::Top => None,
-        Above::Module(stmt) => in_module(keyword, name, *stmt),
-        Above::Under(stmt, outer) => match definition(keyword, name, stmt.subs.as_slice()) {
+        Above::Module(stmt) => in_module(looks, keyword, name, *stmt),
+        Above::Under(stmt, outer) => match definition(looks, keyword, name, stmt.subs.as_slice()) {
             Some(here) => Some(Found {
                 above: *above,
                 here,
             }),
-            None => in_scope(keyword, name, *outer),
+            None => in_scope(looks, keyword, name, *outer),
         },
         Above::Indexed(block, outer) => match block.definition(keyword, name) {
             Some(here) => Some(Found {
                 above: *above,
                 here,
             }),
-            None => in_scope(keyword, name, *outer),
+            None => in_scope(looks, keyword, name, *outer),
         },
+    }
+}
+
+// How many statements of a module are looked at for what a prefix stands for there.
+fn prefixes_looked_at(prefix: &str, around: &Stmt) -> usize {
+    let block = around.subs.as_slice();
+    match block
+        .iter()
+        .position(|sub| is_a("prefix", sub) || imports_as(prefix, sub))
+    {
+        Some(before) => before,
+        None => block.len(),
     }
 }
 
 // The definition of a name in the module of a prefix.
 fn behind_prefix<'a, 'm>(
-    modules: &'a [Stmt],
+    modules: &Modules<'a>,
     keyword: &str,
     prefix: &str,
     name: &str,
@@ -205,13 +238,14 @@ fn behind_prefix<'a, 'm>(
     around: &'a Stmt,
 ) -> Option<Found<'a, 'm>>
     ensures { option_map found result
-        ≡ behind_prefix modules.now keyword.now prefix.now name.now (stack above.now) around.now }
+        ≡ behind_prefix modules.now.all.now keyword.now prefix.now name.now (stack above.now) around.now }
 {
+    modules.looks.pass(prefixes_looked_at(prefix, around));
     if is_own(prefix, around) {
-        return in_scope(keyword, name, above);
+        return in_scope(modules.looks, keyword, name, above);
     }
-    match imported(modules, prefix, around) {
-        Some(other) => in_module(keyword, name, other),
+    match imported(modules.all, prefix, around) {
+        Some(other) => in_module(modules.looks, keyword, name, other),
         None => None,
     }
 }
@@ -219,18 +253,18 @@ fn behind_prefix<'a, 'm>(
 /// What a name means: without a prefix, or with the module's own, it is looked for scope by scope
 /// outwards, else in the module of its prefix.
 pub fn meaning<'a, 'm>(
-    modules: &'a [Stmt],
+    modules: &Modules<'a>,
     keyword: &str,
     text: &str,
     above: &'a Above<'a, 'm>,
 ) -> Option<Found<'a, 'm>>
-    ensures { option_map found result ≡ meaning modules.now keyword.now text.now (stack above.now) }
+    ensures { option_map found result ≡ meaning modules.now.all.now keyword.now text.now (stack above.now) }
 {
     match split_name(text) {
         Some((prefix, name)) => match module_around(above) {
             Some(around) => behind_prefix(modules, keyword, prefix, name, above, around),
             None => None,
         },
-        None => in_scope(keyword, text, above),
+        None => in_scope(modules.looks, keyword, text, above),
     }
 }

@@ -7,6 +7,7 @@ ghost use Rattle.orc_journal.specs.declared.entry.Entry.{Entry};
 ghost use Rattle.orc_state.specs.Calls.{is_call};
 ghost use Rattle.orc_state.specs.Legal.{AnswersAtOnce, IsDue, IsLegal, IsNew, IsSame};
 ghost use Rattle.orc_state.specs.Declarations.{AreDecls};
+ghost use Rattle.orc_state.specs.Touched.{touched_devices};
 ghost use Rattle.orc_run.specs.inside.Pasts.{IsBehind, IsPast};
 ghost use Rattle.orc_run.specs.Opening.{IsIllegalAt};
 
@@ -15,7 +16,7 @@ use crate::numbers::Numbers;
 use orc_call::{Answer, Call};
 use orc_journal::{Entry, committed_by};
 use orc_state::{Decls, State, is_call};
-use orc_text::Memory;
+use orc_text::{Memory, Row};
 use std::alloc::Global;
 
 /// The numbers that transactions have, the calls that were committed, in order, and the state
@@ -111,7 +112,11 @@ impl Past {
         if !is_call(alloc, decls, call)? {
             return Ok(false);
         }
-        if self.answer_or_apply(alloc, decls, call)?.is_some() {
+        let mut devices = Row::new(alloc);
+        if self
+            .answer_or_apply(alloc, decls, call, &mut devices)?
+            .is_some()
+        {
             return Ok(false);
         }
         self.history.push(alloc, call.copy(alloc)?)?;
@@ -119,12 +124,13 @@ impl Past {
     }
 
     /// The answer that a call gets at once behind the history. Where there is none, the state does
-    /// the call.
+    /// the call, and the devices that it touches take the place of those handed in.
     pub(crate) fn answer_or_apply(
         &mut self,
         alloc: Global,
         decls: &Decls,
         call: &Call,
+        devices: &mut Row<u32>,
     ) -> Result<Option<Answer>, Memory>
         requires decls { AreDecls decls.now }
         requires behind { IsBehind decls.now self.old self.old.history }
@@ -134,10 +140,11 @@ impl Past {
         ensures done { result ≡ Ok None → IsBehind decls.now self.new (self.old.history ++ call.now ∷ []) }
         ensures kept { result ≢ Ok None → self.new ≡ self.old }
         ensures rest { self.new ≡ record self.old { state = self.new.state } }
+        ensures touched { result ≡ Ok None → devices.new ≡ touched_devices decls.now self.old.state call.now }
     {
         match self.repeated(alloc, call)? {
             Some(answer) => Ok(Some(answer)),
-            None => self.state.next(alloc, decls, call),
+            None => self.state.next_touching(alloc, decls, call, devices),
         }
     }
 

@@ -20,7 +20,7 @@ use crate::printing::{CommitLines, answered};
 use orc_append::Appended;
 use orc_call::{Answer, Call};
 use orc_disk::Disk;
-use orc_state::{Decls, touched_devices};
+use orc_state::Decls;
 use orc_template::faults_are_named;
 use orc_text::{Memory, Row};
 use std::alloc::Global;
@@ -50,9 +50,8 @@ impl<D: Disk> Controller<D> {
             return answered(alloc, decls.names.as_slice(), call, &Answer::Down);
         }
         faults_are_named();
-        // What a deletion touches is told by the state before it.
-        let devices = touched_devices(alloc, decls, &self.past.state, call)?;
-        match self.past.answer_or_apply(alloc, decls, call)? {
+        let mut devices = Row::new(alloc);
+        match self.past.answer_or_apply(alloc, decls, call, &mut devices)? {
             Some(answer) => answered(alloc, decls.names.as_slice(), call, &answer),
             None => self.commit(alloc, decls, call, devices),
         }

@@ -16,22 +16,19 @@ use crate::index::index_of;
 use crate::line::{LeafNode, Node, SchemaLine, ValueListNode};
 use crate::links::{Nodes, is_cut, kind_at, link_fault, target_at};
 use crate::walk::first_fault;
+use crate::weights::line_weight;
 use crate::{Schema, SchemaFault};
-use orc_modules::{Above, Block, MAX_CHAIN, Modules, is_too_deep};
+use orc_modules::{Above, Block, Looks, MAX_CHAIN, Modules, is_too_deep};
 use orc_text::{Copied, Memory, Row};
 use orc_types::argument;
 use orc_yang::Stmt;
 use std::alloc::Global;
-
-// So many groupings are looked at for the nodes of all modules.
-const MAX_VISITS: u64 = 4_000_000;
 
 // Adds the nodes of one module, whose block this is.
 fn push_block<'a, 'm>(
     alloc: Global,
     modules: &Modules<'a>,
     block: &'a Block<'m>,
-    left: &mut u64,
     out: &mut Row<Draft>,
 ) -> Result<(), Memory>
     ensures { OnOk result (out.new ≡ out.old
@@ -45,7 +42,7 @@ fn push_block<'a, 'm>(
         names: &none,
         keys: &none,
     };
-    push_drafts(alloc, modules.most, &*modules, &at, stmt, left, out)
+    push_drafts(alloc, modules.most, &*modules, &at, stmt, out)
 }
 
 // Adds the nodes of one module.
@@ -53,14 +50,13 @@ fn push_module<'a>(
     alloc: Global,
     modules: &Modules<'a>,
     stmt: &'a Stmt,
-    left: &mut u64,
     out: &mut Row<Draft>,
 ) -> Result<(), Memory>
     ensures { OnOk result (out.new ≡ out.old
         ++ drafts_below modules.now.most (modules_of modules.now) (in_module stmt.now) stmt.now) }
 {
     let block = Block::of(alloc, stmt)?;
-    push_block(alloc, &*modules, &block, left, out)
+    push_block(alloc, &*modules, &block, out)
 }
 
 // The nodes of the modules.
@@ -68,9 +64,8 @@ fn drafts_of(alloc: Global, modules: &Modules<'_>) -> Result<Row<Draft>, Memory>
     ensures { IfOk result (λ ds. ds ≡ drafts_of (modules_of modules.now) modules.now.all.now) }
 {
     let mut out = Row::new(alloc);
-    let mut left = MAX_VISITS;
     for stmt in modules.all {
-        push_module(alloc, &*modules, stmt, &mut left, &mut out)?;
+        push_module(alloc, &*modules, stmt, &mut out)?;
     }
     Ok(out)
 }
@@ -150,10 +145,12 @@ fn line_of(alloc: Global, nodes: &Nodes<'_>, draft: &Draft) -> Result<SchemaLine
     requires { IsIndex nodes.now.index.now }
     ensures { IfOk result (λ line. line ≡ schema_line nodes.now.chain (look nodes.now) draft.now) }
 {
-    Ok(SchemaLine {
+    let line = SchemaLine {
         names: draft.names.copy(alloc)?,
         node: node_of(alloc, nodes, draft)?,
-    })
+    };
+    nodes.looks.keep(line_weight(&line))?;
+    Ok(line)
 }
 
 // The lines of the nodes, in the order of their names.
@@ -201,7 +198,12 @@ fn whole_lines(
 }
 
 // The schema of nodes, where their leafrefs are well, by the nodes in the order of their names.
-fn table_by(alloc: Global, drafts: &[Draft], index: &[&Draft]) -> Result<Schema, SchemaFault>
+fn table_by(
+    alloc: Global,
+    looks: &Looks,
+    drafts: &[Draft],
+    index: &[&Draft],
+) -> Result<Schema, SchemaFault>
     requires sorted { IsIndex index.now }
     requires same { IsPermutation drafts.now (lent index.now) }
     ensures table { GivesTable (first_link_fault drafts.now) drafts.now result }
@@ -210,6 +212,7 @@ fn table_by(alloc: Global, drafts: &[Draft], index: &[&Draft]) -> Result<Schema,
     let nodes = Nodes {
         index,
         chain: MAX_CHAIN,
+        looks,
     };
     match first_link_fault(alloc, drafts, &nodes) {
         Err(fault) => Err(fault),
@@ -218,12 +221,12 @@ fn table_by(alloc: Global, drafts: &[Draft], index: &[&Draft]) -> Result<Schema,
 }
 
 // The schema of nodes, where their leafrefs are well.
-fn table_of(alloc: Global, drafts: &[Draft]) -> Result<Schema, SchemaFault>
+fn table_of(alloc: Global, looks: &Looks, drafts: &[Draft]) -> Result<Schema, SchemaFault>
     ensures table { GivesTable (first_link_fault drafts.now) drafts.now result }
     ensures whole { IfOk result (λ s. list_any (is_cut chain (node_in drafts.now)) drafts.now ≡ false) }
 {
     let index = index_of(alloc, drafts)?;
-    table_by(alloc, drafts, index.as_slice())
+    table_by(alloc, looks, drafts, index.as_slice())
 }
 
 // The schema of these modules, or their first fault.
@@ -231,12 +234,13 @@ fn schema_of(alloc: Global, modules: &[Stmt]) -> Result<Schema, SchemaFault>
     ensures builds { Builds modules.now result }
     ensures whole { IfOk result (λ s. IsWhole modules.now) }
 {
-    let modules = Modules::of(modules)?;
+    let looks = Looks::new();
+    let modules = Modules::of(modules, &looks)?;
     match first_fault(alloc, &modules) {
         Err(fault) => Err(fault),
         Ok(()) => {
             let drafts = whole_drafts(alloc, &modules)?;
-            table_of(alloc, drafts.as_slice())
+            table_of(alloc, &looks, drafts.as_slice())
         },
     }
 }

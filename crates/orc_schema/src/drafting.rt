@@ -20,6 +20,7 @@ use crate::draft::{Draft, DraftLeaf, DraftNode, DraftType, DraftValues};
 use crate::line::ListNode;
 use crate::reference::reference_of;
 use crate::typing::typed;
+use crate::weights::draft_weight;
 use orc_modules::{
     Above, Found, Modules, Part, Typed, Word, argument_below, block_part, bringer, module_called,
     sub_text, word_of,
@@ -215,6 +216,7 @@ fn leaf_node(
     ensures { IfOk result (λ node. node ≡ draft_node (modules_of modules.now) (where_of at.now) stmt.now Leaf) }
 {
     let known = typed(alloc, modules, at.above, stmt)?;
+    modules.looks.pass(at.keys.len());
     let key = key_at(at.keys.as_slice(), stmt)?;
     Ok(DraftNode::Leaf(DraftLeaf {
         of_type: draft_type(alloc, modules, &known)?,
@@ -281,10 +283,12 @@ fn draft(
 ) -> Result<Draft, Memory>
     ensures { IfOk result (λ made. made ≡ draft (modules_of modules.now) (where_of at.now) stmt.now) }
 {
-    Ok(Draft {
+    let made = Draft {
         names: names_at(alloc, at, stmt)?,
         node: draft_node(alloc, modules, at, stmt)?,
-    })
+    };
+    modules.looks.keep(draft_weight(&made))?;
+    Ok(made)
 }
 
 // Adds a node, where there are fewer than may be.
@@ -295,15 +299,6 @@ fn push_draft(out: &mut Row<Draft>, draft: Draft) -> Result<(), Memory>
         return Err(Memory);
     }
     out.push(draft)
-}
-
-// Takes one of the visits that are left.
-fn take_one(left: &mut u64) -> Result<(), Memory> {
-    if *left == 0 {
-        return Err(Memory);
-    }
-    *left -= 1;
-    Ok(())
 }
 
 // The grouping that a `uses` names, where it may define nodes.
@@ -324,7 +319,7 @@ fn bringer_at<'a, 'm>(
 }
 
 // Adds the nodes that the statements below one define, which stand in one another at most `depth`
-// deep; where they are deeper, or more than `left` groupings are looked at, it wants memory.
+// deep; where they are deeper, it wants memory.
 #[cycle(drafts)]
 pub(crate) fn push_drafts<'a, 'm>(
     alloc: Global,
@@ -332,7 +327,6 @@ pub(crate) fn push_drafts<'a, 'm>(
     modules: &Modules<'a>,
     at: &Where<'a, 'm>,
     stmt: &'a Stmt,
-    left: &mut u64,
     out: &mut Row<Draft>,
 ) -> Result<(), Memory>
     ensures { OnOk result (out.new
@@ -342,6 +336,7 @@ pub(crate) fn push_drafts<'a, 'm>(
         return Err(Memory);
     }
     modules.go_down(depth)?;
+    modules.looks.visit(stmt.subs.len())?;
     for sub in stmt.subs.as_slice() {
         match block_part(sub) {
             Part::Node => {
@@ -354,9 +349,9 @@ pub(crate) fn push_drafts<'a, 'm>(
                     names: &names,
                     keys: &keys,
                 };
-                push_drafts(alloc, depth - 1, modules, &inside, sub, left, out)?;
+                push_drafts(alloc, depth - 1, modules, &inside, sub, out)?;
             },
-            Part::Uses => push_uses(alloc, depth - 1, &*modules, &*at, sub, left, out)?,
+            Part::Uses => push_uses(alloc, depth - 1, &*modules, &*at, sub, out)?,
             Part::Nothing => {},
         }
     }
@@ -371,14 +366,12 @@ fn push_uses<'a, 'm>(
     modules: &Modules<'a>,
     at: &Where<'a, 'm>,
     stmt: &Stmt,
-    left: &mut u64,
     out: &mut Row<Draft>,
 ) -> Result<(), Memory>
     ensures { OnOk result (out.new ≡ out.old
         ++ option_map_or (λ g. drafts_below depth (modules_of modules.now) (in_grouping (where_of at.now) g) g.here)
         (grouping modules.now.all.now (stack at.now.above.now) stmt.now) []) }
 {
-    take_one(left)?;
     match bringer_at(alloc, depth, &*modules, &*at, stmt)? {
         Some(found) => {
             let owner = at.owner;
@@ -389,7 +382,7 @@ fn push_uses<'a, 'm>(
                 names: &*at.names,
                 keys: &*at.keys,
             };
-            push_drafts(alloc, depth, &*modules, &inside, here, left, out)
+            push_drafts(alloc, depth, &*modules, &inside, here, out)
         },
         None => Ok(()),
     }

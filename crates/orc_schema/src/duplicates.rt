@@ -16,8 +16,8 @@ use crate::cuts::words;
 use crate::names::{argument_text, contains_text, is_built_in};
 use crate::seen::Seen;
 use orc_modules::{
-    Above, Modules, Place, Word, child_names, defines, imports_as, in_scope, is_own, module_around,
-    sub_text,
+    Above, Looks, Modules, Place, Word, child_names, defines, imports_as, in_scope, is_own,
+    module_around, sub_text,
 };
 use orc_text::{Memory, Row, Text};
 use orc_types::{argument, has, is_left_out};
@@ -64,31 +64,31 @@ fn any_defines(keyword: &str, name: &str, block: &[Stmt]) -> bool
 }
 
 // Whether the name is defined in a block further out.
-fn is_defined_outside(keyword: &str, name: &str, above: &Above<'_, '_>) -> bool
+fn is_defined_outside(looks: &Looks, keyword: &str, name: &str, above: &Above<'_, '_>) -> bool
     ensures { result ≡ is_some (in_scope keyword.now name.now (outer (stack above.now))) }
 {
     match above {
         Above::Top => false,
         Above::Module(_) => false,
-        Above::Under(_, further) => in_scope(keyword, name, *further).is_some(),
-        Above::Indexed(_, further) => in_scope(keyword, name, *further).is_some(),
+        Above::Under(_, further) => in_scope(looks, keyword, name, *further).is_some(),
+        Above::Indexed(_, further) => in_scope(looks, keyword, name, *further).is_some(),
     }
 }
 
 // Whether a definition of this keyword and name is there already.
-fn is_defined(here: &Place<'_, '_>) -> bool
+fn is_defined(looks: &Looks, here: &Place<'_, '_>) -> bool
     ensures { result ≡ is_defined (place here.now) }
 {
     let keyword = here.here.keyword.as_str();
     let name = argument(here.here);
-    any_defines(keyword, name, here.before) || is_defined_outside(keyword, name, here.above)
+    any_defines(keyword, name, here.before) || is_defined_outside(looks, keyword, name, here.above)
 }
 
 // Whether the name of a typedef is taken.
-fn is_type_name_taken(alloc: Global, here: &Place<'_, '_>) -> Result<bool, Memory>
+fn is_type_name_taken(alloc: Global, looks: &Looks, here: &Place<'_, '_>) -> Result<bool, Memory>
     ensures { IfOk result (λ taken. taken ≡ is_type_name_taken (place here.now)) }
 {
-    if is_defined(here) {
+    if is_defined(looks, here) {
         return Ok(true);
     }
     let name = argument(here.here);
@@ -224,8 +224,8 @@ pub(crate) fn duplicate(
     match word {
         Word::Module => duplicate_if(alloc, any_defines("module", name, here.before), name),
         Word::Import => duplicate_import(alloc, here),
-        Word::Typedef => duplicate_if(alloc, is_type_name_taken(alloc, here)?, name),
-        Word::Grouping => duplicate_if(alloc, is_defined(here), name),
+        Word::Typedef => duplicate_if(alloc, is_type_name_taken(alloc, modules.looks, here)?, name),
+        Word::Grouping => duplicate_if(alloc, is_defined(modules.looks, here), name),
         Word::Container | Word::List | Word::Leaf | Word::LeafList | Word::Uses => {
             repeated_node(alloc, modules, here, earlier)
         },

@@ -185,6 +185,14 @@ fn own_fault_here(
     }
 }
 
+// How many statements before one are looked at for its name.
+fn looked_back(here: &Place<'_, '_>, word: Word) -> usize {
+    match word {
+        Word::Module | Word::Import | Word::Typedef | Word::Grouping => here.before.len(),
+        _ => 0,
+    }
+}
+
 // The fault at a statement, and below it where it is a `type`. The block has these names before it.
 pub(crate) fn fault_here(
     alloc: Global,
@@ -196,6 +204,8 @@ pub(crate) fn fault_here(
     ensures { Meets (fault_here (modules_of modules.now) (place here.now)) result }
 {
     let word = word_of(here.here.keyword.as_str());
+    modules.looks.visit(1)?;
+    modules.looks.pass(looked_back(here, word));
     match own_fault_here(alloc, modules, here, word, earlier) {
         Err(fault) => Err(fault),
         Ok(()) => type_fault_here(alloc, modules, here, word),

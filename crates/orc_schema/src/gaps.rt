@@ -14,18 +14,13 @@ struct Inside<'a, 'm> {
     above: &'a Above<'a, 'm>,
 }
 
-// So many `uses` are looked at for one key.
-const MAX_VISITS: u64 = 1_000_000;
-
-// Whether a `uses` of the block leads to no grouping, or on more than `depth` times. Past so many
-// that are left, it wants memory.
+// Whether a `uses` of the block leads to no grouping, or on more than `depth` times.
 fn is_incomplete_at<'a, 'm>(
     alloc: Global,
     depth: usize,
     modules: &Modules<'a>,
     at: &Inside<'a, 'm>,
     stmt: &'a Stmt,
-    left: &mut u64,
 ) -> Result<bool, Memory>
     ensures { IfOk result (λ found. found
         ≡ is_incomplete depth modules.now.all.now (stack at.now.above.now) stmt.now) }
@@ -34,13 +29,10 @@ fn is_incomplete_at<'a, 'm>(
         return Ok(true);
     }
     modules.go_down(depth)?;
+    modules.looks.visit(stmt.subs.len())?;
     for sub in stmt.subs.as_slice() {
         match block_part(sub) {
             Part::Uses => {
-                if *left == 0 {
-                    return Err(Memory);
-                }
-                *left -= 1;
                 let Some(found) = grouping(&*modules, at.above, sub) else {
                     return Ok(true);
                 };
@@ -50,14 +42,7 @@ fn is_incomplete_at<'a, 'm>(
                         let inside = Inside {
                             above: &Above::Under(found.here, &found.above),
                         };
-                        match is_incomplete_at(
-                            alloc,
-                            depth - 1,
-                            &*modules,
-                            &inside,
-                            found.here,
-                            left,
-                        )? {
+                        match is_incomplete_at(alloc, depth - 1, &*modules, &inside, found.here)? {
                             true => return Ok(true),
                             false => {},
                         }
@@ -81,13 +66,5 @@ pub(crate) fn is_incomplete<'a, 'm>(
     ensures { IfOk result (λ found. found
         ≡ is_incomplete modules.now.most modules.now.all.now (stack above.now) stmt.now) }
 {
-    let mut left = MAX_VISITS;
-    is_incomplete_at(
-        alloc,
-        modules.most,
-        &*modules,
-        &Inside { above },
-        stmt,
-        &mut left,
-    )
+    is_incomplete_at(alloc, modules.most, &*modules, &Inside { above }, stmt)
 }

@@ -25,6 +25,7 @@ mod seen;
 mod type_faults;
 mod typing;
 mod walk;
+mod weights;
 
 pub use fault::SchemaFault;
 pub use laws::{

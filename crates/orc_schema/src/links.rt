@@ -15,16 +15,18 @@ use crate::drafting::qualified;
 use crate::index::find_in;
 use crate::line::Target;
 use crate::reference::{Reference, StepName};
-use orc_modules::plain_name;
+use orc_modules::{Looks, plain_name};
 use orc_text::{Memory, Row, Text};
 use orc_value::Kind;
 use std::alloc::Global;
 
-/// The nodes in the order of their names, and how many leafrefs may lead on to one another at most.
+/// The nodes in the order of their names, how many leafrefs may lead on to one another at most, and
+/// what may still be looked at.
 #[derive(Clone, Copy)]
 pub(crate) struct Nodes<'a> {
     pub(crate) index: &'a [&'a Draft],
     pub(crate) chain: usize,
+    pub(crate) looks: &'a Looks,
 }
 
 // Where a name's module ends.
@@ -180,6 +182,7 @@ fn led_to<'a>(
     requires { IsIndex nodes.now.index.now }
     ensures { IfOk result (λ found. option_map (λ d. d.now) found ≡ led_to (look nodes.now) draft.now reference.now) }
 {
+    nodes.looks.visit(reference.names.len())?;
     match target_names(alloc, draft, reference)? {
         Some(names) => match find_in(nodes.index, &names) {
             Some(found) => match type_of(&found.node) {

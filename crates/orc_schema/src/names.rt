@@ -63,7 +63,7 @@ fn is_unknown_type(
     if is_built_in(alloc, name)? {
         return Ok(false);
     }
-    Ok(meaning(modules.all, "typedef", name, here.above).is_none())
+    Ok(meaning(modules, "typedef", name, here.above).is_none())
 }
 
 // The type of the leaf of this name that the statement around has.

@@ -1,35 +1,26 @@
--- Services that live together agree.
-use Rattle.std.proofs.Common.{◌≡◌, ℕ, zero, suc, ◌+◌, ◌<◌, ◌≤◌, Bool, true, false, cond, not, ◌||◌, List, [], ◌∷◌, ◌++◌, ◌⊎◌, inl, inr, map, length, All, None, Some, refl, sym, ap, subst, ◌∙◌, arith}
+-- What lives behind actions, and what no clash says of it.
+use Rattle.std.proofs.Common.{◌≡◌, ℕ, Bool, true, false, cond, not, ◌||◌, List, [], ◌∷◌, ◌⊎◌, inl, inr, map, All, None, Some, refl, sym, ap, subst, ◌∙◌, arith}
 use Rattle.std.specs.declared.option.Option.{Option}
 use Rattle.std.specs.declared.cmp.Ordering.{Ordering}
 use Rattle.std.specs.declared.cmp.Ordering.TheVariants.{Less, Equal, Greater}
 use Rattle.std.specs.Prelude.{option_map}
-use Rattle.std.specs.Ordering.{is_eq, is_lt}
+use Rattle.std.specs.Ordering.{is_eq}
 use Rattle.std.specs.Option.{option_map_or, option_or}
-use Rattle.std.specs.List.{filter, flat_map, fold, list_any, Contains}
+use Rattle.std.specs.List.{filter, fold, Contains}
 use Rattle.std.specs.Cmp.Lexicographic.{bytes_decides}
-use Rattle.std.specs.FinMap.{find, get, empty, entries, get-entries, get-empty}
-use Rattle.std.proofs.lemmas.Bool.{cases_lt}
+use Rattle.std.specs.FinMap.{find, get}
 use Rattle.std.proofs.lemmas.List.Elements.{All-contains, All-head, All-tail, All-nil, All-cons, Contains-append_cases, Contains-append_left, Contains-append_right, Contains-push, Contains-push_cases}
 use Rattle.orc_path.specs.Steps.{PathStep}
 use Rattle.orc_path.specs.Order.{path_cmp}
 use Rattle.orc_path.proofs.PathOrder.{path_cmp_exact}
-use Rattle.orc_path.specs.Configurations.{Config}
 use Rattle.orc_path.specs.declared.item.Item.{Item}
 use Rattle.orc_path.specs.declared.item.Item.TheVariants.{Entry, Leaf}
-use Rattle.orc_state.specs.States.{config_of, expansion, has_id, is_same_text, opening, others, part}
-use Rattle.orc_state.specs.Actions.{is_named_by, live_after, live_step, new_services, names, touched}
-use Rattle.orc_state.specs.Clashes.{clash_at, clash_from, differs, least, lesser_unequal, rivals, unequal_among, unequal_of, unequal_on}
-use Rattle.orc_state.specs.Next.{after, clash, existence, invalid, refusal, expanded_call, expanded_to, unexpanded}
-use Rattle.orc_state.specs.Histories.{fold_from, IsUnrefused}
-use Rattle.orc_state.specs.Laws.{Agree, AllAgree, ServicesAgree}
-use Rattle.orc_call.specs.declared.answer.Answer.TheVariants.{Clash}
-use Rattle.orc_call.specs.declared.call.Call.{Call}
+use Rattle.orc_state.specs.States.{expansion, is_same_text, part}
+use Rattle.orc_state.specs.Actions.{is_named_by, live_after, live_step, new_services, names}
+use Rattle.orc_state.specs.Clashes.{differs, least, lesser_unequal, rivals, unequal_among, unequal_of, unequal_on}
 use Rattle.orc_call.specs.declared.call.Action.{Action}
 use Rattle.orc_call.specs.declared.call.Action.TheVariants.{Literal}
-use Rattle.orc_state.specs.declared.declarations.Decls.{Decls}
 use Rattle.orc_state.specs.declared.state.Service.{Service}
-use Rattle.orc_state.specs.States.{State}
 use Rattle.orc_state.proofs.Lists.{not_true, filter_from, filter_nil, passes, true_not_false}
 use Rattle.orc_state.proofs.Named.{made_named}
 
@@ -52,7 +43,7 @@ pub map_nil : {A B : Type 0} (f : A → B) (xs : List A) → map f xs ≡ [] →
 map_nil f [] h = refl
 map_nil f (x ∷ xs) h = cc
 
-some : {A : Type 0} {a b : A} → Some a ≡ Some b → a ≡ b
+pub some : {A : Type 0} {a b : A} → Some a ≡ Some b → a ≡ b
 some q = cc
 
 -- options
@@ -98,27 +89,6 @@ no_unequal_among live d (e ∷ es) p x s h f c =
     by_least later (Some id) is =
         let found : Some (e.0, id) ≡ None = sym (ap (λ o. option_map_or (λ id. Some (e.0, id)) o (unequal_among live d es)) is) ∙ h in cc
 
--- a search for the lesser that finds none found none anywhere
-lesser_none : (a b : Option (List PathStep × List ℕ)) → lesser_unequal a b ≡ None → (a ≡ None) × (b ≡ None)
-lesser_none None b h = (refl, h)
-lesser_none (Some one) None h = cc
-lesser_none (Some one) (Some other) h = on (is_lt (path_cmp other.0 one.0)) h
-  where
-    on : (t : Bool) → cond t (Some other) (Some one) ≡ None → (Some one ≡ None) × (Some other ≡ None)
-    on true e = cc
-    on false e = cc
-
-fold_none : (g : Service → Option (List PathStep × List ℕ)) (found : Option (List PathStep × List ℕ)) (services : List Service)
-    → fold (λ a service. lesser_unequal a (g service)) found services ≡ None → (found ≡ None) × All (λ service. g service ≡ None) services
-fold_none g found [] h = (h, All-nil (λ service. g service ≡ None))
-fold_none g found (s ∷ services) h =
-    let rest = fold_none g (lesser_unequal found (g s)) services h in
-    let both = lesser_none found (g s) rest.0 in
-    (both.0, All-cons (λ service. g service ≡ None) s services both.1 rest.1)
-
-pub none_on : (live services : List Service) (d : ℕ) → unequal_on live services d ≡ None → All (λ service. unequal_of live d service ≡ None) services
-none_on live services d h = (fold_none (unequal_of live d) None services h).1
-
 -- the other way round
 none_fold : (g : Service → Option (List PathStep × List ℕ)) (services : List Service) → All (λ service. g service ≡ None) services
     → fold (λ a service. lesser_unequal a (g service)) None services ≡ None
@@ -129,23 +99,6 @@ none_fold g (s ∷ services) h =
 
 pub on_none : (live services : List Service) (d : ℕ) → All (λ service. unequal_of live d service ≡ None) services → unequal_on live services d ≡ None
 on_none live services d h = none_fold (unequal_of live d) services h
-
--- where there is no clash, nothing is unequal on any of the devices
-pub no_clash_from : (live services : List Service) (k : ℕ) (names : List (List ℕ)) → clash_from live services k names ≡ None
-    → (d : ℕ) → d < length names → unequal_on live services (k + d) ≡ None
-no_clash_from live services k [] h d within = absurd (omega (arith, within))
-no_clash_from live services k (name ∷ names) h d within =
-    on (no_clash_from live services (suc k) names) d within
-    (or_none (clash_at live services k) (clash_from live services (suc k) names) h)
-  where
-    on : (clash_from live services (suc k) names ≡ None → (e : ℕ) → e < length names → unequal_on live services (suc k + e) ≡ None)
-        → (e : ℕ) → e < suc (length names) → (clash_at live services k ≡ None) × (clash_from live services (suc k) names ≡ None)
-        → unequal_on live services (k + e) ≡ None
-    on later zero lt both =
-        subst (λ (n : ℕ). unequal_on live services n ≡ None) (omega arith)
-        (map_none (λ at. Clash k at.0 at.1) (unequal_on live services k) both.0)
-    on later (suc e) lt both =
-        subst (λ (n : ℕ). unequal_on live services n ≡ None) (omega arith) (later both.1 e (omega (arith, lt)))
 
 -- lists
 
@@ -175,14 +128,6 @@ in_filter p (y ∷ ys) x c h = on (in_filter p ys x) (p y) refl (in_cases y x ys
     on rest true is (inr later) = later_in y x (filter p ys) (rest later h)
     on rest false is (inl one) = absurd (true_not_false (sym h ∙ sym (ap p one) ∙ is))
     on rest false is (inr later) = rest later h
-
-pub in_flat_map : {X Y : Type 0} (f : X → List Y) (xs : List X) (x : X) (y : Y) → Contains xs x → Contains (f x) y → Contains (flat_map f xs) y
-in_flat_map f [] x y c d = absurd (none_in_nil x c)
-in_flat_map f (z ∷ zs) x y c d = on (in_flat_map f zs x y) (in_cases z x zs c)
-  where
-    on : (Contains zs x → Contains (f x) y → Contains (flat_map f zs) y) → (z ≡ x) ⊎ Contains zs x → Contains (f z ++ flat_map f zs) y
-    on rest (inl one) = Contains-append_left (f z) (flat_map f zs) y (subst (λ w. Contains (f w) y) (sym one) d)
-    on rest (inr later) = Contains-append_right (f z) (flat_map f zs) y (rest later d)
 
 -- what lives behind actions: it lived before and none names it, or one of them makes it
 
@@ -227,23 +172,6 @@ origin devices (action ∷ actions) live s c = on (origin devices actions (live_
     on (inl old) = by_step old.1 (Contains-append_cases (filter left live) (new_services devices action) s old.0)
     on (inr made) = inr (named_too (names action s.id) (is_named_by actions s.id) made.0, made.1)
 
--- what is named and lives is touched
-any_some : {X : Type 0} (p : X → Bool) (xs : List X) → list_any p xs ≡ true → (x : X) × Contains xs x × (p x ≡ true)
-any_some p [] h = cc
-any_some p (x ∷ xs) h = on (any_some p xs) (p x) refl h
-  where
-    on : (list_any p xs ≡ true → (y : _) × Contains xs y × (p y ≡ true)) → (t : Bool) → p x ≡ t → (t || list_any p xs) ≡ true
-        → (y : _) × Contains (x ∷ xs) y × (p y ≡ true)
-    on rest true is e = (x, first_in x xs, is)
-    on rest false is e = let found = rest e in (found.0, later_in x found.0 xs found.1, found.2)
-
-pub named_touched : (actions : List Action) (live : List Service) (s : Service) → Contains live s → is_named_by actions s.id ≡ true
-    → Contains (touched actions live) s
-named_touched actions live s c h =
-    let naming = any_some (λ (action : Action). names action s.id) actions h in
-    in_flat_map (λ (action : Action). filter (λ (x : Service). names action x.id) live) actions naming.0 s naming.1
-    (in_filter (λ (x : Service). names naming.0 x.id) live s c naming.2)
-
 -- no two services of one name
 
 abbrev pub AreUnique : List Service → Type 0
@@ -278,82 +206,3 @@ step_unique devices live action h a b c d same =
 pub after_unique : (devices : List (List ℕ)) (actions : List Action) (live : List Service) → AreUnique live → AreUnique (live_after devices actions live)
 after_unique devices [] live h = h
 after_unique devices (action ∷ actions) live h = after_unique devices actions (live_step devices live action) (step_unique devices live action h)
-
--- where there is no clash, what is touched agrees with all that lives
-
-Agree-sym : (a b : Service) → Agree a b → Agree b a
-Agree-sym a b h d p x y f g = sym (h d p y x g f)
-
-Agree-refl : (a : Service) → Agree a a
-Agree-refl a d p x y f g = some (sym f ∙ g)
-
--- past the last of the devices an expansion has nothing
-pub config_past : (names : List (List ℕ)) (f : List ℕ → Config) (d : ℕ) → length names ≤ d → config_of (map f names) d ≡ empty
-config_past [] f d le = refl
-config_past (name ∷ names) f zero le = absurd (omega (arith, le))
-config_past (name ∷ names) f (suc d) le = config_past names f d (omega (arith, le))
-
--- what is made writes on the devices alone
-pub made_within : (devices : List (List ℕ)) (s : Service) → IsMade devices s → (d : ℕ) (p : List PathStep) (x : Item)
-    → get (part s d) p ≡ Some x → d < length devices
-made_within devices s made d p x h =
-    elim (cases_lt d (length devices)) [
-      | inl lt ↦ lt
-      | inr le ↦
-          let past : part s d ≡ empty = ap (λ (parts : List Config). config_of parts d) made.1 ∙ config_past devices _ d le in
-          let none : None ≡ Some x = sym (get-empty path_cmp p) ∙ sym (ap (λ (m : Config). get m p) past) ∙ h in cc
-    ]
-
-touched_agrees : (devices : List (List ℕ)) (live services : List Service) (a b : Service) → clash_from live services 0 devices ≡ None
-    → Contains services a → IsMade devices a → Contains live b → has_id a.id b ≡ false → Agree a b
-touched_agrees devices live services a b h t made c another d p x y f g =
-    let within = made_within devices a made d p x f in
-    let none : unequal_on live services d ≡ None =
-    subst (λ (n : ℕ). unequal_on live services n ≡ None) (omega arith) (no_clash_from live services 0 devices h d within) in
-    let mine : unequal_of live d a ≡ None = All-contains (λ (s : Service). unequal_of live d s ≡ None) services a (none_on live services d none) t in
-    let beside : Contains (others live a.id) b = in_filter (λ (s : Service). not (has_id a.id s)) live b c (ap not another) in
-    same_items x y
-    (subst (λ (o : Option Item). differs x o ≡ false) g
-    (no_unequal_among (others live a.id) d (entries (part a d)) p x b mine (sym (get-entries (part a d) p) ∙ f) beside))
-
--- services that agree, behind actions without a clash
-after_agree : (devices : List (List ℕ)) (actions : List Action) (live : List Service) → clash devices live actions ≡ None
-    → AreUnique live → AllAgree live → AllAgree (live_after devices actions live)
-after_agree devices actions live h unique all a b c e = on (origin devices actions live a c) (origin devices actions live b e)
-  where
-    behind : List Service
-    behind = live_after devices actions live
-
-    with_touched : (x y : Service) → Contains behind x → (is_named_by actions x.id ≡ true) × IsMade devices x → Contains behind y → Agree x y
-    with_touched x y cx new cy = by (has_id x.id y) refl
-      where
-        by : (t : Bool) → has_id x.id y ≡ t → Agree x y
-        by false is = touched_agrees devices behind (touched actions behind) x y h (named_touched actions behind x cx new.0) new.1 cy is
-        by true is = subst (Agree x) (after_unique devices actions live unique x y cx cy (sym ((bytes_decides y.id x.id).0 is))) (Agree-refl x)
-
-    on : Origin devices actions live a → Origin devices actions live b → Agree a b
-    on (inl old) (inl other) = all a b old.0 other.0
-    on (inr new) other = with_touched a b c new e
-    on (inl old) (inr new) = Agree-sym b a (with_touched b a e new c)
-
--- refusals
-
-pub unrefused_parts : (decls : Decls) (s : State) (call : Call) → refusal decls s call ≡ None
-    → (existence s.live call.actions ≡ None) × (clash decls.names s.live (expanded_to (expanded_call decls s call)) ≡ None)
-unrefused_parts decls s call h =
-    let acts = expanded_call decls s call in
-    let first = or_none (existence s.live call.actions) _ h in
-    let second = or_none (invalid decls.data_schema _) (option_or (unexpanded acts) (clash decls.names s.live (expanded_to acts))) first.1 in
-    (first.0, (or_none (unexpanded acts) (clash decls.names s.live (expanded_to acts)) second.1).1)
-
-fold_agree : (decls : Decls) (s : State) (calls : List Call) → IsUnrefused decls s calls → AreUnique s.live → AllAgree s.live
-    → AllAgree (fold_from decls s calls).live
-fold_agree decls s [] h unique all = all
-fold_agree decls s (call ∷ calls) h unique all =
-    let acts = expanded_to (expanded_call decls s call) in
-    fold_agree decls (after decls s call) calls h.1 (after_unique decls.names acts s.live unique)
-    (after_agree decls.names acts s.live (unrefused_parts decls s call h.0).1 unique all)
-
-pub living_agree : ServicesAgree
-living_agree decls history h =
-    fold_agree decls (opening decls) history h (λ a b c e same. absurd (none_in_nil a c)) (λ a b c e. absurd (none_in_nil a c))

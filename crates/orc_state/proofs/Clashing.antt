@@ -27,7 +27,7 @@ use Rattle.orc_refs.specs.declared.moves.Move.{Move}
 use Rattle.orc_state.specs.States.{expansion, has_id, is_same_text, part}
 use Rattle.orc_state.specs.Actions.{live_after, name_each_once, new_services}
 use Rattle.orc_state.specs.Clashes.{clash_at, lesser_unequal, unequal_of, unequal_on}
-use Rattle.orc_state.specs.Laws.{IsClash}
+use Rattle.orc_state.specs.Clashes.{IsClash}
 use Rattle.orc_state.specs.inside.Turns.{held_by, items_of}
 use Rattle.orc_state.specs.inside.Keeping.{IsStoreFor, clash_on}
 use Rattle.orc_state.specs.declared.state.Service.{Service}

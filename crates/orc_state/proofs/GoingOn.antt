@@ -50,6 +50,12 @@ module _ (decls : Decls) (s : State) (call : Call) (config : Config) (behind : I
       ∙ ap (λ (c : Config). changed_by decls.names acts c s) behind.0
       ∙ sym (ap (λ r. after_by decls s call (expanded_to r)) (sym expanded_is ∙ is))
 
+  pub touches : (acts slice : List Action) (names : List (List ℕ)) → found ≡ Ok acts → slice ≡ acts → names ≡ decls.names
+      → touched_among names s slice ≡ touched_devices decls s call
+  touches acts slice names is same own =
+      ap (λ (l : List (List ℕ)). touched_among l s slice) own
+      ∙ ap (touched_among decls.names s) (same ∙ ap expanded_to (sym is ∙ expanded_is))
+
   pub once_expanded : (acts : List Action) → found ≡ Ok acts → IsTrue (services_once call.actions) → IsTrue (name_each_once acts)
   once_expanded acts is once = all_once (serving_on decls config) call.actions acts is ∙ once
 

@@ -1,5 +1,5 @@
 -- Legal histories, one call more.
-use Rattle.std.proofs.Common.{◌≡◌, List, [], ◌∷◌, ◌++◌, length, All, IsTrue, None, sym, subst, arith}
+use Rattle.std.proofs.Common.{◌≡◌, List, [], ◌∷◌, ◌++◌, length, All, IsTrue, None, refl, sym, subst, arith}
 use Rattle.std.proofs.lemmas.List.Elements.{All-nil, All-cons, All-append, All-tail, All-take, All-contains, Contains-push}
 use Rattle.std.proofs.Math.Seq.{take-append_seam}
 use Rattle.orc_call.specs.declared.call.Call.{Call}
@@ -10,7 +10,10 @@ use Rattle.orc_state.specs.Calls.{is_call}
 use Rattle.orc_state.specs.Legal.{IsSame, IsNew, AreDistinct, IsLegal, IsDue}
 use Rattle.orc_state.specs.declared.declarations.Decls.{Decls}
 use Rattle.orc_state.specs.States.{State}
-use Rattle.orc_state.proofs.Traces.{fold_from-append}
+
+pub fold_from-append : (decls : Decls) (s : State) (xs ys : List Call) → fold_from decls s (xs ++ ys) ≡ fold_from decls (fold_from decls s xs) ys
+fold_from-append decls s [] ys = refl
+fold_from-append decls s (x ∷ xs) ys = fold_from-append decls (after decls s x) xs ys
 
 -- the state behind a history, one call more
 pub fold_from-push : (decls : Decls) (state : State) (calls : List Call) (call : Call)

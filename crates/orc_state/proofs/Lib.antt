@@ -1,26 +1,23 @@
-mod Lists
-mod Expanded
+pub mod Lists
+pub mod Expanded
 mod Written
 mod GoingOn
-mod Planning
-mod Named
+pub mod Planning
+pub mod Named
 pub mod Agreement
-pub mod Traces
-pub mod Overlays
 pub mod Trees
 mod TypedTrees
-mod Untouched
 pub mod Bases
-mod Placed
+pub mod Placed
 mod Touching
-mod DataLaws
-mod LeastClash
+pub mod DataLaws
+pub mod Blank
+pub mod LeastClash
 mod Kept
 mod Ranges
 pub mod Fits
 pub mod Declared
 pub mod Legality
-pub mod Removals
 mod PutOrder
 mod OnDevice
 mod Clashing
@@ -31,11 +28,7 @@ mod Writers
 mod Openings
 mod Changing
 mod Literals
-mod Made
-mod Lone
-mod Presence
-mod Residents
-mod Sighting
-mod Standing
+pub mod Residents
+pub mod Sighting
 mod Entering
 mod Numbers

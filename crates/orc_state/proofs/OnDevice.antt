@@ -31,7 +31,7 @@ use Rattle.orc_state.specs.declared.state.Service.{Service}
 use Rattle.orc_state.proofs.Agreement.{first_in, later_in}
 use Rattle.orc_state.proofs.Lists.{any_none, not_true, or_first, or_second, true_not_false}
 use Rattle.orc_state.proofs.Named.{IsOnceIn, once_first, once_later, other_way}
-use Rattle.orc_state.proofs.Untouched.{blank_part, held}
+use Rattle.orc_state.proofs.Blank.{blank_part, held}
 
 -- what the service of a name writes
 

@@ -1,5 +1,5 @@
 -- Where living services have unequal items at one path of a device.
-use Rattle.std.specs.Prelude.{ℕ, suc, Bool, true, false, not, List, [], ◌∷◌, map, filter, Option, option_map, if◌then◌else◌}
+use Rattle.std.specs.Prelude.{◌≡◌, ℕ, suc, Bool, true, false, not, Contains, List, [], ◌∷◌, map, filter, Option, option_map, if◌then◌else◌}
 use Rattle.std.specs.declared.option.Option.TheVariants.{None, Some}
 use Rattle.std.specs.Ordering.{is_lt}
 use Rattle.std.specs.List.{fold}
@@ -11,7 +11,7 @@ use Rattle.orc_path.specs.declared.item.Item.{Item}
 use Rattle.orc_path.specs.declared.item.Item.TheVariants.{Entry, Leaf}
 use Rattle.orc_call.specs.declared.answer.Answer.{Answer}
 use Rattle.orc_call.specs.declared.answer.Answer.TheVariants.{Clash}
-use Rattle.orc_state.specs.States.{is_same_text, others, part}
+use Rattle.orc_state.specs.States.{has_id, is_same_text, others, part}
 use Rattle.orc_state.specs.declared.state.Service.{Service}
 
 -- whether two items that stand at one path differ
@@ -68,3 +68,13 @@ abbrev pub clash_from : List Service → List Service → ℕ → List (List ℕ
 clash_from live services device [] = None
 clash_from live services device (name ∷ names) =
     option_or (clash_at live services device) (clash_from live services (suc device) names)
+
+-- one of these services and a living one of another name write unequal items there
+pub record IsClash (live : List Service) (device : ℕ) (path : List PathStep) (service rival : Service) : Type 0 where
+  pub living : Contains live rival
+  pub another : has_id service.id rival ≡ false
+  pub item : Item
+  pub written : get (part service device) path ≡ Some item
+  pub other : Item
+  pub holds : get (part rival device) path ≡ Some other
+  pub unequal : item ≡ other → ⊥

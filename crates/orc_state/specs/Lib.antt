@@ -15,4 +15,3 @@ pub mod Rules
 pub mod Laws
 pub mod inside
 pub mod Metas
-pub mod Making

@@ -1,6 +1,6 @@
 //! The state of the orchestrator: the data, the bases of the devices and the services that live on
 //! them. A history of calls makes it; what each call does, why it is refused, and which histories are
-//! legal is defined here, and the laws that users rely on are proved over whole histories.
+//! legal is defined here; the laws that users rely on over whole histories stand in `orc_laws`.
 #![tactic(auto)]
 
 mod base;
@@ -33,14 +33,7 @@ pub use fault::BundleFault;
 pub use lawful::{
     MOST_WRITES, is_call, is_data_path, is_item_at, is_kept, is_lawful_name, is_service_among,
 };
-pub use laws::{
-    changes_are_held, changes_are_targets, clash_is_least, data_is_configuration, data_is_valid,
-    deleted_without_trace, devices_stay, expanded_stands_behind, legal_without_trace,
-    literal_is_expansion, living_is_last_made, order_of_creation_is_free, overlay_is_one,
-    plan_refuses_first, plan_stands, planned_tree_is_stable, service_holds_its_expansion,
-    service_lives_where_it_stands, services_agree, tree_is_configuration, tree_is_typed,
-    unheld_stay, unnamed_service_stays, unrefused_without_trace, untouched_stay,
-};
+pub use laws::{literal_is_expansion, tree_is_configuration, tree_is_typed};
 pub use plan::Plan;
 pub use rule::Rule;
 pub use served::{is_body, is_served, meets};

@@ -11,6 +11,7 @@ ghost use Rattle.orc_state.specs.Metas.{IsMeta};
 ghost use Rattle.orc_state.specs.Plans.{call_targets};
 ghost use Rattle.orc_state.specs.Next.{IsStateOf, after, clash, existence, refusal};
 ghost use Rattle.orc_state.specs.Snapshots.{IsSnapshotOf};
+ghost use Rattle.orc_state.specs.Touched.{touched_among, touched_devices};
 ghost use Rattle.orc_state.specs.inside.Behind.{IsDataBehind, changed_by};
 ghost use Rattle.orc_state.specs.inside.Keeping.{IsStoreFor};
 ghost use Rattle.orc_state.specs.inside.Sights.{service_key};
@@ -162,8 +163,32 @@ impl State {
         ensures refused { result ≢ Ok None → self.new ≡ self.old }
         ensures kept { IsStateOf decls.now self.new }
     {
+        let mut touched = Row::new(alloc);
+        self.next_touching(alloc, decls, call, &mut touched)
+    }
+
+    /// The same. Of a call that is done it also puts the numbers of the devices that the call touches,
+    /// as `touched_devices` tells them of the state before it, in the place of those handed in. The call
+    /// is expanded once for both.
+    pub fn next_touching(
+        &mut self,
+        alloc: Global,
+        decls: &Decls,
+        call: &Call,
+        touched: &mut Row<u32>,
+    ) -> Result<Option<Answer>, Memory>
+        requires decls { AreDecls decls.now }
+        requires call { IsTrue (is_call decls.now call.now) }
+        requires state { IsStateOf decls.now self.old }
+        ensures refusal { IfOk result (λ refused. refused ≡ refusal decls.now self.old call.now) }
+        ensures done { result ≡ Ok None → self.new ≡ after decls.now self.old call.now }
+        ensures refused { result ≢ Ok None → self.new ≡ self.old }
+        ensures kept { IsStateOf decls.now self.new }
+        ensures touched { result ≡ Ok None → touched.new ≡ touched_devices decls.now self.old call.now }
+        ensures untouched { result ≢ Ok None → touched.new ≡ touched.old }
+    {
         match self.data_behind(alloc, decls, call)? {
-            Ok(data) => self.go_on(alloc, decls, call, data),
+            Ok(data) => self.go_on(alloc, decls, call, data, touched),
             Err(found) => Ok(Some(found)),
         }
     }
@@ -209,6 +234,7 @@ impl State {
         decls: &Decls,
         call: &Call,
         next_data: Tree,
+        touched: &mut Row<u32>,
     ) -> Result<Option<Answer>, Memory>
         requires fit { FitActions call.now.actions }
         requires once { IsTrue (services_once call.now.actions) }
@@ -219,23 +245,33 @@ impl State {
         ensures refusal { IfOk result (λ refused. refused ≡ refusal decls.now self.old call.now) }
         ensures done { result ≡ Ok None → self.new ≡ after decls.now self.old call.now }
         ensures refused { result ≢ Ok None → self.new ≡ self.old }
+        ensures touched { result ≡ Ok None → touched.new ≡ touched_devices decls.now self.old call.now }
+        ensures untouched { result ≢ Ok None → touched.new ≡ touched.old }
     {
         match expanded(alloc, decls, &next_data, call.actions.as_slice())? {
             Ok(actions) => {
-                self.change(alloc, decls.names.as_slice(), actions.as_slice(), next_data)
+                self.change(
+                    alloc,
+                    decls.names.as_slice(),
+                    actions.as_slice(),
+                    next_data,
+                    touched,
+                )
             }
             Err(fault) => Ok(Some(fault)),
         }
     }
 
-    // Changes the stores and the living services by expanded actions and takes the new data, or answers
-    // with which service a new one clashes.
+    // Changes the stores and the living services by expanded actions, takes the new data and puts the
+    // devices that they touch in the place of those handed in; or answers with which service a new one
+    // clashes.
     fn change(
         &mut self,
         alloc: Global,
         names: &[Text],
         actions: &[Action],
         next_data: Tree,
+        devices: &mut Row<u32>,
     ) -> Result<Option<Answer>, Memory>
         requires fit { FitActions actions.now }
         requires once { IsTrue (name_each_once actions.now) }
@@ -247,6 +283,8 @@ impl State {
         ensures done { result ≡ Ok None
             → self.new ≡ changed_by names.now actions.now next_data self.old }
         ensures refused { result ≢ Ok None → self.new ≡ self.old }
+        ensures touched { result ≡ Ok None → devices.new ≡ touched_among names.now self.old actions.now }
+        ensures untouched { result ≢ Ok None → devices.new ≡ devices.old }
     {
         let turns = turns(alloc, names, actions)?;
         let touched = touched_among(alloc, names, self, actions)?;
@@ -270,6 +308,7 @@ impl State {
                 self.stores = Row::from_vec(place(stores, changes.into_vec()));
                 self.data = next_data;
                 self.known = known;
+                *devices = touched;
                 Ok(None)
             }
             Err(answer) => Ok(Some(answer)),

@@ -1,17 +1,11 @@
 //! Runs the tables that the words name: how many lines of each hold, and which don't.
 //!
-//! A word `NAME.yang` names a module, which is compared with the listing `NAME.statements`, and a word
-//! `NAME.file` a file that is made, used as a disk and removed. A table whose file is called `trees`,
-//! `calls`, `disks`, `journals` or `paths` is done from top to bottom. Lines that are empty or begin with `#`
-//! say nothing.
+//! A word `NAME.yang` names a module, which is compared with the listing `NAME.statements`. A table that ends
+//! with `trees` or `paths` is done from top to bottom; each line of another one stands alone. Lines that are
+//! empty or begin with `#` say nothing.
 #![tactic(auto)]
 
-mod actions;
-mod calls;
-mod disks;
-mod files;
 mod fills;
-mod journals;
 mod line;
 mod paths;
 mod restrictions;
@@ -22,10 +16,6 @@ mod undone;
 mod values;
 mod words;
 
-use crate::calls::Calls;
-use crate::disks::Disks;
-use crate::files::keeps_bytes;
-use crate::journals::Journals;
 use crate::line::Answers;
 use crate::paths::Paths;
 use crate::statements::is_listed;
@@ -55,7 +45,6 @@ fn run_all<R: Files<File = fs::File> + Env + Print + AllocGlobal>(rt: &R) -> io:
     for name in names {
         let holds = match name.as_str().rsplit_once('.') {
             Some((module, "yang")) => list(rt, module)?,
-            Some((_, "file")) => keep(rt, name.as_str())?,
             _ => run(rt, name.as_str())?,
         };
         good = good && holds;
@@ -66,24 +55,12 @@ fn run_all<R: Files<File = fs::File> + Env + Print + AllocGlobal>(rt: &R) -> io:
 // Runs a table.
 fn run<R: Files + Print + AllocGlobal>(rt: &R, name: &str) -> io::Result<bool> {
     let text = fs::read_to_string(rt, name)?;
-    let (_, kind) = name.rsplit_once('/').unwrap_or(("", name));
-    run_kind(rt, name, kind, text.as_str())
-}
-
-// Runs a table of this kind.
-fn run_kind<R: Print + AllocGlobal>(
-    rt: &R,
-    name: &str,
-    kind: &str,
-    text: &str,
-) -> io::Result<bool> {
-    match kind {
-        "trees" => run_lines(rt, name, text, Trees::new(rt.alloc())),
-        "calls" => run_lines(rt, name, text, Calls::new(rt.alloc())),
-        "disks" => run_lines(rt, name, text, Disks::new(rt.alloc())),
-        "journals" => run_lines(rt, name, text, Journals::new(rt.alloc())),
-        "paths" => run_lines(rt, name, text, Paths::new(rt.alloc())),
-        _ => run_lines(rt, name, text, Answers::new(rt.alloc())),
+    if name.ends_with("trees") {
+        run_lines(rt, name, text.as_str(), Trees::new(rt.alloc()))
+    } else if name.ends_with("paths") {
+        run_lines(rt, name, text.as_str(), Paths::new(rt.alloc()))
+    } else {
+        run_lines(rt, name, text.as_str(), Answers::new(rt.alloc()))
     }
 }
 
@@ -120,16 +97,6 @@ fn list<R: Files + Print + AllocGlobal>(rt: &R, name: &str) -> io::Result<bool> 
     match good {
         true => println!(rt; "{name}.yang: as listed")?,
         false => println!(rt; "{name}.yang: DIFFERS")?,
-    }
-    Ok(good)
-}
-
-// Prints whether a file keeps its bytes, and says so.
-fn keep<R: Files<File = fs::File> + Print + AllocGlobal>(rt: &R, name: &str) -> io::Result<bool> {
-    let good = keeps_bytes(rt, name)?;
-    match good {
-        true => println!(rt; "{name}: keeps its bytes")?,
-        false => println!(rt; "{name}: DIFFERS")?,
     }
     Ok(good)
 }

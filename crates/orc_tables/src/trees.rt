@@ -15,8 +15,7 @@
 use crate::fills::{Order, leaf_path};
 use crate::table::Table;
 use crate::undone::Undone;
-use crate::words::{first_word, put_of};
-use orc_call::Put;
+use crate::words::{Placed, first_word, placed_of};
 use orc_path::{Item, Path, push_item};
 use orc_text::Text;
 use orc_tree::Tree;
@@ -68,13 +67,13 @@ impl Trees {
 
     // Sets the item of a line, and says whether it fits its path.
     fn set_line(&mut self, rest: &str) -> Result<bool, Undone> {
-        let put = put_of(self.alloc, rest)?;
-        self.set(put)
+        let placed = placed_of(self.alloc, rest)?;
+        self.set(placed)
     }
 
     // Sets an item, and says whether it fits its path.
-    fn set(&mut self, put: Put) -> Result<bool, Undone> {
-        let Put { path, item } = put;
+    fn set(&mut self, placed: Placed) -> Result<bool, Undone> {
+        let Placed { path, item } = placed;
         if !item.fits(&path) {
             return Ok(false);
         }
@@ -104,7 +103,7 @@ impl Trees {
     fn fill_one(&mut self, number: usize) -> Result<bool, Undone> {
         let path = leaf_path(self.alloc, number)?;
         let item = Item::Leaf(Text::from_str(self.alloc, "x")?);
-        self.set(Put { path, item })
+        self.set(Placed { path, item })
     }
 
     // Removes so many leaves.
@@ -150,9 +149,9 @@ impl Trees {
 
     // Whether this item stands at its path.
     fn has(&self, rest: &str) -> Result<bool, Undone> {
-        let put = put_of(self.alloc, rest)?;
-        match self.tree.get(&put.path) {
-            Some(item) => Ok(*item == put.item),
+        let placed = placed_of(self.alloc, rest)?;
+        match self.tree.get(&placed.path) {
+            Some(item) => Ok(*item == placed.item),
             None => Ok(false),
         }
     }

@@ -1,8 +1,7 @@
 //! Why a line of a table isn't done.
-use orc_journal::AppendFault;
 use orc_path::PathFault;
 use orc_text::Memory;
-use std::alloc::{AllocError, AllocFailed};
+use std::alloc::AllocError;
 use std::num::ParseIntError;
 
 /// The line is none of its table, or memory could not be had.
@@ -21,20 +20,8 @@ impl From<AllocError> for Undone {
     }
 }
 
-impl<T: Drop> From<AllocFailed<T>> for Undone {
-    fn from(_: AllocFailed<T>) -> Undone {
-        Undone
-    }
-}
-
 impl From<PathFault> for Undone {
     fn from(_: PathFault) -> Undone {
-        Undone
-    }
-}
-
-impl From<AppendFault> for Undone {
-    fn from(_: AppendFault) -> Undone {
         Undone
     }
 }

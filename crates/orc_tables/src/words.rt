@@ -1,85 +1,33 @@
-//! The words of a line: items, numbers and lists.
+//! The words of a line, and the item that they name.
 use crate::undone::Undone;
-use orc_call::{DevicePut, Put};
 use orc_path::{Item, Path, read_value};
-use orc_text::{Row, Text};
 use std::alloc::Global;
+
+/// An item, and its path.
+#[derive(Drop)]
+pub(crate) struct Placed {
+    pub(crate) path: Path,
+    pub(crate) item: Item,
+}
 
 /// The first word, and what stands behind the space.
 pub(crate) fn first_word(line: &str) -> (&str, &str) {
     line.split_once(' ').unwrap_or((line, ""))
 }
 
-/// The item of `PATH`, an entry, or of `PATH = VALUE`, a leaf, whose `VALUE` may be left out.
-pub(crate) fn put_of(alloc: Global, text: &str) -> Result<Put, Undone> {
-    let (path, value) = match text.split_once(" =") {
-        Some((path, value)) => (path, Some(value)),
-        None => (text, None),
+/// The item of `PATH`, an entry, or of `PATH = VALUE`, a leaf.
+pub(crate) fn placed_of(alloc: Global, text: &str) -> Result<Placed, Undone> {
+    let Some((path, value)) = text.split_once(" = ") else {
+        return placed_at(alloc, text, Item::Entry);
     };
-    Ok(Put {
-        path: Path::parse(alloc, path)?,
-        item: item_of(alloc, value)?,
-    })
-}
-
-// A leaf, where there is a value, or else an entry.
-fn item_of(alloc: Global, value: Option<&str>) -> Result<Item, Undone> {
-    match value {
-        Some(value) => {
-            match read_value(alloc, value.strip_prefix(' ').unwrap_or(value))? {
-                Some(text) => Ok(Item::Leaf(text)),
-                None => Err(Undone),
-            }
-        }
-        None => Ok(Item::Entry),
+    match read_value(alloc, value)? {
+        Some(value) => placed_at(alloc, path, Item::Leaf(value)),
+        None => Err(Undone),
     }
 }
 
-/// The item of a device, as `DEVICE PATH`.
-pub(crate) fn device_put_of(alloc: Global, text: &str) -> Result<DevicePut, Undone> {
-    let (device, item) = first_word(text);
-    let Put { path, item } = put_of(alloc, item)?;
-    Ok(DevicePut {
-        device: Text::from_str(alloc, device)?,
-        path,
-        item,
-    })
-}
-
-/// The name in front of the first bar, and the items behind it.
-pub(crate) fn named(text: &str) -> (&str, &str) {
-    text.split_once(" | ").unwrap_or((text, ""))
-}
-
-/// The items between the bars.
-pub(crate) fn body_of(alloc: Global, items: &str) -> Result<Row<Put>, Undone> {
-    let mut body = Row::new(alloc);
-    if items.is_empty() {
-        return Ok(body);
-    }
-    for item in items.split(" | ") {
-        body.push(put_of(alloc, item)?)?;
-    }
-    Ok(body)
-}
-
-/// The same with items of devices.
-pub(crate) fn writes_of(alloc: Global, items: &str) -> Result<Row<DevicePut>, Undone> {
-    let mut writes = Row::new(alloc);
-    if items.is_empty() {
-        return Ok(writes);
-    }
-    for item in items.split(" | ") {
-        writes.push(device_put_of(alloc, item)?)?;
-    }
-    Ok(writes)
-}
-
-/// The bytes that are spelled in hexadecimal, two digits each, with spaces between.
-pub(crate) fn hex_of(alloc: Global, text: &str) -> Result<Vec<u8>, Undone> {
-    let mut bytes = Vec::new(alloc);
-    for digits in text.split_whitespace() {
-        bytes.push(u8::from_str_radix(digits, 16)?)?;
-    }
-    Ok(bytes)
+// An item at the path of this text.
+fn placed_at(alloc: Global, path: &str, item: Item) -> Result<Placed, Undone> {
+    let path = Path::parse(alloc, path)?;
+    Ok(Placed { path, item })
 }

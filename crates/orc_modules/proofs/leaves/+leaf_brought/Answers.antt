@@ -7,7 +7,7 @@ use Rattle.orc_modules.specs.Scopes.{Found}
 use Rattle.orc_modules.specs.Stack.{stack, found, modules_of}
 use Rattle.orc_modules.specs.inside.Leaves.{leaf_brought}
 use Rattle.orc_modules.proofs.Barren.{leaf-past, leaf-here, at-uses, at-node, at-nothing}
-use Rattle.orc_modules.proofs.leaves.+leaf_brought.Goals.{in-Node+in_ok-visit-in-Node+else-defines, in-Uses+in_ok-visit-in-Uses+in_ok-found-in-Uses+in-Some+in_ok-typed-in-Some+in-None-2, in-Uses+in_ok-visit-in-Uses+in_ok-found-in-Uses+in-None, in-Nothing}
+use Rattle.orc_modules.proofs.leaves.+leaf_brought.Goals.{in-Node+else-defines, in-Uses+in_ok-found-in-Uses+in-Some+in_ok-typed-in-Some+in-None-2, in-Uses+in_ok-found-in-Uses+in-None, in-Nothing}
 use Rattle.orc_modules.proofs.leaves.+leaf_brought.Goals as goal
 
 pub returns-in-Some-2 : goal.returns-in-Some-2
@@ -28,16 +28,16 @@ loop-stmt-preserved t c =
     let above = stack c.args.at.now.above.now in
     let types : Found → Option (Option Typed) = λ g. leaf_brought (c.args.depth - 1) ms (g.here ∷ g.above) c.args.name.now (subs g.here) in
     elim c.match-block_part.branch [
-      | in-Node+in_ok-visit-in-Node+else-defines w ↦ c.loop-stmt.invariant
+      | in-Node+else-defines w ↦ c.loop-stmt.invariant
           ∙ leaf-past types ms above c.args.name.now c.args.block.now c.loop-stmt.stmt-index c.stmt-item.result (omega (arith, c.loop-stmt-test.true)) (sym c.stmt-item.is)
           (at-node types ms above c.args.name.now c.stmt-item.result (sym c.block_part.ensures ∙ w.in-Node.is) (sym w.defines.ensures ∙ w.if-defines.false))
-      | in-Uses+in_ok-visit-in-Uses+in_ok-found-in-Uses+in-Some+in_ok-typed-in-Some+in-None-2 w ↦ c.loop-stmt.invariant
+      | in-Uses+in_ok-found-in-Uses+in-Some+in_ok-typed-in-Some+in-None-2 w ↦ c.loop-stmt.invariant
           ∙ leaf-past types ms above c.args.name.now c.args.block.now c.loop-stmt.stmt-index c.stmt-item.result (omega (arith, c.loop-stmt-test.true)) (sym c.stmt-item.is)
           (at-uses types ms above c.args.name.now c.stmt-item.result (option_map found w.in_ok-found-in-Uses.field-0) None (sym c.block_part.ensures ∙ w.in-Uses.is) w.in_ok-found-in-Uses.ensures
           (ap (λ o. option_map_or types (option_map found o) None) w.in-Some.is
           ∙ ap (leaf_brought (c.args.depth - 1) ms (w.in-Some.found.here.now ∷ stack w.in-Some.found.above) c.args.name.now) (sym w.as_slice.ensures)
           ∙ sym w.in_ok-typed-in-Some.ensures ∙ w.in-None-2.is))
-      | in-Uses+in_ok-visit-in-Uses+in_ok-found-in-Uses+in-None w ↦ c.loop-stmt.invariant
+      | in-Uses+in_ok-found-in-Uses+in-None w ↦ c.loop-stmt.invariant
           ∙ leaf-past types ms above c.args.name.now c.args.block.now c.loop-stmt.stmt-index c.stmt-item.result (omega (arith, c.loop-stmt-test.true)) (sym c.stmt-item.is)
           (at-uses types ms above c.args.name.now c.stmt-item.result (option_map found w.in_ok-found-in-Uses.field-0) None (sym c.block_part.ensures ∙ w.in-Uses.is) w.in_ok-found-in-Uses.ensures
           (ap (λ o. option_map_or types (option_map found o) None) w.in-None.is))

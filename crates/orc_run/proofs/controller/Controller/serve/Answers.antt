@@ -15,11 +15,7 @@ use Rattle.orc_run.proofs.Answering.{at_once, is_committing, same_view, says, wa
 use Rattle.orc_run.proofs.Outcomes.{AreLaws}
 use Rattle.orc_run.proofs.Ranges.{touched_are_devices}
 use Rattle.orc_run.proofs.Servings.{at_once_among}
-use Rattle.orc_state.proofs.Fits.{call-fits}
 use Rattle.orc_run.proofs.controller.Controller.serve.Goals as goal
-
-pub touched_devices-requires-clause-fit : goal.touched_devices-requires-clause-fit
-touched_devices-requires-clause-fit g c = call-fits c.args.decls.now c.args.call.now c.requires.call
 
 pub returns-then-not-self : goal.returns-then-not-self
 returns-then-not-self g c sound =
@@ -44,8 +40,8 @@ returns-in_err-answer g c sound =
     let d = g.D.Disk.disk in
     let laws : AreLaws d =
     record { reads = g.met.D.Disk.reads_as_image; counts = g.met.D.Disk.counts_now; only_now = g.met.D.Disk.only_now; untold = g.met.D.Disk.untold_has_no_image } in
-    let result = c.from_residual-in_err-answer.result in
-    let wants = err_from_is_err_and result c.from_residual-in_err-answer.ensures.1 in
+    let result = c.from_residual.result in
+    let wants = err_from_is_err_and result c.from_residual.ensures.1 in
     wanting d laws c.args.decls.now sound.0 c.args.self.now sound.1 c.args.call.now result wants.0 wants.1
     c.answer_or_apply.new.self (c.in_err-answer.ensures.kept (λ e. let h = c.in_err-answer.is in absurd cc))
 
@@ -75,7 +71,7 @@ commit-requires-clause-touched g c =
     let sound = c.requires.sound in
     let same = same_view disk decls sound.0 old sound.1 c.if-not-self.false call c.answer_or_apply.new.self c.answer_or_apply.ensures.rest
     (c.in_ok-answer.ensures.due (ap (λ (o : Option Answer). Ok o) c.in-None.is)) in
-    c.in_ok-devices.ensures
+    c.in_ok-answer.ensures.touched (ap (λ (o : Option Answer). Ok o) c.in-None.is)
     ∙ ap (λ (s : State). touched_devices decls s call) sound.1.behind.state
     ∙ ap (λ (w : View g.row.D.Denot). touched_devices decls (state_of decls w.known) call) (sym same)
 
@@ -83,7 +79,8 @@ pub commit-requires-clause-devices : goal.commit-requires-clause-devices
 commit-requires-clause-devices g c =
     let old = c.args.self.now in
     let call = c.args.call.now in
-    touched_are_devices c.args.decls.now old.past.state call c.in_ok-devices.devices c.requires.decls c.in_ok-devices.ensures
+    touched_are_devices c.args.decls.now old.past.state call c.answer_or_apply.new.devices c.requires.decls
+    (c.in_ok-answer.ensures.touched (ap (λ (o : Option Answer). Ok o) c.in-None.is))
 
 pub returns-in-None : goal.returns-in-None
 returns-in-None g c sound =

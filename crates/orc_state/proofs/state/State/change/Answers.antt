@@ -29,8 +29,8 @@ exchange-requires c =
     c.in_ok-turns.turns.items c.as_slice-in-Ok-4.result.now c.in_ok-services-in-Ok.services.items c.in_ok-turns.ensures
     (c.as_slice-in-Ok-4.ensures.value ∙ c.in_ok-ids-in-Ok.ensures ∙ ap (map turn_id) c.as_slice-in-Ok.ensures.value) c.in_ok-services-in-Ok.ensures
 
-pub invariant_of-self-in-Ok-1 : goal.invariant_of-self-in-Ok-1
-invariant_of-self-in-Ok-1 c =
+pub invariant_of-self-in-Ok : goal.invariant_of-self-in-Ok
+invariant_of-self-in-Ok c =
     let course : Course c.args.self.now c.args.names.now c.args.actions.now c.self.inside.live c.self.inside.stores =
     record { first = c.self.inside.data; view = c.self.view_is; kept = c.self.invariant.0; bases = c.requires.bases; once = c.requires.once } in
     let is : c.in_ok-found.found ≡ Ok c.in-Ok.changes = search rules in

@@ -1,0 +1,4 @@
+pub mod Histories
+pub mod Making
+pub mod Services
+pub mod Plans

@@ -1,0 +1,39 @@
+//! Laws of what living services hold, where they live, and which clash refuses a call.
+ghost use Rattle.orc_laws.specs.Services.{ClashIsLeast, ServiceLivesWhereItStands, UnnamedServiceStays, ServiceHoldsItsExpansion, LivingIsLastMade};
+
+use orc_state::literal_is_expansion;
+
+/// The clash for which a call is refused is the least: there a service that the call names and another
+/// one that lives behind it would write unequal items, and no two do so on a lesser device, at a
+/// lesser path of that device, by a service that the call names earlier, or with another one of a
+/// lesser name there. Where no clash refuses the call there is none.
+pub fn clash_is_least()
+    ensures { ClashIsLeast }
+{}
+
+/// The entries of a list with a template are the living services: behind a legal history such a
+/// service lives exactly where its entry stands in the data.
+pub fn service_lives_where_it_stands()
+    ensures { ServiceLivesWhereItStands }
+{}
+
+/// Calls that don't name a service leave it as it is.
+pub fn unnamed_service_stays()
+    ensures { UnnamedServiceStays }
+{}
+
+/// A service that a call names holds from then on what its expansion on the data behind the call
+/// wrote on each device, or what its writes say, or is gone; whatever calls come later that don't
+/// name it.
+pub fn service_holds_its_expansion()
+    ensures { ServiceHoldsItsExpansion }
+{
+    literal_is_expansion();
+}
+
+/// What a service holds that lives behind a legal history is what the last call that named it made.
+pub fn living_is_last_made()
+    ensures { LivingIsLastMade }
+{
+    literal_is_expansion();
+}

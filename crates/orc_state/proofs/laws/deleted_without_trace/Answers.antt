@@ -1,5 +1,0 @@
-use Rattle.orc_state.proofs.Traces.{deleted_leaves_no_trace}
-use Rattle.orc_state.proofs.laws.deleted_without_trace.Goals as goal
-
-pub returns : goal.returns
-returns c = deleted_leaves_no_trace

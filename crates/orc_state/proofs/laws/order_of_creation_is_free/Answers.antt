@@ -1,5 +1,0 @@
-use Rattle.orc_state.proofs.Overlays.{order_free}
-use Rattle.orc_state.proofs.laws.order_of_creation_is_free.Goals as goal
-
-pub returns : goal.returns
-returns c = order_free
