@@ -9,6 +9,7 @@ use crate::file::journal_file;
 use crate::sentences::sentence;
 use orc_disk::{Disk, FileDisk, MemDisk};
 use orc_explain::explanation;
+use orc_findings::finding;
 use orc_io::{KeptSource, StdSink, StdSource};
 use orc_run::{Stop, orchestrate, status};
 use orc_text::{Memory, Text};
@@ -57,6 +58,7 @@ fn run<D: Disk>(rt: &HostRuntime, words: &[String], disk: D) -> ExitCode {
             let _ = eprintln!(rt; "orc: Bundle {line} {rule}");
             if source.is_all() {
                 explain(rt, explanation(rt.alloc(), source.kept(), *line, *rule));
+                name(rt, finding(rt.alloc(), source.kept(), *line, *rule));
             }
             ExitCode::from(status(&ended.status))
         }
@@ -67,6 +69,13 @@ fn run<D: Disk>(rt: &HostRuntime, words: &[String], disk: D) -> ExitCode {
 // Writes the sentence that explains a fault of the bundle.
 fn explain<R: Eprint>(rt: &R, words: Result<Text, Memory>) {
     if let Ok(words) = words {
+        let _ = eprintln!(rt; "{}", words.as_str());
+    }
+}
+
+// Writes what in particular is at fault, where that can be told.
+fn name<R: Eprint>(rt: &R, found: Result<Option<Text>, Memory>) {
+    if let Ok(Some(words)) = found {
         let _ = eprintln!(rt; "{}", words.as_str());
     }
 }

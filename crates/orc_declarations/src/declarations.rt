@@ -22,7 +22,7 @@ use orc_lines::{
     keyword_of, line_text, number_of, read_forbidden, read_list_path, read_put, read_text,
 };
 use orc_path::{Path, is_identifier_counted, is_long_name};
-use orc_schema::Schema;
+use orc_schema::{Looks, Schema};
 use orc_state::{Device, MOST_DEVICES, Rule};
 use orc_text::{Memory, Row, Text};
 use orc_yang::Stmt;
@@ -405,6 +405,7 @@ fn take_words<L: Ledger, M: Ledger>(
     word: Keyword,
     rest: &str,
     later: &[u8],
+    looks: &Looks,
     steps: &mut Steps<L>,
     work: &mut Steps<M>,
 ) -> Result<(), LineFault>
@@ -418,8 +419,8 @@ fn take_words<L: Ledger, M: Ledger>(
 {
     match word {
         Keyword::Device => take_device(alloc, declared, rest, work),
-        Keyword::Datamodel => take_datamodel(alloc, declared, rest, work),
-        Keyword::Devicetype => take_devicetype(alloc, declared, rest, work),
+        Keyword::Datamodel => take_datamodel(alloc, declared, rest, looks, work),
+        Keyword::Devicetype => take_devicetype(alloc, declared, rest, looks, work),
         Keyword::Rule => take_rule(alloc, declared, rest, work),
         Keyword::Base => take_base(alloc, declared, rest, work),
         Keyword::Data => take_data(alloc, declared, rest, work),
@@ -448,6 +449,7 @@ fn take_text<L: Ledger, M: Ledger>(
     declared: &mut Declared,
     text: &str,
     later: &[u8],
+    looks: &Looks,
     steps: &mut Steps<L>,
     work: &mut Steps<M>,
 ) -> Result<(), LineFault>
@@ -469,6 +471,7 @@ fn take_text<L: Ledger, M: Ledger>(
             keyword_of(word),
             rest,
             later,
+            looks,
             steps,
             work,
         ),
@@ -484,6 +487,7 @@ pub(crate) fn take_line<L: Ledger, M: Ledger>(
     at: u64,
     line: &[u8],
     later: &[u8],
+    looks: &Looks,
     steps: &mut Steps<L>,
     work: &mut Steps<M>,
 ) -> Result<(), LineFault>
@@ -510,5 +514,5 @@ pub(crate) fn take_line<L: Ledger, M: Ledger>(
     if is_skipped(text.as_bytes()) {
         return Ok(());
     }
-    take_text(alloc, declared, text, later, steps, work)
+    take_text(alloc, declared, text, later, looks, steps, work)
 }

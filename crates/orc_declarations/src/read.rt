@@ -12,6 +12,7 @@ use crate::declarations::take_line;
 use crate::opening::is_opening;
 use orc_io::Steps;
 use orc_lines::{Declared, Section, at_line, first_line};
+use orc_schema::Looks;
 use orc_state::{BundleFault, Rule};
 use std::alloc::Global;
 use std::sync::ledger::Ledger;
@@ -63,13 +64,14 @@ pub fn read_declarations<'a, L: Ledger, M: Ledger>(
     ensures worked { work.new + most_work (left_of result) ≤ work.old + most_work (length bytes.now) }
     ensures counts { IfOk result (λ behind. steps.old + length bytes.now ≤ steps.new + length behind.later.now) }
 {
+    let looks = Looks::new();
     let mut rest = bytes;
     let mut at = 0;
     let mut number = 0;
     'lines: while !rest.is_empty() {
         let (line, later) = first_line(rest, steps);
         number += 1;
-        if let Err(fault) = take_line(alloc, declared, at, line, later, steps, work) {
+        if let Err(fault) = take_line(alloc, declared, at, line, later, &looks, steps, work) {
             return Err(at_line(number, fault));
         }
         let begin = at;

@@ -8,7 +8,7 @@ ghost use Rattle.orc_declarations.specs.inside.Faults.{of_schema};
 
 use crate::statements::orc_module;
 use orc_lines::LineFault;
-use orc_schema::{Schema, SchemaFault, schemas_are_sound};
+use orc_schema::{Looks, Schema, SchemaFault, schemas_are_sound};
 use orc_state::Rule;
 use orc_text::{Memory, Row};
 use orc_yang::Stmt;
@@ -24,14 +24,14 @@ fn of_schema(fault: SchemaFault) -> LineFault
     }
 }
 
-/// The schema of modules.
+/// The schema of modules, within what may still be looked at.
 #[tactic(auto, unfolding(crate::specs::Schemas::schema_or_rule))]
-pub(crate) fn schema_of(alloc: Global, modules: &[Stmt]) -> Result<Schema, LineFault>
+pub(crate) fn schema_of(alloc: Global, modules: &[Stmt], looks: &Looks) -> Result<Schema, LineFault>
     ensures reads { ReadsLine (schema_or_rule modules.now) result }
     ensures sound { IfOk result IsSound }
 {
     schemas_are_sound();
-    match Schema::build(alloc, modules) {
+    match Schema::build_within(alloc, modules, looks) {
         Ok(schema) => Ok(schema),
         Err(fault) => Err(of_schema(fault)),
     }
@@ -41,7 +41,7 @@ pub(crate) fn schema_of(alloc: Global, modules: &[Stmt]) -> Result<Schema, LineF
 fn schema_or_plain(alloc: Global, modules: &[Stmt]) -> Result<Schema, Memory>
     ensures { IfOk result (λ schema. schema ≡ schema_or_plain (schema_or_rule modules.now)) }
 {
-    match schema_of(alloc, modules) {
+    match schema_of(alloc, modules, &Looks::new()) {
         Ok(schema) => Ok(schema),
         Err(LineFault::Breaks(_)) => Ok(Schema::plain(alloc)),
         Err(LineFault::Memory) => Err(Memory),

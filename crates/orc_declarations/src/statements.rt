@@ -2,17 +2,19 @@
 ghost use Rattle.std.specs.Prelude.{◌≡◌, [], IfOk};
 ghost use Rattle.orc_declarations.specs.Modules.{orc_module, device_list, with_argument};
 
+use orc_schema::Looks;
 use orc_text::{Copied, Memory, Row, Text};
 use orc_yang::Stmt;
 use std::alloc::Global;
 
-/// An equal statement.
-pub(crate) fn copy(alloc: Global, statement: &Stmt) -> Result<Stmt, Memory>
+/// An equal statement, within what may still be looked at.
+pub(crate) fn copy(alloc: Global, statement: &Stmt, looks: &Looks) -> Result<Stmt, Memory>
     ensures { IfOk result (λ copy. copy ≡ statement.now) }
 {
+    looks.visit(1)?;
     let mut subs = Row::new(alloc);
     for sub in statement.subs.as_slice() {
-        subs.push(copy(alloc, sub)?)?;
+        subs.push(copy(alloc, sub, looks)?)?;
     }
     let keyword = statement.keyword.copy(alloc)?;
     let argument = Copied::copied(&statement.argument, alloc)?;

@@ -19,7 +19,7 @@ use crate::statements::{copy, orc_module};
 use orc_io::Steps;
 use orc_lines::{Declared, LineFault, Names, breaks, repeats, words_of};
 use orc_path::{is_identifier_counted, is_long_name};
-use orc_schema::Schema;
+use orc_schema::{Looks, Schema};
 use orc_state::{Device, Rule};
 use orc_text::{Memory, Row, Text};
 use orc_yang::Stmt;
@@ -97,6 +97,7 @@ fn push_module(
     alloc: Global,
     declared: &Declared,
     name: &Text,
+    looks: &Looks,
     modules: &mut Vec<Stmt>,
 ) -> Result<(), Memory>
     ensures { OnOk result (modules.new.items
@@ -107,18 +108,23 @@ fn push_module(
         return Ok(());
     }
     if let Some(statement) = statement_named(declared, name) {
-        modules.push(copy(alloc, statement)?)?;
+        modules.push(copy(alloc, statement, looks)?)?;
     }
     Ok(())
 }
 
 // The statements of the modules of these names.
-fn modules_named(alloc: Global, declared: &Declared, names: &[Text]) -> Result<Row<Stmt>, Memory>
+fn modules_named(
+    alloc: Global,
+    declared: &Declared,
+    names: &[Text],
+    looks: &Looks,
+) -> Result<Row<Stmt>, Memory>
     ensures { IfOk result (λ modules. modules ≡ modules_named declared.now names.now) }
 {
     let mut modules = Vec::new(alloc);
     for name in names {
-        push_module(alloc, declared, name, &mut modules)?;
+        push_module(alloc, declared, name, looks, &mut modules)?;
     }
     Ok(Row::from_vec(modules))
 }
@@ -130,6 +136,7 @@ fn schema_words<L: Ledger>(
     words: &[Text],
     names: &[Text],
     is_double: bool,
+    looks: &Looks,
     work: &mut Steps<L>,
 ) -> Result<Schema, LineFault>
     ensures reads { ReadsLine (schema_words declared.now words.now names.now is_double) result }
@@ -152,8 +159,8 @@ fn schema_words<L: Ledger>(
     if repeats(alloc, names)? {
         return breaks(Rule::Schema);
     }
-    let modules = modules_named(alloc, declared, names)?;
-    schema_of(alloc, modules.as_slice())
+    let modules = modules_named(alloc, declared, names, looks)?;
+    schema_of(alloc, modules.as_slice(), looks)
 }
 
 /// `datamodel M M ..`.
@@ -162,6 +169,7 @@ pub(crate) fn take_datamodel<L: Ledger>(
     alloc: Global,
     declared: &mut Declared,
     rest: &str,
+    looks: &Looks,
     work: &mut Steps<L>,
 ) -> Result<(), LineFault>
     ensures takes { Takes (after_datamodel declared.old rest.now) declared.new result }
@@ -177,6 +185,7 @@ pub(crate) fn take_datamodel<L: Ledger>(
         words.as_slice(),
         names.as_slice(),
         is_double,
+        looks,
         work,
     )?;
     declared.has_data = true;
@@ -192,6 +201,7 @@ pub(crate) fn take_devicetype<L: Ledger>(
     alloc: Global,
     declared: &mut Declared,
     rest: &str,
+    looks: &Looks,
     work: &mut Steps<L>,
 ) -> Result<(), LineFault>
     ensures takes { Takes (after_devicetype declared.old rest.now) declared.new result }
@@ -206,7 +216,15 @@ pub(crate) fn take_devicetype<L: Ledger>(
         return breaks(Rule::Line);
     }
     let is_double = declared.types.has(name);
-    let schema = schema_words(alloc, declared, words.as_slice(), names, is_double, work)?;
+    let schema = schema_words(
+        alloc,
+        declared,
+        words.as_slice(),
+        names,
+        is_double,
+        looks,
+        work,
+    )?;
     declared.types.add(name.copy(alloc)?)?;
     declared.schemas.push(schema)?;
     Ok(())

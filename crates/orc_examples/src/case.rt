@@ -14,6 +14,7 @@
 //!   print this text, or `nothing`, and end with this status and, where that isn't 0, this fault
 //! - `again BUNDLE ..`: the same over the disk that the run before left, where a file is opened anew
 //! - `says WORDS`: so the fault of the run before, which is one of its bundle, is explained
+//! - `finds WORDS`: so it is told what in particular is at fault there
 //! - `refused TEXT`: each line of the text is a row `LINE RULE BUNDLE`, as `row` says
 //! - `taken TEXT`: each is a row `DEVICES STEPS BUNDLE`
 //! - either of them with `behind NAME` at its end: each bundle stands behind this text
@@ -26,6 +27,7 @@ use crate::run::{Ran, Streams, run};
 use crate::settings::Settings;
 use orc_disk::{Disk, FileDisk, MemDisk};
 use orc_explain::explanation;
+use orc_findings::finding;
 use orc_run::Stop;
 use orc_text::{Memory, Text};
 use std::alloc::{AllocError, Global};
@@ -45,6 +47,7 @@ pub(crate) struct Case<'a> {
     left: Left,
     has_file: bool,
     said: Option<Text>,
+    found: Option<Text>,
     runs: u64,
 }
 
@@ -76,6 +79,7 @@ impl<'a> Case<'a> {
             left: Left::Nothing,
             has_file: false,
             said: None,
+            found: None,
             runs: 0,
         }
     }
@@ -124,7 +128,8 @@ impl<'a> Case<'a> {
                 let set = replace(settings, Settings::new(self.alloc)?);
                 self.run_again(rt, set, rest)
             }
-            "says" => self.says(rest),
+            "says" => is_said(self.alloc, &self.said, rest),
+            "finds" => is_said(self.alloc, &self.found, rest),
             "refused" => self.run_rows(rest, Rows::Refused),
             "taken" => self.run_rows(rest, Rows::Taken),
             "left" => self.left(rt, rest),
@@ -206,11 +211,12 @@ impl<'a> Case<'a> {
         Ok((verdict, Some(ran.disk)))
     }
 
-    // Runs a bundle, and keeps how its fault is explained.
+    // Runs a bundle, and keeps what is said of its fault.
     fn done<D: Disk>(&mut self, bundle: Vec<u8>, streams: Streams, disk: D) -> io::Result<Ran<D>> {
         let read = Vec::from_slice(self.alloc, bundle.as_slice())?;
         let ran = run(self.alloc, streams, read, disk)?;
         self.said = said_of(self.alloc, bundle.as_slice(), &ran)?;
+        self.found = found_of(self.alloc, bundle.as_slice(), &ran)?;
         Ok(ran)
     }
 
@@ -224,15 +230,6 @@ impl<'a> Case<'a> {
         }
         let is = spelled(alloc, ran.printed.as_slice())?;
         Ok(Verdict::Differs(format!(in alloc; "{is}, status {ended}")?))
-    }
-
-    // Compares how the fault of the run before is explained.
-    fn says(&self, words: &str) -> io::Result<Verdict> {
-        match &self.said {
-            Some(said) if said.as_str() == words => Ok(Verdict::Good),
-            Some(said) => Ok(Verdict::Differs(String::from_str(self.alloc, said.as_str())?)),
-            None => Ok(Verdict::Unread),
-        }
     }
 
     // Holds each row of a text to what it says, behind the text that the line names, if it names one.
@@ -369,5 +366,29 @@ fn said_of<D: Disk>(
     match explanation(alloc, bundle, *line, *rule) {
         Ok(said) => Ok(Some(said)),
         Err(Memory) => Err(AllocError),
+    }
+}
+
+// What in particular is at fault in a run's bundle, where that is told.
+fn found_of<D: Disk>(
+    alloc: Global,
+    bundle: &[u8],
+    ran: &Ran<D>,
+) -> Result<Option<Text>, AllocError> {
+    let Err(Stop::Bundle { line, rule }) = &ran.status else {
+        return Ok(None);
+    };
+    match finding(alloc, bundle, *line, *rule) {
+        Ok(found) => Ok(found),
+        Err(Memory) => Err(AllocError),
+    }
+}
+
+// Compares what was said with what is to be said.
+fn is_said(alloc: Global, said: &Option<Text>, words: &str) -> io::Result<Verdict> {
+    match said {
+        Some(said) if said.as_str() == words => Ok(Verdict::Good),
+        Some(said) => Ok(Verdict::Differs(String::from_str(alloc, said.as_str())?)),
+        None => Ok(Verdict::Unread),
     }
 }

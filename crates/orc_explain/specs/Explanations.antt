@@ -1,14 +1,13 @@
 -- What is said of a bundle's fault, for the one who mends it.
-use Rattle.std.specs.Prelude.{ℕ, zero, suc, Bool, true, false, ◌&&◌, ◌||◌, nat_le, ◌-◌, List, [], ◌∷◌, ◌++◌, codes, take, drop, if◌then◌else◌}
+use Rattle.std.specs.Prelude.{ℕ, Bool, true, false, ◌-◌, List, [], ◌∷◌, ◌++◌, codes, take, drop}
 use Rattle.std.specs.List.{list_any}
-use Rattle.std.specs.Char.{encode_utf8}
 use Rattle.std.specs.Fmt.{digits}
-use Rattle.std.specs.Str.{chars}
 use Rattle.std.specs.Str.Lossy.{utf8_lossy}
 use Rattle.orc_lines.specs.Keywords.{keyword_of}
 use Rattle.orc_lines.specs.Lines.{is_end, lines_of, seen, text_of}
 use Rattle.orc_lines.specs.Words.{first_word}
-use Rattle.orc_explain.specs.declared.explanations.TheConstants.{LOOKED_AT, SHOWN}
+use Rattle.orc_explain.specs.declared.explanations.TheConstants.{LOOKED_AT}
+use Rattle.orc_schema_findings.specs.Quoted.{quoted}
 use Rattle.orc_lines.specs.declared.keyword.Keyword.{Keyword}
 use Rattle.orc_lines.specs.declared.keyword.Keyword.TheVariants as keyword
 use Rattle.orc_state.specs.declared.rule.Rule.{Rule}
@@ -191,28 +190,6 @@ rule_words rule.Line word = codes "A line has one of the forms that may stand th
 abbrev pub allowed_words : Rule → Keyword → Bool → List ℕ
 allowed_words rule.Line word ends = line_words word ends
 allowed_words rule word _ = rule_words rule word
-
--- printable ASCII, and blocks of which most characters are seen; no control character, no noncharacter
-abbrev pub is_visible : ℕ → Bool
-is_visible c =
-    (nat_le 32 c && nat_le c 126)
-    || (nat_le 174 c && nat_le c 8191)
-    || (nat_le 8304 c && nat_le c 12287)
-    || (nat_le 12289 c && nat_le c 55295)
-
--- a character as it is shown: itself, or its number
-abbrev pub shown_character : ℕ → List ℕ
-shown_character c = if is_visible c then encode_utf8 c else codes "<U+" ++ digits 16 true c ++ codes ">"
-
--- the first of these characters as they are shown
-abbrev pub first_shown : ℕ → List ℕ → List ℕ
-first_shown n [] = []
-first_shown zero (c ∷ cs) = codes ".."
-first_shown (suc n) (c ∷ cs) = shown_character c ++ first_shown n cs
-
--- a text as it is shown
-abbrev pub quoted : List ℕ → List ℕ
-quoted text = first_shown SHOWN (chars text)
 
 -- what is looked at of a line; bytes that are no UTF-8 are the character U+FFFD
 abbrev pub looked_at : List ℕ → List ℕ

@@ -2,21 +2,20 @@
 ghost use Rattle.std.specs.Prelude.{◌≡◌, ◌<◌, ◌++◌, ◌-◌, codes, drop, take, length, IfOk, OnOk};
 ghost use Rattle.std.specs.List.{list_any};
 ghost use Rattle.std.specs.String.{string_bytes};
-ghost use Rattle.orc_explain.specs.Explanations.{explained, explanation_of, line_explained, looked_at, is_visible, no_line_explained, quoted, shown_character, allowed_words, call_explained, call_line_words, duplicate_words, form_words, known_words, line_words, rule_words, step_line_words, unknown_words, whole_form};
+ghost use Rattle.orc_explain.specs.Explanations.{explained, explanation_of, line_explained, looked_at, no_line_explained, allowed_words, call_explained, call_line_words, duplicate_words, form_words, known_words, line_words, rule_words, step_line_words, unknown_words, whole_form};
 ghost use Rattle.orc_lines.specs.Lines.{is_end, lines_of};
 
 use orc_io::Steps;
 use orc_lines::{Keyword, ends_later, first_line, first_word, keyword_of, line_text, seen};
+use orc_schema_findings::push_quoted;
 use orc_state::Rule;
 use orc_text::{Memory, Text};
 use std::alloc::Global;
 use std::marker::Brand;
 use std::sync::ledger::{Blank, Ledger};
 
-// The most characters of a line that are shown.
-const SHOWN: u64 = 100;
-
-// The bytes that are looked at to show a line: those of one character more, of four bytes each.
+// The bytes that are looked at to show a line: those of one character more than is shown, of four bytes
+// each.
 const LOOKED_AT: usize = 404;
 
 // What holds of words, names and numbers in every line.
@@ -56,8 +55,8 @@ fn explained<L: Ledger>(
     line_explained(alloc, text.as_str(), ends, line, rule)
 }
 
-// The bytes from the line of this number on.
-fn lines_from<'a, L: Ledger>(bytes: &'a [u8], line: u64, steps: &mut Steps<L>) -> &'a [u8]
+/// The bytes from the line of this number on.
+pub fn lines_from<'a, L: Ledger>(bytes: &'a [u8], line: u64, steps: &mut Steps<L>) -> &'a [u8]
     ensures { lines_of result.now ≡ drop (line - 1) (lines_of bytes.now) }
 {
     let mut rest = bytes;
@@ -108,45 +107,6 @@ fn line_explained(
     out.push_str("\". ")?;
     push_allowed(&mut out, rule, keyword_of(first_word(text)), ends)?;
     Ok(Text::from_string(out))
-}
-
-// A text as it is shown.
-fn push_quoted(out: &mut String, alloc: Global, text: &str) -> Result<(), Memory>
-    ensures { OnOk result (string_bytes out.new ≡ string_bytes out.old ++ quoted text.now) }
-{
-    let mut left = SHOWN;
-    for c in text.chars() {
-        if left == 0 {
-            out.push_str("..")?;
-            return Ok(());
-        }
-        push_shown(out, alloc, c)?;
-        left -= 1;
-    }
-    Ok(())
-}
-
-// A character as it is shown.
-fn push_shown(out: &mut String, alloc: Global, c: char) -> Result<(), Memory>
-    ensures { OnOk result (string_bytes out.new ≡ string_bytes out.old ++ shown_character c) }
-{
-    if is_visible(c) {
-        out.push(c)?;
-    } else {
-        out.push_str(format!(in alloc; "<U+{:X}>", u32::from(c))?.as_str())?;
-    }
-    Ok(())
-}
-
-// Whether a character is shown as it stands.
-fn is_visible(c: char) -> bool
-    ensures { result ≡ is_visible c }
-{
-    let c = u32::from(c);
-    32 <= c && c <= 126
-        || 174 <= c && c <= 8191
-        || 8304 <= c && c <= 12287
-        || 12289 <= c && c <= 55295
 }
 
 // What may stand in a line that breaks this rule.

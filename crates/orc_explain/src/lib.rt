@@ -4,4 +4,4 @@
 
 mod explanations;
 
-pub use explanations::explanation;
+pub use explanations::{explanation, lines_from};

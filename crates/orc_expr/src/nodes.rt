@@ -8,20 +8,9 @@ ghost use Rattle.orc_expr.specs.inside.Lists.{read_as};
 use crate::Read;
 use crate::alphabet::{are_keys, is_name_behind};
 use orc_path::{DataView, Item, Name, Path, Step};
-use orc_text::{Copied, Memory, Row, Text};
+use orc_text::{Memory, Row, Text};
 use std::alloc::Global;
 use std::collections::LinkedList;
-
-// A row of copies.
-fn copied_row<T: Copied + Drop>(alloc: Global, items: &[T]) -> Result<Row<T>, Memory>
-    ensures { IfOk result (λ row. row ≡ items.now) }
-{
-    let mut copies = Vec::with_capacity(alloc, items.len())?;
-    for item in items {
-        copies.push(item.copied(alloc)?)?;
-    }
-    Ok(Row::from_vec(copies))
-}
 
 // Adds the node of this name and these keys below a place, if such a name and such keys can stand
 // there.
@@ -42,7 +31,7 @@ fn push_node(
     }
     let step = Step {
         node: name.copy(alloc)?,
-        keys: copied_row(alloc, keys)?,
+        keys: Row::of_copies(alloc, keys)?,
     };
     nodes.push(place.child(alloc, step)?)
 }

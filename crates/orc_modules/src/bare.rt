@@ -8,6 +8,7 @@ ghost use Rattle.orc_modules.specs.Stack.{stack, found};
 ghost use Rattle.orc_modules.specs.inside.Beside.{beside, beside_brings};
 ghost use Rattle.orc_modules.specs.inside.Known.{AreBare, is_known};
 
+use crate::looked::looks_below;
 use crate::looks::Looks;
 use crate::parts::{Part, block_part, grouping};
 use crate::place::Modules;
@@ -87,11 +88,12 @@ fn is_bare<'a, 'm>(
         return Ok(false);
     }
     modules.go_down(depth)?;
-    modules.looks.visit(here.subs.len())?;
+    modules.looks.visit(looks_below(here))?;
     if known.len() >= MAX_KNOWN {
         return Ok(false);
     }
     for sub in here.subs.as_slice() {
+        modules.looks.visit(1)?;
         match block_part(sub) {
             Part::Node => return Ok(false),
             Part::Uses => {
@@ -201,6 +203,7 @@ pub fn brings_nothing<'a, 'm>(
         → may_bring depth modules.now.all.now (bringer.now.here.now ∷ stack bringer.now.above)
         bringer.now.here.now ≡ false) }
 {
+    modules.looks.visit(1)?;
     if is_indexed(&bringer.above) {
         return Ok(is_shallow(depth, &bringer.above, plain_name(argument(stmt))));
     }
@@ -226,6 +229,7 @@ pub fn bringer<'a, 'm>(
 ) -> Result<Option<Found<'a, 'm>>, Memory>
     ensures { IfOk result (λ o. Brings depth modules.now.all.now (stack above.now) stmt.now (option_map found o)) }
 {
+    modules.looks.visit(1)?;
     match grouping(&*modules, above, stmt) {
         Some(found) => match brings_nothing(alloc, depth, &*modules, stmt, &found)? {
             true => Ok(None),

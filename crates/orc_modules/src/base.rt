@@ -8,6 +8,7 @@ ghost use Rattle.orc_modules.specs.Scopes.{meaning};
 ghost use Rattle.orc_modules.specs.Stack.{stack, found};
 ghost use Rattle.orc_modules.specs.Statements.{argument_below};
 
+use crate::looked::{looks_below, type_looks};
 use crate::meant::{Meant, Named, Typed};
 use crate::place::Modules;
 use crate::scope::{Above, Found, Site, meaning, module_around};
@@ -171,12 +172,17 @@ fn base_at<'a, 'm>(
         return built_in_named(alloc, at.above, base);
     }
     if let Some(found) = typedef(&*modules, at.above, stmt) {
+        modules
+            .looks
+            .pass(looks_below(found.here).saturating_mul(4));
         if let Some(inner) = first_of("type", found.here.subs.as_slice()) {
             let around = Site {
                 above: &Above::Under(found.here, &found.above),
             };
             let named = base_at(alloc, depth - 1, &*modules, &around, inner)?;
-            modules.looks.visit(named.weight())?;
+            modules
+                .looks
+                .visit(type_looks(inner).saturating_add(named.weight()))?;
             return named_typedef(alloc, argument_below("default", found.here), inner, named);
         }
     }
@@ -194,6 +200,9 @@ fn typed_at<'a, 'm>(
         typed ≡ type_at modules.now.most modules.now.all.now (stack at.now.above.now) stmt.now) }
 {
     let named = base_at(alloc, modules.most, &*modules, at, stmt)?;
+    modules
+        .looks
+        .visit(type_looks(stmt).saturating_add(named.weight()))?;
     typed_by(alloc, named, stmt)
 }
 
@@ -207,6 +216,7 @@ pub(crate) fn typed_in<'a, 'm>(
     ensures { IfOk result (λ typed.
         typed ≡ type_in modules.now.most modules.now.all.now (stack at.now.above.now) stmt.now) }
 {
+    modules.looks.pass(stmt.subs.len());
     match first_of("type", stmt.subs.as_slice()) {
         Some(inner) => {
             let inside = Site {

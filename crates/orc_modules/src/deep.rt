@@ -4,6 +4,7 @@ ghost use Rattle.orc_modules.specs.Children.{is_deeper, leads_past};
 ghost use Rattle.orc_modules.specs.Stack.{stack};
 
 use crate::bare::bringer;
+use crate::looked::looks_below;
 use crate::parts::{Part, block_part, grouping};
 use crate::place::Modules;
 use crate::scope::{Above, Site};
@@ -25,7 +26,7 @@ pub(crate) fn is_deeper<'a, 'm>(
         return Ok(true);
     }
     modules.go_down(depth)?;
-    modules.looks.visit(stmt.subs.len())?;
+    modules.looks.visit(looks_below(stmt))?;
     for sub in stmt.subs.as_slice() {
         match block_part(sub) {
             Part::Node => {

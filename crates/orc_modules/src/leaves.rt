@@ -10,6 +10,7 @@ ghost use Rattle.orc_modules.specs.inside.Leaves.{leaf_brought, leaf_of_grouping
 use crate::bare::bringer;
 use crate::base::typed_in;
 use crate::deep::is_deeper;
+use crate::looked::looked_at;
 use crate::meant::Typed;
 use crate::parts::{Part, block_part, grouping};
 use crate::place::Modules;
@@ -54,7 +55,7 @@ fn leaf_brought<'a, 'm>(
     if depth == 0 {
         return Ok(None);
     }
-    modules.looks.visit(block.len())?;
+    modules.looks.visit(looked_at(block))?;
     for stmt in block {
         match block_part(stmt) {
             Part::Node => {
@@ -128,7 +129,7 @@ fn leaf_in_block<'a, 'm>(
     ensures { IfOk result (λ typed.
         typed ≡ leaf_in_block (modules_of modules.now) (stack at.now.above.now) name.now block.now) }
 {
-    modules.looks.visit(block.len())?;
+    modules.looks.visit(looked_at(block))?;
     for stmt in block {
         match block_part(stmt) {
             Part::Node => {

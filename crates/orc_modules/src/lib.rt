@@ -9,6 +9,7 @@ mod block;
 mod deep;
 mod firsts;
 mod leaves;
+mod looked;
 mod looks;
 mod loops;
 mod meant;
@@ -27,6 +28,7 @@ pub use base::{base_of, takes_type, type_at, type_in};
 pub use block::Block;
 pub use deep::{is_too_deep, leads_past};
 pub use leaves::leaf_type;
+pub use looked::{looked_at, looks_below, text_looks, type_looks};
 pub use looks::Looks;
 pub use loops::{is_type_loop, is_uses_loop};
 pub use meant::{Meant, Named, Typed};
@@ -34,8 +36,8 @@ pub use names::child_names;
 pub use parts::{Part, block_part, grouping};
 pub use place::{MAX_CHAIN, Modules, Place};
 pub use scope::{
-    Above, Found, imports_as, in_scope, is_own, meaning, module_around, module_called, owner_of,
-    plain_name, prefix_of,
+    Above, Found, imports_as, in_scope, is_own, meaning, module_around, module_called, owner_in,
+    owner_of, plain_name, prefix_of,
 };
 pub use statements::{
     argument_below, defines, has_argument, holds_data, is_read, is_state, sub_text,

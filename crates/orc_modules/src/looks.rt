@@ -3,14 +3,15 @@
 use orc_text::Memory;
 use std::cell::Cell;
 
-// So much may be looked at: a statement that a name is looked for at is one look, and one that a `uses` leads to is four.
+// So much may be looked at: a statement that a name is looked for at is one look, and one that is
+// read for what it defines is four.
 const MAX_LOOKS: u64 = 200_000_000;
 
 // So many texts may be kept.
 const MAX_TEXTS: u64 = 20_000_000;
 
-/// What the build of one schema may still look at, and how many texts it may still keep. It bounds time and memory alone:
-/// where nothing is left the build wants memory, and no clause speaks of it.
+/// What the build of one schema may still look at, and how many texts it may still keep. It bounds
+/// time and memory alone: where nothing is left the build wants memory, and no clause speaks of it.
 #[derive(Drop)]
 pub struct Looks {
     looks: Cell<u64>,

@@ -8,6 +8,7 @@ ghost use Rattle.orc_modules.specs.Stack.{stack, found, modules_of};
 
 use crate::base::typedef;
 use crate::deep::leads_past;
+use crate::looked::looks_below;
 use crate::parts::{Part, block_part, grouping};
 use crate::place::Modules;
 use crate::scope::{Above, Found, Site};
@@ -171,6 +172,7 @@ fn type_leads<'a, 'm>(
             if is_same(&next, goal) {
                 return Ok(true);
             }
+            modules.looks.pass(next.here.subs.len());
             match first_of("type", next.here.subs.as_slice()) {
                 None => Ok(false),
                 Some(inner) => {
@@ -200,7 +202,7 @@ fn block_leads<'a, 'm>(
         return Ok(false);
     }
     modules.go_down(depth)?;
-    modules.looks.visit(stmt.subs.len())?;
+    modules.looks.visit(looks_below(stmt))?;
     for sub in stmt.subs.as_slice() {
         match block_part(sub) {
             Part::Node => {
@@ -213,6 +215,7 @@ fn block_leads<'a, 'm>(
                 }
             },
             Part::Uses => {
+                modules.looks.visit(1)?;
                 match grouping(&*modules, at.above, sub) {
                     Some(next) => {
                         if is_same(&next, goal) {

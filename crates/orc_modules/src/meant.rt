@@ -1,7 +1,8 @@
 //! What the names of types stand for.
 
+use crate::looked::text_looks;
 use orc_text::Text;
-use orc_types::{Base, LeafType};
+use orc_types::{Base, EnumName, LeafType};
 
 /// A type that a name stands for, with the default of its typedefs, and the name of the module in
 /// which the `type` statement with the built-in name stands: prefixes of a leafref's path are of
@@ -34,10 +35,10 @@ pub struct Typed {
 }
 
 impl Named {
-    /// How many texts and ranges it has, which each type that names it copies.
-    pub(crate) fn weight(&self) -> usize {
+    /// How many texts and ranges it has, which each type that names it copies, and how long these texts are.
+    pub fn weight(&self) -> usize {
         match self {
-            Named::Means(meant) => base_weight(&meant.base),
+            Named::Means(meant) => base_weight(&meant.base).saturating_add(default_weight(meant)),
             Named::Endless | Named::Unclear => 0,
         }
     }
@@ -54,7 +55,23 @@ fn type_weight(of_type: &LeafType) -> usize {
     match of_type {
         LeafType::Int(kind) => kind.ranges.as_slice().len(),
         LeafType::Str(lengths) => lengths.as_slice().len(),
-        LeafType::Enum(names) => names.len(),
-        LeafType::Decimal(_) | LeafType::Bool | LeafType::Empty | LeafType::Leafref(_) => 0,
+        LeafType::Enum(names) => names_weight(names.as_slice()),
+        LeafType::Leafref(path) => text_looks(path.as_str()),
+        LeafType::Decimal(_) | LeafType::Bool | LeafType::Empty => 0,
+    }
+}
+
+fn names_weight(names: &[EnumName]) -> usize {
+    let mut weight = names.len();
+    for known in names {
+        weight = weight.saturating_add(text_looks(known.name.as_str()));
+    }
+    weight
+}
+
+fn default_weight(meant: &Meant) -> usize {
+    match &meant.default {
+        Some(text) => text_looks(text.as_str()),
+        None => 0,
     }
 }

@@ -7,6 +7,7 @@ ghost use Rattle.orc_modules.specs.Stack.{stack, found};
 
 use crate::bare::bringer;
 use crate::deep::is_deeper;
+use crate::looked::looked_at;
 use crate::parts::{Part, block_part, grouping};
 use crate::place::Modules;
 use crate::scope::{Above, Found, Site};
@@ -48,7 +49,7 @@ fn push_brought<'a, 'm>(
     if depth == 0 {
         return Ok(());
     }
-    modules.looks.visit(block.len())?;
+    modules.looks.visit(looked_at(block))?;
     for stmt in block {
         match block_part(stmt) {
             Part::Node => {
@@ -118,7 +119,7 @@ pub fn child_names<'a, 'm>(
         ≡ child_names (children modules.now.most modules.now.all.now (stack above.now) block.now)) }
 {
     let mut out = Row::new(alloc);
-    modules.looks.visit(block.len())?;
+    modules.looks.visit(looked_at(block))?;
     for stmt in block {
         match block_part(stmt) {
             Part::Node => out.push(Text::from_str(alloc, argument(stmt))?)?,

@@ -1,5 +1,5 @@
 //! What a name means where it stands.
-ghost use Rattle.std.specs.Prelude.{◌≡◌, List, [], IfSome, option_map, is_some};
+ghost use Rattle.std.specs.Prelude.{◌≡◌, List, [], IfOk, IfSome, option_map, is_some};
 ghost use Rattle.std.specs.List.{find, position, before_first, after_first};
 ghost use Rattle.orc_types.specs.Paths.{is_colon};
 ghost use Rattle.orc_types.specs.Statements.{subs};
@@ -11,6 +11,7 @@ use crate::block::Block;
 use crate::looks::Looks;
 use crate::place::Modules;
 use crate::statements::{defines, sub_text};
+use orc_text::Memory;
 use orc_types::{argument, is_a};
 use orc_yang::Stmt;
 
@@ -77,7 +78,15 @@ pub(crate) fn first_defined<'a>(keyword: &str, name: &str, block: &'a [Stmt]) ->
     block.iter().find(|stmt| defines(keyword, name, *stmt))
 }
 
-// The same, with what it looks at counted.
+// Whether a statement has this keyword and this argument, with the look at it counted.
+fn is_defined(looks: &Looks, keyword: &str, name: &str, stmt: &Stmt) -> bool
+    ensures { result ≡ defines keyword.now name.now stmt.now }
+{
+    looks.pass(1);
+    defines(keyword, name, stmt)
+}
+
+// The first statement of a block with this keyword and this argument; each that is looked at is counted.
 pub(crate) fn definition<'a>(
     looks: &Looks,
     keyword: &str,
@@ -86,8 +95,9 @@ pub(crate) fn definition<'a>(
 ) -> Option<&'a Stmt>
     ensures { option_map (λ s. s.now) result ≡ find (defines keyword.now name.now) block.now }
 {
-    looks.pass(block.len());
-    first_defined(keyword, name, block)
+    block
+        .iter()
+        .find(|stmt| is_defined(looks, keyword, name, *stmt))
 }
 
 /// The module of this name.
@@ -216,16 +226,26 @@ pub fn in_scope<'a, 'm>(
     }
 }
 
-// How many statements of a module are looked at for what a prefix stands for there.
-fn prefixes_looked_at(prefix: &str, around: &Stmt) -> usize {
-    let block = around.subs.as_slice();
-    match block
-        .iter()
-        .position(|sub| is_a("prefix", sub) || imports_as(prefix, sub))
-    {
-        Some(before) => before,
-        None => block.len(),
+// How many statements of a module are looked at for the prefix of its own.
+fn own_looked_at(block: &[Stmt]) -> usize {
+    let before = block.iter().position(|stmt| is_a("prefix", stmt));
+    before.unwrap_or(block.len()).saturating_add(1)
+}
+
+// How many statements are looked at for the module that is imported under a prefix: those up to the import, those below
+// each import on the way, and all modules.
+fn imports_looked_at(modules: &[Stmt], prefix: &str, block: &[Stmt]) -> usize {
+    let mut looked = modules.len();
+    for stmt in block {
+        looked = looked.saturating_add(1);
+        if is_a("import", stmt) {
+            looked = looked.saturating_add(stmt.subs.len());
+        }
+        if imports_as(prefix, stmt) {
+            return looked;
+        }
     }
+    looked
 }
 
 // The definition of a name in the module of a prefix.
@@ -240,14 +260,37 @@ fn behind_prefix<'a, 'm>(
     ensures { option_map found result
         ≡ behind_prefix modules.now.all.now keyword.now prefix.now name.now (stack above.now) around.now }
 {
-    modules.looks.pass(prefixes_looked_at(prefix, around));
+    let block = around.subs.as_slice();
+    modules.looks.pass(own_looked_at(block));
     if is_own(prefix, around) {
         return in_scope(modules.looks, keyword, name, above);
     }
+    modules
+        .looks
+        .pass(imports_looked_at(modules.all, prefix, block));
     match imported(modules.all, prefix, around) {
         Some(other) => in_module(modules.looks, keyword, name, other),
         None => None,
     }
+}
+
+// How many statements are looked at for what a prefix stands for in a module.
+fn prefixes_looked_at(modules: &[Stmt], prefix: &str, block: &[Stmt]) -> usize {
+    own_looked_at(block).saturating_add(imports_looked_at(modules, prefix, block))
+}
+
+/// The name of the module that a prefix stands for in a module, with what is looked at counted.
+pub fn owner_in<'a>(
+    modules: &Modules<'a>,
+    prefix: &str,
+    around: &'a Stmt,
+) -> Result<Option<&'a str>, Memory>
+    ensures { IfOk result (λ owner. option_map (λ name. name.now) owner
+        ≡ owner_of modules.now.all.now prefix.now around.now) }
+{
+    let looked = prefixes_looked_at(modules.all, prefix, around.subs.as_slice());
+    modules.looks.visit(looked / 4)?;
+    Ok(owner_of(modules.all, prefix, around))
 }
 
 /// What a name means: without a prefix, or with the module's own, it is looked for scope by scope

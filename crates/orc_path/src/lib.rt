@@ -6,7 +6,6 @@
 #![tactic(auto)]
 
 mod alphabet;
-mod copies;
 mod entry;
 mod item;
 mod laws;

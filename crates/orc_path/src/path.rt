@@ -10,7 +10,6 @@ ghost use Rattle.orc_path.specs.Faults.{IsPathFault, Reads};
 ghost use Rattle.orc_path.specs.Reading.{path_of};
 
 use crate::Name;
-use crate::copies::copied_row;
 use crate::reading::{bad_place, read_path};
 use orc_io::Steps;
 use orc_text::{Copied, Memory, Row, Text};
@@ -68,7 +67,7 @@ impl Step {
     {
         Ok(Step {
             node: self.node.copy(alloc)?,
-            keys: copied_row(alloc, self.keys.as_slice())?,
+            keys: self.keys.copy(alloc)?,
         })
     }
 }
@@ -163,7 +162,7 @@ impl Path {
         ensures { IfOk result (λ path. path ≡ self.now) }
     {
         Ok(Path {
-            steps: copied_row(alloc, self.steps.as_slice())?,
+            steps: self.steps.copy(alloc)?,
         })
     }
 
@@ -190,7 +189,7 @@ impl Path {
         ensures { IfOk result (λ path. path ≡ take len self.now) }
     {
         Ok(Path {
-            steps: copied_row(alloc, &self.steps.as_slice()[..len])?,
+            steps: Row::of_copies(alloc, &self.steps.as_slice()[..len])?,
         })
     }
 

@@ -7,6 +7,7 @@ mod Instances
 mod Entered
 mod Fronted
 mod Standing
+mod Unbounded
 mod Seen
 mod Within
 mod Genuine

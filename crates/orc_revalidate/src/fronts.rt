@@ -2,13 +2,32 @@
 ghost use Rattle.std.specs.Prelude.{◌≡◌, ◌≤◌, [], length, if◌then◌else◌};
 ghost use Rattle.std.specs.List.{fold};
 ghost use Rattle.orc_check.specs.Validity.{lesser_breach, is_place, line_breaches};
-ghost use Rattle.orc_revalidate.specs.inside.Looked.{standing_breaches, front_breaches, node_breaches_on};
+ghost use Rattle.orc_revalidate.specs.inside.Looked.{can_lack, front_breaches, has_bound, node_breaches_on, standing_breaches};
 
 use crate::names::line_at;
 use orc_check::{Best, is_place, row_of_steps};
 use orc_path::{Item, Path, Step};
-use orc_schema::{Schema, SchemaLine};
+use orc_schema::{Node, Schema, SchemaLine};
 use orc_tree::Tree;
+
+// Whether a number of entries has a bound.
+fn has_bound(least: u64, most: Option<u64>) -> bool
+    ensures { result ≡ has_bound least most }
+{
+    0 < least || most.is_some()
+}
+
+// Whether something can be missing at a node, or too many.
+fn can_lack(node: &Node) -> bool
+    ensures { result ≡ can_lack node.now }
+{
+    match node {
+        Node::Container => false,
+        Node::List(list) => has_bound(list.least, list.most),
+        Node::Leaf(leaf) => leaf.key.is_none() && leaf.mandatory,
+        Node::LeafList(values) => has_bound(values.least, values.most),
+    }
+}
 
 // The lesser of the best and of what is broken at a line below a row, where that is an entry of a list.
 fn keep_below<'a>(
@@ -64,6 +83,24 @@ fn keep_fronts<'a>(
     keep_fronts(kept, schema, tree, line, path, number - 1)
 }
 
+// The same below the root and each entry on the path. Where nothing can be missing, or too many, at the
+// node, no entry is searched for.
+fn keep_at<'a>(
+    best: Best<'a>,
+    schema: &Schema,
+    tree: &'a Tree,
+    line: &'a SchemaLine,
+    path: &[Step],
+) -> Best<'a>
+    ensures { result ≡ fold lesser_breach best.entry
+        (front_breaches schema.now tree.now line.now path.now (length path.now)) }
+{
+    if can_lack(&line.node) {
+        return keep_fronts(best, schema, tree, line, path, path.len());
+    }
+    best
+}
+
 /// The lesser of the best and of what is broken at the node of a path: that a mandatory leaf is missing
 /// there, or the number of its list's entries. Only where that number has a bound are they counted.
 pub(crate) fn keep_node<'a>(
@@ -75,7 +112,7 @@ pub(crate) fn keep_node<'a>(
     ensures { result ≡ fold lesser_breach best.entry (node_breaches_on schema.now tree.now path.now) }
 {
     match line_at(schema, path) {
-        Some(line) => keep_fronts(best, schema, tree, line, path, path.len()),
+        Some(line) => keep_at(best, schema, tree, line, path),
         None => best,
     }
 }

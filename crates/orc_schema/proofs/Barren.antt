@@ -1,9 +1,9 @@
--- Groupings that bring nothing define no node, and leave no gap.
+-- Groupings that bring nothing define no node.
 use Rattle.std.proofs.Common.{◌≡◌, refl, sym, ◌∙◌, ap, ℕ, zero, suc, Bool, true, false, List, [], ◌∷◌, ◌++◌}
 use Rattle.std.specs.Prelude.{Option, Some, None, Result, Ok, Err, IfOk, ◌||◌}
 use Rattle.std.specs.List.{list_any}
 use Rattle.std.specs.Option.{option_map_or}
-use Rattle.std.proofs.lemmas.Bool.{false≢true}
+use Rattle.std.proofs.lemmas.Bool.{false≢true, or_parts}
 use Rattle.orc_yang.specs.declared.statement.Stmt.{Stmt}
 use Rattle.orc_types.specs.Statements.{subs}
 use Rattle.orc_modules.specs.declared.parts.Part.{Part}
@@ -13,39 +13,6 @@ use Rattle.orc_modules.specs.Bare.{brings_in, brings_at, may_bring, Brings}
 use Rattle.orc_modules.specs.Children.{block_part, grouping}
 use Rattle.orc_schema.specs.declared.draft.Draft.{Draft}
 use Rattle.orc_schema.specs.Drafts.{Where, in_grouping, drafts_at, drafts_in, drafts_below}
-use Rattle.orc_schema.specs.Gaps.{gap_in, gap_at, is_incomplete}
-
-first_of_or : (a b : Bool) → (a || b) ≡ false → a ≡ false
-first_of_or true b h = h
-first_of_or false b h = refl
-
-rest_of_or : (a b : Bool) → (a || b) ≡ false → b ≡ false
-rest_of_or true b h = absurd (false≢true (sym h))
-rest_of_or false b h = h
-
-module _ (modules : List Stmt) (inner : List Stmt → Stmt → Bool) (other : List Stmt → Stmt → Bool)
-    (less : (a : List Stmt) (s : Stmt) → inner a s ≡ false → other a s ≡ false) (above : List Stmt) where
-  complete_of : (o : Option Found) → option_map_or (brings_in inner) o true ≡ false → option_map_or (gap_in other) o true ≡ false
-  complete_of None h = h
-  complete_of (Some g) h = less (g.here ∷ g.above) g.here h
-
-  complete_one : (t : Stmt) (p : Part) → brings_at inner modules above t p ≡ false → gap_at other modules above t p ≡ false
-  complete_one t node h = refl
-  complete_one t uses h = complete_of (grouping modules above t) h
-  complete_one t nothing h = refl
-
-  complete_all : (ss : List Stmt) → list_any (λ t. brings_at inner modules above t (block_part t)) ss ≡ false
-      → list_any (λ t. gap_at other modules above t (block_part t)) ss ≡ false
-  complete_all [] h = refl
-  complete_all (t ∷ ts) h =
-      let one : Bool = brings_at inner modules above t (block_part t) in
-      let rest : Bool = list_any (λ u. brings_at inner modules above u (block_part u)) ts in
-      ap (λ b. b || list_any (λ u. gap_at other modules above u (block_part u)) ts) (complete_one t (block_part t) (first_of_or one rest h))
-      ∙ complete_all ts (rest_of_or one rest h)
-
-pub no_gap : (modules : List Stmt) (n : ℕ) (a : List Stmt) (s : Stmt) → may_bring n modules a s ≡ false → is_incomplete n modules a s ≡ false
-no_gap modules zero a s h = h
-no_gap modules (suc n) a s h = complete_all modules (may_bring n modules) (is_incomplete n modules) (no_gap modules n) a (subs s) h
 
 module _ (ms : Modules) where
   module _ (inner : List Stmt → Stmt → Bool) (below : Where → Stmt → List Draft) (none : (w : Where) (s : Stmt) → inner w.above s ≡ false → below w s ≡ []) (w : Where) where
@@ -63,8 +30,8 @@ module _ (ms : Modules) where
     none_in (t ∷ ts) h =
         let one : Bool = brings_at inner ms.all w.above t (block_part t) in
         let rest : Bool = list_any (λ u. brings_at inner ms.all w.above u (block_part u)) ts in
-        ap (λ ds. ds ++ drafts_in ms below w ts) (none_at t (block_part t) (first_of_or one rest h))
-        ∙ none_in ts (rest_of_or one rest h)
+        ap (λ ds. ds ++ drafts_in ms below w ts) (none_at t (block_part t) (or_parts one rest h).0)
+        ∙ none_in ts (or_parts one rest h).1
 
   none_below : (n : ℕ) (w : Where) (s : Stmt) → may_bring n ms.all w.above s ≡ false → drafts_below n ms w s ≡ []
   none_below zero w s h = refl

@@ -4,7 +4,7 @@ use Rattle.std.specs.Prelude.{Option, Some, ◌||◌, option_and_then}
 use Rattle.std.specs.Option.{option_map_or}
 use Rattle.orc_value.specs.declared.kind.Kind.{Kind}
 use Rattle.orc_schema.specs.declared.draft.Draft.{Draft}
-use Rattle.orc_schema.specs.declared.reference.Reference.{Reference}
+use Rattle.orc_statements.specs.declared.reference.Reference.{Reference}
 use Rattle.orc_schema.specs.Links.{Lookup, reference_at, led_to, next, leads_to, own_kind, end_kind, value_type, has_names}
 
 module _ (n m : ℕ) (is : n ≡ suc m) (look : Lookup) (d : Draft) where

@@ -13,10 +13,10 @@ use Rattle.orc_modules.specs.declared.parts.Part.TheVariants.{Node as node, Uses
 use Rattle.orc_modules.specs.Statements.{Place, module_places}
 use Rattle.orc_modules.specs.Scopes.{Modules, Found, the_modules}
 use Rattle.orc_modules.specs.Children.{is_deeper, deeper_at, deeper_in, block_part, grouping}
-use Rattle.orc_schema.specs.declared.fault.SchemaFault.{SchemaFault}
+use Rattle.orc_statements.specs.declared.fault.SchemaFault.{SchemaFault}
 use Rattle.orc_schema.specs.declared.draft.Draft.{Draft}
-use Rattle.orc_schema.specs.Faults.{fault_here, first_some}
-use Rattle.orc_schema.specs.Drafts.{Where, drafts_below, drafts_in, drafts_at, drafts_of, draft, inside_node, in_grouping, in_module}
+use Rattle.orc_statements.specs.Faults.{fault_here, first_some}
+use Rattle.orc_schema.specs.Drafts.{Where, drafts_below, drafts_in, drafts_at, drafts_of, draft, inside_node, in_grouping, inside_module}
 use Rattle.orc_schema.specs.Links.{names_cmp}
 use Rattle.orc_schema.specs.Laws.{AreFaultless, FirstFaultIsLeast, StandsFor, NodesStandForStatements, DepthIsNoLimit, NamesDiffer}
 use Rattle.orc_schema.proofs.Ordered.{same_is}
@@ -111,7 +111,7 @@ module _ (ms : Modules) where
 
   of_all : (modules : List Stmt) → Stand (drafts_of ms modules)
   of_all [] = tt
-  of_all (m ∷ rest) = stand-append (drafts_below ms.most ms (in_module m) m) (drafts_of ms rest) (below_all ms.most (in_module m) m) (of_all rest)
+  of_all (m ∷ rest) = stand-append (drafts_below ms.most ms (inside_module m) m) (drafts_of ms rest) (below_all ms.most (inside_module m) m) (of_all rest)
 
 pub nodes_stand_for_statements : NodesStandForStatements
 nodes_stand_for_statements ms modules = All-from_recursion (StandsFor ms) (drafts_of ms modules) (of_all ms modules)

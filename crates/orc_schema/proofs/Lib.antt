@@ -1,17 +1,10 @@
 mod Barren
-mod Blocks
 mod Lawful
-mod TypeFaults
 mod Chains
-mod Numerals
-mod ChildNames
-mod Marks
 mod Ordered
 mod InOrder
 mod Orders
 mod Tables
-mod Uses
-mod Seens
 mod SoundLists
 mod SoundWords
 mod SoundNodes

@@ -15,12 +15,12 @@ use Rattle.orc_modules.specs.declared.parts.Part.TheVariants.{Node as node, Uses
 use Rattle.orc_modules.specs.Statements.{word, is_state, reads, module_places}
 use Rattle.orc_modules.specs.Children.{block_part, grouping, is_deeper, deeper_at, deeper_in, child, children_by, brought, brought_by, children, is_leaf_named}
 use Rattle.orc_modules.specs.Scopes.{Modules, Found}
-use Rattle.orc_schema.specs.declared.fault.SchemaFault.TheVariants.{Unknown, Duplicate}
-use Rattle.orc_schema.specs.Cuts.{words}
-use Rattle.orc_schema.specs.Gaps.{gap_in, gap_at, is_incomplete}
-use Rattle.orc_schema.specs.Names.{is_unknown_grouping, is_unknown_key, is_complete, unknown, unknown_key, duplicate, repeated, repeated_among, leaf_around}
-use Rattle.orc_schema.specs.Arguments.{keys_of, are_identifiers}
-use Rattle.orc_schema.specs.Faults.{no_key}
+use Rattle.orc_statements.specs.declared.fault.SchemaFault.TheVariants.{Unknown, Duplicate}
+use Rattle.orc_statements.specs.Cuts.{words}
+use Rattle.orc_statements.specs.Gaps.{gap_in, gap_at, is_incomplete}
+use Rattle.orc_statements.specs.Names.{is_unknown_grouping, is_unknown_key, is_complete, unknown, unknown_key, duplicate, repeated, repeated_among, leaf_around}
+use Rattle.orc_statements.specs.Arguments.{keys_of, are_identifiers}
+use Rattle.orc_statements.specs.Faults.{no_key}
 use Rattle.orc_schema.specs.Drafts.{Where, draft as draft_at, in_grouping, drafts_at, drafts_below}
 use Rattle.orc_schema.proofs.SoundLists.{In, and_left, and_right, and_not, not_false, none_second, none_mapped, some_there, in_either, found_in, none_found, any_fails, none_passes, any_found, all_pass, none_repeated}
 use Rattle.orc_schema.proofs.SoundWords.{used, word_is, fault_none, Free, Well, Good, at, known, new, keyed, well_below, grouping_good}

@@ -9,8 +9,8 @@ use Rattle.std.proofs.lemmas.List.Elements.{Contains-append_right}
 use Rattle.std.proofs.lemmas.List.Quantifiers.{position-Some}
 use Rattle.orc_value.specs.Canon.{same_text}
 use Rattle.orc_schema.specs.Links.{same_names}
-use Rattle.orc_schema.specs.Faults.{first_some}
-use Rattle.orc_schema.specs.Names.{contains_text, repeated_among}
+use Rattle.orc_statements.specs.Faults.{first_some}
+use Rattle.orc_statements.specs.Names.{contains_text, repeated_among}
 
 -- Tests ---------------------------------------------------------------------------------------------------------------
 pub and_left : (a b : Bool) → (a && b) ≡ true → a ≡ true

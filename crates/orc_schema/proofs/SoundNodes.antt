@@ -17,10 +17,10 @@ use Rattle.orc_modules.specs.Scopes.{Modules, Found}
 use Rattle.orc_schema.specs.declared.draft.Draft.{Draft}
 use Rattle.orc_schema.specs.declared.draft.DraftNode.{DraftNode}
 use Rattle.orc_schema.specs.declared.draft.DraftNode.TheVariants as draft
-use Rattle.orc_schema.specs.Placement.{stands_in, is_module}
-use Rattle.orc_schema.specs.Cuts.{words}
-use Rattle.orc_schema.specs.Arguments.{is_well, is_typed_well, keys_of, inherits_well}
-use Rattle.orc_schema.specs.Drafts.{Where, name_behind, names_at, draft as draft_at, draft_node, inside_node, in_grouping, drafts_at, drafts_in, drafts_below, drafts_of, in_module}
+use Rattle.orc_statements.specs.Placement.{stands_in, is_module}
+use Rattle.orc_statements.specs.Cuts.{words}
+use Rattle.orc_statements.specs.Arguments.{is_well, is_typed_well, keys_of, inherits_well}
+use Rattle.orc_schema.specs.Drafts.{Where, name_behind, names_at, draft as draft_at, draft_node, inside_node, in_grouping, drafts_at, drafts_in, drafts_below, drafts_of, inside_module}
 use Rattle.orc_schema.specs.Schemas.{is_deep_module}
 use Rattle.orc_schema.specs.Sound.{are_node_names}
 use Rattle.orc_schema.proofs.SoundLists.{In, and_left, and_right, and_both, not_false, in_left, in_right, in_either, all_pass-push, found_in, any_fails}
@@ -278,10 +278,10 @@ module _ (ms : Modules) where
     module_is Module h = refl
     module_is w h = absurd (false≢true h)
 
-    of_module : (m : Stmt) → In ms.all m → is_deep_module ms m ≡ false → ((d : Draft) → In (drafts_below ms.most ms (in_module m) m) d → In D d) → (d : Draft) → In (drafts_below ms.most ms (in_module m) m) d → Placed d
+    of_module : (m : Stmt) → In ms.all m → is_deep_module ms m ≡ false → ((d : Draft) → In (drafts_below ms.most ms (inside_module m) m) d → In D d) → (d : Draft) → In (drafts_below ms.most ms (inside_module m) m) d → Placed d
     of_module m i shallow each d h =
         let w = module_well ms free m i in
-        walk ms.most (omega arith) (in_module m) m (record {
+        walk ms.most (omega arith) (inside_module m) m (record {
           outer = [];
           head = refl;
           good = module_good ms free m i;
@@ -293,11 +293,11 @@ module _ (ms : Modules) where
     of_modules : (modules : List Stmt) → ((m : Stmt) → In modules m → In ms.all m) → ((m : Stmt) → In modules m → is_deep_module ms m ≡ false)
         → ((d : Draft) → In (drafts_of ms modules) d → In D d) → (d : Draft) → In (drafts_of ms modules) d → Placed d
     of_modules [] known shallow each d h = absurd h
-    of_modules (m ∷ rest) known shallow each d h = on (in_either (drafts_below ms.most ms (in_module m) m) (drafts_of ms rest) d h)
-        (of_modules rest (λ x i. known x (inr i)) (λ x i. shallow x (inr i)) (λ e k. each e (in_right (drafts_below ms.most ms (in_module m) m) (drafts_of ms rest) e k)) d)
+    of_modules (m ∷ rest) known shallow each d h = on (in_either (drafts_below ms.most ms (inside_module m) m) (drafts_of ms rest) d h)
+        (of_modules rest (λ x i. known x (inr i)) (λ x i. shallow x (inr i)) (λ e k. each e (in_right (drafts_below ms.most ms (inside_module m) m) (drafts_of ms rest) e k)) d)
       where
-        on : In (drafts_below ms.most ms (in_module m) m) d ⊎ In (drafts_of ms rest) d → (In (drafts_of ms rest) d → Placed d) → Placed d
-        on (inl here) later = of_module m (known m (inl refl)) (shallow m (inl refl)) (λ e k. each e (in_left (drafts_below ms.most ms (in_module m) m) (drafts_of ms rest) e k)) d here
+        on : In (drafts_below ms.most ms (inside_module m) m) d ⊎ In (drafts_of ms rest) d → (In (drafts_of ms rest) d → Placed d) → Placed d
+        on (inl here) later = of_module m (known m (inl refl)) (shallow m (inl refl)) (λ e k. each e (in_left (drafts_below ms.most ms (inside_module m) m) (drafts_of ms rest) e k)) d here
         on (inr there) later = later there
 
   pub all_placed : (free : Free ms (module_places [] ms.all)) → list_any (is_deep_module ms) ms.all ≡ false → (d : Draft) → In (drafts_of ms ms.all) d → Placed free (drafts_of ms ms.all) d

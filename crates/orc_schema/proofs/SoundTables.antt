@@ -20,8 +20,8 @@ use Rattle.orc_schema.specs.declared.line.SchemaLine.{SchemaLine}
 use Rattle.orc_schema.specs.declared.line.ListNode.{ListNode}
 use Rattle.orc_schema.specs.declared.line.Node as line
 use Rattle.orc_schema.specs.declared.line.Node.TheVariants as node
-use Rattle.orc_schema.specs.Arguments.{keys_of}
-use Rattle.orc_schema.specs.Faults.{fault_here, module_fault}
+use Rattle.orc_statements.specs.Arguments.{keys_of}
+use Rattle.orc_statements.specs.Faults.{fault_here, module_fault}
 use Rattle.orc_schema.specs.Drafts.{Where, name_behind, draft as draft_at, draft_node, inside_node}
 use Rattle.orc_schema.specs.Links.{chain, node_in, first_link_fault}
 use Rattle.orc_schema.specs.Schemas.{SchemaTable, schema_line, schema_lines, drafts, node_of, node_at, is_line_at, IsTableOf, IsWhole}

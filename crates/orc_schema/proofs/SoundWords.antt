@@ -15,12 +15,12 @@ use Rattle.orc_modules.specs.Words.{word_of}
 use Rattle.orc_modules.specs.Statements.{Place, word, is_state, reads, is_read, read_at, places_in, places_below, module_places, defines}
 use Rattle.orc_modules.specs.Children.{block_part_of, grouping}
 use Rattle.orc_modules.specs.Scopes.{Modules, Found, module_around, in_block_of, in_scope, is_own, imported, module_called, imports_as, behind_prefix}
-use Rattle.orc_schema.specs.declared.fault.SchemaFault.{SchemaFault}
-use Rattle.orc_schema.specs.Placement.{stands_below, is_module}
-use Rattle.orc_schema.specs.Names.{fault_if, unknown, duplicate}
-use Rattle.orc_schema.specs.Arguments.{bad_argument}
-use Rattle.orc_schema.specs.Faults.{innermost, has_no_default, unsupported, no_key, loops, own_fault_here, type_fault_here, fault_here}
-use Rattle.orc_schema.proofs.Blocks.{with_below, below_is}
+use Rattle.orc_statements.specs.declared.fault.SchemaFault.{SchemaFault}
+use Rattle.orc_statements.specs.Placement.{stands_below, is_module}
+use Rattle.orc_statements.specs.Names.{fault_if, unknown, duplicate}
+use Rattle.orc_statements.specs.Arguments.{bad_argument}
+use Rattle.orc_statements.specs.Faults.{innermost, has_no_default, unsupported, no_key, loops, own_fault_here, type_fault_here, fault_here}
+use Rattle.orc_statements.proofs.Blocks.{with_below, below_is}
 use Rattle.orc_schema.proofs.SoundLists.{In, some_same, none_some, none_first, none_second, and_left, or_left, not_false, all_left, all_right, found_in, same_text-is}
 
 -- Words ---------------------------------------------------------------------------------------------------------------

@@ -25,8 +25,8 @@ use Rattle.orc_schema.specs.declared.draft.DraftType.{DraftType}
 use Rattle.orc_schema.specs.declared.draft.DraftType.TheVariants.{Own, To}
 use Rattle.orc_schema.specs.declared.draft.DraftNode.{DraftNode}
 use Rattle.orc_schema.specs.declared.draft.DraftNode.TheVariants.{Container, List as ListOf, Leaf, LeafList}
-use Rattle.orc_schema.specs.References.{reference_of}
-use Rattle.orc_schema.specs.Arguments.{typed, count_of, is_mandatory, keys_of}
+use Rattle.orc_statements.specs.References.{reference_of}
+use Rattle.orc_statements.specs.Arguments.{typed, count_of, is_mandatory, keys_of}
 
 -- where a block's nodes come to stand: the statements around it, the module that has them, the names down to it, and
 -- the keys of the list that it belongs to
@@ -125,9 +125,9 @@ abbrev pub drafts_below : ℕ → Modules → Where → Stmt → List Draft
 drafts_below zero ms w s = []
 drafts_below (suc n) ms w s = drafts_in ms (drafts_below n ms) w (subs s)
 
-abbrev pub in_module : Stmt → Where
-in_module m = record { above = m ∷ []; owner = argument m; names = []; keys = [] }
+abbrev pub inside_module : Stmt → Where
+inside_module m = record { above = m ∷ []; owner = argument m; names = []; keys = [] }
 
 abbrev pub drafts_of : Modules → List Stmt → List Draft
 drafts_of ms [] = []
-drafts_of ms (m ∷ rest) = drafts_below ms.most ms (in_module m) m ++ drafts_of ms rest
+drafts_of ms (m ∷ rest) = drafts_below ms.most ms (inside_module m) m ++ drafts_of ms rest

@@ -7,9 +7,9 @@ use Rattle.orc_modules.specs.declared.parts.Part.TheVariants.{Node}
 use Rattle.orc_modules.specs.Statements.{Place, module_places}
 use Rattle.orc_modules.specs.Scopes.{Modules, the_modules}
 use Rattle.orc_modules.specs.Children.{block_part, is_deeper}
-use Rattle.orc_schema.specs.declared.fault.SchemaFault.{SchemaFault}
+use Rattle.orc_statements.specs.declared.fault.SchemaFault.{SchemaFault}
 use Rattle.orc_schema.specs.declared.draft.Draft.{Draft}
-use Rattle.orc_schema.specs.Faults.{fault_here, module_fault}
+use Rattle.orc_statements.specs.Faults.{fault_here, module_fault}
 use Rattle.orc_schema.specs.Drafts.{Where, draft, drafts_in, drafts_below, drafts_of}
 use Rattle.orc_schema.specs.Links.{same_names}
 use Rattle.orc_schema.specs.Schemas.{SchemaTable, Ascends, IsTableOf}

@@ -1,10 +1,3 @@
-pub mod Cuts
-pub mod References
-pub mod Placement
-pub mod Gaps
-pub mod Names
-pub mod Arguments
-pub mod Faults
 pub mod Drafts
 pub mod Links
 pub mod Schemas

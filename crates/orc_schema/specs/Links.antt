@@ -10,20 +10,20 @@ use Rattle.orc_value.specs.declared.kind.Kind.{Kind}
 use Rattle.orc_value.specs.declared.kind.Kind.TheVariants as kind
 use Rattle.orc_modules.specs.Scopes.{plain_name}
 use Rattle.orc_modules.specs.declared.place.TheConstants.{MAX_CHAIN}
-use Rattle.orc_schema.specs.declared.fault.SchemaFault.{SchemaFault}
-use Rattle.orc_schema.specs.declared.fault.SchemaFault.TheVariants.{Unknown, BadArgument, Loop}
-use Rattle.orc_schema.specs.declared.reference.Reference.{Reference}
-use Rattle.orc_schema.specs.declared.reference.StepName.{StepName}
+use Rattle.orc_statements.specs.declared.fault.SchemaFault.{SchemaFault}
+use Rattle.orc_statements.specs.declared.fault.SchemaFault.TheVariants.{Unknown, BadArgument, Loop}
+use Rattle.orc_statements.specs.declared.reference.Reference.{Reference}
+use Rattle.orc_statements.specs.declared.reference.StepName.{StepName}
 use Rattle.orc_schema.specs.declared.draft.Draft.{Draft}
 use Rattle.orc_schema.specs.declared.draft.DraftType.{DraftType}
 use Rattle.orc_schema.specs.declared.draft.DraftType.TheVariants.{Own, To}
 use Rattle.orc_schema.specs.declared.draft.DraftNode.{DraftNode}
 use Rattle.orc_schema.specs.declared.draft.DraftNode.TheVariants.{Container, List as ListOf, Leaf, LeafList}
 use Rattle.orc_schema.specs.declared.line.Target.{Target}
-use Rattle.orc_schema.specs.declared.cuts.Mark.TheVariants.{Colon}
-use Rattle.orc_schema.specs.Cuts.{is_mark}
-use Rattle.orc_schema.specs.Names.{fault_if}
-use Rattle.orc_schema.specs.Faults.{first_some}
+use Rattle.orc_statements.specs.declared.cuts.Mark.TheVariants.{Colon}
+use Rattle.orc_statements.specs.Cuts.{is_mark}
+use Rattle.orc_statements.specs.Names.{fault_if}
+use Rattle.orc_statements.specs.Faults.{first_some}
 
 -- The order of names: one by one, by their bytes.
 abbrev pub names_cmp : List (List ℕ) → List (List ℕ) → Ordering

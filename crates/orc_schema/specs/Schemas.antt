@@ -11,15 +11,15 @@ use Rattle.orc_value.specs.declared.kind.Kind.{Kind}
 use Rattle.orc_yang.specs.declared.statement.Stmt.{Stmt}
 use Rattle.orc_modules.specs.Scopes.{Modules, the_modules}
 use Rattle.orc_modules.specs.Children.{is_deeper}
-use Rattle.orc_schema.specs.declared.fault.SchemaFault.{SchemaFault}
-use Rattle.orc_schema.specs.declared.fault.SchemaFault.TheVariants.{Memory}
+use Rattle.orc_statements.specs.declared.fault.SchemaFault.{SchemaFault}
+use Rattle.orc_statements.specs.declared.fault.SchemaFault.TheVariants.{Memory}
 use Rattle.orc_schema.specs.declared.draft.Draft.{Draft}
 use Rattle.orc_schema.specs.declared.draft.DraftNode.{DraftNode}
 use Rattle.orc_schema.specs.declared.draft.DraftNode.TheVariants as draft
 use Rattle.orc_schema.specs.declared.line.SchemaLine.{SchemaLine}
 use Rattle.orc_schema.specs.declared.line.Node.{Node}
 use Rattle.orc_schema.specs.declared.line.Node.TheVariants.{Container, List as ListOf, Leaf, LeafList}
-use Rattle.orc_schema.specs.Faults.{module_fault}
+use Rattle.orc_statements.specs.Faults.{module_fault}
 use Rattle.orc_schema.specs.Drafts.{drafts_of}
 use Rattle.orc_schema.specs.Links.{Lookup, chain, node_in, value_type, end_kind, names_cmp, first_link_fault, kind_at, target_at, same_names}
 

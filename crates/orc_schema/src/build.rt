@@ -3,22 +3,22 @@ ghost use Rattle.std.specs.Prelude.{◌≡◌, List, [], ◌++◌, IfOk, OnOk, m
 ghost use Rattle.std.specs.List.{list_any};
 ghost use Rattle.std.specs.List.Sorted.{IsPermutation};
 ghost use Rattle.orc_modules.specs.Stack.{modules_of};
-ghost use Rattle.orc_schema.specs.Drafts.{drafts_of, drafts_below, in_module};
-ghost use Rattle.orc_schema.specs.Faults.{first_some};
+ghost use Rattle.orc_schema.specs.Drafts.{drafts_of, drafts_below, inside_module};
+ghost use Rattle.orc_statements.specs.Faults.{first_some};
 ghost use Rattle.orc_schema.specs.Links.{chain, node_in, link_fault, first_link_fault};
 ghost use Rattle.orc_schema.specs.Schemas.{schema_line, node_of, GivesTable, Builds, schema_of, GivesSchema, is_deep_module, is_cut, IsWhole};
 ghost use Rattle.orc_schema.specs.inside.Indexes.{look, lent, IsIndex};
-ghost use Rattle.orc_schema.specs.inside.Meeting.{Meets};
+ghost use Rattle.orc_statements.specs.Meeting.{Meets};
 
 use crate::draft::{Draft, DraftNode};
 use crate::drafting::{Where, push_drafts};
 use crate::index::index_of;
 use crate::line::{LeafNode, Node, SchemaLine, ValueListNode};
 use crate::links::{Nodes, is_cut, kind_at, link_fault, target_at};
-use crate::walk::first_fault;
 use crate::weights::line_weight;
 use crate::{Schema, SchemaFault};
 use orc_modules::{Above, Block, Looks, MAX_CHAIN, Modules, is_too_deep};
+use orc_statements::first_fault;
 use orc_text::{Copied, Memory, Row};
 use orc_types::argument;
 use orc_yang::Stmt;
@@ -32,7 +32,7 @@ fn push_block<'a, 'm>(
     out: &mut Row<Draft>,
 ) -> Result<(), Memory>
     ensures { OnOk result (out.new ≡ out.old
-        ++ drafts_below modules.now.most (modules_of modules.now) (in_module block.now) block.now) }
+        ++ drafts_below modules.now.most (modules_of modules.now) (inside_module block.now) block.now) }
 {
     let none = Row::new(alloc);
     let stmt = block.here();
@@ -53,7 +53,7 @@ fn push_module<'a>(
     out: &mut Row<Draft>,
 ) -> Result<(), Memory>
     ensures { OnOk result (out.new ≡ out.old
-        ++ drafts_below modules.now.most (modules_of modules.now) (in_module stmt.now) stmt.now) }
+        ++ drafts_below modules.now.most (modules_of modules.now) (inside_module stmt.now) stmt.now) }
 {
     let block = Block::of(alloc, stmt)?;
     push_block(alloc, &*modules, &block, out)
@@ -230,17 +230,16 @@ fn table_of(alloc: Global, looks: &Looks, drafts: &[Draft]) -> Result<Schema, Sc
 }
 
 // The schema of these modules, or their first fault.
-fn schema_of(alloc: Global, modules: &[Stmt]) -> Result<Schema, SchemaFault>
+fn schema_of(alloc: Global, modules: &[Stmt], looks: &Looks) -> Result<Schema, SchemaFault>
     ensures builds { Builds modules.now result }
     ensures whole { IfOk result (λ s. IsWhole modules.now) }
 {
-    let looks = Looks::new();
-    let modules = Modules::of(modules, &looks)?;
+    let modules = Modules::of(modules, looks)?;
     match first_fault(alloc, &modules) {
         Err(fault) => Err(fault),
         Ok(()) => {
             let drafts = whole_drafts(alloc, &modules)?;
-            table_of(alloc, &looks, drafts.as_slice())
+            table_of(alloc, looks, drafts.as_slice())
         },
     }
 }
@@ -255,6 +254,20 @@ impl Schema {
         ensures value { GivesSchema (schema_of modules.now) result }
         ensures whole { IfOk result (λ schema. IsWhole modules.now) }
     {
-        schema_of(alloc, modules)
+        Schema::build_within(alloc, modules, &Looks::new())
+    }
+
+    /// The same, where this is what may still be looked at and kept; it has less of both afterwards.
+    /// Where several schemas are built with one `Looks`, what they cost together is bounded.
+    pub fn build_within(
+        alloc: Global,
+        modules: &[Stmt],
+        looks: &Looks,
+    ) -> Result<Schema, SchemaFault>
+        ensures builds { Builds modules.now result }
+        ensures value { GivesSchema (schema_of modules.now) result }
+        ensures whole { IfOk result (λ schema. IsWhole modules.now) }
+    {
+        schema_of(alloc, modules, looks)
     }
 }

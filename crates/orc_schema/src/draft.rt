@@ -1,7 +1,7 @@
 //! The nodes of a schema before leafrefs are followed.
 
 use crate::line::ListNode;
-use crate::reference::Reference;
+use orc_statements::Reference;
 use orc_text::{Row, Text};
 use orc_value::Kind;
 

@@ -10,21 +10,18 @@ ghost use Rattle.orc_modules.specs.Stack.{stack, found, modules_of};
 ghost use Rattle.orc_types.specs.Statements.{argument};
 ghost use Rattle.orc_modules.specs.Statements.{word};
 ghost use Rattle.orc_modules.specs.declared.word.Word.TheVariants.{Leaf, LeafList};
-ghost use Rattle.orc_schema.specs.Arguments.{keys_of};
+ghost use Rattle.orc_statements.specs.Arguments.{keys_of};
 ghost use Rattle.orc_schema.specs.Drafts.{name_behind, names_at, least_count, most_count, draft_kind, draft_of, draft_type, canonical, inherited, default_text, leaf_default, leaf_node, draft_node, draft, in_grouping, drafts_below};
 ghost use Rattle.orc_schema.specs.inside.Carried.{where_of};
 
-use crate::arguments::{is_mandatory, keys_of};
-use crate::counts::count_of;
 use crate::draft::{Draft, DraftLeaf, DraftNode, DraftType, DraftValues};
 use crate::line::ListNode;
-use crate::reference::reference_of;
-use crate::typing::typed;
 use crate::weights::draft_weight;
 use orc_modules::{
-    Above, Found, Modules, Part, Typed, Word, argument_below, block_part, bringer, module_called,
-    sub_text, word_of,
+    Above, Found, Modules, Part, Typed, Word, argument_below, block_part, bringer, looks_below,
+    module_called, sub_text, text_looks, word_of,
 };
+use orc_statements::{count_of, is_mandatory, keys_of, reference_of, typed};
 use orc_text::{Memory, Row, Text};
 use orc_types::{LeafType, argument, default_of};
 use orc_value::Kind;
@@ -105,12 +102,15 @@ fn draft_of(
     ensures { IfOk result (λ made. made ≡ draft_of (modules_of modules.now) home.now of_type.now) }
 {
     match of_type {
-        LeafType::Leafref(path) => Ok(DraftType::To(reference_of(
-            alloc,
-            modules.all,
-            module_called(modules.all, home),
-            path.as_str(),
-        )?)),
+        LeafType::Leafref(path) => {
+            modules.looks.pass(modules.all.len());
+            Ok(DraftType::To(reference_of(
+                alloc,
+                modules,
+                module_called(modules.all, home),
+                path.as_str(),
+            )?))
+        },
         _ => Ok(draft_kind(of_type.kind(alloc)?)),
     }
 }
@@ -226,7 +226,15 @@ fn leaf_node(
     }))
 }
 
-fn list_node(alloc: Global, stmt: &Stmt) -> Result<DraftNode, Memory>
+// The keys of a list, whose text is gone through.
+fn keys_below(alloc: Global, modules: &Modules<'_>, stmt: &Stmt) -> Result<Row<Text>, Memory>
+    ensures { IfOk result (λ keys. keys ≡ keys_of stmt.now) }
+{
+    modules.looks.visit(text_looks(sub_text("key", stmt)))?;
+    keys_of(alloc, stmt)
+}
+
+fn list_node(alloc: Global, modules: &Modules<'_>, stmt: &Stmt) -> Result<DraftNode, Memory>
     ensures { IfOk result (λ node. node ≡ DraftNode.List (record {
       keys = keys_of stmt.now;
       least = least_count stmt.now;
@@ -234,7 +242,7 @@ fn list_node(alloc: Global, stmt: &Stmt) -> Result<DraftNode, Memory>
     })) }
 {
     Ok(DraftNode::List(ListNode {
-        keys: keys_of(alloc, stmt)?,
+        keys: keys_below(alloc, modules, stmt)?,
         least: least(stmt),
         most: most(stmt),
     }))
@@ -267,7 +275,7 @@ fn draft_node(
         (word stmt.now)) }
 {
     match word_of(stmt.keyword.as_str()) {
-        Word::List => list_node(alloc, stmt),
+        Word::List => list_node(alloc, modules, stmt),
         Word::Leaf => leaf_node(alloc, modules, at, stmt),
         Word::LeafList => leaf_list_node(alloc, modules, at, stmt),
         _ => Ok(DraftNode::Container),
@@ -336,13 +344,13 @@ pub(crate) fn push_drafts<'a, 'm>(
         return Err(Memory);
     }
     modules.go_down(depth)?;
-    modules.looks.visit(stmt.subs.len())?;
+    modules.looks.visit(looks_below(stmt))?;
     for sub in stmt.subs.as_slice() {
         match block_part(sub) {
             Part::Node => {
                 push_draft(out, draft(alloc, modules, at, sub)?)?;
                 let names = names_at(alloc, at, sub)?;
-                let keys = keys_of(alloc, sub)?;
+                let keys = keys_below(alloc, modules, sub)?;
                 let inside = Where {
                     above: &Above::Under(sub, at.above),
                     owner: at.owner,

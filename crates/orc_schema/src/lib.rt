@@ -2,35 +2,22 @@
 //! the first fault of the modules.
 #![tactic(auto)]
 
-mod arguments;
 mod build;
-mod counts;
-mod cuts;
 mod draft;
 mod drafting;
-mod duplicates;
-mod fault;
-mod faults;
-mod gaps;
 mod index;
 mod laws;
 mod line;
 mod links;
 mod lookup;
-mod names;
-mod placement;
-mod reference;
 mod schema;
-mod seen;
-mod type_faults;
-mod typing;
-mod walk;
 mod weights;
 
-pub use fault::SchemaFault;
 pub use laws::{
     depth_is_no_limit, first_fault_is_least, names_differ, nodes_make_one_table,
     nodes_stand_for_statements, order_is_free, schemas_are_sound,
 };
 pub use line::{LeafNode, ListNode, Node, SchemaLine, Target, ValueListNode};
+pub use orc_modules::Looks;
+pub use orc_statements::SchemaFault;
 pub use schema::Schema;

@@ -1,21 +1,20 @@
 //! Where leafrefs lead.
 ghost use Rattle.std.specs.Prelude.{◌≡◌, ◌≤◌, List, IfOk, length, take, option_map, unwrap_or};
 ghost use Rattle.std.specs.List.{before_first};
-ghost use Rattle.orc_schema.specs.declared.cuts.Mark.TheVariants.{Colon};
-ghost use Rattle.orc_schema.specs.Cuts.{is_mark};
+ghost use Rattle.orc_statements.specs.declared.cuts.Mark.TheVariants.{Colon};
+ghost use Rattle.orc_statements.specs.Cuts.{is_mark};
 ghost use Rattle.orc_schema.specs.Links.{module_in, down, walk, kept_names, goes_past, target_names, value_type, reference_at, led_to, next, leads_to, own_kind, end_kind, is_key_node, is_empty, own_name, lost, empty_key, leads_back, reference_fault, link_fault, target_of, target_at, kind_at};
 ghost use Rattle.orc_schema.specs.Schemas.{is_cut};
 ghost use Rattle.orc_schema.specs.inside.Indexes.{look, IsIndex};
-ghost use Rattle.orc_schema.specs.inside.Meeting.{Meets};
+ghost use Rattle.orc_statements.specs.Meeting.{Meets};
 
 use crate::SchemaFault;
-use crate::cuts::{Mark, cut};
 use crate::draft::{Draft, DraftNode, DraftType};
 use crate::drafting::qualified;
 use crate::index::find_in;
 use crate::line::Target;
-use crate::reference::{Reference, StepName};
 use orc_modules::{Looks, plain_name};
+use orc_statements::{Mark, Reference, StepName, cut};
 use orc_text::{Memory, Row, Text};
 use orc_value::Kind;
 use std::alloc::Global;
@@ -172,6 +171,11 @@ fn reference_at(draft: &Draft) -> Option<&Reference>
     }
 }
 
+// How many names are copied, and compared with those of others, to follow a leafref.
+fn following_cost(draft: &Draft, reference: &Reference) -> usize {
+    draft.names.len().saturating_add(reference.names.len())
+}
+
 // The leaf or leaf-list to which a leafref leads.
 fn led_to<'a>(
     alloc: Global,
@@ -182,7 +186,7 @@ fn led_to<'a>(
     requires { IsIndex nodes.now.index.now }
     ensures { IfOk result (λ found. option_map (λ d. d.now) found ≡ led_to (look nodes.now) draft.now reference.now) }
 {
-    nodes.looks.visit(reference.names.len())?;
+    nodes.looks.visit(following_cost(draft, reference))?;
     match target_names(alloc, draft, reference)? {
         Some(names) => match find_in(nodes.index, &names) {
             Some(found) => match type_of(&found.node) {

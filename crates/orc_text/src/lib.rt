@@ -17,4 +17,4 @@ pub use copied::Copied;
 pub use counted::{Counted, total_count};
 pub use memory::Memory;
 pub use row::Row;
-pub use text::Text;
+pub use text::{SHORT_TEXT, Text};

@@ -83,15 +83,22 @@ impl<T: Drop> Row<T> {
 }
 
 impl<T: Copied + Drop> Row<T> {
-    /// An equal row.
+    /// A row of copies of the items, with room for these alone.
+    pub fn of_copies(alloc: Global, items: &[T]) -> Result<Row<T>, Memory>
+        ensures { IfOk result (λ row. row ≡ items.now) }
+    {
+        let mut copies = Vec::with_capacity(alloc, items.len())?;
+        for item in items {
+            copies.push(item.copied(alloc)?)?;
+        }
+        Ok(Row { items: copies })
+    }
+
+    /// An equal row, with room for its items alone.
     pub fn copy(&self, alloc: Global) -> Result<Row<T>, Memory>
         ensures { IfOk result (λ row. row ≡ self.now) }
     {
-        let mut items = Vec::new(alloc);
-        for item in self.as_slice() {
-            items.push(item.copied(alloc)?)?;
-        }
-        Ok(Row { items })
+        Row::of_copies(alloc, self.as_slice())
     }
 }
 

@@ -1,4 +1,4 @@
-//! A text: a `String` that contracts see as the list of its bytes.
+//! A text that contracts see as the list of its bytes.
 ghost use Rattle.std.specs.Prelude.{◌≡◌, IfOk, OnOk, OnErr, ◌++◌, ◌∷◌, [], ◌<◌, nat_eq, encode_utf8};
 ghost use Rattle.std.specs.Ordering.{nat_cmp};
 ghost use Rattle.std.specs.Cmp.Lexicographic.{pointwise, slice_cmp, nat_list_eq_equiv, nat_list_cmp_total, texts_ties, texts_po};
@@ -10,25 +10,48 @@ ghost use Rattle.std.specs.Cmp.Rules.{hashing};
 ghost use Rattle.std.proofs.Common.{rules};
 
 use crate::{Copied, Memory};
+use arrayvec::ArrayString;
 use std::alloc::Global;
 use std::cmp::Ordering;
 use std::hash::{Hash, Hasher};
 use std::marker::Model;
 
+/// How many bytes a text has at most that takes no memory beside itself.
+pub const SHORT_TEXT: usize = 16;
+
+// Where the bytes of a text are: a short text's in the value itself.
+#[derive(Debug)]
+enum Held {
+    Short(Global, ArrayString<SHORT_TEXT>),
+    Long(String),
+}
+
+// Written out, so that a function that drops a text is proved for a text, and not for a short one
+// and for a long one.
+impl Drop for Held {
+    fn drop(self) {
+        match self {
+            Held::Short(_, _) => {}
+            Held::Long(string) => drop(string),
+        }
+    }
+}
+
 /// A text in UTF-8. Two texts with the same bytes are one value, and texts are ordered by their
-/// bytes.
+/// bytes. A text of at most `SHORT_TEXT` bytes takes no memory beside itself, unless it was longer
+/// once.
 #[derive(Debug, Drop)]
 pub struct Text {
-    string: String,
+    held: Held,
 }
 
 impl Model for Text {
     ghost use Rattle.std.specs.Prelude.{List, ℕ};
-    ghost use Rattle.std.specs.String.{string_bytes};
+    ghost use Rattle.orc_text.specs.Texts.{held_bytes};
 
     ghost Value = { List ℕ };
 
-    ghost view = { λ text. string_bytes text.string };
+    ghost view = { λ text. held_bytes text.held };
 }
 
 impl Text {
@@ -37,7 +60,7 @@ impl Text {
         ensures { result ≡ [] }
     {
         Text {
-            string: String::new(alloc),
+            held: Held::Short(alloc, ArrayString::new()),
         }
     }
 
@@ -45,23 +68,36 @@ impl Text {
     pub fn from_str(alloc: Global, text: &str) -> Result<Text, Memory>
         ensures { IfOk result (λ made. made ≡ text.now) }
     {
-        Ok(Text {
-            string: String::from_str(alloc, text)?,
-        })
+        let held = match ArrayString::from(text) {
+            Ok(short) => Held::Short(alloc, short),
+            Err(_) => Held::Long(String::from_str(alloc, text)?),
+        };
+        Ok(Text { held })
     }
 
     /// The bytes of the string, without taking memory.
     pub fn from_string(string: String) -> Text
         ensures { result ≡ string_bytes string }
     {
-        Text { string }
+        let alloc = *string.allocator();
+        if let Ok(short) = ArrayString::from(string.as_str()) {
+            return Text {
+                held: Held::Short(alloc, short),
+            };
+        }
+        Text {
+            held: Held::Long(string),
+        }
     }
 
     /// The bytes.
     pub fn as_str(&self) -> &str
         ensures { result.now ≡ self.now }
     {
-        self.string.as_str()
+        match &self.held {
+            Held::Short(_, short) => short.as_str(),
+            Held::Long(string) => string.as_str(),
+        }
     }
 
     /// Adds a character at the end. After want of memory the text is as it was.
@@ -71,7 +107,16 @@ impl Text {
         // An ASCII character is one byte.
         ensures ascii { character < 128 → encode_utf8 character ≡ character ∷ [] }
     {
-        self.string.push(character)?;
+        match &mut self.held {
+            Held::Short(alloc, short) => {
+                if short.try_push(character).is_err() {
+                    let mut string = String::from_str(*alloc, short.as_str())?;
+                    string.push(character)?;
+                    self.held = Held::Long(string);
+                }
+            }
+            Held::Long(string) => string.push(character)?,
+        }
         Ok(())
     }
 

@@ -7,3 +7,6 @@ pub mod Apart
 pub mod Distinct
 pub mod Bounds
 pub mod LengthNarrowing
+pub mod Running
+pub mod Within
+pub mod Found

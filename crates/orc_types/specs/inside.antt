@@ -1,3 +1,5 @@
 -- What private contracts and proofs alone speak of.
 pub mod Cuts
 pub mod Meeting
+pub mod Running
+pub mod Behind

@@ -5,8 +5,11 @@
 mod builtins;
 mod cuts;
 mod defaults;
+mod enumeration;
 mod enums;
 mod fault;
+mod firsts;
+mod inherited;
 mod laws;
 mod lengths;
 mod numbers;
@@ -14,6 +17,7 @@ mod paths;
 mod ranges;
 mod restrict;
 mod statements;
+mod taken;
 mod types;
 
 pub use builtins::{built_in, is_left_out};

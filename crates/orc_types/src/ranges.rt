@@ -1,7 +1,8 @@
 //! The argument of `range`.
-ghost use Rattle.std.specs.Prelude.{◌≡◌, IfOk, option_map};
+ghost use Rattle.std.specs.Prelude.{◌≡◌, ◌≤◌, true, length, take, drop, IfOk, option_map};
 ghost use Rattle.std.specs.List.{list_all};
 ghost use Rattle.orc_types.specs.Ranges.{behind_dot, bound_of, range_between, range_up_to, part_of, parts_of, is_plain, is_trimmed, ascend, lies_within, ends_of, narrows, narrowed};
+ghost use Rattle.orc_types.specs.inside.Behind.{ends_before};
 
 use crate::cuts::split_at;
 use crate::numbers::written_number;
@@ -126,11 +127,67 @@ fn lies_within(base: &[(i128, i128)], range: (i128, i128)) -> bool
         .any(|whole| whole.0 <= range.0 && range.1 <= whole.1)
 }
 
-// Whether each range lies within one of the base type.
+// Of these first ranges of the base type, which end before a number, those that end before another.
+#[tactic(auto, using(crate::proofs::Within::lower))]
+fn still_before(base: &[(i128, i128)], at: usize, low: i128, next: i128) -> usize
+    requires within { at ≤ length base.now }
+    requires before { list_all (ends_before low) (take at base.now) ≡ true }
+    ensures before { list_all (ends_before next) (take result base.now) ≡ true }
+    ensures within { result ≤ length base.now }
+{
+    if next < low { 0 } else { at }
+}
+
+// The same and those behind them that end before the number, too.
+fn all_before(base: &[(i128, i128)], from: usize, low: i128) -> usize
+    requires within { from ≤ length base.now }
+    requires before { list_all (ends_before low) (take from base.now) ≡ true }
+    ensures before { list_all (ends_before low) (take result base.now) ≡ true }
+    ensures within { result ≤ length base.now }
+{
+    let mut at = from;
+    while at < base.len() && base[at].1 < low {
+        at += 1;
+    }
+    at
+}
+
+// The ranges from one on.
+fn from_on(base: &[(i128, i128)], at: usize) -> &[(i128, i128)]
+    requires { at ≤ length base.now }
+    ensures { result.now ≡ drop at base.now }
+{
+    &base[at..]
+}
+
+// Whether a range lies within one of the base type, of which the first ones end before it.
+#[tactic(auto, using(crate::proofs::Within::behind))]
+fn lies_behind(base: &[(i128, i128)], at: usize, range: (i128, i128)) -> bool
+    requires within { at ≤ length base.now }
+    requires before { list_all (ends_before range.0) (take at base.now) ≡ true }
+    ensures { result ≡ lies_within base.now range }
+{
+    if range.0 <= range.1 {
+        lies_within(from_on(base, at), range)
+    } else {
+        lies_within(base, range)
+    }
+}
+
+// Whether each range lies within one of the base type. Where both ascend, each is looked at once.
 fn lie_within(base: &[(i128, i128)], ranges: &[(i128, i128)]) -> bool
     ensures { result ≡ list_all (lies_within base.now) ranges.now }
 {
-    ranges.iter().all(|range| lies_within(base, *range))
+    let mut at = 0;
+    let mut low = i128::MIN;
+    for range in ranges {
+        at = all_before(base, still_before(base, at, low, range.0), range.0);
+        low = range.0;
+        if !lies_behind(base, at, *range) {
+            return false;
+        }
+    }
+    true
 }
 
 // The least and the greatest number of the base type.

@@ -6,7 +6,9 @@ ghost use Rattle.orc_types.specs.Types.{restriction_of, restriction, may_stand, 
 ghost use Rattle.orc_types.specs.inside.Meeting.{Meets, Finds};
 
 use crate::TypeFault;
+use crate::enumeration::Enums;
 use crate::enums::{add_enum, enum_fault};
+use crate::inherited::Inherited;
 use crate::lengths::narrowed_lengths;
 use crate::numbers::fraction_digits_of;
 use crate::paths::is_leafref_path;
@@ -117,11 +119,13 @@ fn restriction_fault(
 fn fault_at(
     alloc: Global,
     base: &Base,
+    inherited: &Inherited,
     before: &[Stmt],
-    enums: &[EnumName],
+    enums: &Enums,
     stmt: &Stmt,
 ) -> Result<(), TypeFault>
-    requires { enums.now ≡ enums_of (enumerated base.now) before.now }
+    requires inherited { inherited.now ≡ enumerated base.now }
+    requires enums { enums.now ≡ enums_of (enumerated base.now) before.now }
     ensures { Meets (fault_at base.now before.now stmt.now) result }
 {
     let word = stmt.keyword.as_str();
@@ -132,7 +136,7 @@ fn fault_at(
             keyword: stmt.keyword.copy(alloc)?,
         })
     } else if is_a("enum", stmt) {
-        enum_fault(alloc, base, enums, stmt)
+        enum_fault(alloc, inherited, enums, stmt)
     } else {
         restriction_fault(alloc, base, before, stmt)
     }
@@ -142,14 +146,15 @@ fn fault_at(
 fn look_through(alloc: Global, base: &Base, stmts: &[Stmt]) -> Result<Row<EnumName>, TypeFault>
     ensures { Finds (first_fault base.now [] stmts.now) (enums_of (enumerated base.now) stmts.now) result }
 {
-    let mut enums = Row::new(alloc);
+    let inherited = Inherited::of(alloc, base)?;
+    let mut enums = Enums::new(alloc);
     for (at, stmt) in stmts.iter().enumerate() {
-        if let Err(fault) = fault_at(alloc, base, &stmts[..at], enums.as_slice(), stmt) {
+        if let Err(fault) = fault_at(alloc, base, &inherited, &stmts[..at], &enums, stmt) {
             return Err(fault);
         }
-        add_enum(alloc, base, &mut enums, stmt)?;
+        enums = add_enum(alloc, &inherited, enums, stmt)?;
     }
-    Ok(enums)
+    Ok(enums.into_row())
 }
 
 // The argument of the statement with this keyword.

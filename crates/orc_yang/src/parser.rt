@@ -92,11 +92,15 @@ pub(crate) struct Parser {
     pub done: Row<Stmt>,
     // The open blocks, the innermost last.
     pub frames: Row<Frame>,
+    // How many statements more may be read.
+    pub left: u64,
 }
 
 impl Parser {
-    // The reader before the first character.
-    pub(crate) fn new(alloc: Global) -> Parser
+    // The reader before the first character of a text of so many bytes. It reads a statement for each
+    // 16 bytes at most, or 100,000: what it keeps of one takes some 150 bytes, so a text of many tiny
+    // statements would take 60 times its length.
+    pub(crate) fn new(alloc: Global, bytes: usize) -> Parser
         ensures { view result ≡ record { work = Gap Between; done = []; frames = [] } }
     {
         Parser {
@@ -111,13 +115,26 @@ impl Parser {
             pending: None,
             done: Row::new(alloc),
             frames: Row::new(alloc),
+            left: most_statements(bytes),
         }
+    }
+
+    // One more statement is read. Where no more may be, memory is wanted.
+    fn spend(&mut self) -> Result<(), Memory>
+        ensures { self.new ≡ record self.old { left = self.new.left } }
+    {
+        if self.left == 0 {
+            return Err(Memory);
+        }
+        self.left -= 1;
+        Ok(())
     }
 
     // Ends a statement without a block.
     pub(crate) fn leaf(&mut self, alloc: Global, argument: Option<Text>) -> Result<(), YangFault>
         ensures { Mirrors (leaf (view self.old) (head_of self.old) argument) (view self.new) result }
     {
+        self.spend()?;
         let keyword = mem::replace(&mut self.keyword, Text::new(alloc));
         self.done.push(Stmt {
             keyword,
@@ -185,6 +202,7 @@ impl Parser {
             at,
             before,
         } = frame;
+        self.spend()?;
         let subs = fitted(mem::replace(&mut self.done, before));
         self.done.push(Stmt {
             keyword,
@@ -216,6 +234,7 @@ impl Parser {
             column: _,
             raw: _,
             pending: _,
+            left: _,
         } = self;
         match mode {
             Mode::Gap | Mode::Line => match spot {
@@ -245,6 +264,12 @@ impl Parser {
             self.pending = Some(fault);
         }
     }
+}
+
+// How many statements a text of so many bytes may have.
+fn most_statements(bytes: usize) -> u64 {
+    let many = bytes as u64 / 16;
+    if many > 100_000 { many } else { 100_000 }
 }
 
 // The row with no room to spare.

@@ -111,7 +111,7 @@ fn read<L: Ledger>(alloc: Global, text: &str, steps: &mut Steps<L>) -> Result<Ve
     ensures cost { steps.new ≤ steps.old + 10 * length text.now }
 {
     let end = text.len() as u64;
-    let mut parser = Parser::new(alloc);
+    let mut parser = Parser::new(alloc, text.len());
     let mut at = 0;
     let mut column = 1;
     for code in text.chars() {

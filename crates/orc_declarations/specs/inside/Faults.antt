@@ -2,8 +2,8 @@
 use Rattle.orc_state.specs.declared.rule.Rule.TheVariants as rule
 use Rattle.orc_yang.specs.declared.fault.YangFault.{YangFault}
 use Rattle.orc_yang.specs.declared.fault.YangFault.TheVariants as yang
-use Rattle.orc_schema.specs.declared.fault.SchemaFault.{SchemaFault}
-use Rattle.orc_schema.specs.declared.fault.SchemaFault.TheVariants as schema
+use Rattle.orc_statements.specs.declared.fault.SchemaFault.{SchemaFault}
+use Rattle.orc_statements.specs.declared.fault.SchemaFault.TheVariants as schema
 use Rattle.orc_template.specs.declared.fault.TemplateFault.{TemplateFault}
 use Rattle.orc_template.specs.declared.fault.TemplateFault.TheVariants as template
 use Rattle.orc_lines.specs.declared.fault.LineFault.{LineFault}

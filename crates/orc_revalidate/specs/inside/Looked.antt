@@ -1,5 +1,5 @@
 -- What of a configuration is looked at behind a change of a valid one.
-use Rattle.std.specs.Prelude.{ℕ, zero, suc, Bool, false, List, [], ◌++◌, length, take, Option, if◌then◌else◌}
+use Rattle.std.specs.Prelude.{ℕ, zero, suc, Bool, false, ◌&&◌, ◌||◌, nat_lt, List, [], ◌++◌, length, take, Option, is_none, is_some, if◌then◌else◌}
 use Rattle.std.specs.List.{find, flat_map}
 use Rattle.std.specs.Option.{option_map_or}
 use Rattle.std.specs.FinMap.{get}
@@ -7,6 +7,8 @@ use Rattle.orc_path.specs.Steps.{PathStep}
 use Rattle.orc_path.specs.Configurations.{Config}
 use Rattle.orc_path.specs.declared.item.Item.{Item}
 use Rattle.orc_schema.specs.Schemas.{SchemaTable, path_names, is_line_at}
+use Rattle.orc_schema.specs.declared.line.Node.{Node}
+use Rattle.orc_schema.specs.declared.line.Node.TheVariants.{Container, List as ListOf, Leaf, LeafList}
 use Rattle.orc_schema.specs.declared.line.SchemaLine.{SchemaLine}
 use Rattle.orc_change.specs.Differences.{has_item}
 use Rattle.orc_check.specs.Validity.{Breach, is_place, row_breaches, line_breaches, place_breaches}
@@ -24,6 +26,18 @@ stands s c path = option_map_or (λ item. is_place s (path, item)) (get c path) 
 -- the node of the path's names
 abbrev pub line_at : SchemaTable → List PathStep → Option SchemaLine
 line_at s path = find (is_line_at (path_names path)) s.lines
+
+-- a number of entries has a bound
+abbrev pub has_bound : ℕ → Option ℕ → Bool
+has_bound least most = nat_lt 0 least || is_some most
+
+-- A node at which something can be missing, or too many: a mandatory leaf that is no key, or a list or a leaf-list
+-- whose number of entries has a bound.
+abbrev pub can_lack : Node → Bool
+can_lack Container = false
+can_lack (ListOf l) = has_bound l.least l.most
+can_lack (Leaf l) = is_none l.key && l.mandatory
+can_lack (LeafList l) = has_bound l.least l.most
 
 -- what is broken at a node below a place, where the place stands
 abbrev pub standing_breaches : SchemaTable → Config → SchemaLine → List PathStep → List Breach

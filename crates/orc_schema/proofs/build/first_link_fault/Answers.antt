@@ -1,10 +1,10 @@
 use Rattle.std.proofs.Common.{sym, ◌∙◌, ◌+◌, arith}
 use Rattle.std.specs.Prelude.{drop, Err}
 use Rattle.std.specs.Option.{option_or}
-use Rattle.orc_schema.specs.Faults.{first_some}
+use Rattle.orc_statements.specs.Faults.{first_some}
 use Rattle.orc_schema.specs.Links.{link_fault}
 use Rattle.orc_schema.specs.inside.Indexes.{look}
-use Rattle.orc_schema.proofs.Blocks.{first_some-step, Meets-or, Meets-is}
+use Rattle.orc_statements.proofs.Blocks.{first_some-step, Meets-or, Meets-is}
 use Rattle.orc_schema.proofs.build.first_link_fault.Goals as goal
 
 pub returns-in-Err : goal.returns-in-Err

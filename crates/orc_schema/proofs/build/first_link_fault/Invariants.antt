@@ -1,5 +1,5 @@
 use Rattle.std.proofs.Common.{◌≡◌, drop}
-use Rattle.orc_schema.specs.Faults.{first_some}
+use Rattle.orc_statements.specs.Faults.{first_some}
 use Rattle.orc_schema.specs.Links.{link_fault}
 use Rattle.orc_schema.specs.inside.Indexes.{look}
 use Rattle.orc_schema.proofs.build.first_link_fault.Given as goal

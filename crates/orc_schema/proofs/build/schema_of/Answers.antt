@@ -2,11 +2,11 @@ use Rattle.std.proofs.Common.{◌∙◌, ap, subst, []}
 use Rattle.std.specs.Prelude.{Err, None, ◌≡◌, false}
 use Rattle.std.specs.List.{list_any}
 use Rattle.orc_modules.specs.Statements.{module_places}
-use Rattle.orc_schema.specs.Faults.{fault_here, first_some, module_fault}
+use Rattle.orc_statements.specs.Faults.{fault_here, first_some, module_fault}
 use Rattle.orc_schema.specs.Drafts.{drafts_of}
 use Rattle.orc_schema.specs.Links.{first_link_fault}
 use Rattle.orc_schema.specs.Schemas.{drafts, GivesTable, is_deep_module}
-use Rattle.orc_schema.specs.inside.Meeting.{Meets}
+use Rattle.orc_statements.specs.Meeting.{Meets}
 use Rattle.orc_schema.proofs.Tables.{Gives-first, Gives-later, all_whole}
 use Rattle.orc_schema.proofs.build.schema_of.Goals as goal
 

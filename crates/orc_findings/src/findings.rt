@@ -1,0 +1,101 @@
+//! What in particular is at fault in a line, over what was declared in front of it.
+ghost use Rattle.std.specs.Prelude.{◌≡◌, ◌⊎◌, ◌<◌, IfOk, IsTrue, None};
+ghost use Rattle.orc_findings.specs.Findings.{has_finding};
+
+use crate::lines::line_finding;
+use crate::openings::opening_finding;
+use orc_declarations::{nothing_declared, read_declarations};
+use orc_explain::lines_from;
+use orc_io::Steps;
+use orc_lines::{Declared, seen};
+use orc_state::{BundleFault, Rule};
+use orc_text::{Memory, Text};
+use std::alloc::Global;
+use std::marker::Brand;
+use std::sync::ledger::{Blank, Ledger};
+
+/// What in particular breaks one of the rules `yang`, `schema`, `template`, `json` and `opening` in a
+/// line of this number, which the bytes break first: the place in a module's text; the statement; the
+/// block of a template; or the path and the rule that is broken there. For it the declarations are read
+/// once more. It is for people, and no clause says what its words are.
+pub fn finding(alloc: Global, bytes: &[u8], line: u64, rule: Rule) -> Result<Option<Text>, Memory>
+    ensures { IfOk result (λ found. IsTrue (has_finding rule) ⊎ (found ≡ None)) }
+{
+    if !has_finding(rule) {
+        return Ok(None);
+    }
+    found_of::<Brand, Brand>(alloc, seen(bytes), line, rule, Blank::new(1), Blank::new(1))
+}
+
+// Whether more than the rule can be said of a line that breaks it.
+fn has_finding(rule: Rule) -> bool
+    ensures { result ≡ has_finding rule }
+{
+    match rule {
+        Rule::Yang => true,
+        Rule::Schema => true,
+        Rule::Template => true,
+        Rule::Json => true,
+        Rule::Opening => true,
+        _ => false,
+    }
+}
+
+// The finding in all these bytes.
+fn found_of<L: Ledger, M: Ledger>(
+    alloc: Global,
+    bytes: &[u8],
+    line: u64,
+    rule: Rule,
+    blank: Blank,
+    other: Blank,
+) -> Result<Option<Text>, Memory>
+    requires name { blank.name ≡ L.name }
+    requires parts { blank.parts ≡ L.parts }
+    requires some { 0 < blank.parts }
+    requires other_name { other.name ≡ M.name }
+    requires other_parts { other.parts ≡ M.parts }
+    requires other_some { 0 < other.parts }
+{
+    let mut steps = Steps::<L>::new(blank);
+    let mut work = Steps::<M>::new(other);
+    let rest = lines_from(bytes, line, &mut steps);
+    let front = declared_in(bytes, rest.len(), rule);
+    let mut declared = read(alloc, front, &mut steps, &mut work)?;
+    match rule {
+        Rule::Opening => opening_finding(alloc, &declared),
+        _ => line_finding(
+            alloc,
+            bytes,
+            &mut declared,
+            line,
+            rest,
+            rule,
+            &mut steps,
+            &mut work,
+        ),
+    }
+}
+
+// The bytes in which all is declared that counts for this rule: those in front of the line at fault,
+// from which on so many are left, and for the opening all of them.
+fn declared_in(bytes: &[u8], left: usize, rule: Rule) -> &[u8] {
+    match rule {
+        Rule::Opening => bytes,
+        _ => &bytes[..bytes.len().saturating_sub(left)],
+    }
+}
+
+// What these bytes declare, as far as they can be read.
+fn read<L: Ledger, M: Ledger>(
+    alloc: Global,
+    bytes: &[u8],
+    steps: &mut Steps<L>,
+    work: &mut Steps<M>,
+) -> Result<Declared, Memory> {
+    let mut declared = nothing_declared(alloc)?;
+    match read_declarations(alloc, bytes, &mut declared, steps, work) {
+        Err(BundleFault::Memory) => Err(Memory),
+        _ => Ok(declared),
+    }
+}

@@ -1,0 +1,11 @@
+//! What in particular is at fault in a line of a bundle, for the one who mends it: a place in a module's
+//! text, a statement, a block of a template, or a path and the rule that is broken there.
+#![tactic(auto)]
+
+mod blocks;
+mod findings;
+mod lines;
+mod named;
+mod openings;
+
+pub use findings::finding;

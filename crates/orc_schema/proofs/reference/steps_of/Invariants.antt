@@ -1,7 +1,0 @@
-use Rattle.std.proofs.Common.{◌≡◌, take}
-use Rattle.std.specs.Prelude.{map, option_map}
-use Rattle.orc_schema.specs.References.{step_of}
-use Rattle.orc_schema.proofs.reference.steps_of.Given as goal
-
-abbrev pub invariant-loop-name : goal.invariant-loop-name
-invariant-loop-name l = l.steps ≡ map (step_of l.modules (option_map (λ m. m.now) l.around)) (take l.name-index l.names)

@@ -1,0 +1,10 @@
+pub mod Cuts
+pub mod Cutting
+pub mod References
+pub mod Placement
+pub mod Gaps
+pub mod Names
+pub mod Arguments
+pub mod Faults
+pub mod Meeting
+pub mod inside

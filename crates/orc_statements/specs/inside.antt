@@ -1,0 +1,2 @@
+-- What private contracts and proofs alone speak of.
+pub mod Seen
