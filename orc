@@ -15,4 +15,7 @@ if is_old; then
 fi
 # Definitions of a module may stand 5,000 in one another, each of which takes more than a kilobyte of the stack.
 ulimit -S -s 65536 2>/dev/null
+# Trees are many small pieces all over the memory: in pages of two megabytes, which the C library asks the kernel
+# for, most of them are found sooner. What the caller set stays, and a kernel without such pages gives the usual ones.
+export GLIBC_TUNABLES="${GLIBC_TUNABLES:-glibc.malloc.hugetlb=1}"
 exec "$program" "$@"

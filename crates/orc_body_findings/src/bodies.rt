@@ -1,7 +1,8 @@
 //! What is at fault in the body of a service.
+use crate::json::{push_json_fault, push_strange_member};
 use orc_json::{DUPLICATE, JsonFault, KEY, KIND, MEMBER, VALUE, read_entry};
 use orc_path::Path;
-use orc_schema::Schema;
+use orc_schema::{Node, Schema};
 use orc_text::{Memory, Text};
 use std::alloc::Global;
 
@@ -14,24 +15,64 @@ pub fn body_finding(
 ) -> Result<Option<Text>, Memory> {
     match read_entry(alloc, schema, entry, json) {
         Ok(_) => Ok(None),
-        Err(fault) => fault_said(alloc, &fault),
+        Err(fault) => Ok(Some(fault_message(alloc, schema, json, &fault)?)),
     }
 }
 
 // What is said of the fault of a body.
-fn fault_said(alloc: Global, fault: &JsonFault) -> Result<Option<Text>, Memory> {
+fn fault_message(
+    alloc: Global,
+    schema: &Schema,
+    json: &[u8],
+    fault: &JsonFault,
+) -> Result<Text, Memory> {
     match fault {
-        JsonFault::Syntax => Ok(Some(Text::from_str(alloc, "It is no JSON.")?)),
-        JsonFault::Bad { path, rule } => at_path(alloc, path, rule_words(*rule)),
+        JsonFault::Syntax => syntax_message(alloc, json),
+        JsonFault::Bad { path, rule } => match *rule == MEMBER && has_members(schema, path) {
+            true => member_message(alloc, path, json),
+            false => path_message(alloc, path, rule_words(*rule)),
+        },
         JsonFault::Memory => Err(Memory),
     }
 }
 
-// What is said of a path.
-fn at_path(alloc: Global, path: &Path, words: &str) -> Result<Option<Text>, Memory> {
+// What is said of a text that is no JSON.
+fn syntax_message(alloc: Global, json: &[u8]) -> Result<Text, Memory> {
+    let mut out = String::from_str(alloc, "It is no JSON:")?;
+    push_json_fault(&mut out, alloc, None, json)?;
+    Ok(Text::from_string(out))
+}
+
+// Whether what stands at a path has members. The path of a member's fault is that of the object around
+// where no path has the member's name.
+fn has_members(schema: &Schema, path: &Path) -> bool {
+    match schema.node(path.steps.as_slice()) {
+        Some(Node::Container) => true,
+        Some(Node::List(_)) => true,
+        _ => false,
+    }
+}
+
+// What is said of a member at this path whose name no path has.
+fn member_message(alloc: Global, path: &Path, json: &[u8]) -> Result<Text, Memory> {
+    let mut name = String::new(alloc);
+    if !push_strange_member(&mut name, alloc, json)? {
+        return path_message(alloc, path, rule_words(MEMBER));
+    }
     let text = path.text(alloc)?;
     let path = text.as_str();
-    Ok(Some(Text::from_string(format!(in alloc; "At {path}: {words}")?)))
+    let name = name.as_str();
+    let said = format!(in alloc; "At {path}: the schema has no member `{name}` there. ")?;
+    let mut out = String::from_str(alloc, said.as_str())?;
+    out.push_str("Members of the body stand without their module.")?;
+    Ok(Text::from_string(out))
+}
+
+// What is said of a path.
+fn path_message(alloc: Global, path: &Path, words: &str) -> Result<Text, Memory> {
+    let text = path.text(alloc)?;
+    let path = text.as_str();
+    Ok(Text::from_string(format!(in alloc; "At {path}: {words}")?))
 }
 
 // What a rule of JSON wants.

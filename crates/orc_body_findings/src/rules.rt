@@ -1,5 +1,5 @@
 //! What a configuration breaks of its schema.
-ghost use Rattle.std.specs.Prelude.{◌≡◌, IfOk, is_some, true};
+ghost use Rattle.std.specs.Prelude.{◌≡◌, IfOk, is_some};
 ghost use Rattle.orc_check.specs.Validity.{broken_of};
 
 use orc_check::{CheckFault, KEY, KIND, LEAFREF, MANDATORY, MAX_ELEMENTS, MIN_ELEMENTS, valid};
@@ -16,27 +16,27 @@ pub(crate) fn breach(
     schema: &Schema,
     tree: &Tree,
 ) -> Result<Option<Text>, Memory>
-    ensures { IfOk result (λ said. is_some said ≡ is_some (broken_of schema.now tree.now)) }
+    ensures { IfOk result (λ message. is_some message ≡ is_some (broken_of schema.now tree.now)) }
 {
     match valid(alloc, schema, tree) {
         Ok(()) => Ok(None),
-        Err(CheckFault::Broken { path, rule }) => at_path(alloc, of, &path, rule_words(rule)),
+        Err(CheckFault::Broken { path, rule }) => {
+            Ok(Some(path_message(alloc, of, &path, rule_words(rule))?))
+        }
         Err(CheckFault::Memory) => Err(Memory),
     }
 }
 
 /// What is said of a path of a configuration.
-pub(crate) fn at_path(
+pub(crate) fn path_message(
     alloc: Global,
     of: &str,
     path: &Path,
     words: &str,
-) -> Result<Option<Text>, Memory>
-    ensures { IfOk result (λ said. is_some said ≡ true) }
-{
+) -> Result<Text, Memory> {
     let text = path.text(alloc)?;
     let path = text.as_str();
-    Ok(Some(Text::from_string(format!(in alloc; "{of}: at {path} {words}")?)))
+    Ok(Text::from_string(format!(in alloc; "{of}: at {path} {words}")?))
 }
 
 // The words of a rule that is broken at a path.

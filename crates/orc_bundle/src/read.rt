@@ -185,7 +185,8 @@ pub fn read_bundle(alloc: Global, bytes: &[u8]) -> Result<Bundle, BundleFault>
 /// a line feed. One of `work` is a byte or a character at which the readers of lines look, of words,
 /// paths, values and YANG statements, or a look-up: of a node in a schema or a number among ranges, by
 /// halves, so that it costs the logarithm of their number (20 comparisons in the largest schema, each
-/// of the names down to the node, at most 32), or of a name of an enumeration, by its hash.
+/// of the names down to the node, at most 32), or of a name of an enumeration among the others, in the
+/// logarithm of their number, too.
 ///
 /// Not counted is what is done with a line in one pass each: whether it is UTF-8, where a space or a
 /// colon stands, which number or first word a word is, how many characters a value has, whether names

@@ -14,3 +14,4 @@ mod types;
 
 pub use declarations::nothing_declared;
 pub use read::{Behind, read_declarations};
+pub use types::{modules_named, with_name};

@@ -12,7 +12,7 @@ pub(crate) fn copy(alloc: Global, statement: &Stmt, looks: &Looks) -> Result<Stm
     ensures { IfOk result (λ copy. copy ≡ statement.now) }
 {
     looks.visit(1)?;
-    let mut subs = Row::new(alloc);
+    let mut subs = Vec::with_capacity(alloc, statement.subs.len())?;
     for sub in statement.subs.as_slice() {
         subs.push(copy(alloc, sub, looks)?)?;
     }
@@ -21,7 +21,7 @@ pub(crate) fn copy(alloc: Global, statement: &Stmt, looks: &Looks) -> Result<Stm
     Ok(Stmt {
         keyword,
         argument,
-        subs,
+        subs: Row::from_vec(subs),
         at: statement.at,
     })
 }

@@ -48,8 +48,9 @@ fn has_long_name(words: &[Text]) -> bool
     words.iter().any(|word| is_long_name(word.as_str()))
 }
 
-// The names, and this one behind them where it is new.
-fn with_name(alloc: Global, names: &Row<Text>, name: &str) -> Result<Row<Text>, Memory>
+/// The names, and this one behind them where it is new: the modules of the schema of the data are those
+/// that the line `datamodel` names and `orc`.
+pub fn with_name(alloc: Global, names: &Row<Text>, name: &str) -> Result<Row<Text>, Memory>
     ensures { IfOk result (λ more. more ≡ with_name names.now name.now) }
 {
     let name = Text::from_str(alloc, name)?;
@@ -113,8 +114,9 @@ fn push_module(
     Ok(())
 }
 
-// The statements of the modules of these names.
-fn modules_named(
+/// The statements of the modules of these names that are declared or built in, within what may still be
+/// looked at.
+pub fn modules_named(
     alloc: Global,
     declared: &Declared,
     names: &[Text],

@@ -9,5 +9,7 @@ has_finding rule.Yang = true
 has_finding rule.Schema = true
 has_finding rule.Template = true
 has_finding rule.Json = true
+has_finding rule.Path = true
+has_finding rule.Value = true
 has_finding rule.Opening = true
 has_finding _ = false

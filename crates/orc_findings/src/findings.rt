@@ -14,9 +14,10 @@ use std::alloc::Global;
 use std::marker::Brand;
 use std::sync::ledger::{Blank, Ledger};
 
-/// What in particular breaks one of the rules `yang`, `schema`, `template`, `json` and `opening` in a
-/// line of this number, which the bytes break first: the place in a module's text; the statement; the
-/// block of a template; or the path and the rule that is broken there. For it the declarations are read
+/// What in particular breaks one of the rules `yang`, `schema`, `template`, `json`, `path`, `value` and
+/// `opening` in a line of this number, which the bytes break first: the place in a module's text; the
+/// statement; the block of a template; the step of a path; the text and its type; or the path and the rule
+/// that is broken there. For it the declarations are read
 /// once more. It is for people, and no clause says what its words are.
 pub fn finding(alloc: Global, bytes: &[u8], line: u64, rule: Rule) -> Result<Option<Text>, Memory>
     ensures { IfOk result (λ found. IsTrue (has_finding rule) ⊎ (found ≡ None)) }
@@ -36,6 +37,8 @@ fn has_finding(rule: Rule) -> bool
         Rule::Schema => true,
         Rule::Template => true,
         Rule::Json => true,
+        Rule::Path => true,
+        Rule::Value => true,
         Rule::Opening => true,
         _ => false,
     }
@@ -61,18 +64,11 @@ fn found_of<L: Ledger, M: Ledger>(
     let mut work = Steps::<M>::new(other);
     let rest = lines_from(bytes, line, &mut steps);
     let front = declared_in(bytes, rest.len(), rule);
-    let mut declared = read(alloc, front, &mut steps, &mut work)?;
+    let declared = read(alloc, front, &mut steps, &mut work)?;
     match rule {
         Rule::Opening => opening_finding(alloc, &declared),
         _ => line_finding(
-            alloc,
-            bytes,
-            &mut declared,
-            line,
-            rest,
-            rule,
-            &mut steps,
-            &mut work,
+            alloc, bytes, &declared, line, rest, rule, &mut steps, &mut work,
         ),
     }
 }

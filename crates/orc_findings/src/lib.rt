@@ -1,5 +1,5 @@
 //! What in particular is at fault in a line of a bundle, for the one who mends it: a place in a module's
-//! text, a statement, a block of a template, or a path and the rule that is broken there.
+//! text, a statement, a block of a template, or a path and what is wrong with it or there.
 #![tactic(auto)]
 
 mod blocks;
@@ -7,5 +7,6 @@ mod findings;
 mod lines;
 mod named;
 mod openings;
+mod paths;
 
 pub use findings::finding;

@@ -1,6 +1,7 @@
 //! What is at fault in a line, by the rule that it breaks.
 use crate::blocks::block_under;
 use crate::named::named_finding;
+use crate::paths::named_path_finding;
 use orc_body_findings::{body_finding, template_finding};
 use orc_io::Steps;
 use orc_lines::{
@@ -18,7 +19,7 @@ use std::sync::ledger::Ledger;
 pub(crate) fn line_finding<L: Ledger, M: Ledger>(
     alloc: Global,
     bytes: &[u8],
-    declared: &mut Declared,
+    declared: &Declared,
     line: u64,
     rest: &[u8],
     rule: Rule,
@@ -39,7 +40,7 @@ pub(crate) fn line_finding<L: Ledger, M: Ledger>(
 fn text_finding<L: Ledger, M: Ledger>(
     alloc: Global,
     bytes: &[u8],
-    declared: &mut Declared,
+    declared: &Declared,
     line: u64,
     text: &str,
     later: &[u8],
@@ -56,8 +57,11 @@ fn text_finding<L: Ledger, M: Ledger>(
             let word = keyword_of(first_word(text));
             named_finding(alloc, bytes, declared, word, words, steps, work)
         }
-        Rule::Template => in_template(alloc, declared, words, later, steps, work),
+        Rule::Template => in_template(alloc, declared, line, words, later, steps, work),
         Rule::Json => in_body(alloc, declared, words, work),
+        Rule::Path | Rule::Value => {
+            named_path_finding(alloc, declared, keyword_of(first_word(text)), words, rule)
+        }
         _ => Ok(None),
     }
 }
@@ -76,10 +80,11 @@ fn in_yang<L: Ledger>(
     }
 }
 
-// The finding in the block of a line `template T LISTPATH N`, with the bytes behind it.
+// The finding in the block of a line `template T LISTPATH N` of this number, with the bytes behind it.
 fn in_template<L: Ledger, M: Ledger>(
     alloc: Global,
     declared: &Declared,
+    line: u64,
     words: &str,
     later: &[u8],
     steps: &mut Steps<L>,
@@ -92,22 +97,23 @@ fn in_template<L: Ledger, M: Ledger>(
         return Ok(None);
     };
     match read_path(alloc, word, work)? {
-        Some(list) => of_list(alloc, declared, &list, count, later, steps),
+        Some(list) => of_list(alloc, declared, line, &list, count, later, steps),
         None => Ok(None),
     }
 }
 
-// The finding in the block of the template of a list.
+// The finding in the block of the template of a list, below a line of this number.
 fn of_list<L: Ledger>(
     alloc: Global,
     declared: &Declared,
+    line: u64,
     list: &Path,
     count: &str,
     later: &[u8],
     steps: &mut Steps<L>,
 ) -> Result<Option<Text>, Memory> {
     match block_under(alloc, count, later, steps)? {
-        Some(text) => template_finding(alloc, text.as_slice(), &declared.data_schema, list),
+        Some(text) => template_finding(alloc, line, text.as_slice(), &declared.data_schema, list),
         None => Ok(None),
     }
 }

@@ -12,10 +12,10 @@ pub(crate) fn opening_finding(alloc: Global, declared: &Declared) -> Result<Opti
     match data_finding(
         alloc,
         schema,
-        declared.data.as_slice(),
         declared.names.as_slice(),
+        declared.data.as_slice(),
     )? {
-        Some(said) => Ok(Some(said)),
+        Some(message) => Ok(Some(message)),
         None => bases_finding(
             alloc,
             declared.schemas.as_slice(),
@@ -33,29 +33,18 @@ fn bases_finding(
     plain: &Schema,
 ) -> Result<Option<Text>, Memory> {
     for device in devices {
-        if let Some(said) = finding_of(alloc, device, schema_in(schemas, device.schema, plain))? {
-            return Ok(Some(said));
+        let schema = schema_in(schemas, device.schema, plain);
+        if let Some(message) = base_finding(alloc, schema, device)? {
+            return Ok(Some(message));
         }
     }
     Ok(None)
 }
 
-// The schema of a place.
-fn schema_in<'a>(schemas: &'a [Schema], place: u32, plain: &'a Schema) -> &'a Schema {
+/// The schema of a place.
+pub(crate) fn schema_in<'a>(schemas: &'a [Schema], place: u32, plain: &'a Schema) -> &'a Schema {
     match schemas.get(place as usize) {
         Some(schema) => schema,
         None => plain,
     }
-}
-
-// What the base of a device breaks.
-fn finding_of(alloc: Global, device: &Device, schema: &Schema) -> Result<Option<Text>, Memory> {
-    base_finding(
-        alloc,
-        device.name.as_str(),
-        schema,
-        device.base.as_slice(),
-        device.max.as_slice(),
-        device.forbid.as_slice(),
-    )
 }

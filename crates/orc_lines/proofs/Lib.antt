@@ -8,6 +8,7 @@ pub mod Keywords
 pub mod Lawful
 pub mod LinesOf
 pub mod Numbers
+mod NumberedNames
 mod RepeatedNames
 pub mod Rules
 pub mod SchemaPlaces

@@ -1,26 +1,56 @@
-//! Names in the order in which they came, each found by a look-up.
+//! Names in the order in which they came. However they are chosen, one is found in time that grows with the logarithm
+//! of how many there are.
 ghost use Rattle.std.specs.Prelude.{◌≡◌, ◌++◌, ◌∷◌, [], false, length, IfOk, IfSome, OnOk, ◌<◌};
 ghost use Rattle.orc_lines.specs.Names.{is_among, place_of, repeats, with_name};
+ghost use Rattle.orc_lines.specs.inside.Numbered.{HasPlaces};
 ghost use Rattle.std.specs.List.{IsDistinct};
 ghost use Rattle.orc_state.specs.States.{is_same_text};
 
-use indexmap::IndexSet;
 use orc_text::{Memory, Text};
 use std::alloc::Global;
+use std::collections::BTreeMap;
 use std::marker::Model;
 
 /// Names, of which no two are equal, numbered from 0 in the order in which they came.
+/// Beside them stands the number of each, in the order of the names.
 #[derive(Drop)]
 pub struct Names {
-    names: IndexSet<Text>,
+    names: Vec<Text>,
+    places: BTreeMap<Text, usize>,
 }
 
 impl Model for Names {
     ghost use Rattle.std.specs.Prelude.{List, ℕ};
+    ghost use Rattle.orc_lines.specs.inside.Numbered.{HasPlaces};
 
     ghost Value = { List (List ℕ) };
 
-    ghost view = { λ names. names.names.keys };
+    ghost view = { λ all. all.names.items };
+
+    ghost invariant = { λ all. HasPlaces all.places all.names.items };
+}
+
+// Adds a name behind the others, among which it isn't. After want of memory all is as it was.
+fn put_behind(
+    names: &mut Vec<Text>,
+    places: &mut BTreeMap<Text, usize>,
+    name: Text,
+) -> Result<(), Memory>
+    requires has { HasPlaces places.old names.old.items }
+    requires new { is_among names.old.items name ≡ false }
+    ensures has { HasPlaces places.new names.new.items }
+    ensures ok { OnOk result (names.new.items ≡ names.old.items ++ name ∷ []) }
+{
+    let alloc = *names.allocator();
+    let place = names.len();
+    names.push(name.copy(alloc)?)?;
+    match places.insert(name, place) {
+        Ok(_) => Ok(()),
+        Err(_) => {
+            names.pop();
+            Err(Memory)
+        }
+    }
 }
 
 impl Names {
@@ -29,7 +59,8 @@ impl Names {
         ensures { result ≡ [] }
     {
         Names {
-            names: IndexSet::new(alloc),
+            names: Vec::new(alloc),
+            places: BTreeMap::new(alloc),
         }
     }
 
@@ -53,22 +84,24 @@ impl Names {
         ensures place { result ≡ place_of self.now name.now }
         ensures within { IfSome result (λ n. n < length self.now) }
     {
-        self.names.get_index_of(name)
+        self.places.get(name).copied()
     }
 
     /// Whether a name is among them.
     pub fn has(&self, name: &Text) -> bool
         ensures { result ≡ is_among self.now name.now }
     {
-        self.names.contains(name)
+        self.place(name).is_some()
     }
 
     /// Adds a name behind the others where it is new.
     pub fn add(&mut self, name: Text) -> Result<(), Memory>
         ensures { OnOk result (self.new ≡ with_name self.old name) }
     {
-        self.names.insert(name)?;
-        Ok(())
+        if self.has(&name) {
+            return Ok(());
+        }
+        put_behind(&mut self.names, &mut self.places, name)
     }
 }
 

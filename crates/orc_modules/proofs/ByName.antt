@@ -4,9 +4,11 @@ use Rattle.std.specs.Prelude.{drop, Option, Some, None, option_map}
 use Rattle.std.specs.List.{find}
 use Rattle.std.specs.Option.{option_or}
 use Rattle.std.specs.Str.{bytes_eq}
+use Rattle.std.specs.Cmp.Lexicographic.{slice_cmp}
 use Rattle.std.specs.Cmp.Lexicographic as lexicographic
 use Rattle.std.proofs.lemmas.List.{drop_more}
-use Rattle.indexmap.specs.IndexMap.{IndexMap, get_by}
+use Rattle.std.specs.Ordering.{nat_cmp}
+use Rattle.std.specs.BTreeMap.{BTreeMap, get_by}
 use denote.Ref.{Bor}
 use Rattle.orc_value.specs.Canon.{same_text}
 use Rattle.orc_yang.specs.declared.statement.Stmt.{Stmt}
@@ -18,10 +20,10 @@ abbrev pub lent : Option (Bor Stmt) → Option Stmt
 lent o = option_map (λ s. s.now) o
 
 -- what is under a name, once something was put under one
-pub under : {S : Type 0} (old new : IndexMap (Bor (List ℕ)) (Bor Stmt) S) (name q : List ℕ) (s : Bor Stmt)
-    → get_by (λ k. bytes_eq q k.now) new ≡ cond (bytes_eq name q) (Some s) (get_by (λ k. bytes_eq q k.now) old)
+pub under : (old new : BTreeMap (Bor (List ℕ)) (Bor Stmt)) (name q : List ℕ) (s : Bor Stmt)
+    → get_by (λ k. slice_cmp nat_cmp q k.now) new ≡ cond (bytes_eq name q) (Some s) (get_by (λ k. slice_cmp nat_cmp q k.now) old)
     → by_name new q ≡ cond (same_text name q) (Some s.now) (by_name old q)
-under old new name q s put = ap lent put ∙ by (bytes_eq name q) (get_by (λ k. bytes_eq q k.now) old)
+under old new name q s put = ap lent put ∙ by (bytes_eq name q) (get_by (λ k. slice_cmp nat_cmp q k.now) old)
   where
     by : (b : Bool) (o : Option (Bor Stmt)) → lent (cond b (Some s) o) ≡ cond b (Some s.now) (lent o)
     by true o = refl

@@ -14,9 +14,9 @@ use Rattle.orc_modules.specs.declared.parts.Part.{Part}
 use Rattle.orc_modules.specs.declared.parts.Part.TheVariants.{Node as node, Uses as uses, Nothing as nothing}
 use Rattle.orc_modules.specs.Bare.{brings_in, brings_at, may_bring}
 use Rattle.orc_modules.specs.Children.{block_part, grouping}
-use Rattle.orc_modules.specs.Scopes.{Found, prefix_of, in_block_of, in_scope, behind_prefix, imported, is_own, module_around, meaning, plain_name}
-use Rattle.orc_modules.specs.Statements.{defines}
-use Rattle.orc_modules.specs.inside.Beside.{beside, beside_brings}
+use Rattle.orc_modules.specs.Scopes.{Found, in_block_of, in_scope, behind_prefix, imported, is_own, outermost, module_around, meaning, plain_name}
+use Rattle.orc_modules.specs.Statements.{defines, sub_text}
+use Rattle.orc_modules.specs.inside.Beside.{beside, beside_brings, is_near, is_local}
 use Rattle.orc_modules.specs.inside.Shallow.{AreShallow, is_at_most, is_shallow_use, is_shallow_part}
 use Rattle.orc_modules.proofs.Barren.{first_of_and, rest_of_and, deep_too}
 
@@ -28,83 +28,96 @@ none_of : {X : Type 0} (o : Option X) → is_some o ≡ false → o ≡ None
 none_of None h = refl
 none_of (Some x) h = absurd (false≢true (sym h))
 
-no_colon : (text : List ℕ) → is_some (prefix_of text) ≡ false → is_some (position is_colon text) ≡ false
-no_colon text h = on (is_some (position is_colon text)) refl
-  where
-    on : (b : Bool) → is_some (position is_colon text) ≡ b → is_some (position is_colon text) ≡ false
-    on false is = is
-    on true is = absurd (false≢true (sym h ∙ ap (λ b. is_some (if b then Some (before_first is_colon text) else None)) is))
-
 -- a definition of a block
 abbrev at_block : Stmt → List Stmt → Stmt → Found
 at_block s above d = record { above = s ∷ above; here = d }
 
--- the grouping that a `uses` of g names, where g has none of this name
-names-beside : (modules above : List Stmt) (here g t h : Stmt) → is_some (position is_colon (argument t)) ≡ false
-    → find (defines (codes "grouping") (argument t)) (subs g) ≡ None → find (defines (codes "grouping") (argument t)) (subs here) ≡ Some h
+-- the grouping that a `uses` of g names, where g has none of this name and its prefix is no other module's
+names-beside : (modules above : List Stmt) (here g t h : Stmt) → is_near (sub_text (codes "prefix") (outermost here above)) (argument t) ≡ true
+    → find (defines (codes "grouping") (plain_name (argument t))) (subs g) ≡ None → find (defines (codes "grouping") (plain_name (argument t))) (subs here) ≡ Some h
     → grouping modules (g ∷ here ∷ above) t ≡ Some (record { above = here ∷ above; here = h })
-names-beside modules above here g t h plain own is =
-    ap (λ b. if b then option_and_then (behind_prefix modules (codes "grouping") (before_first is_colon (argument t)) (after_first is_colon (argument t)) (g ∷ here ∷ above)) (module_around (g ∷ here ∷ above))
-    else in_scope (codes "grouping") (argument t) (g ∷ here ∷ above)) plain
-    ∙ ap (λ o. option_or (option_map (at_block g (here ∷ above)) o) (in_scope (codes "grouping") (argument t) (here ∷ above))) own
-    ∙ ap (λ o. option_or (option_map (at_block here above) o) (in_scope (codes "grouping") (argument t) above)) is
+names-beside modules above here g t h near own is = on (is_some (position is_colon (argument t))) near own is
+  where
+    scoped : (q : List ℕ) → find (defines (codes "grouping") q) (subs g) ≡ None → find (defines (codes "grouping") q) (subs here) ≡ Some h
+        → in_scope (codes "grouping") q (g ∷ here ∷ above) ≡ Some (at_block here above h)
+    scoped q own is = ap (λ o. option_or (option_map (at_block g (here ∷ above)) o) (in_scope (codes "grouping") q (here ∷ above))) own
+        ∙ ap (λ o. option_or (option_map (at_block here above) o) (in_scope (codes "grouping") q above)) is
+
+    on : (b : Bool) → option_map_or (same_text (sub_text (codes "prefix") (outermost here above))) (if b then Some (before_first is_colon (argument t)) else None) true ≡ true
+        → find (defines (codes "grouping") (if b then after_first is_colon (argument t) else argument t)) (subs g) ≡ None
+        → find (defines (codes "grouping") (if b then after_first is_colon (argument t) else argument t)) (subs here) ≡ Some h
+        → (if b then option_and_then (behind_prefix modules (codes "grouping") (before_first is_colon (argument t)) (after_first is_colon (argument t)) (g ∷ here ∷ above)) (module_around (g ∷ here ∷ above))
+        else in_scope (codes "grouping") (argument t) (g ∷ here ∷ above)) ≡ Some (at_block here above h)
+    on true near own is = ap (λ b. if b then in_scope (codes "grouping") (after_first is_colon (argument t)) (g ∷ here ∷ above)
+        else option_and_then (λ other. in_block_of (codes "grouping") (after_first is_colon (argument t)) other []) (imported modules (before_first is_colon (argument t)) (outermost here above))) near
+        ∙ scoped (after_first is_colon (argument t)) own is
+    on false near own is = scoped (argument t) own is
+
+-- the same of whatever block is around
+pub names-neighbour : (modules above : List Stmt) (here t h : Stmt) → is_local above (argument t) ≡ true
+    → find (defines (codes "grouping") (plain_name (argument t))) (subs here) ≡ None → beside above (plain_name (argument t)) ≡ Some h
+    → grouping modules (here ∷ above) t ≡ Some (record { above = above; here = h })
+names-neighbour modules [] here t h near own is = absurd (none-some h is)
+names-neighbour modules (s ∷ above) here t h near own is = names-beside modules above s here t h near own is
 
 module _ (here : Stmt) (depths : List ℕ → Option ℕ) (known : AreShallow here depths) (g : Stmt) (own : List ℕ → Option Stmt)
-    (owns : (q : List ℕ) → own q ≡ find (defines (codes "grouping") q) (subs g)) (n : ℕ) (modules above : List Stmt) where
+    (owns : (q : List ℕ) → own q ≡ find (defines (codes "grouping") q) (subs g)) (n : ℕ) (modules : List Stmt) where
   -- a grouping of the block, of which it is known
-  beside-bare : (t : Stmt) (d : ℕ) (o : Option Stmt) → find (defines (codes "grouping") (argument t)) (subs here) ≡ o
-      → option_map_or (λ h. may_bring d modules (h ∷ here ∷ above) h) o true ≡ false → nat_le d n ≡ true
-      → is_some (position is_colon (argument t)) ≡ false → find (defines (codes "grouping") (argument t)) (subs g) ≡ None
-      → option_map_or (brings_in (may_bring n modules)) (grouping modules (g ∷ here ∷ above) t) true ≡ false
-  beside-bare t d None is bare le plain none = absurd (false≢true (sym bare))
-  beside-bare t d (Some h) is bare le plain none = ap (λ o. option_map_or (brings_in (may_bring n modules)) o true) (names-beside modules above here g t h plain none is)
-      ∙ deep_too modules d n (h ∷ here ∷ above) h le bare
+  beside-bare : (t : Stmt) (d : ℕ) (o : Option Stmt) → find (defines (codes "grouping") (plain_name (argument t))) (subs here) ≡ o
+      → option_map_or (λ h. may_bring d modules (h ∷ here ∷ []) h) o true ≡ false → nat_le d n ≡ true
+      → is_near (sub_text (codes "prefix") here) (argument t) ≡ true → find (defines (codes "grouping") (plain_name (argument t))) (subs g) ≡ None
+      → option_map_or (brings_in (may_bring n modules)) (grouping modules (g ∷ here ∷ []) t) true ≡ false
+  beside-bare t d None is bare le near none = absurd (false≢true (sym bare))
+  beside-bare t d (Some h) is bare le near none = ap (λ o. option_map_or (brings_in (may_bring n modules)) o true) (names-beside modules [] here g t h near none is)
+      ∙ deep_too modules d n (h ∷ here ∷ []) h le bare
 
-  use-bare : (t : Stmt) → is_shallow_use own depths n t ≡ true → option_map_or (brings_in (may_bring n modules)) (grouping modules (g ∷ here ∷ above) t) true ≡ false
+  use-bare : (t : Stmt) → is_shallow_use (sub_text (codes "prefix") here) own depths n t ≡ true → option_map_or (brings_in (may_bring n modules)) (grouping modules (g ∷ here ∷ []) t) true ≡ false
   use-bare t is =
-      let one : Bool = not (is_some (prefix_of (argument t))) in
-      let two : Bool = not (is_some (own (argument t))) in
-      let both : (one && two) ≡ true = first_of_and (one && two) (is_at_most n (depths (argument t))) is in
-      let plain : is_some (position is_colon (argument t)) ≡ false = no_colon (argument t) (not_true (is_some (prefix_of (argument t))) (first_of_and one two both)) in
-      let none : find (defines (codes "grouping") (argument t)) (subs g) ≡ None = sym (owns (argument t)) ∙ none_of (own (argument t)) (not_true (is_some (own (argument t))) (rest_of_and one two both)) in
-      on (depths (argument t)) refl plain none (rest_of_and (one && two) (is_at_most n (depths (argument t))) is)
+      let name : List ℕ = plain_name (argument t) in
+      let one : Bool = is_near (sub_text (codes "prefix") here) (argument t) in
+      let two : Bool = not (is_some (own name)) in
+      let both : (one && two) ≡ true = first_of_and (one && two) (is_at_most n (depths name)) is in
+      let none : find (defines (codes "grouping") name) (subs g) ≡ None = sym (owns name) ∙ none_of (own name) (not_true (is_some (own name)) (rest_of_and one two both)) in
+      on (depths name) refl (first_of_and one two both) none (rest_of_and (one && two) (is_at_most n (depths name)) is)
     where
-      on : (o : Option ℕ) → depths (argument t) ≡ o → is_some (position is_colon (argument t)) ≡ false → find (defines (codes "grouping") (argument t)) (subs g) ≡ None
-          → is_at_most n o ≡ true → option_map_or (brings_in (may_bring n modules)) (grouping modules (g ∷ here ∷ above) t) true ≡ false
-      on None at plain none le = absurd (false≢true le)
-      on (Some d) at plain none le = beside-bare t d (find (defines (codes "grouping") (argument t)) (subs here)) refl (known (argument t) d at modules above) le plain none
+      on : (o : Option ℕ) → depths (plain_name (argument t)) ≡ o → is_near (sub_text (codes "prefix") here) (argument t) ≡ true
+          → find (defines (codes "grouping") (plain_name (argument t))) (subs g) ≡ None
+          → is_at_most n o ≡ true → option_map_or (brings_in (may_bring n modules)) (grouping modules (g ∷ here ∷ []) t) true ≡ false
+      on None at near none le = absurd (false≢true le)
+      on (Some d) at near none le = beside-bare t d (find (defines (codes "grouping") (plain_name (argument t))) (subs here)) refl (known (plain_name (argument t)) d at modules) le near none
 
-  part-bare : (t : Stmt) (p : Part) → is_shallow_part own depths n t p ≡ true → brings_at (may_bring n modules) modules (g ∷ here ∷ above) t p ≡ false
+  part-bare : (t : Stmt) (p : Part) → is_shallow_part (sub_text (codes "prefix") here) own depths n t p ≡ true → brings_at (may_bring n modules) modules (g ∷ here ∷ []) t p ≡ false
   part-bare t node is = absurd (false≢true is)
   part-bare t uses is = use-bare t is
   part-bare t nothing is = refl
 
-  all-bare : (ss : List Stmt) → list_all (λ t. is_shallow_part own depths n t (block_part t)) ss ≡ true
-      → list_any (λ t. brings_at (may_bring n modules) modules (g ∷ here ∷ above) t (block_part t)) ss ≡ false
+  all-bare : (ss : List Stmt) → list_all (λ t. is_shallow_part (sub_text (codes "prefix") here) own depths n t (block_part t)) ss ≡ true
+      → list_any (λ t. brings_at (may_bring n modules) modules (g ∷ here ∷ []) t (block_part t)) ss ≡ false
   all-bare [] is = refl
   all-bare (t ∷ ts) is =
-      let rest : Bool = list_all (λ u. is_shallow_part own depths n u (block_part u)) ts in
-      ap (λ b. b || list_any (λ u. brings_at (may_bring n modules) modules (g ∷ here ∷ above) u (block_part u)) ts) (part-bare t (block_part t) (first_of_and (is_shallow_part own depths n t (block_part t)) rest is))
-      ∙ all-bare ts (rest_of_and (is_shallow_part own depths n t (block_part t)) rest is)
+      let one : Bool = is_shallow_part (sub_text (codes "prefix") here) own depths n t (block_part t) in
+      let rest : Bool = list_all (λ u. is_shallow_part (sub_text (codes "prefix") here) own depths n u (block_part u)) ts in
+      ap (λ b. b || list_any (λ u. brings_at (may_bring n modules) modules (g ∷ here ∷ []) u (block_part u)) ts) (part-bare t (block_part t) (first_of_and one rest is))
+      ∙ all-bare ts (rest_of_and one rest is)
 
 -- one grouping more of which it is known
 pub known-more : (here g : Stmt) (old new : List ℕ → Option ℕ) (own : List ℕ → Option Stmt) (name : List ℕ) (n m : ℕ) → AreShallow here old
     → find (defines (codes "grouping") name) (subs here) ≡ Some g
     → ((q : List ℕ) → own q ≡ find (defines (codes "grouping") q) (subs g))
-    → list_all (λ t. is_shallow_part own old n t (block_part t)) (subs g) ≡ true → m ≡ suc n
+    → list_all (λ t. is_shallow_part (sub_text (codes "prefix") here) own old n t (block_part t)) (subs g) ≡ true → m ≡ suc n
     → ((q : List ℕ) → new q ≡ cond (same_text name q) (Some m) (old q)) → AreShallow here new
-known-more here g old new own name n m known named owns all more puts = λ q d is modules above. by q d is modules above (same_text name q) refl
+known-more here g old new own name n m known named owns all more puts = λ q d is modules. by q d is modules (same_text name q) refl
   where
-    by : (q : List ℕ) (d : ℕ) → new q ≡ Some d → (modules above : List Stmt) (b : Bool) → same_text name q ≡ b → beside_brings d modules (here ∷ above) q ≡ false
-    by q d is modules above false other = known q d (sym (puts q ∙ ap (λ b. cond b (Some m) (old q)) other) ∙ is) modules above
-    by q d is modules above true same =
+    by : (q : List ℕ) (d : ℕ) → new q ≡ Some d → (modules : List Stmt) (b : Bool) → same_text name q ≡ b → beside_brings d modules (here ∷ []) q ≡ false
+    by q d is modules false other = known q d (sym (puts q ∙ ap (λ b. cond b (Some m) (old q)) other) ∙ is) modules
+    by q d is modules true same =
         let named_so : name ≡ q = (bytes_decides name q).0 same in
         let deep : m ≡ d = same_Some m d (sym (puts q ∙ ap (λ b. cond b (Some m) (old q)) same) ∙ is) in
         let there : find (defines (codes "grouping") q) (subs here) ≡ Some g = sym (ap (λ x. find (defines (codes "grouping") x) (subs here)) named_so) ∙ named in
         let depth : d ≡ suc n = sym deep ∙ more in
-        ap (λ o. option_map_or (λ h. may_bring d modules (h ∷ here ∷ above) h) o true) there
-        ∙ ap (λ k. may_bring k modules (g ∷ here ∷ above) g) depth
-        ∙ all-bare here old known g own owns n modules above (subs g) all
+        ap (λ o. option_map_or (λ h. may_bring d modules (h ∷ here ∷ []) h) o true) there
+        ∙ ap (λ k. may_bring k modules (g ∷ here ∷ []) g) depth
+        ∙ all-bare here old known g own owns n modules (subs g) all
 
 -- what follows of a clause at Ok
 pub on_ok : {X E : Type 0} (P Q : Type 0) → (P → Q) → (r : Result X E) → OnOk r P → OnOk r Q

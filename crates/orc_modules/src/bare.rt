@@ -4,15 +4,17 @@ ghost use Rattle.std.specs.List.{list_any};
 ghost use Rattle.orc_types.specs.Statements.{argument};
 ghost use Rattle.orc_modules.specs.Bare.{may_bring, Brings};
 ghost use Rattle.orc_modules.specs.Children.{grouping};
+ghost use Rattle.orc_modules.specs.Scopes.{plain_name};
 ghost use Rattle.orc_modules.specs.Stack.{stack, found};
 ghost use Rattle.orc_modules.specs.inside.Beside.{beside, beside_brings};
 ghost use Rattle.orc_modules.specs.inside.Known.{AreBare, is_known};
 
+use crate::block::Block;
 use crate::looked::looks_below;
 use crate::looks::Looks;
 use crate::parts::{Part, block_part, grouping};
 use crate::place::Modules;
-use crate::scope::{Above, Found, definition, plain_name, prefix_of};
+use crate::scope::{Above, Found, definition, is_local, plain_name};
 use orc_text::Memory;
 use orc_types::{argument, has};
 use orc_yang::Stmt;
@@ -47,18 +49,20 @@ fn neighbour<'a, 'm>(
     here: &Stmt,
     stmt: &Stmt,
 ) -> Option<&'a Stmt>
-    ensures beside { IfSome result (λ next. beside (stack above.now) (argument stmt.now) ≡ Some next.now) }
+    ensures beside { IfSome result (λ next.
+        beside (stack above.now) (plain_name (argument stmt.now)) ≡ Some next.now) }
     ensures means { IfSome result (λ next. (modules : List Stmt)
         → grouping modules (here.now ∷ stack above.now) stmt.now
         ≡ Some (record { above = stack above.now; here = next.now })) }
 {
-    if prefix_of(argument(stmt)).is_some() {
+    if !is_local(looks, argument(stmt), above) {
         return None;
     }
-    if definition(looks, "grouping", argument(stmt), here.subs.as_slice()).is_some() {
+    let name = plain_name(argument(stmt));
+    if definition(looks, "grouping", name, here.subs.as_slice()).is_some() {
         return None;
     }
-    beside(looks, above, argument(stmt))
+    beside(looks, above, name)
 }
 
 // Whether it is known of the grouping of this name.
@@ -105,7 +109,7 @@ fn is_bare<'a, 'm>(
                     depth - 1,
                     &*modules,
                     above,
-                    argument(sub),
+                    plain_name(argument(sub)),
                     next,
                     known,
                 )? {
@@ -149,14 +153,37 @@ fn is_bare_named<'a, 'm>(
     }
 }
 
-// Whether the block around keeps what is known of its groupings.
+// Whether nothing is around.
+fn is_top(above: &Above<'_, '_>) -> bool
+    ensures { result ≡ true → stack above.now ≡ [] }
+{
+    match above {
+        Above::Top => true,
+        Above::Module(_) => false,
+        Above::Under(_, _) => false,
+        Above::Indexed(_, _) => false,
+    }
+}
+
+// Whether the block around is a module's own and keeps what is known of its groupings.
 fn is_indexed(above: &Above<'_, '_>) -> bool {
     match above {
         Above::Top => false,
         Above::Module(_) => false,
         Above::Under(_, _) => false,
-        Above::Indexed(_, _) => true,
+        Above::Indexed(_, outer) => is_top(*outer),
     }
+}
+
+// Through how many groupings at most the one of this name in a module's own block is known to bring nothing.
+fn depth_in_module(block: &Block<'_>, outer: &Above<'_, '_>, name: &str) -> Option<usize>
+    ensures { IfSome result (λ d. (modules : List Stmt)
+        → beside_brings d modules (block.now ∷ stack outer.now) name.now ≡ false) }
+{
+    if is_top(outer) {
+        return block.depth(name);
+    }
+    None
 }
 
 // Through how many groupings at most the one of this name in the innermost block is known to bring nothing.
@@ -168,7 +195,7 @@ fn depth_beside(above: &Above<'_, '_>, name: &str) -> Option<usize>
         Above::Top => None,
         Above::Module(_) => None,
         Above::Under(_, _) => None,
-        Above::Indexed(block, _) => block.depth(name),
+        Above::Indexed(block, outer) => depth_in_module(block, *outer, name),
     }
 }
 

@@ -1,5 +1,5 @@
 //! A statement with the definitions of its block, found by their names.
-ghost use Rattle.std.specs.Prelude.{◌≡◌, ◌∷◌, List, codes, false, IfOk, IfSome, option_map};
+ghost use Rattle.std.specs.Prelude.{◌≡◌, ◌∷◌, [], List, codes, false, IfOk, IfSome, option_map};
 ghost use Rattle.std.specs.List.{find};
 ghost use Rattle.orc_types.specs.Statements.{subs};
 ghost use Rattle.orc_modules.specs.Statements.{defines};
@@ -8,10 +8,10 @@ ghost use Rattle.orc_modules.specs.inside.Beside.{beside_brings};
 use crate::firsts::{named, names_of};
 use crate::scope::first_defined;
 use crate::shallow::{depth_of, depths_of};
-use indexmap::IndexMap;
 use orc_text::Memory;
 use orc_yang::Stmt;
 use std::alloc::Global;
+use std::collections::BTreeMap;
 use std::marker::Model;
 
 /// A statement, with the first typedef and the first grouping of each name in its block, and which
@@ -19,9 +19,9 @@ use std::marker::Model;
 #[derive(Drop)]
 pub struct Block<'m> {
     here: &'m Stmt,
-    typedefs: IndexMap<&'m str, &'m Stmt>,
-    groupings: IndexMap<&'m str, &'m Stmt>,
-    depths: IndexMap<&'m str, usize>,
+    typedefs: BTreeMap<&'m str, &'m Stmt>,
+    groupings: BTreeMap<&'m str, &'m Stmt>,
+    depths: BTreeMap<&'m str, usize>,
 }
 
 impl<'m> Model for Block<'m> {
@@ -91,11 +91,11 @@ impl<'m> Block<'m> {
         first_defined(keyword, name, self.here.subs.as_slice())
     }
 
-    /// Through how many groupings at most the grouping of this name brings nothing, whatever is around
-    /// the block, where that is known.
+    /// Through how many groupings at most the grouping of this name brings nothing, where the block is a
+    /// module's own and that is known.
     pub(crate) fn depth(&self, name: &str) -> Option<usize>
-        ensures { IfSome result (λ d. (modules above : List Stmt)
-            → beside_brings d modules (self.now ∷ above) name.now ≡ false) }
+        ensures { IfSome result (λ d. (modules : List Stmt)
+            → beside_brings d modules (self.now ∷ []) name.now ≡ false) }
     {
         depth_of(&self.depths, name)
     }

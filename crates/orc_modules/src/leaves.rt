@@ -138,6 +138,7 @@ fn leaf_in_block<'a, 'm>(
                 }
             },
             Part::Uses => {
+                modules.looks.visit(1)?;
                 if let Some(found) = grouping(&*modules, at.above, stmt) {
                     match leaf_of_grouping(alloc, &*modules, name, &found)? {
                         Some(typed) => return Ok(Some(typed)),

@@ -28,7 +28,7 @@ pub use base::{base_of, takes_type, type_at, type_in};
 pub use block::Block;
 pub use deep::{is_too_deep, leads_past};
 pub use leaves::leaf_type;
-pub use looked::{looked_at, looks_below, text_looks, type_looks};
+pub use looked::{looked_at, looks_below, text_looks, text_weight, type_looks};
 pub use looks::Looks;
 pub use loops::{is_type_loop, is_uses_loop};
 pub use meant::{Meant, Named, Typed};

@@ -9,12 +9,20 @@ const PART: usize = 4;
 // So many bytes of a text are as much as a statement that is read.
 const BYTES: usize = 16;
 
+// So many bytes of a text are kept as one text.
+const KEPT: usize = 64;
+
 // Names are that long at most.
 const NAME: usize = 64;
 
 /// How much a text is.
 pub fn text_looks(text: &str) -> usize {
     text.len() / BYTES
+}
+
+/// How much it is to keep a text: one, and one more for each 64 bytes.
+pub fn text_weight(text: &str) -> usize {
+    text.len() / KEPT + 1
 }
 
 // How much the argument of a statement is, where it is read.

@@ -1,4 +1,4 @@
-//! How much the build of one schema may look at.
+//! How much the build of one schema may look at, and where it stands.
 
 use orc_text::Memory;
 use std::cell::Cell;
@@ -12,10 +12,15 @@ const MAX_TEXTS: u64 = 20_000_000;
 
 /// What the build of one schema may still look at, and how many texts it may still keep. It bounds
 /// time and memory alone: where nothing is left the build wants memory, and no clause speaks of it.
+/// It also says where the build stands, so that behind a fault its place can be told: no clause
+/// speaks of that either.
 #[derive(Drop)]
 pub struct Looks {
     looks: Cell<u64>,
     texts: Cell<u64>,
+    module: Cell<usize>,
+    at: Cell<u64>,
+    node: Cell<Option<usize>>,
 }
 
 // Takes so much of what is left, or all of it.
@@ -38,6 +43,9 @@ impl Looks {
         Looks {
             looks: Cell::new(MAX_LOOKS),
             texts: Cell::new(MAX_TEXTS),
+            module: Cell::new(0),
+            at: Cell::new(0),
+            node: Cell::new(None),
         }
     }
 
@@ -54,5 +62,41 @@ impl Looks {
     /// So many texts are kept. It wants memory where no more may be.
     pub fn keep(&self, texts: usize) -> Result<(), Memory> {
         spend(&self.texts, texts as u64)
+    }
+
+    /// The walk over the statements goes into the module of this number, from 0 in the order given.
+    pub fn enter(&self, module: usize) {
+        self.module.set(module);
+        self.node.set(None);
+    }
+
+    /// It stands at the statement of this module whose `at` this is.
+    pub fn stand_at(&self, at: u64) {
+        self.at.set(at);
+    }
+
+    /// The walk over the nodes, behind that over the statements, goes to the next one.
+    pub fn go_on(&self) {
+        self.node.set(match self.node.get() {
+            Some(node) => Some(node.saturating_add(1)),
+            None => Some(0),
+        });
+    }
+
+    /// The number of the module in which the walk over the statements stands, from 0 in the order
+    /// given.
+    pub fn module(&self) -> usize {
+        self.module.get()
+    }
+
+    /// The place of the statement at which it stands, in bytes from the beginning of the module's text.
+    pub fn at(&self) -> u64 {
+        self.at.get()
+    }
+
+    /// The number of the node at which the walk over the nodes stands, from 0 in the order in which the
+    /// modules define them, and none before that walk.
+    pub fn node(&self) -> Option<usize> {
+        self.node.get()
     }
 }

@@ -35,7 +35,8 @@ pub struct Typed {
 }
 
 impl Named {
-    /// How many texts and ranges it has, which each type that names it copies, and how long these texts are.
+    /// How many texts and ranges it has, which each type that names it copies, and how long these texts
+    /// are. Names of an enumeration count as four where there is a default.
     pub fn weight(&self) -> usize {
         match self {
             Named::Means(meant) => base_weight(&meant.base).saturating_add(default_weight(meant)),
@@ -69,9 +70,17 @@ fn names_weight(names: &[EnumName]) -> usize {
     weight
 }
 
+// Three more for each name: a default is looked for in the set of the names, which is made for it.
+fn set_weight(base: &Base) -> usize {
+    match base {
+        Base::Known(LeafType::Enum(names)) => names.as_slice().len().saturating_mul(3),
+        Base::Known(_) | Base::Decimal64 | Base::Enumeration | Base::Leafref => 0,
+    }
+}
+
 fn default_weight(meant: &Meant) -> usize {
     match &meant.default {
-        Some(text) => text_looks(text.as_str()),
+        Some(text) => text_looks(text.as_str()).saturating_add(set_weight(&meant.base)),
         None => 0,
     }
 }

@@ -4,6 +4,7 @@ ghost use Rattle.std.specs.List.{list_any, sum_by};
 ghost use Rattle.orc_types.specs.Statements.{keyword, subs};
 ghost use Rattle.orc_modules.specs.Statements.{word, is_data, may_lead, leaders};
 
+use crate::looks::Looks;
 use crate::word::{Word, word_of};
 use orc_text::Memory;
 use orc_types::is_a;
@@ -57,24 +58,25 @@ pub(crate) fn added(one: usize, other: usize) -> Result<usize, Memory>
     }
 }
 
-// How many such statements this one is and has in it.
-fn leaders(stmt: &Stmt) -> Result<usize, Memory>
+// How many such statements this one is and has in it, with the look at each counted.
+fn leaders(looks: &Looks, stmt: &Stmt) -> Result<usize, Memory>
     ensures { IfOk result (λ count. count ≡ leaders stmt.now) }
 {
+    looks.visit(1)?;
     let mut below: usize = 0;
     for sub in stmt.subs.as_slice() {
-        below = added(below, leaders(sub)?)?;
+        below = added(below, leaders(looks, sub)?)?;
     }
     added(below, own_count(stmt))
 }
 
 /// How many of them modules have.
-pub(crate) fn all_leaders(modules: &[Stmt]) -> Result<usize, Memory>
+pub(crate) fn all_leaders(looks: &Looks, modules: &[Stmt]) -> Result<usize, Memory>
     ensures { IfOk result (λ count. count ≡ sum_by leaders modules.now) }
 {
     let mut count: usize = 0;
     for stmt in modules {
-        count = added(count, leaders(stmt)?)?;
+        count = added(count, leaders(looks, stmt)?)?;
     }
     Ok(count)
 }

@@ -7,7 +7,7 @@ ghost use Rattle.orc_modules.specs.Stack.{stack, found};
 
 use crate::bare::bringer;
 use crate::deep::is_deeper;
-use crate::looked::looked_at;
+use crate::looked::{looked_at, text_weight};
 use crate::parts::{Part, block_part, grouping};
 use crate::place::Modules;
 use crate::scope::{Above, Found, Site};
@@ -53,6 +53,7 @@ fn push_brought<'a, 'm>(
     for stmt in block {
         match block_part(stmt) {
             Part::Node => {
+                modules.looks.keep(text_weight(argument(stmt)))?;
                 out.push(Text::from_str(alloc, argument(stmt))?)?;
             },
             Part::Uses => {
@@ -124,6 +125,7 @@ pub fn child_names<'a, 'm>(
         match block_part(stmt) {
             Part::Node => out.push(Text::from_str(alloc, argument(stmt))?)?,
             Part::Uses => {
+                modules.looks.visit(1)?;
                 if let Some(found) = grouping(&*modules, above, stmt) {
                     push_grouping(alloc, &*modules, &found, &mut out)?;
                 }

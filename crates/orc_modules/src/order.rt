@@ -1,11 +1,12 @@
 //! The groupings of a block in an order in which each comes behind those that it uses.
 
 use crate::parts::{Part, block_part};
-use indexmap::IndexMap;
+use crate::scope::{is_near, plain_name};
 use orc_text::{Memory, Row};
 use orc_types::{argument, is_a};
 use orc_yang::Stmt;
 use std::alloc::Global;
+use std::collections::BTreeMap;
 
 // The groupings of a block: their names, which use each, and how many of those that each uses are still to come.
 #[derive(Drop)]
@@ -19,7 +20,7 @@ struct Users<'m> {
 fn add_grouping<'m>(
     alloc: Global,
     stmt: &'m Stmt,
-    places: &mut IndexMap<&'m str, usize>,
+    places: &mut BTreeMap<&'m str, usize>,
     found: &mut Users<'m>,
 ) -> Result<(), Memory> {
     let name = argument(stmt);
@@ -44,10 +45,24 @@ fn add_use(user: usize, used: usize, found: &mut Users<'_>) -> Result<(), Memory
     Ok(())
 }
 
-// Notes what a grouping uses.
+// Notes that a grouping uses the one of this name, where the block has it.
+fn add_use_of<'m>(
+    user: usize,
+    name: &str,
+    places: &BTreeMap<&'m str, usize>,
+    found: &mut Users<'m>,
+) -> Result<(), Memory> {
+    match places.get(name).copied() {
+        Some(used) => add_use(user, used, found),
+        None => Ok(()),
+    }
+}
+
+// Notes what a grouping uses, without a prefix or with that of its module.
 fn add_uses<'m>(
+    prefix: &str,
     stmt: &'m Stmt,
-    places: &IndexMap<&'m str, usize>,
+    places: &BTreeMap<&'m str, usize>,
     found: &mut Users<'m>,
 ) -> Result<(), Memory> {
     let Some(user) = places.get(argument(stmt)).copied() else {
@@ -56,8 +71,8 @@ fn add_uses<'m>(
     for sub in stmt.subs.as_slice() {
         match block_part(sub) {
             Part::Uses => {
-                if let Some(used) = places.get(argument(sub)).copied() {
-                    add_use(user, used, found)?;
+                if is_near(prefix, argument(sub)) {
+                    add_use_of(user, plain_name(argument(sub)), places, found)?;
                 }
             },
             Part::Node => {},
@@ -68,8 +83,8 @@ fn add_uses<'m>(
 }
 
 // The groupings of a block, and which use which.
-fn users_of<'m>(alloc: Global, here: &'m Stmt) -> Result<Users<'m>, Memory> {
-    let mut places = IndexMap::new(alloc);
+fn users_of<'m>(alloc: Global, prefix: &str, here: &'m Stmt) -> Result<Users<'m>, Memory> {
+    let mut places = BTreeMap::new(alloc);
     let mut found = Users {
         names: Vec::new(alloc),
         users: Vec::new(alloc),
@@ -82,7 +97,7 @@ fn users_of<'m>(alloc: Global, here: &'m Stmt) -> Result<Users<'m>, Memory> {
     }
     for stmt in here.subs.as_slice() {
         if is_a("grouping", stmt) {
-            add_uses(stmt, &places, &mut found)?;
+            add_uses(prefix, stmt, &places, &mut found)?;
         }
     }
     Ok(found)
@@ -120,14 +135,18 @@ fn add_ready(users: &[usize], open: &mut [usize], ready: &mut Vec<usize>) -> Res
     Ok(())
 }
 
-/// The names of the groupings of a block: each comes behind those of the block that it uses. Those
-/// that lead to themselves are left out.
-pub(crate) fn order_of<'m>(alloc: Global, here: &'m Stmt) -> Result<Vec<&'m str>, Memory> {
+/// The names of the groupings of the own block of a module of this prefix: each comes behind those
+/// of the block that it uses. Those that lead to themselves are left out.
+pub(crate) fn order_of<'m>(
+    alloc: Global,
+    prefix: &str,
+    here: &'m Stmt,
+) -> Result<Vec<&'m str>, Memory> {
     let Users {
         names,
         users,
         mut open,
-    } = users_of(alloc, here)?;
+    } = users_of(alloc, prefix, here)?;
     let mut ready = first_ready(alloc, open.as_slice())?;
     let mut order = Vec::new(alloc);
     for round in 0..names.len() {

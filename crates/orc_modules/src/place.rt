@@ -29,7 +29,7 @@ impl<'a> Modules<'a> {
     pub fn of(all: &'a [Stmt], looks: &'a Looks) -> Result<Modules<'a>, Memory>
         ensures { IfOk result (λ modules. modules_of modules ≡ the_modules all.now) }
     {
-        let most = added(all_leaders(all)?, 1)?;
+        let most = added(all_leaders(looks, all)?, 1)?;
         Ok(Modules { all, most, looks })
     }
 

@@ -1,11 +1,13 @@
 //! What a name means where it stands.
-ghost use Rattle.std.specs.Prelude.{◌≡◌, List, [], IfOk, IfSome, option_map, is_some};
+ghost use Rattle.std.specs.Prelude.{◌≡◌, List, [], false, IfOk, IfSome, option_map, is_some};
 ghost use Rattle.std.specs.List.{find, position, before_first, after_first};
+ghost use Rattle.std.specs.Option.{option_map_or};
 ghost use Rattle.orc_types.specs.Paths.{is_colon};
 ghost use Rattle.orc_types.specs.Statements.{subs};
 ghost use Rattle.orc_modules.specs.Scopes.{in_block_of, in_scope, outermost, module_around, is_own, imports_as, module_called, imported, owner_of, behind_prefix, meaning, prefix_of, plain_name};
 ghost use Rattle.orc_modules.specs.Stack.{stack, found};
 ghost use Rattle.orc_modules.specs.Statements.{defines};
+ghost use Rattle.orc_modules.specs.inside.Beside.{is_near, is_local};
 
 use crate::block::Block;
 use crate::looks::Looks;
@@ -68,6 +70,16 @@ pub fn plain_name(text: &str) -> &str
     match split_name(text) {
         Some((_, name)) => name,
         None => text,
+    }
+}
+
+/// Whether a name has no prefix, or this one.
+pub(crate) fn is_near(prefix: &str, text: &str) -> bool
+    ensures { result ≡ is_near prefix.now text.now }
+{
+    match prefix_of(text) {
+        Some(own) => prefix == own,
+        None => true,
     }
 }
 
@@ -223,6 +235,29 @@ pub fn in_scope<'a, 'm>(
             }),
             None => in_scope(looks, keyword, name, *outer),
         },
+    }
+}
+
+// Whether a prefix is that of the module around, with what is looked at counted.
+fn is_own_around<'a, 'm>(looks: &Looks, prefix: &str, above: &'a Above<'a, 'm>) -> bool
+    ensures { result ≡ option_map_or (is_own prefix.now) (module_around (stack above.now)) false }
+{
+    match module_around(above) {
+        Some(around) => {
+            looks.pass(own_looked_at(around.subs.as_slice()));
+            is_own(prefix, around)
+        },
+        None => false,
+    }
+}
+
+/// Whether a name has no prefix, or that of the module around.
+pub(crate) fn is_local<'a, 'm>(looks: &Looks, text: &str, above: &'a Above<'a, 'm>) -> bool
+    ensures { result ≡ is_local (stack above.now) text.now }
+{
+    match prefix_of(text) {
+        Some(prefix) => is_own_around(looks, prefix, above),
+        None => true,
     }
 }
 

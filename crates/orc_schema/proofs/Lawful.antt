@@ -1,6 +1,6 @@
 -- The laws of specs/Laws.antt.
 use Rattle.std.proofs.Common.{◌≡◌, refl, sym, ◌∙◌, ap, subst, List, [], ◌∷◌, ◌++◌, map, ℕ, zero, suc, Bool, true, false}
-use Rattle.std.specs.Prelude.{Option, Some, None, ◌||◌}
+use Rattle.std.specs.Prelude.{Option, Some, None, ◌||◌, Contains}
 use Rattle.std.specs.Option.{option_or, option_map_or}
 use Rattle.std.specs.List.{list_any, AllByRecursion, IsDistinct}
 use Rattle.std.proofs.lemmas.Bool.{false≢true}
@@ -17,18 +17,10 @@ use Rattle.orc_statements.specs.declared.fault.SchemaFault.{SchemaFault}
 use Rattle.orc_schema.specs.declared.draft.Draft.{Draft}
 use Rattle.orc_statements.specs.Faults.{fault_here, first_some}
 use Rattle.orc_schema.specs.Drafts.{Where, drafts_below, drafts_in, drafts_at, drafts_of, draft, inside_node, in_grouping, inside_module}
-use Rattle.orc_schema.specs.Links.{names_cmp}
-use Rattle.orc_schema.specs.Laws.{AreFaultless, FirstFaultIsLeast, StandsFor, NodesStandForStatements, DepthIsNoLimit, NamesDiffer}
+use Rattle.orc_schema.specs.Links.{names_cmp, chain, node_in, link_fault}
+use Rattle.orc_schema.specs.Laws.{AreFaultless, FirstFaultIsLeast, FirstLinkFaultIsLeast, StandsIn, StandsFor, NodesStandForStatements, DepthIsNoLimit, NamesDiffer}
 use Rattle.orc_schema.proofs.Ordered.{same_is}
-
--- the first fault of a list of places, with those before it
-record First (all : List Stmt) (ps : List Place) (f : SchemaFault) : Type 0 where
-  front : List Place
-  at : Place
-  back : List Place
-  places : ps ≡ front ++ at ∷ back
-  before : AreFaultless all front
-  fault : fault_here (the_modules all) at ≡ Some f
+use Rattle.orc_schema.proofs.Standing.{contains_here, contains_there, Holds, FoundIn, StandAround, grouping_stands}
 
 is_none_type : {X : Type 0} → Option X → Type 0
 is_none_type None = Unit {0}
@@ -38,18 +30,39 @@ none_not_some : {X : Type 0} (x : X) → None ≡ Some x → ⊥
 unfolding is_none_type
 none_not_some x h = subst (λ o. is_none_type o) h tt
 
-least : (all : List Stmt) (ps : List Place) (f : SchemaFault) → first_some (fault_here (the_modules all)) ps ≡ Some f → First all ps f
-least all [] f h = absurd (none_not_some f h)
-least all (p ∷ ps) f h = on (fault_here (the_modules all) p) refl h (least all ps f)
-  where
-    on : (o : Option SchemaFault) → fault_here (the_modules all) p ≡ o → option_or o (first_some (fault_here (the_modules all)) ps) ≡ Some f
-        → (first_some (fault_here (the_modules all)) ps ≡ Some f → First all ps f) → First all (p ∷ ps) f
-    on (Some g) is h rest = record { front = []; at = p; back = ps; places = refl; before = tt; fault = is ∙ h }
-    on None is h rest = let r = rest h in record { front = p ∷ r.front; at = r.at; back = r.back; places = ap (λ l. p ∷ l) r.places; before = (is, r.before); fault = r.fault }
+-- the first fault of a list, with what stands before it
+module _ {X : Type 0} (fault_at : X → Option SchemaFault) where
+  abbrev Faultless : List X → Type 0
+  Faultless xs = AllByRecursion (λ x. fault_at x ≡ None) xs
+
+  record First (xs : List X) (f : SchemaFault) : Type 0 where
+    front : List X
+    at : X
+    back : List X
+    whole : xs ≡ front ++ at ∷ back
+    before : Faultless front
+    fault : fault_at at ≡ Some f
+
+  least : (xs : List X) (f : SchemaFault) → first_some fault_at xs ≡ Some f → First xs f
+  least [] f h = absurd (none_not_some f h)
+  least (x ∷ xs) f h = on (fault_at x) refl h (least xs f)
+    where
+      on : (o : Option SchemaFault) → fault_at x ≡ o → option_or o (first_some fault_at xs) ≡ Some f
+          → (first_some fault_at xs ≡ Some f → First xs f) → First (x ∷ xs) f
+      on (Some g) is h rest = record { front = []; at = x; back = xs; whole = refl; before = tt; fault = is ∙ h }
+      on None is h rest = let r = rest h in record { front = x ∷ r.front; at = r.at; back = r.back; whole = ap (λ l. x ∷ l) r.whole; before = (is, r.before); fault = r.fault }
+
+are_faultless : (all : List Stmt) (ps : List Place) → Faultless (fault_here (the_modules all)) ps → AreFaultless all ps
+are_faultless all [] h = tt
+are_faultless all (p ∷ ps) h = (h.0, are_faultless all ps h.1)
 
 pub first_fault_is_least : FirstFaultIsLeast
-first_fault_is_least all f h = let r = least all (module_places [] all) f h in
-    record { front = r.front; place = r.at; back = r.back; places = r.places; before = r.before; fault = r.fault }
+first_fault_is_least all f h = let r = least (fault_here (the_modules all)) (module_places [] all) f h in
+    record { front = r.front; place = r.at; back = r.back; places = r.whole; before = are_faultless all r.front r.before; fault = r.fault }
+
+pub first_link_fault_is_least : FirstLinkFaultIsLeast
+first_link_fault_is_least ds f h = let r = least (link_fault chain (node_in ds)) ds f h in
+    record { front = r.front; node = r.at; back = r.back; nodes = r.whole; before = All-from_recursion (λ d. link_fault chain (node_in ds) d ≡ None) r.front r.before; fault = r.fault }
 
 -- a deeper look finds nothing more
 module _ (n : ℕ) (ms : Modules) (ih : (w : Where) (s : Stmt) → is_deeper n ms.all w.above s ≡ false → drafts_below (suc n) ms w s ≡ drafts_below n ms w s) where
@@ -91,30 +104,46 @@ module _ (ms : Modules) where
   stand-append [] ys a b = b
   stand-append (x ∷ xs) ys a b = (a.0, stand-append xs ys a.1 b)
 
-  module _ (below : Where → Stmt → List Draft) (ih : (w : Where) (s : Stmt) → Stand (below w s)) where
-    brings : (w : Where) (o : Option Found) → Stand (option_map_or (λ g. below (in_grouping w g) g.here) o [])
-    brings w None = tt
-    brings w (Some g) = ih (in_grouping w g) g.here
+  -- what stands in the block of s comes to stand at w, with s and what is around it around that
+  record Surrounds (w : Where) (s : Stmt) : Type 0 where
+    around : StandAround ms.all w.above
+    block : (t : Stmt) → Contains (subs s) t → StandsIn ms.all w.above t
 
-    at_one : (w : Where) (s : Stmt) (p : Part) → block_part s ≡ p → Stand (drafts_at ms below w s p)
-    at_one w s node is = (record { at = w; statement = s; is_node = is; made = refl }, ih (inside_node w s) s)
-    at_one w s uses is = brings w (grouping ms.all w.above s)
-    at_one w s nothing is = tt
+  of_node : (w : Where) (s : Stmt) → StandsIn ms.all w.above s → Surrounds (inside_node w s) s
+  of_node w s h = record { around = h; block = λ t c. (c, h) }
 
-    in_all : (w : Where) (ss : List Stmt) → Stand (drafts_in ms below w ss)
-    in_all w [] = tt
-    in_all w (s ∷ ss) = stand-append (drafts_at ms below w s (block_part s)) (drafts_in ms below w ss) (at_one w s (block_part s) refl) (in_all w ss)
+  of_grouping : (w : Where) (g : Found) → FoundIn ms.all g → Surrounds (in_grouping w g) g.here
+  of_grouping w g h = record { around = h; block = λ t c. (c, h) }
 
-  below_all : (n : ℕ) (w : Where) (s : Stmt) → Stand (drafts_below n ms w s)
-  below_all zero w s = tt
-  below_all (suc n) w s = in_all (drafts_below n ms) (below_all n) w (subs s)
+  of_module : (m : Stmt) → Contains ms.all m → Surrounds (inside_module m) m
+  of_module m h = record { around = h; block = λ t c. (c, h) }
 
-  of_all : (modules : List Stmt) → Stand (drafts_of ms modules)
-  of_all [] = tt
-  of_all (m ∷ rest) = stand-append (drafts_below ms.most ms (inside_module m) m) (drafts_of ms rest) (below_all ms.most (inside_module m) m) (of_all rest)
+  module _ (below : Where → Stmt → List Draft) (ih : (w : Where) (s : Stmt) → Surrounds w s → Stand (below w s)) where
+    brings : (w : Where) (o : Option Found) → Holds (FoundIn ms.all) o → Stand (option_map_or (λ g. below (in_grouping w g) g.here) o [])
+    brings w None h = tt
+    brings w (Some g) h = ih (in_grouping w g) g.here (of_grouping w g h)
+
+    at_one : (w : Where) (s : Stmt) (p : Part) → block_part s ≡ p → StandAround ms.all w.above → StandsIn ms.all w.above s → Stand (drafts_at ms below w s p)
+    at_one w s node is around h = (record { at = w; statement = s; stands = h; is_node = is; made = refl }, ih (inside_node w s) s (of_node w s h))
+    at_one w s uses is around h = brings w (grouping ms.all w.above s) (grouping_stands ms.all w.above s around)
+    at_one w s nothing is around h = tt
+
+    in_all : (w : Where) (ss : List Stmt) → StandAround ms.all w.above → ((t : Stmt) → Contains ss t → StandsIn ms.all w.above t) → Stand (drafts_in ms below w ss)
+    in_all w [] around h = tt
+    in_all w (s ∷ ss) around h = stand-append (drafts_at ms below w s (block_part s)) (drafts_in ms below w ss)
+        (at_one w s (block_part s) refl around (h s (contains_here s ss))) (in_all w ss around (λ t c. h t (contains_there s ss t c)))
+
+  below_all : (n : ℕ) (w : Where) (s : Stmt) → Surrounds w s → Stand (drafts_below n ms w s)
+  below_all zero w s h = tt
+  below_all (suc n) w s h = in_all (drafts_below n ms) (below_all n) w (subs s) h.around h.block
+
+  of_all : (modules : List Stmt) → ((m : Stmt) → Contains modules m → Contains ms.all m) → Stand (drafts_of ms modules)
+  of_all [] h = tt
+  of_all (m ∷ rest) h = stand-append (drafts_below ms.most ms (inside_module m) m) (drafts_of ms rest)
+      (below_all ms.most (inside_module m) m (of_module m (h m (contains_here m rest)))) (of_all rest (λ t c. h t (contains_there m rest t c)))
 
 pub nodes_stand_for_statements : NodesStandForStatements
-nodes_stand_for_statements ms modules = All-from_recursion (StandsFor ms) (drafts_of ms modules) (of_all ms modules)
+nodes_stand_for_statements ms = All-from_recursion (StandsFor ms) (drafts_of ms ms.all) (of_all ms ms.all (λ m c. c))
 
 pub names_differ : NamesDiffer
 names_differ s ascends = subst (λ (e : List (List ℕ) → List (List ℕ) → Bool). IsDistinct e (map (λ l. l.names) s.lines)) (sym (λ i x y. same_is x y i)) (IsDistinct-from_sorted names_cmp (map (λ l. l.names) s.lines) ascends)

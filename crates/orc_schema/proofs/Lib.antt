@@ -1,4 +1,5 @@
 mod Barren
+mod Standing
 mod Lawful
 mod Chains
 mod Ordered

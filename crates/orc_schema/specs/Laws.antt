@@ -1,8 +1,9 @@
 -- What the definitions make sure of.
-use Rattle.std.specs.Prelude.{ℕ, suc, ◌≡◌, false, List, [], ◌∷◌, ◌++◌, map, Some, None}
+use Rattle.std.specs.Prelude.{ℕ, suc, ◌≡◌, false, List, [], ◌∷◌, ◌++◌, map, Contains, Some, None}
 use Rattle.std.specs.List.{All, IsDistinct}
 use Rattle.std.specs.List.Sorted.{IsPermutation}
 use Rattle.orc_yang.specs.declared.statement.Stmt.{Stmt}
+use Rattle.orc_types.specs.Statements.{subs}
 use Rattle.orc_modules.specs.declared.parts.Part.TheVariants.{Node}
 use Rattle.orc_modules.specs.Statements.{Place, module_places}
 use Rattle.orc_modules.specs.Scopes.{Modules, the_modules}
@@ -11,7 +12,7 @@ use Rattle.orc_statements.specs.declared.fault.SchemaFault.{SchemaFault}
 use Rattle.orc_schema.specs.declared.draft.Draft.{Draft}
 use Rattle.orc_statements.specs.Faults.{fault_here, module_fault}
 use Rattle.orc_schema.specs.Drafts.{Where, draft, drafts_in, drafts_below, drafts_of}
-use Rattle.orc_schema.specs.Links.{same_names}
+use Rattle.orc_schema.specs.Links.{same_names, chain, node_in, link_fault, first_link_fault}
 use Rattle.orc_schema.specs.Schemas.{SchemaTable, Ascends, IsTableOf}
 
 -- no statement of the list is at fault
@@ -32,16 +33,37 @@ pub record IsFirstFault (all : List Stmt) (f : SchemaFault) : Type 0 where
 abbrev pub FirstFaultIsLeast : Type 0
 FirstFaultIsLeast = (all : List Stmt) (f : SchemaFault) → module_fault all ≡ Some f → IsFirstFault all f
 
--- a node is what one statement for a node makes of it where it comes to stand
+-- f is the fault of a leafref, and no leafref among the nodes before it is at fault
+pub record IsFirstLinkFault (ds : List Draft) (f : SchemaFault) : Type 0 where
+  pub front : List Draft
+  pub node : Draft
+  pub back : List Draft
+  pub nodes : ds ≡ front ++ node ∷ back
+  pub before : All (λ d. link_fault chain (node_in ds) d ≡ None) front
+  pub fault : link_fault chain (node_in ds) node ≡ Some f
+
+-- The fault of leafrefs is that of the first faulty one, in the order of the nodes (in `drafts` that of the text, with
+-- each `uses` replaced by what its grouping defines).
+abbrev pub FirstLinkFaultIsLeast : Type 0
+FirstLinkFaultIsLeast = (ds : List Draft) (f : SchemaFault) → first_link_fault ds ≡ Some f → IsFirstLinkFault ds f
+
+-- s stands in the modules, with these statements around it, the innermost first: it is one of the modules, or stands in
+-- the block of the first of these, which itself stands in the modules with the others around it
+abbrev pub StandsIn : List Stmt → List Stmt → Stmt → Type 0
+StandsIn modules [] s = Contains modules s
+StandsIn modules (t ∷ above) s = Contains (subs t) s × StandsIn modules above t
+
+-- a node is what one statement for a node, which stands in the modules, makes of it where it comes to stand
 pub record StandsFor (ms : Modules) (d : Draft) : Type 0 where
   pub at : Where
   pub statement : Stmt
+  pub stands : StandsIn ms.all at.above statement
   pub is_node : block_part statement ≡ Node
   pub made : d ≡ draft ms at statement
 
--- Each node of modules stands for one statement.
+-- Each node of modules stands for one of their statements.
 abbrev pub NodesStandForStatements : Type 0
-NodesStandForStatements = (ms : Modules) (modules : List Stmt) → All (StandsFor ms) (drafts_of ms modules)
+NodesStandForStatements = (ms : Modules) → All (StandsFor ms) (drafts_of ms ms.all)
 
 -- Where nodes and groupings stand in one another no deeper than n, a greater depth finds nothing more.
 abbrev pub DepthIsNoLimit : Type 0
@@ -52,8 +74,9 @@ DepthIsNoLimit = (n : ℕ) (ms : Modules) (w : Where) (s : Stmt) → is_deeper n
 abbrev pub NamesDiffer : Type 0
 NamesDiffer = (s : SchemaTable) → Ascends s.lines → IsDistinct same_names (map (λ l. l.names) s.lines)
 
--- Two statements of a block that stand beside one another may change places, where names mean the same as before: the
--- same nodes come of the block.
+-- The order of a block's statements is free, with what names mean held fast: where two of them that stand beside one
+-- another change places, while each name is looked up in the statements around (`w.above`) and in the modules as they
+-- were, the same nodes come of the block.
 abbrev pub OrderIsFree : Type 0
 OrderIsFree = (n : ℕ) (ms : Modules) (w : Where) (front : List Stmt) (s t : Stmt) (back : List Stmt)
     → IsPermutation (drafts_in ms (drafts_below n ms) w (front ++ s ∷ t ∷ back))

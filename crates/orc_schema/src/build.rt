@@ -1,12 +1,12 @@
 //! The schema of modules.
-ghost use Rattle.std.specs.Prelude.{◌≡◌, List, [], ◌++◌, IfOk, OnOk, map, false};
+ghost use Rattle.std.specs.Prelude.{◌≡◌, List, [], ◌++◌, IfOk, OnOk, map, false, slice_get, option_copied, option_map};
 ghost use Rattle.std.specs.List.{list_any};
 ghost use Rattle.std.specs.List.Sorted.{IsPermutation};
 ghost use Rattle.orc_modules.specs.Stack.{modules_of};
 ghost use Rattle.orc_schema.specs.Drafts.{drafts_of, drafts_below, inside_module};
 ghost use Rattle.orc_statements.specs.Faults.{first_some};
 ghost use Rattle.orc_schema.specs.Links.{chain, node_in, link_fault, first_link_fault};
-ghost use Rattle.orc_schema.specs.Schemas.{schema_line, node_of, GivesTable, Builds, schema_of, GivesSchema, is_deep_module, is_cut, IsWhole};
+ghost use Rattle.orc_schema.specs.Schemas.{drafts, schema_line, node_of, GivesTable, Builds, schema_of, GivesSchema, is_deep_module, is_cut, IsWhole};
 ghost use Rattle.orc_schema.specs.inside.Indexes.{look, lent, IsIndex};
 ghost use Rattle.orc_statements.specs.Meeting.{Meets};
 
@@ -19,7 +19,7 @@ use crate::weights::line_weight;
 use crate::{Schema, SchemaFault};
 use orc_modules::{Above, Block, Looks, MAX_CHAIN, Modules, is_too_deep};
 use orc_statements::first_fault;
-use orc_text::{Copied, Memory, Row};
+use orc_text::{Copied, Memory, Row, Text};
 use orc_types::argument;
 use orc_yang::Stmt;
 use std::alloc::Global;
@@ -103,12 +103,13 @@ fn whole_drafts(alloc: Global, modules: &Modules<'_>) -> Result<Row<Draft>, Memo
     }
 }
 
-// The first fault of the leafrefs.
+// The first fault of the leafrefs. Behind a fault `nodes.looks` stands at the faulty node.
 fn first_link_fault(alloc: Global, drafts: &[Draft], nodes: &Nodes<'_>) -> Result<(), SchemaFault>
     requires { IsIndex nodes.now.index.now }
     ensures { Meets (first_some (link_fault nodes.now.chain (look nodes.now)) drafts.now) result }
 {
     for draft in drafts {
+        nodes.looks.go_on();
         if let Err(fault) = link_fault(alloc, nodes, draft) {
             return Err(fault);
         }
@@ -149,7 +150,8 @@ fn line_of(alloc: Global, nodes: &Nodes<'_>, draft: &Draft) -> Result<SchemaLine
         names: draft.names.copy(alloc)?,
         node: node_of(alloc, nodes, draft)?,
     };
-    nodes.looks.keep(line_weight(&line))?;
+    // (twice, since a bundle keeps the schema of devices in its declarations and in its table of schemas)
+    nodes.looks.keep(line_weight(&line).saturating_mul(2))?;
     Ok(line)
 }
 
@@ -244,6 +246,40 @@ fn schema_of(alloc: Global, modules: &[Stmt], looks: &Looks) -> Result<Schema, S
     }
 }
 
+// The node of this number.
+fn draft_at(drafts: &[Draft], number: usize) -> Option<&Draft>
+    ensures { option_copied result ≡ slice_get drafts.now number }
+{
+    drafts.get(number)
+}
+
+// Its names.
+fn names_of(alloc: Global, drafts: &[Draft], number: usize) -> Result<Option<Row<Text>>, Memory>
+    ensures { IfOk result (λ names. names ≡ option_map (λ d. d.names) (slice_get drafts.now number)) }
+{
+    match draft_at(drafts, number) {
+        Some(draft) => Ok(Some(draft.names.copy(alloc)?)),
+        None => Ok(None),
+    }
+}
+
+/// The names from the top down to the node of this number, from 0 in the order in which the modules
+/// define them: that at which a build of a schema of these modules stands behind the fault of a
+/// leafref. The first of the names has its module's name and a colon in front.
+pub fn node_names(
+    alloc: Global,
+    modules: &[Stmt],
+    number: usize,
+) -> Result<Option<Row<Text>>, Memory>
+    ensures { IfOk result (λ names. names
+        ≡ option_map (λ d. d.names) (slice_get (drafts modules.now) number)) }
+{
+    let looks = Looks::new();
+    let modules = Modules::of(modules, &looks)?;
+    let drafts = drafts_of(alloc, &modules)?;
+    names_of(alloc, drafts.as_slice(), number)
+}
+
 impl Schema {
     /// The schema of these modules, or their first fault: that of the first faulty statement in the
     /// order of the text, modules in the order given and groupings where they are defined, at one
@@ -258,7 +294,9 @@ impl Schema {
     }
 
     /// The same, where this is what may still be looked at and kept; it has less of both afterwards.
-    /// Where several schemas are built with one `Looks`, what they cost together is bounded.
+    /// Where several schemas are built with one `Looks`, what they cost together is bounded. Behind a
+    /// fault it stands where that is: where it has a `node`, at the leafref that is this one of the
+    /// nodes (`node_names`), else at the statement of its `module` and `at`.
     pub fn build_within(
         alloc: Global,
         modules: &[Stmt],

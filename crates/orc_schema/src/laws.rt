@@ -1,5 +1,5 @@
 //! What the definitions make sure of: each law is the contract of a function that does nothing.
-ghost use Rattle.orc_schema.specs.Laws.{FirstFaultIsLeast, NodesStandForStatements, DepthIsNoLimit, NamesDiffer, OrderIsFree, NodesMakeOneTable};
+ghost use Rattle.orc_schema.specs.Laws.{FirstFaultIsLeast, FirstLinkFaultIsLeast, NodesStandForStatements, DepthIsNoLimit, NamesDiffer, OrderIsFree, NodesMakeOneTable};
 ghost use Rattle.orc_schema.specs.Sound.{SchemasAreSound, PlainIsSound};
 
 /// The fault of modules is that of their first faulty statement in the order of the text.
@@ -7,7 +7,14 @@ pub fn first_fault_is_least()
     ensures { FirstFaultIsLeast }
 {}
 
-/// Each node that modules define stands for one statement.
+/// The fault of leafrefs is that of the first faulty one, in the order of the text with each `uses`
+/// replaced by what its grouping defines.
+pub fn first_link_fault_is_least()
+    ensures { FirstLinkFaultIsLeast }
+{}
+
+/// Each node that modules define stands for one of their statements, at whatever depth it stands in
+/// them.
 pub fn nodes_stand_for_statements()
     ensures { NodesStandForStatements }
 {}
@@ -23,8 +30,8 @@ pub fn names_differ()
     ensures { NamesDiffer }
 {}
 
-/// Two statements that stand beside one another in a block may change places, where names mean the
-/// same as before.
+/// The order of a block's statements is free, with what names mean held fast: two that stand beside
+/// one another may change places, where each name is looked up in the modules as they were.
 pub fn order_is_free()
     ensures { OrderIsFree }
 {}

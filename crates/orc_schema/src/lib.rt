@@ -13,9 +13,10 @@ mod lookup;
 mod schema;
 mod weights;
 
+pub use build::node_names;
 pub use laws::{
-    depth_is_no_limit, first_fault_is_least, names_differ, nodes_make_one_table,
-    nodes_stand_for_statements, order_is_free, schemas_are_sound,
+    depth_is_no_limit, first_fault_is_least, first_link_fault_is_least, names_differ,
+    nodes_make_one_table, nodes_stand_for_statements, order_is_free, schemas_are_sound,
 };
 pub use line::{LeafNode, ListNode, Node, SchemaLine, Target, ValueListNode};
 pub use orc_modules::Looks;

@@ -2,14 +2,10 @@
 
 use crate::draft::{Draft, DraftNode, DraftType};
 use crate::line::{Node, SchemaLine, Target};
+use orc_modules::text_weight;
 use orc_statements::{Reference, StepName};
 use orc_text::Text;
 use orc_value::Kind;
-
-// A text counts as one, and as one more for each 64 bytes.
-fn text_weight(text: &str) -> usize {
-    text.len() / 64 + 1
-}
 
 fn texts_weight(texts: &[Text]) -> usize {
     let mut weight: usize = 0;
@@ -26,11 +22,12 @@ fn option_weight(text: &Option<Text>) -> usize {
     }
 }
 
+// The names of an enumeration stand in a row and, once more, in a set by which they are found.
 fn kind_weight(kind: &Kind) -> usize {
     match kind {
         Kind::Int(int) => int.ranges.as_slice().len(),
         Kind::Str(lengths) => lengths.as_slice().len(),
-        Kind::Enum(names) => texts_weight(names.as_slice()),
+        Kind::Enum(names) => texts_weight(names.as_slice()).saturating_mul(2),
         Kind::Decimal(_) | Kind::Bool | Kind::Empty => 0,
     }
 }

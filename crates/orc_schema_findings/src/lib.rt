@@ -3,7 +3,7 @@
 #![tactic(auto)]
 
 mod extent;
-mod fits;
+mod faults;
 mod modules;
 mod places;
 mod quoted;

@@ -1,7 +1,5 @@
-//! The statements of which a fault of modules may speak: how many there are, and where the only one stands.
-use crate::fits::{Before, fits};
+//! Where a statement stands in modules.
 use crate::quoted::push_quoted;
-use orc_schema::SchemaFault;
 use orc_text::{Memory, Text};
 use orc_yang::Stmt;
 use std::alloc::Global;
@@ -17,91 +15,8 @@ pub struct StatementPlace {
     pub path: Text,
 }
 
-// How many statements fit, and where the last of these stands.
-#[derive(Drop)]
-struct Count {
-    count: u64,
-    at: u64,
-    module: usize,
-}
-
-/// How many statements of these modules a fault may speak of, and the place of the only one. Each is looked
-/// at once, and those on the way to the place once more.
-pub(crate) fn fitting(
-    alloc: Global,
-    modules: &[Stmt],
-    fault: &SchemaFault,
-) -> Result<(u64, Option<StatementPlace>), Memory> {
-    let found = counted(modules, fault);
-    if found.count != 1 {
-        return Ok((found.count, None));
-    }
-    match modules.get(found.module) {
-        Some(module) => Ok((1, Some(place_in(alloc, found.module, module, found.at)?))),
-        None => Ok((1, None)),
-    }
-}
-
-// Whether a module is the one that is built in, whose name no other may have.
-fn is_built_in(module: &Stmt) -> bool {
-    match &module.argument {
-        Some(name) => name.as_str() == "orc",
-        None => false,
-    }
-}
-
-// The statements of these modules that fit. The module that is built in has no fault.
-fn counted(modules: &[Stmt], fault: &SchemaFault) -> Count {
-    let mut found = Count {
-        count: 0,
-        at: 0,
-        module: 0,
-    };
-    let mut before = Before::nothing();
-    for (module, statement) in modules.iter().enumerate() {
-        count_one(statement, fault, &before, false, module, &mut found);
-        before.add(statement, fault);
-        if !is_built_in(statement) {
-            count_below(statement, fault, false, module, &mut found);
-        }
-    }
-    found
-}
-
-// Counts a statement where it fits.
-fn count_one(
-    statement: &Stmt,
-    fault: &SchemaFault,
-    before: &Before,
-    inner: bool,
-    module: usize,
-    found: &mut Count,
-) {
-    if fits(statement, fault, before, inner) {
-        found.count = found.count.saturating_add(1);
-        found.at = statement.at;
-        found.module = module;
-    }
-}
-
-// Counts the statements below this one that fit.
-fn count_below(
-    statement: &Stmt,
-    fault: &SchemaFault,
-    inner: bool,
-    module: usize,
-    found: &mut Count,
-) {
-    let mut before = Before::nothing();
-    for sub in statement.subs.as_slice() {
-        count_one(sub, fault, &before, inner, module, &mut *found);
-        before.add(sub, fault);
-        count_below(sub, fault, true, module, &mut *found);
-    }
-}
-
-// The statement that stands there in the module of a place.
-fn place_in(
+/// The place of the statement that stands there in a module.
+pub(crate) fn place_in(
     alloc: Global,
     module: usize,
     statement: &Stmt,
@@ -114,6 +29,21 @@ fn place_in(
         at,
         path: Text::from_string(path),
     })
+}
+
+/// The statement that stands there, of this one and those below.
+pub(crate) fn statement_at(statement: &Stmt, at: u64) -> &Stmt {
+    if statement.at == at {
+        return statement;
+    }
+    let mut left = begun(statement, at);
+    for sub in statement.subs.as_slice() {
+        if left == 1 {
+            return statement_at(sub, at);
+        }
+        left = left.saturating_sub(1);
+    }
+    statement
 }
 
 // Adds the statements that lead from this one to the one that stands there.

@@ -1,18 +1,21 @@
 -- Services in slots: which one is found by a name, and what one that is added or taken away makes of them.
-use Rattle.std.proofs.Common.{◌≡◌, ℕ, zero, suc, ◌<◌, ◌==◌, Bool, true, false, cond, not, ◌||◌, List, [], ◌∷◌, ◌++◌, ◌⊎◌, inl, inr, map, length, remove, slice_index_or, slice_set, Bor, is_some, None, Some, refl, sym, ap, subst, ◌∙◌, arith, append-nil}
+use Rattle.std.proofs.Common.{◌≡◌, ℕ, zero, suc, ◌<◌, ◌+◌, ◌==◌, Bool, true, false, cond, not, ◌||◌, List, [], ◌∷◌, ◌++◌, ◌⊎◌, inl, inr, map, length, get_or, take, remove, slice_index_or, slice_set, Bor, is_some, None, Some, refl, sym, ap, subst, ◌∙◌, arith, append-nil}
 use Rattle.std.specs.Prelude.{Option, slice_get, if◌then◌else◌}
-use Rattle.std.specs.Option.{option_copied, option_map_or}
-use Rattle.std.specs.Map.{lookup}
+use Rattle.std.specs.Option.{option_and_then, option_copied, option_map_or}
+use Rattle.std.specs.BTreeMap.{BTreeMap}
 use Rattle.std.specs.List.{find, list_any, AllByRecursion, IsDistinct}
 use Rattle.orc_state.specs.States.{has_id, is_same_text, lives, others}
-use Rattle.orc_state.specs.inside.Placed.{AreNamedOnce, IsPlaced, filled, is_at}
+use Rattle.orc_state.specs.inside.Placed.{AreNamedOnce, AreNoted, HasNames, IsPlaced, KeepsNames, KeepsNoted, filled, is_at, noted, place_among}
 use Rattle.orc_state.specs.inside.Turns.{AreFresh, left_by}
 use Rattle.orc_state.specs.declared.state.Service.{Service}
 use Rattle.std.proofs.lemmas.Bool.{eqb-true}
 use Rattle.std.proofs.lemmas.List.{nil_from_length}
+use Rattle.std.proofs.lemmas.List.Elements.{All-head, All-more, All-tail, All-weaker}
 use Rattle.orc_state.proofs.Lists.{true_not_false}
 use Rattle.orc_state.proofs.Named.{is_text_itself, other_way}
-use Rattle.std.specs.Cmp.Lexicographic.{bytes_decides}
+use Rattle.std.specs.Ordering.{is_eq, nat_cmp}
+use Rattle.std.specs.Cmp.Lexicographic.{bytes_decides, slice_cmp}
+use Rattle.std.proofs.lemmas.Map.Text.{is_eq-slice_cmp}
 
 -- small facts
 
@@ -56,6 +59,25 @@ later_alone slot slots u id i j h k = less i j (u id (suc i) (suc j) h k)
 
 placed_alone : (slots : List (Option Service)) (places : List ℕ → Option ℕ) → IsPlaced slots places → StandAlone slots
 placed_alone slots places is id i j h k = same_place i j (sym (is.alone id i h) ∙ is.alone id j k)
+
+-- where each service's place is noted, it is found there
+pub placed-noted : (slots : List (Option Service)) (places : BTreeMap (List ℕ) ℕ) → AreNoted slots places → IsPlaced slots (place_among slots places)
+placed-noted slots places is = record {
+  there = λ id i h. there id i (noted places id) h;
+  alone = λ id i h. ap (option_and_then (λ (j : ℕ). if is_at slots id j then Some j else None)) (is.place id i h) ∙ ap (λ t. cond t (Some i) None) h;
+}
+  where
+    there : (id : List ℕ) (i : ℕ) (o : Option ℕ) → option_and_then (λ (j : ℕ). if is_at slots id j then Some j else None) o ≡ Some i → is_at slots id i ≡ true
+    there id i None h = let not_so : None ≡ Some i = h in absurd cc
+    there id i (Some j) h = on (is_at slots id j) refl h
+      where
+        on : (t : Bool) → is_at slots id j ≡ t → cond t (Some j) None ≡ Some i → is_at slots id i ≡ true
+        on true e k = ap (is_at slots id) (sym (same_place j i k)) ∙ e
+        on false e k = let not_so : None ≡ Some i = k in absurd cc
+
+pub place_same : (slots slots' : List (Option Service)) (places : BTreeMap (List ℕ) ℕ) (id : List ℕ) (o : Option ℕ) → slots ≡ slots'
+    → o ≡ place_among slots places id → place_among slots' places id ≡ o
+place_same slots slots' places id o same is = sym (is ∙ ap (λ (l : List (Option Service)). place_among l places id) same)
 
 -- so no two services have one name
 
@@ -149,29 +171,20 @@ lives_at (None ∷ slots) id (suc i) h = lives_at slots id i h
 lives_at (Some x ∷ slots) id zero h = ap (λ t. t || lives (filled slots) id) h
 lives_at (Some x ∷ slots) id (suc i) h = or_right (has_id id x) (lives (filled slots) id) (lives_at slots id i h)
 
-pub placed_more : (slots : List (Option Service)) (old new : List ℕ → Option ℕ) (s : Service) (id : List ℕ) (place : ℕ)
-    → IsPlaced slots old → id ≡ s.id → place ≡ length slots → lives (filled slots) s.id ≡ false
-    → ((q : List ℕ) → new q ≡ cond (is_same_text id q) (Some place) (old q)) → IsPlaced (slots ++ Some s ∷ []) new
-placed_more slots old new s id place is named last fresh says = record {
-  there = λ q i h. there q i (is_same_text id q) refl (sym (says q) ∙ h);
-  alone = λ q i h. alone q i (at_cases slots s q i h);
-}
+pub noted_more : (slots : List (Option Service)) (old new : BTreeMap (List ℕ) ℕ) (s : Service) (id : List ℕ) (place : ℕ)
+    → AreNoted slots old → id ≡ s.id → place ≡ length slots → lives (filled slots) s.id ≡ false
+    → ((q : List ℕ) → noted new q ≡ cond (is_same_text id q) (Some place) (noted old q)) → AreNoted (slots ++ Some s ∷ []) new
+noted_more slots old new s id place is named last fresh says = record { place = λ q i h. on q i (at_cases slots s q i h) }
   where
-    there : (q : List ℕ) (i : ℕ) (t : Bool) → is_same_text id q ≡ t → cond (is_same_text id q) (Some place) (old q) ≡ Some i → is_at (slots ++ Some s ∷ []) q i ≡ true
-    there q i true e h =
-        let here : i ≡ length slots = sym (same_place place i (sym (ap (λ t. cond t (Some place) (old q)) e) ∙ h)) ∙ last in
-        ap (is_at (slots ++ Some s ∷ []) q) here ∙ at_last slots s q ∙ sym (ap (λ (n : List ℕ). is_same_text n q) named) ∙ e
-    there q i false e h = at_more slots s q i (is.there q i (sym (ap (λ t. cond t (Some place) (old q)) e) ∙ h))
-
-    alone : (q : List ℕ) (i : ℕ) → (is_at slots q i ≡ true) ⊎ ((i ≡ length slots) × (has_id q s ≡ true)) → new q ≡ Some i
-    alone q i (inl h) =
+    on : (q : List ℕ) (i : ℕ) → (is_at slots q i ≡ true) ⊎ ((i ≡ length slots) × (has_id q s ≡ true)) → noted new q ≡ Some i
+    on q i (inl h) =
         let another : is_same_text id q ≡ false = falls (is_same_text id q) (λ e.
         let same : q ≡ s.id = sym ((bytes_decides id q).0 e) ∙ named in
         true_not_false (sym (lives_at slots q i h) ∙ ap (lives (filled slots)) same ∙ fresh)) in
-        says q ∙ ap (λ t. cond t (Some place) (old q)) another ∙ is.alone q i h
-    alone q i (inr h) =
+        says q ∙ ap (λ t. cond t (Some place) (noted old q)) another ∙ is.place q i h
+    on q i (inr h) =
         let own : is_same_text id q ≡ true = ap (λ (n : List ℕ). is_same_text n q) named ∙ h.1 in
-        says q ∙ ap (λ t. cond t (Some place) (old q)) own ∙ ap Some (last ∙ sym h.0)
+        says q ∙ ap (λ t. cond t (Some place) (noted old q)) own ∙ ap Some (last ∙ sym h.0)
 
 pub filled-more : (slots : List (Option Service)) (s : Service) → filled (slots ++ Some s ∷ []) ≡ filled slots ++ s ∷ []
 filled-more [] s = refl
@@ -196,38 +209,13 @@ at_elsewhere (x ∷ slots) zero id (suc i) other = refl
 at_elsewhere (x ∷ slots) (suc place) id zero other = refl
 at_elsewhere (x ∷ slots) (suc place) id (suc i) other = at_elsewhere slots place id i (λ e. other (ap suc e))
 
-at_id : (slots : List (Option Service)) (a b : List ℕ) (i : ℕ) → is_at slots a i ≡ true → is_at slots b i ≡ true → a ≡ b
-at_id [] a b i h k = absurd (true_not_false (sym h))
-at_id (None ∷ slots) a b zero h k = absurd (true_not_false (sym h))
-at_id (Some x ∷ slots) a b zero h k = sym ((bytes_decides x.id a).0 h) ∙ (bytes_decides x.id b).0 k
-at_id (x ∷ slots) a b (suc i) h k = at_id slots a b i h k
-
-pub placed_less : (slots : List (Option Service)) (old new : List ℕ → Option ℕ) (id : List ℕ) (place : ℕ)
-    → IsPlaced slots old → old id ≡ Some place
-    → ((q : List ℕ) → new q ≡ cond (is_same_text id q) None (old q)) → IsPlaced (slice_set slots place None) new
-placed_less slots old new id place is at says = record {
-  there = λ q i h. there q i (is_same_text id q) refl (sym (says q) ∙ h);
-  alone = λ q i h. alone q i h;
-}
+pub noted_less : (slots : List (Option Service)) (places : BTreeMap (List ℕ) ℕ) (place : ℕ) → AreNoted slots places → AreNoted (slice_set slots place None) places
+noted_less slots places place is = record { place = λ q i h. is.place q i (there q i h) }
   where
-    apart : (q : List ℕ) (i : ℕ) → is_same_text id q ≡ false → is_at slots q i ≡ true → i ≡ place → ⊥
-    apart q i e h same =
-        let one : id ≡ q = at_id slots id q place (is.there id place at) (sym (ap (is_at slots q) same) ∙ h) in
-        true_not_false (sym ((bytes_decides id q).1 one) ∙ e)
-
-    there : (q : List ℕ) (i : ℕ) (t : Bool) → is_same_text id q ≡ t → cond (is_same_text id q) None (old q) ≡ Some i → is_at (emptied slots place) q i ≡ true
-    there q i true e h = let not_so : None ≡ Some i = sym (ap (λ t. cond t None (old q)) e) ∙ h in absurd cc
-    there q i false e h =
-        let stands = is.there q i (sym (ap (λ t. cond t None (old q)) e) ∙ h) in
-        at_elsewhere slots place q i (apart q i e stands) ∙ stands
-
-    alone : (q : List ℕ) (i : ℕ) → is_at (emptied slots place) q i ≡ true → new q ≡ Some i
-    alone q i h =
+    there : (q : List ℕ) (i : ℕ) → is_at (emptied slots place) q i ≡ true → is_at slots q i ≡ true
+    there q i h =
         let other : i ≡ place → ⊥ = λ same. true_not_false (sym h ∙ ap (is_at (emptied slots place) q) same ∙ at_emptied slots place q) in
-        let stands = is.alone q i (sym (at_elsewhere slots place q i other) ∙ h) in
-        let another : is_same_text id q ≡ false = falls (is_same_text id q) (λ e.
-        other (same_place i place (sym stands ∙ sym (ap old ((bytes_decides id q).0 e)) ∙ at))) in
-        says q ∙ ap (λ t. cond t None (old q)) another ∙ stands
+        sym (at_elsewhere slots place q i other) ∙ h
 
 -- what has another name stays
 none_left : (slots : List (Option Service)) (id : List ℕ) → ((i : ℕ) → is_at slots id i ≡ true → ⊥) → others (filled slots) id ≡ filled slots
@@ -259,12 +247,10 @@ pub filled-same : (slots : List (Option Service)) (places : List ℕ → Option 
 filled-same slots places is id at =
     sym (none_left slots id (λ i h. let not_so : None ≡ Some i = sym at ∙ is.alone id i h in cc))
 
--- where the places are the same
-pub placed_same : (slots : List (Option Service)) (old new : List ℕ → Option ℕ) → IsPlaced slots old → ((q : List ℕ) → new q ≡ old q) → IsPlaced slots new
-placed_same slots old new is same = record {
-  there = λ q i h. is.there q i (sym (same q) ∙ h);
-  alone = λ q i h. same q ∙ is.alone q i h;
-}
+-- where all that was noted still is
+pub noted_still : (slots slots' : List (Option Service)) (old new : BTreeMap (List ℕ) ℕ) → slots' ≡ slots → KeepsNoted old new → AreNoted slots old → AreNoted slots' new
+noted_still slots slots' old new same kept is =
+    subst (λ (l : List (Option Service)). AreNoted l new) (sym same) (record { place = λ q i h. kept q i (is.place q i h) })
 
 -- the slot at a place
 pub got : (slots : List (Option Service)) (place : ℕ) (slot : Option Service) → place < length slots → slot ≡ slice_index_or slots place slot
@@ -276,13 +262,6 @@ got (x ∷ slots) (suc place) slot within is = got slots place slot (omega (arit
 pub some_copied : (o : Option (Bor Service)) → is_some o ≡ is_some (option_copied o)
 some_copied None = refl
 some_copied (Some x) = refl
-
--- what is unchanged is placed as before
-pub still_placed : (slots slots' : List (Option Service)) (rows rows' : List (List ℕ × ℕ)) → slots' ≡ slots → rows' ≡ rows
-    → IsPlaced slots (λ q. lookup (is_same_text q) rows) → IsPlaced slots' (λ q. lookup (is_same_text q) rows')
-still_placed slots slots' rows rows' same also is =
-    subst (λ (r : List (List ℕ × ℕ)). IsPlaced slots' (λ q. lookup (is_same_text q) r)) (sym also)
-    (subst (λ (l : List (Option Service)). IsPlaced l (λ q. lookup (is_same_text q) rows)) (sym same) is)
 
 -- of names that were taken away one more
 pub left_more : (live : List Service) (ids : List (List ℕ)) (id : List ℕ) → left_by live (ids ++ id ∷ []) ≡ others (left_by live ids) id
@@ -319,3 +298,54 @@ cut_first live names names' (x ∷ xs) rest name s is fresh some n ns v vs = rec
   later = subst (λ (l : List Service). AreFresh (live ++ s ∷ []) l) (sym vs)
       (subst (λ (y : Service). AreFresh (live ++ y ∷ []) xs) (sym v) fresh.1);
 }
+
+-- what is noted after a name's place is
+
+pub noted_put : (old new : Option ℕ) (id q : List ℕ) (place : ℕ) → new ≡ cond (is_eq (slice_cmp nat_cmp id q)) (Some place) old
+    → new ≡ cond (is_same_text id q) (Some place) old
+noted_put old new id q place put = put ∙ ap (λ (t : Bool). cond t (Some place) old) (is_eq-slice_cmp id q)
+
+pub noted_new : (old new : BTreeMap (List ℕ) ℕ) (id : List ℕ) (place : ℕ) → noted old id ≡ None
+    → ((q : List ℕ) → noted new q ≡ cond (is_eq (slice_cmp nat_cmp id q)) (Some place) (noted old q)) → KeepsNoted old new
+noted_new old new id place none put q i h =
+    noted_put (noted old q) (noted new q) id q place (put q) ∙ ap (λ (t : Bool). cond t (Some place) (noted old q)) another ∙ h
+  where
+    another : is_same_text id q ≡ false
+    another = falls (is_same_text id q) (λ e.
+        let not_so : None ≡ Some i = sym none ∙ ap (noted old) ((bytes_decides id q).0 e) ∙ h in cc)
+
+-- of a name of which something is noted
+pub names_put : (old new : BTreeMap (List ℕ) ℕ) (id : List ℕ) (place : ℕ)
+    → ((q : List ℕ) → noted new q ≡ cond (is_same_text id q) (Some place) (noted old q)) → KeepsNames old new
+names_put old new id place put q h = on (is_same_text id q) (put q)
+  where
+    on : (t : Bool) → noted new q ≡ cond t (Some place) (noted old q) → is_some (noted new q) ≡ true
+    on true e = ap is_some e
+    on false e = ap is_some e ∙ h
+
+pub names_kept : (old new : BTreeMap (List ℕ) ℕ) → KeepsNoted old new → KeepsNames old new
+names_kept old new kept q h = on (noted old q) refl h
+  where
+    on : (o : Option ℕ) → noted old q ≡ o → is_some o ≡ true → is_some (noted new q) ≡ true
+    on None e k = absurd (true_not_false (sym k))
+    on (Some i) e k = ap is_some (kept q i e)
+
+pub names_first : (places : BTreeMap (List ℕ) ℕ) (services rest : List Service) (s : Service) → services ≡ s ∷ rest → HasNames places services
+    → is_some (noted places s.id) ≡ true
+names_first places services rest s is has =
+    All-head (λ (x : Service). is_some (noted places x.id) ≡ true) s rest (subst (HasNames places) is has)
+
+pub names_later : (old new : BTreeMap (List ℕ) ℕ) (services rest : List Service) (s : Service) → services ≡ s ∷ rest → KeepsNames old new → HasNames old services
+    → HasNames new rest
+names_later old new services rest s is kept has =
+    All-weaker (λ (x : Service). is_some (noted old x.id) ≡ true) (λ (x : Service). is_some (noted new x.id) ≡ true) (λ x h. kept x.id h) rest
+    (All-tail (λ (x : Service). is_some (noted old x.id) ≡ true) s rest (subst (HasNames old) is has))
+
+-- of the names so far, and of one more
+pub names_more : (old new : BTreeMap (List ℕ) ℕ) (services : List Service) (i : ℕ) (s : Service) → i < length services → get_or services i s ≡ s
+    → KeepsNoted old new → HasNames old (take i services) → is_some (noted new s.id) ≡ true → HasNames new (take (i + 1) services)
+names_more old new services i s within is kept has more =
+    All-more (λ (x : Service). is_some (noted new x.id) ≡ true) services i s within
+    (All-weaker (λ (x : Service). is_some (noted old x.id) ≡ true) (λ (x : Service). is_some (noted new x.id) ≡ true) (λ x h. names_kept old new kept x.id h)
+    (take i services) has)
+    (ap (λ (x : Service). is_some (noted new x.id)) is ∙ more)

@@ -1,37 +1,36 @@
 //! The living services, found by their names and kept in the order in which they were made.
-ghost use Rattle.std.specs.Prelude.{◌≡◌, ℕ, ◌+◌, ◌<◌, ◌≤◌, List, ◌++◌, ◌∷◌, [], Some, None, false, length, map, slice_set, IfOk, OnOk, OnErr, if◌then◌else◌};
-ghost use Rattle.indexmap.specs.IndexMap.{get, spare};
+ghost use Rattle.std.specs.Prelude.{◌≡◌, ℕ, ◌+◌, ◌<◌, ◌≤◌, List, ◌++◌, ◌∷◌, [], Some, None, true, false, is_some, length, map, slice_set, IfOk, OnOk, OnErr, if◌then◌else◌};
 ghost use Rattle.std.specs.List.{find};
 ghost use Rattle.std.specs.Option.{option_copied};
 ghost use Rattle.std.specs.Vec.{vec_len, vec_capacity};
 ghost use Rattle.orc_state.specs.States.{has_id, is_same_text, lives, others};
-ghost use Rattle.orc_state.specs.inside.Placed.{AreNamedOnce, HasRooms, IsPlaced, KeepsRooms, UsesRoom, filled};
+ghost use Rattle.orc_state.specs.inside.Placed.{AreNamedOnce, AreNoted, HasNames, HasRoom, KeepsNames, KeepsNoted, KeepsRoom, UsesRoom, filled, is_at, noted, place_among};
 ghost use Rattle.orc_state.specs.inside.Turns.{AreFresh, left_by};
 
 use crate::Service;
-use indexmap::IndexMap;
 use orc_text::{Memory, Text};
 use std::alloc::Global;
+use std::collections::BTreeMap;
 use std::marker::Model;
 
 /// The living services, in the order in which they were made; no two of them have one name.
 ///
 /// A service stands in a slot of its own, and the slots keep their order: one that is removed leaves
 /// its slot empty, so no other one moves. There are so many slots as services were ever made, which
-/// is no more than the history has, and that is kept anyway.
+/// is no more than the history has, and that is kept anyway. The places are in the order of the names, so
+/// that however these are chosen a service is found in time that grows with the logarithm of how many there
+/// were. What is noted of a service stays when that is removed, and leads then to a slot without its name.
 #[derive(Drop)]
 pub(crate) struct Living {
     slots: Vec<Option<Service>>,
-    places: IndexMap<Text, usize>,
+    places: BTreeMap<Text, usize>,
 }
 
 impl Model for Living {
     ghost use Rattle.std.specs.Prelude.{List};
     ghost use Rattle.std.specs.Coded.{coded_list};
-    ghost use Rattle.indexmap.specs.IndexMap.{get};
     ghost use Rattle.orc_state.specs.Codes.{service_code};
-    ghost use Rattle.orc_state.specs.States.{is_same_text};
-    ghost use Rattle.orc_state.specs.inside.Placed.{filled, IsPlaced};
+    ghost use Rattle.orc_state.specs.inside.Placed.{filled, AreNoted};
     ghost use Rattle.orc_state.specs.declared.state.Service.{Service};
 
     ghost Value = { List Service };
@@ -40,7 +39,7 @@ impl Model for Living {
 
     ghost view = { λ living. filled living.slots.items };
 
-    ghost invariant = { λ living. IsPlaced living.slots.items (get is_same_text living.places) };
+    ghost invariant = { λ living. AreNoted living.slots.items living.places };
 }
 
 impl Living {
@@ -50,7 +49,7 @@ impl Living {
     {
         Living {
             slots: Vec::new(alloc),
-            places: IndexMap::new(alloc),
+            places: BTreeMap::new(alloc),
         }
     }
 
@@ -58,8 +57,8 @@ impl Living {
     pub(crate) fn find(&self, id: &Text) -> Option<&Service>
         ensures { option_copied result ≡ find (has_id id.now) self.now }
     {
-        match self.places.get(id) {
-            Some(place) => self.slots[*place].as_ref(),
+        match place_of(self.slots.as_slice(), &self.places, id) {
+            Some(place) => self.slots[place].as_ref(),
             None => None,
         }
     }
@@ -90,10 +89,14 @@ impl Living {
         ensures ok { OnOk result (self.new ≡ left_by self.old ids.now ++ services.items) }
         ensures err { OnErr result (self.new ≡ self.old) }
     {
-        let count = services.len();
         let names = names_of(alloc, services.as_slice())?;
-        make_room(&mut self.slots, &mut self.places, count)?;
-        take_all(&mut self.slots, &mut self.places, ids);
+        make_room(
+            alloc,
+            &mut self.slots,
+            &mut self.places,
+            services.as_slice(),
+        )?;
+        take_all(&mut self.slots, &self.places, ids);
         put_all(&mut self.slots, &mut self.places, names, services);
         Ok(())
     }
@@ -110,61 +113,119 @@ fn names_of(alloc: Global, services: &[Service]) -> Result<Vec<Text>, Memory>
     Ok(names)
 }
 
-// Makes room for so many services more. They stay as they are.
-fn make_room(
-    slots: &mut Vec<Option<Service>>,
-    places: &mut IndexMap<Text, usize>,
-    count: usize,
-) -> Result<(), Memory>
-    requires { IsPlaced slots.old.items (get is_same_text places.old) }
-    ensures items { slots.new.items ≡ slots.old.items }
-    ensures placed { IsPlaced slots.new.items (get is_same_text places.new) }
-    ensures room { OnOk result (HasRooms slots.new (spare places.new) count) }
+// Whether the slot of a place holds a service of this name.
+fn holds(slots: &[Option<Service>], place: usize, id: &Text) -> bool
+    ensures { result ≡ is_at slots.now id.now place }
 {
-    slots.reserve(count)?;
-    places.reserve(count)?;
+    match slots.get(place) {
+        Some(Some(service)) => service.id == *id,
+        _ => false,
+    }
+}
+
+// The place of the service of this name.
+fn place_of(slots: &[Option<Service>], places: &BTreeMap<Text, usize>, id: &Text) -> Option<usize>
+    ensures { result ≡ place_among slots.now places.now id.now }
+{
+    match places.get(id) {
+        Some(place) => {
+            if holds(slots, *place, id) {
+                Some(*place)
+            } else {
+                None
+            }
+        },
+        None => None,
+    }
+}
+
+// Makes room for a place under this name. What is noted stays.
+fn note_name(alloc: Global, places: &mut BTreeMap<Text, usize>, id: &Text) -> Result<(), Memory>
+    ensures kept { KeepsNoted places.old places.new }
+    ensures name { OnOk result (is_some (noted places.new id.now) ≡ true) }
+{
+    match places.get(id) {
+        Some(_) => Ok(()),
+        None => {
+            places.insert(id.copy(alloc)?, 0)?;
+            Ok(())
+        }
+    }
+}
+
+// The same for each of these services.
+fn note_names(
+    alloc: Global,
+    places: &mut BTreeMap<Text, usize>,
+    services: &[Service],
+) -> Result<(), Memory>
+    ensures kept { KeepsNoted places.old places.new }
+    ensures names { OnOk result (HasNames places.new services.now) }
+{
+    for service in services {
+        note_name(alloc, places, &service.id)?;
+    }
     Ok(())
 }
 
-// Takes the service of a name out of its slot, where there is one.
-fn take_out(slots: &mut Vec<Option<Service>>, places: &mut IndexMap<Text, usize>, id: &Text)
-    requires { IsPlaced slots.old.items (get is_same_text places.old) }
-    ensures placed { IsPlaced slots.new.items (get is_same_text places.new) }
-    ensures left { filled slots.new.items ≡ others (filled slots.old.items) id.now }
-    ensures room { KeepsRooms slots.old slots.new (spare places.old) (spare places.new) }
+// Makes room for these services. Those that are there stay as they are.
+fn make_room(
+    alloc: Global,
+    slots: &mut Vec<Option<Service>>,
+    places: &mut BTreeMap<Text, usize>,
+    services: &[Service],
+) -> Result<(), Memory>
+    requires { AreNoted slots.old.items places.old }
+    ensures items { slots.new.items ≡ slots.old.items }
+    ensures noted { AreNoted slots.new.items places.new }
+    ensures room { OnOk result (HasRoom slots.new (length services.now)) }
+    ensures names { OnOk result (HasNames places.new services.now) }
 {
-    match places.swap_remove(id) {
+    slots.reserve(services.len())?;
+    note_names(alloc, places, services)
+}
+
+// Takes the service of a name out of its slot, where there is one.
+fn take_out(slots: &mut Vec<Option<Service>>, places: &BTreeMap<Text, usize>, id: &Text)
+    requires { AreNoted slots.old.items places.now }
+    ensures noted { AreNoted slots.new.items places.now }
+    ensures left { filled slots.new.items ≡ others (filled slots.old.items) id.now }
+    ensures room { KeepsRoom slots.old slots.new }
+{
+    match place_of(slots.as_slice(), places, id) {
         Some(place) => empty_slot(slots, place),
         None => {}
     }
 }
 
 // The same of each of these names.
-fn take_all(slots: &mut Vec<Option<Service>>, places: &mut IndexMap<Text, usize>, ids: &[Text])
-    requires { IsPlaced slots.old.items (get is_same_text places.old) }
-    ensures placed { IsPlaced slots.new.items (get is_same_text places.new) }
+fn take_all(slots: &mut Vec<Option<Service>>, places: &BTreeMap<Text, usize>, ids: &[Text])
+    requires { AreNoted slots.old.items places.now }
+    ensures noted { AreNoted slots.new.items places.now }
     ensures left { filled slots.new.items ≡ left_by (filled slots.old.items) ids.now }
-    ensures room { KeepsRooms slots.old slots.new (spare places.old) (spare places.new) }
+    ensures room { KeepsRoom slots.old slots.new }
 {
     for id in ids {
         take_out(slots, places, id);
     }
 }
 
-// Puts a service into a slot behind the others, where there is room for one.
+// Puts a service into a slot behind the others, where there is room for one and for its name.
 fn put_in(
     slots: &mut Vec<Option<Service>>,
-    places: &mut IndexMap<Text, usize>,
+    places: &mut BTreeMap<Text, usize>,
     id: Text,
     service: Service,
 )
-    requires placed { IsPlaced slots.old.items (get is_same_text places.old) }
+    requires noted { AreNoted slots.old.items places.old }
     requires id { id ≡ service.id }
     requires fresh { lives (filled slots.old.items) service.id ≡ false }
-    requires room { HasRooms slots.old (spare places.old) 1 }
-    ensures placed { IsPlaced slots.new.items (get is_same_text places.new) }
+    requires room { HasRoom slots.old 1 }
+    requires name { is_some (noted places.old id) ≡ true }
+    ensures noted { AreNoted slots.new.items places.new }
     ensures more { filled slots.new.items ≡ filled slots.old.items ++ service ∷ [] }
-    ensures room { UsesRoom slots.old slots.new (spare places.old) (spare places.new) }
+    ensures room { UsesRoom slots.old slots.new }
+    ensures names { KeepsNames places.old places.new }
 {
     let place = slots.len();
     fill_slot(slots, service);
@@ -184,12 +245,11 @@ fn fill_slot(slots: &mut Vec<Option<Service>>, service: Service)
     }
 }
 
-// Notes the place of a name, where there is room for one.
-fn note_place(places: &mut IndexMap<Text, usize>, id: Text, place: usize)
-    requires { 0 < spare places.old }
-    ensures noted { (name : List ℕ) → get is_same_text places.new name
-        ≡ (if is_same_text id name then Some place else get is_same_text places.old name) }
-    ensures room { spare places.old ≤ spare places.new + 1 }
+// Notes the place of a name, where there is room for it.
+fn note_place(places: &mut BTreeMap<Text, usize>, id: Text, place: usize)
+    requires { is_some (noted places.old id) ≡ true }
+    ensures { (name : List ℕ) → noted places.new name
+        ≡ (if is_same_text id name then Some place else noted places.old name) }
 {
     match places.insert(id, place) {
         Ok(_) => {}
@@ -198,18 +258,19 @@ fn note_place(places: &mut IndexMap<Text, usize>, id: Text, place: usize)
 }
 
 // Puts services with their names into slots behind the others, in their order, where there is room
-// for them.
+// for them and for their names.
 fn put_all(
     slots: &mut Vec<Option<Service>>,
-    places: &mut IndexMap<Text, usize>,
+    places: &mut BTreeMap<Text, usize>,
     names: Vec<Text>,
     services: Vec<Service>,
 )
-    requires placed { IsPlaced slots.old.items (get is_same_text places.old) }
+    requires noted { AreNoted slots.old.items places.old }
     requires names { names.items ≡ map (λ service. service.id) services.items }
     requires fresh { AreFresh (filled slots.old.items) services.items }
-    requires room { HasRooms slots.old (spare places.old) (length services.items) }
-    ensures placed { IsPlaced slots.new.items (get is_same_text places.new) }
+    requires room { HasRoom slots.old (length services.items) }
+    requires room_of_names { HasNames places.old services.items }
+    ensures noted { AreNoted slots.new.items places.new }
     ensures more { filled slots.new.items ≡ filled slots.old.items ++ services.items }
 {
     let mut names = names;

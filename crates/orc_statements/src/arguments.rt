@@ -147,6 +147,14 @@ fn is_default_well(
     }
 }
 
+// How many names a type has: a text is looked for in a set of them, which is made anew.
+fn count_of_names(of_type: &LeafType) -> usize {
+    match of_type {
+        LeafType::Enum(names) => names.len(),
+        _ => 0,
+    }
+}
+
 // Whether a typedefs' default is a value of the type, with what it goes through counted.
 fn takes_default(
     alloc: Global,
@@ -156,7 +164,7 @@ fn takes_default(
 ) -> Result<bool, Memory>
     ensures { IfOk result (λ fits. fits ≡ takes_type of_type.now text.now) }
 {
-    looks.visit(text_looks(text))?;
+    looks.visit(text_looks(text).saturating_add(count_of_names(of_type)))?;
     takes_type(alloc, of_type, text)
 }
 

@@ -224,6 +224,7 @@ pub(crate) fn fault_here(
     ensures { Meets (fault_here (modules_of modules.now) (place here.now)) result }
 {
     let word = word_of(here.here.keyword.as_str());
+    modules.looks.stand_at(here.here.at);
     modules.looks.visit(1)?;
     modules.looks.pass(looked_back(here, word));
     match own_fault_here(alloc, modules, here, word, earlier) {

@@ -33,6 +33,7 @@ fn is_incomplete_at<'a, 'm>(
     for sub in stmt.subs.as_slice() {
         match block_part(sub) {
             Part::Uses => {
+                modules.looks.visit(1)?;
                 let Some(found) = grouping(&*modules, at.above, sub) else {
                     return Ok(true);
                 };

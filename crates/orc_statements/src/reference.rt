@@ -7,7 +7,7 @@ ghost use Rattle.orc_statements.specs.Cuts.{parts};
 ghost use Rattle.orc_statements.specs.References.{owner_in, is_strange, count_ups, is_absolute, reference_names, step_of, reference_of};
 
 use crate::cuts::{Mark, cut, parts};
-use orc_modules::{Modules, owner_in, text_looks};
+use orc_modules::{Modules, owner_in, text_looks, text_weight};
 use orc_text::{Memory, Row, Text};
 use orc_yang::Stmt;
 use std::alloc::Global;
@@ -194,7 +194,7 @@ pub fn reference_of(
         ≡ reference_of modules.now.all.now (option_map (λ m. m.now) around.entry) text.now) }
 {
     modules.looks.visit(text_looks(text).saturating_add(1))?;
-    modules.looks.keep(1 + text.len() / 64)?;
+    modules.looks.keep(text_weight(text))?;
     let all = parts(alloc, Mark::Slash, text)?;
     Ok(Reference {
         text: Text::from_str(alloc, text)?,

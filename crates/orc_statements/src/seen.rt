@@ -1,16 +1,17 @@
-//! The names that a block has so far.
+//! The names that a block has so far, in their order: however these are chosen, one is found in time that grows with the
+//! logarithm of how many there are.
 ghost use Rattle.std.specs.Prelude.{◌≡◌, [], OnOk};
-ghost use Rattle.orc_statements.specs.inside.Seen.{is_seen, seen_too};
+ghost use Rattle.orc_statements.specs.inside.Seen.{is_seen, HasToo};
 
-use indexmap::IndexSet;
 use orc_text::{Memory, Text};
 use std::alloc::Global;
+use std::collections::BTreeSet;
 use std::marker::Model;
 
 /// Names, each kept once.
 #[derive(Drop)]
 pub(crate) struct Seen {
-    names: IndexSet<Text>,
+    names: BTreeSet<Text>,
 }
 
 impl Model for Seen {
@@ -27,7 +28,7 @@ impl Seen {
         ensures { result ≡ [] }
     {
         Seen {
-            names: IndexSet::new(alloc),
+            names: BTreeSet::new(alloc),
         }
     }
 
@@ -38,9 +39,9 @@ impl Seen {
         self.names.contains(name)
     }
 
-    // Adds a name where it is new.
+    // Adds a name.
     pub(crate) fn add(&mut self, name: Text) -> Result<(), Memory>
-        ensures { OnOk result (self.new ≡ seen_too self.old name) }
+        ensures { OnOk result (HasToo self.old name self.new) }
     {
         self.names.insert(name)?;
         Ok(())

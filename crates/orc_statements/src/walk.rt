@@ -5,7 +5,7 @@ ghost use Rattle.orc_modules.specs.Stack.{stack, place, modules_of};
 ghost use Rattle.orc_modules.specs.Statements.{places_below, module_places};
 ghost use Rattle.orc_statements.specs.Faults.{fault_here, first_some, module_fault};
 ghost use Rattle.orc_statements.specs.Meeting.{Meets};
-ghost use Rattle.orc_statements.specs.inside.Seen.{all_seen};
+ghost use Rattle.orc_statements.specs.inside.Seen.{HasAllToo};
 
 use crate::SchemaFault;
 use crate::faults::fault_here;
@@ -17,7 +17,7 @@ use std::alloc::Global;
 
 // Adds copies of texts.
 fn push_all(alloc: Global, more: &[Text], names: &mut Seen) -> Result<(), Memory>
-    ensures { OnOk result (names.new ≡ all_seen names.old more.now) }
+    ensures { OnOk result (HasAllToo names.old more.now names.new) }
 {
     for name in more {
         names.add(name.copy(alloc)?)?;
@@ -33,8 +33,8 @@ fn add_names<'a, 'm>(
     stmt: &'a Stmt,
     names: &mut Seen,
 ) -> Result<(), Memory>
-    ensures { OnOk result (names.new ≡ all_seen names.old
-        (child_names (children modules.now.most modules.now.all.now (stack above.now) (stmt.now ∷ [])))) }
+    ensures { OnOk result (HasAllToo names.old
+        (child_names (children modules.now.most modules.now.all.now (stack above.now) (stmt.now ∷ []))) names.new) }
 {
     let more = child_names(alloc, &*modules, above, std::slice::from_ref(stmt))?;
     push_all(alloc, more.as_slice(), names)
@@ -94,13 +94,15 @@ fn first_fault_in<'a>(
     first_fault_below(alloc, &*modules, stmt, &Above::Indexed(&block, &Above::Top))
 }
 
-/// The first fault of the modules' statements.
+/// The first fault of the modules' statements. Behind a fault `modules.looks` stands at the faulty
+/// statement, which for one below a `type` is that `type`.
 pub fn first_fault(alloc: Global, modules: &Modules<'_>) -> Result<(), SchemaFault>
     ensures { Meets (first_some (fault_here (modules_of modules.now)) (module_places [] modules.now.all.now)) result }
 {
     let all = modules.all;
     let mut names = Seen::new(alloc);
     for (at, here) in all.iter().enumerate() {
+        modules.looks.enter(at);
         let before = &all[..at];
         let place = Place {
             above: &Above::Top,

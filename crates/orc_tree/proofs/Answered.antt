@@ -1,8 +1,6 @@
 -- What the search's answer says of a path.
-use Rattle.std.proofs.Common.{◌≡◌, ℕ, zero, suc, ◌<◌, Bool, true, false, not, List, [], ◌∷◌, length, None, Some, Bor, refl, sym, ap, arith}
-use Rattle.std.specs.declared.option.Option.{Option}
-use Rattle.std.proofs.lemmas.Bool.{false≢true}
-use Rattle.std.specs.Option.{option_map, option_copied, is_some, is_none}
+use Rattle.std.proofs.Common.{◌≡◌, ℕ, zero, suc, ◌<◌, true, List, [], ◌∷◌, length, None, refl, arith}
+use Rattle.std.specs.Option.{option_map, is_some}
 use Rattle.std.specs.List.{slice_get}
 use Rattle.std.specs.FinMap.{find, is_sorted}
 use Rattle.orc_path.specs.Steps.{PathStep}
@@ -22,10 +20,3 @@ find-row q rows i s is = find_here path_cmp path_cmp_total q rows i (is_true_T _
 
 pub find-place : {X : Type 0} (q : List PathStep) (rows : List (List PathStep × X)) (i : ℕ) → IsPlaceOf q rows i → find path_cmp q rows ≡ None
 find-place q rows i is = find_between path_cmp path_cmp_total q rows i is.before is.behind
-
--- a lookup that gives nothing says that nothing is there
-pub none_from : {X : Type 0} (r : Option (Bor X)) (o : Option X) (b : Bool) → is_some r ≡ not b → option_copied r ≡ o → b ≡ is_none o
-none_from None o true h e = ap is_none e
-none_from None o false h e = absurd (false≢true h)
-none_from (Some x) o false h e = ap is_none e
-none_from (Some x) o true h e = absurd (false≢true (sym h))

@@ -11,10 +11,10 @@ use std::alloc::Global;
 use std::sync::Arc;
 
 // How many pages a chapter gets where more than `CHAPTER_PAGES` are laid out.
-const LAID_PAGES: usize = 96;
+const LAID_PAGES: usize = 48;
 
 // How many pages two neighbouring chapters have at most that become one after a removal.
-const JOINED_PAGES: usize = 32;
+const JOINED_PAGES: usize = 16;
 
 // Adds a chapter of these pages at the end, where there are any. After want of memory the chapters
 // are as they were.

@@ -9,7 +9,7 @@ use Rattle.orc_value.specs.Ranges.{stand_apart}
 use Rattle.orc_value.proofs.IntegerLaws.{and_left, and_right}
 use Rattle.orc_types.specs.Numbers.{only_if}
 use Rattle.orc_types.specs.Ranges.{Range, is_bar, is_dot, is_minus, is_plain, is_trimmed, has_dot, behind_dot, bound_of, range_between, range_up_to, part_of, parts_of, all_of, ascend, ascend_behind, lies_within, narrows, narrowed, ends_of, is_length, length_range, as_range, narrowed_lengths}
-use Rattle.orc_types.proofs.Narrowing.{none_some, le_trans, kept, narrowed-narrows}
+use Rattle.orc_types.proofs.Narrowing.{none_some, kept, narrowed-narrows}
 
 and_both : (a b : Bool) → a ≡ true → b ≡ true → (a && b) ≡ true
 and_both true b h k = k

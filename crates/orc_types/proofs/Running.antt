@@ -12,7 +12,7 @@ use Rattle.orc_value.specs.Canon.{same_text}
 use Rattle.orc_types.specs.declared.types.EnumName.{EnumName}
 use Rattle.orc_types.specs.Enums.{has_name, has_value, greatest, next_value}
 use Rattle.orc_types.proofs.Narrowing.{none_some}
-use Rattle.orc_types.specs.inside.Running.{by_name, HasFirsts, is_taken, taken_too, HasValues, greatest_of, higher, one_behind, Knows}
+use Rattle.orc_types.specs.inside.Running.{HasFirsts, is_taken, HasToo, HasValues, greatest_of, higher, one_behind, Knows}
 
 -- ---- the first of each name
 
@@ -92,27 +92,17 @@ or_false : (b : Bool) → (b || false) ≡ b
 or_false true = refl
 or_false false = refl
 
-turned : (a b : ℤ) → int_eq a b ≡ int_eq b a
-turned a b = grind (arith, ints)
+either : (b o : Bool) → cond b true o ≡ (o || b)
+either true true = refl
+either true false = refl
+either false true = refl
+either false false = refl
 
-same_value : (a b : ℤ) → int_eq a b ≡ true → a ≡ b
-same_value a b h = grind (arith, ints)
-
-pub values_more : (values : List ℤ) (es : List EnumName) (e : EnumName) → HasValues values es → HasValues (taken_too values e.value) (es ++ e ∷ [])
-values_more values es e has = λ z. grown (is_taken values e.value) refl z ∙ sym (more z)
+pub values_more : (values new : List ℤ) (es : List EnumName) (e : EnumName) → HasValues values es → HasToo values e.value new → HasValues new (es ++ e ∷ [])
+values_more values new es e has put = λ z. put z ∙ (either (int_eq e.value z) (is_taken values z) ∙ sym (more z))
   where
     more : (z : ℤ) → list_any (has_value z) (es ++ e ∷ []) ≡ (is_taken values z || int_eq e.value z)
     more z = list_any-append (has_value z) es (e ∷ []) ∙ ap (λ b. list_any (has_value z) es || b) (or_false (int_eq e.value z)) ∙ ap (λ b. b || int_eq e.value z) (sym (has z))
-
-    grown : (b : Bool) → is_taken values e.value ≡ b → (z : ℤ) → is_taken (cond b values (values ++ e.value ∷ [])) z ≡ (is_taken values z || int_eq e.value z)
-    grown true is z = on (int_eq e.value z) refl
-      where
-        on : (s : Bool) → int_eq e.value z ≡ s → is_taken values z ≡ (is_taken values z || s)
-        on true same =
-            let there : is_taken values z ≡ true = subst (λ x. is_taken values x ≡ true) (same_value e.value z same) is in
-            there ∙ sym (ap (λ b. b || true) there)
-        on false same = sym (or_false (is_taken values z))
-    grown false is z = list_any-append (int_eq z) values (e.value ∷ []) ∙ ap (λ b. is_taken values z || b) (or_false (int_eq z e.value) ∙ turned z e.value)
 
 -- ---- the greatest
 
@@ -132,9 +122,9 @@ next_behind (e ∷ es) = refl
 -- one enum more
 pub one_more : (es row : List EnumName) (old new : List ℕ → Option ℤ) (values taken : List ℤ) (high top : Option ℤ) (e : EnumName) → Knows es old values high
     → ((q : List ℕ) → new q ≡ option_or (old q) (cond (same_text e.name q) (Some e.value) None))
-    → row ≡ es ++ e ∷ [] → taken ≡ taken_too values e.value → top ≡ higher high e.value → Knows row new taken top
+    → row ≡ es ++ e ∷ [] → HasToo values e.value taken → top ≡ higher high e.value → Knows row new taken top
 one_more es row old new values taken high top e knows put row_is taken_is top_is = record {
   firsts = subst (λ (xs : List EnumName). HasFirsts new xs) (sym row_is) (firsts_more old new es e knows.firsts put);
-  taken = λ z. ap (λ (vs : List ℤ). is_taken vs z) taken_is ∙ (values_more values es e knows.taken z ∙ ap (λ (xs : List EnumName). list_any (has_value z) xs) (sym row_is));
+  taken = λ z. values_more values taken es e knows.taken taken_is z ∙ ap (λ (xs : List EnumName). list_any (has_value z) xs) (sym row_is);
   top = top_is ∙ (ap (λ (h : Option ℤ). higher h e.value) knows.top ∙ (top_more es e ∙ ap greatest_of (sym row_is)));
 }

@@ -7,9 +7,9 @@ ghost use Rattle.orc_types.specs.inside.Running.{higher, value_behind};
 use crate::firsts::{add_first, named};
 use crate::taken::Taken;
 use crate::types::EnumName;
-use indexmap::IndexMap;
 use orc_text::{Memory, Row, Text};
 use std::alloc::Global;
+use std::collections::BTreeMap;
 use std::marker::Model;
 
 /// Enums with their names and values, found without a look at the others, and the greatest value.
@@ -17,7 +17,7 @@ use std::marker::Model;
 #[derive(Drop)]
 pub(crate) struct Enums<'m> {
     row: Row<EnumName>,
-    firsts: IndexMap<&'m str, i32>,
+    firsts: BTreeMap<&'m str, i32>,
     values: Taken,
     greatest: Option<i32>,
 }
@@ -66,7 +66,7 @@ impl<'m> Enums<'m> {
     {
         Enums {
             row: Row::new(alloc),
-            firsts: IndexMap::new(alloc),
+            firsts: BTreeMap::new(alloc),
             values: Taken::new(alloc),
             greatest: None,
         }

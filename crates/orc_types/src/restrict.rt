@@ -146,7 +146,7 @@ fn fault_at(
 fn look_through(alloc: Global, base: &Base, stmts: &[Stmt]) -> Result<Row<EnumName>, TypeFault>
     ensures { Finds (first_fault base.now [] stmts.now) (enums_of (enumerated base.now) stmts.now) result }
 {
-    let inherited = Inherited::of(alloc, base)?;
+    let inherited = Inherited::of(alloc, base, stmts)?;
     let mut enums = Enums::new(alloc);
     for (at, stmt) in stmts.iter().enumerate() {
         if let Err(fault) = fault_at(alloc, base, &inherited, &stmts[..at], &enums, stmt) {

@@ -1,16 +1,17 @@
 //! The values that an enumeration has so far.
 ghost use Rattle.std.specs.Prelude.{◌≡◌, [], OnOk};
-ghost use Rattle.orc_types.specs.inside.Running.{is_taken, taken_too};
+ghost use Rattle.orc_types.specs.inside.Running.{is_taken, HasToo};
 
-use indexmap::IndexSet;
 use orc_text::Memory;
 use std::alloc::Global;
+use std::collections::BTreeSet;
 use std::marker::Model;
 
-/// Values, each kept once.
+/// Values, each kept once, in order: whatever they are, one is found in time that grows with the
+/// logarithm of how many there are.
 #[derive(Drop)]
 pub(crate) struct Taken {
-    values: IndexSet<i32>,
+    values: BTreeSet<i32>,
 }
 
 impl Model for Taken {
@@ -27,7 +28,7 @@ impl Taken {
         ensures { result ≡ [] }
     {
         Taken {
-            values: IndexSet::new(alloc),
+            values: BTreeSet::new(alloc),
         }
     }
 
@@ -38,9 +39,9 @@ impl Taken {
         self.values.contains(&value)
     }
 
-    // Adds a value where it is new.
+    // Adds a value.
     pub(crate) fn add(&mut self, value: i32) -> Result<(), Memory>
-        ensures { OnOk result (self.new ≡ taken_too self.old value) }
+        ensures { OnOk result (HasToo self.old value self.new) }
     {
         self.values.insert(value)?;
         Ok(())

@@ -1,4 +1,4 @@
 -- What private contracts and proofs alone speak of.
 pub mod Halved
-pub mod Hashed
+pub mod Sets
 pub mod Scaled

@@ -46,9 +46,10 @@ fn canon_uncounted<L: Ledger>(
 
 /// The same, with its steps counted. A step is a byte or a character of the text at which a loop of
 /// this crate looks, or a look-up: of a number or a length among the type's ranges, which looks at the
-/// logarithm of their number (`Ranges::has_counted`), or of the text among the names, by its hash. Not
-/// counted are the digits of a number that is written, of which there are 38 at most, and what std does
-/// in one pass over the text: it reads an integer, counts characters, and copies and hashes bytes.
+/// logarithm of their number (`Ranges::has_counted`), or of the text among the names, which std compares
+/// with the logarithm of theirs. Not counted are the digits of a number that is written, of which there
+/// are 38 at most, and what std does in one pass over the text: it reads an integer, counts characters,
+/// and copies bytes.
 pub fn canon_counted<L: Ledger>(
     alloc: Global,
     kind: &Kind,

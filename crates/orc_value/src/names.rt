@@ -3,41 +3,42 @@ ghost use Rattle.std.specs.Prelude.{◌≡◌, IfOk};
 ghost use Rattle.std.specs.Cmp.Lexicographic.{pointwise, nat_list_eq_equiv, lists_per, lists_equiv};
 ghost use Rattle.std.specs.Cmp.{partial_equiv_from_equiv};
 ghost use Rattle.std.specs.Prelude.{nat_eq};
-ghost use Rattle.orc_value.specs.inside.Hashed.{HasAll};
+ghost use Rattle.orc_value.specs.inside.Sets.{HasAll};
 
 use orc_text::{Copied, Memory, Row, Text};
 use std::alloc::Global;
-use std::collections::HashSet;
+use std::collections::BTreeSet;
 use std::fmt::{self, Debug, Formatter, Write};
 use std::marker::Model;
 
-/// Names in their order, of which each is found by its hash.
+/// Names in their order. Each is found in time that grows with the logarithm of how many there are,
+/// whatever they are.
 #[derive(Drop)]
 pub struct Names {
     names: Row<Text>,
-    pub(crate) hashed: HashSet<String>,
+    pub(crate) set: BTreeSet<String>,
 }
 
 impl Model for Names {
     ghost use Rattle.std.specs.Prelude.{List, ℕ};
-    ghost use Rattle.orc_value.specs.inside.Hashed.{HasAll};
+    ghost use Rattle.orc_value.specs.inside.Sets.{HasAll};
 
     ghost Value = { List (List ℕ) };
 
     ghost view = { λ all. all.names };
 
-    ghost invariant = { λ all. HasAll all.hashed all.names };
+    ghost invariant = { λ all. HasAll all.set all.names };
 }
 
 // The set of the names.
-fn hashed(alloc: Global, names: &[Text]) -> Result<HashSet<String>, Memory>
-    ensures { IfOk result (λ hashed. HasAll hashed names.now) }
+fn set_of(alloc: Global, names: &[Text]) -> Result<BTreeSet<String>, Memory>
+    ensures { IfOk result (λ set. HasAll set names.now) }
 {
-    let mut hashed = HashSet::new(alloc);
+    let mut set = BTreeSet::new(alloc);
     for name in names {
-        hashed.insert(String::from_str(alloc, name.as_str())?)?;
+        set.insert(String::from_str(alloc, name.as_str())?)?;
     }
-    Ok(hashed)
+    Ok(set)
 }
 
 impl Names {
@@ -45,8 +46,8 @@ impl Names {
     pub fn from_row(alloc: Global, names: Row<Text>) -> Result<Names, Memory>
         ensures { IfOk result (λ made. made ≡ names) }
     {
-        let hashed = hashed(alloc, names.as_slice())?;
-        Ok(Names { names, hashed })
+        let set = set_of(alloc, names.as_slice())?;
+        Ok(Names { names, set })
     }
 
     /// The names.

@@ -124,10 +124,10 @@ impl Lengths {
 }
 
 impl Names {
-    /// Whether the text is one of the names. It is one look-up, and takes no memory.
+    /// Whether the text is one of the names. It takes no memory.
     pub fn has(&self, text: &str) -> bool
         ensures { result ≡ list_any (same_text text.now) self.now }
     {
-        self.hashed.contains(text)
+        self.set.contains(text)
     }
 }

@@ -41,7 +41,7 @@ fn check_command<'a>(alloc: Global) -> Command<'a>
     ensures local { (out-Command result).has_globals ≡ false }
 {
     Command::new(alloc, "check").about(
-        "Reads the bundle, and prints how many devices and steps it has",
+        "Reads the bundle on standard input (`< FILE`), and prints how many devices and steps it has",
     )
 }
 
@@ -51,7 +51,9 @@ fn run_command<'a>(alloc: Global) -> Result<Command<'a>, AllocError>
     ensures local { IfOk result (λ command. (out-Command command).has_globals ≡ false) }
 {
     Command::new(alloc, "run")
-        .about("Runs the bundle's script over the journal, and prints what each step gives")
+        .about(
+            "Runs the script of the bundle on standard input (`< FILE`), and prints what each step gives",
+        )
         .arg(journal_option(alloc))
 }
 
@@ -61,7 +63,9 @@ fn history_command<'a>(alloc: Global) -> Result<Command<'a>, AllocError>
     ensures local { IfOk result (λ command. (out-Command command).has_globals ≡ false) }
 {
     Command::new(alloc, "history")
-        .about("Prints the calls that the journal holds, under the bundle's declarations")
+        .about(
+            "Prints the journal's calls, under the declarations of the bundle on standard input (`< FILE`)",
+        )
         .arg(journal_option(alloc))
 }
 

@@ -6,7 +6,8 @@ ghost use Rattle.orc_yang.specs.inside.View.{view, head_of, work_of, Mirrors};
 use crate::YangFault;
 use crate::character::{Character, Sort};
 use crate::parser::{Mode, Parser, Spot};
-use crate::steps::{bad, short_text};
+use crate::steps::bad;
+use orc_text::Text;
 use std::alloc::Global;
 
 impl Parser {
@@ -16,7 +17,7 @@ impl Parser {
             (go (view self.old) (InKeyword (record { keyword = encode_utf8 x.code; at = x.at })))
             (view self.new) result }
     {
-        let mut keyword = short_text(alloc)?;
+        let mut keyword = Text::new(alloc);
         keyword.push(x.code)?;
         self.keyword = keyword;
         self.at = x.at;

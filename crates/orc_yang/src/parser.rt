@@ -98,8 +98,8 @@ pub(crate) struct Parser {
 
 impl Parser {
     // The reader before the first character of a text of so many bytes. It reads a statement for each
-    // 16 bytes at most, or 100,000: what it keeps of one takes some 150 bytes, so a text of many tiny
-    // statements would take 60 times its length.
+    // 8 bytes at most, and 32 more: one takes 104 bytes, and 16 more where it is alone in its block, so
+    // a text of many tiny statements would take 60 times its length.
     pub(crate) fn new(alloc: Global, bytes: usize) -> Parser
         ensures { view result ≡ record { work = Gap Between; done = []; frames = [] } }
     {
@@ -268,8 +268,7 @@ impl Parser {
 
 // How many statements a text of so many bytes may have.
 fn most_statements(bytes: usize) -> u64 {
-    let many = bytes as u64 / 16;
-    if many > 100_000 { many } else { 100_000 }
+    (bytes as u64 / 8).saturating_add(32)
 }
 
 // The row with no room to spare.

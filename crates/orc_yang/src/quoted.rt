@@ -40,7 +40,7 @@ pub(crate) fn with_value<L: Ledger>(
     ensures cost { steps.new ≤ steps.old + 9 * length raw.now }
 {
     let mut value = Value {
-        text: with_room(alloc, argument, raw.len())?,
+        text: argument,
         left: 0,
         escaped: false,
         blank: false,
@@ -52,18 +52,8 @@ pub(crate) fn with_value<L: Ledger>(
         value.take(column, *c, more, steps)?;
         rest = more;
     }
-    Ok(value.text)
-}
-
-// The text, with room for so many bytes where it is empty.
-fn with_room(alloc: Global, text: Text, room: usize) -> Result<Text, Memory>
-    ensures { IfOk result (λ roomy. roomy ≡ text) }
-{
-    if text.as_str().is_empty() {
-        Ok(Text::from_string(String::with_capacity(alloc, room)?))
-    } else {
-        Ok(text)
-    }
+    // (a copy, since a text that grew character by character may have room for twice as many)
+    Text::from_str(alloc, value.text.as_str())
 }
 
 // Whether a character is a space or a tab.

@@ -28,16 +28,6 @@ pub(crate) fn forbidden(x: Character) -> YangFault
     YangFault::BadToken { at: x.last }
 }
 
-// How many bytes a keyword or an unquoted string may have before it takes memory once more.
-const SHORT: usize = 24;
-
-// The empty text, with room for a few characters.
-pub(crate) fn short_text(alloc: Global) -> Result<Text, Memory>
-    ensures { IfOk result (λ text. text ≡ []) }
-{
-    Ok(Text::from_string(String::with_capacity(alloc, SHORT)?))
-}
-
 impl Parser {
     // Takes the next character.
     pub(crate) fn step<L: Ledger>(

@@ -7,10 +7,10 @@ ghost use Rattle.orc_yang.specs.inside.View.{view, head_of, work_of, Mirrors};
 
 use crate::character::{Character, Sort};
 use crate::parser::{Mode, Parser, Spot};
-use crate::steps::{bad, forbidden, short_text};
+use crate::steps::{bad, forbidden};
 use crate::{YangFault, quoted};
 use orc_io::Steps;
-use orc_text::Row;
+use orc_text::{Row, Text};
 use std::alloc::Global;
 use std::mem;
 use std::sync::ledger::Ledger;
@@ -27,7 +27,7 @@ impl Parser {
             (go (view self.old) (work_of mode (record self.old { argument = encode_utf8 x.code })))
             (view self.new) result }
     {
-        let mut argument = short_text(alloc)?;
+        let mut argument = Text::new(alloc);
         argument.push(x.code)?;
         self.argument = argument;
         self.mode = mode;

@@ -2,8 +2,9 @@
 use Rattle.std.specs.Prelude.{ℕ, ◌≡◌, List, drop, Option, codes, option_map}
 use Rattle.std.specs.List.{find}
 use Rattle.std.specs.Option.{option_or}
-use Rattle.std.specs.Str.{bytes_eq}
-use Rattle.indexmap.specs.IndexMap.{IndexMap, get_by}
+use Rattle.std.specs.Ordering.{nat_cmp}
+use Rattle.std.specs.Cmp.Lexicographic.{slice_cmp}
+use Rattle.std.specs.BTreeMap.{BTreeMap, get_by}
 use denote.Ref.{Bor}
 use Rattle.orc_yang.specs.declared.statement.Stmt.{Stmt}
 use Rattle.orc_types.specs.Statements.{subs}
@@ -11,8 +12,8 @@ use Rattle.orc_modules.specs.Statements.{defines}
 use Rattle.orc_modules.specs.inside.Shallow.{AreShallow}
 
 -- what a map has under a name
-abbrev pub by_name : {S : Type 0} → IndexMap (Bor (List ℕ)) (Bor Stmt) S → List ℕ → Option Stmt
-by_name m name = option_map (λ s. s.now) (get_by (λ k. bytes_eq name k.now) m)
+abbrev pub by_name : BTreeMap (Bor (List ℕ)) (Bor Stmt) → List ℕ → Option Stmt
+by_name m name = option_map (λ s. s.now) (get_by (λ k. slice_cmp nat_cmp name k.now) m)
 
 -- the first typedef and the first grouping of each name below a statement, and which groupings bring nothing
 pub record IsIndexed (here : Stmt) (typedefs groupings : List ℕ → Option Stmt) (depths : List ℕ → Option ℕ)

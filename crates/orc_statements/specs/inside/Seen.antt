@@ -1,5 +1,5 @@
--- The names that a block has so far, each kept once.
-use Rattle.std.specs.Prelude.{◌≡◌, ℕ, Bool, List, [], ◌∷◌, ◌++◌, if◌then◌else◌}
+-- The names that a block has so far, in any order.
+use Rattle.std.specs.Prelude.{◌≡◌, ◌||◌, ℕ, Bool, true, cond, List}
 use Rattle.std.specs.List.{list_any}
 use Rattle.orc_value.specs.Canon.{same_text}
 use Rattle.orc_statements.specs.Names.{contains_text}
@@ -7,12 +7,13 @@ use Rattle.orc_statements.specs.Names.{contains_text}
 abbrev pub is_seen : List (List ℕ) → List ℕ → Bool
 is_seen names name = list_any (same_text name) names
 
-abbrev pub seen_too : List (List ℕ) → List ℕ → List (List ℕ)
-seen_too names name = if is_seen names name then names else names ++ name ∷ []
+-- the names now are those of before and this one
+abbrev pub HasToo : List (List ℕ) → List ℕ → List (List ℕ) → Type 0
+HasToo before name now = (q : List ℕ) → is_seen now q ≡ cond (same_text name q) true (is_seen before q)
 
-abbrev pub all_seen : List (List ℕ) → List (List ℕ) → List (List ℕ)
-all_seen names [] = names
-all_seen names (n ∷ ns) = all_seen (seen_too names n) ns
+-- the names now are those of before and these
+abbrev pub HasAllToo : List (List ℕ) → List (List ℕ) → List (List ℕ) → Type 0
+HasAllToo before more now = (q : List ℕ) → is_seen now q ≡ (is_seen before q || contains_text more q)
 
 -- the same names, however often each stands there
 abbrev pub HasSame : List (List ℕ) → List (List ℕ) → Type 0

@@ -1,13 +1,14 @@
 -- Rows with an item and the missing entries on its way put among them.
-use Rattle.std.specs.Prelude.{◌≡◌, ℕ, Bool, ◌||◌, List, [], ◌∷◌, ◌++◌, take, drop, IsTrue}
+use Rattle.std.specs.Prelude.{◌≡◌, ℕ, ◌+◌, ◌<◌, ◌≤◌, Bool, ◌||◌, List, [], ◌∷◌, ◌++◌, length, take, drop, IsTrue, is_none}
 use Rattle.std.specs.Ordering.{is_gt, is_lt}
 use Rattle.std.specs.declared.cmp.Ordering.TheVariants.{Less}
 use Rattle.std.specs.List.{list_all, All}
-use Rattle.std.specs.FinMap.{put}
+use Rattle.std.specs.FinMap.{put, find}
 use Rattle.std.specs.declared.alloc.Global.{Global}
 use Rattle.std.specs.declared.sync.Arc.{Arc}
 use Rattle.orc_path.specs.Steps.{PathStep}
 use Rattle.orc_path.specs.Order.{path_cmp}
+use Rattle.orc_path.specs.Configurations.{has_keys_at}
 use Rattle.orc_path.specs.declared.item.Item.{Item}
 use Rattle.orc_path.specs.declared.item.Item.TheVariants.{Entry}
 use Rattle.orc_tree.specs.declared.page.Page.{Page}
@@ -41,3 +42,9 @@ none_between way path rows = list_all (λ row. is_gt (path_cmp way row.0) || is_
 -- each of these ways comes before the path, and no row stands from it up to the path
 abbrev pub AreGaps : List PathStep → List (List PathStep × Item) → List (List PathStep) → Type 0
 AreGaps path rows ways = All (λ way. (path_cmp way path ≡ Less) × IsTrue (none_between way path rows)) ways
+
+-- no entry on the way to the path that has more than so many steps has a row
+abbrev pub HasNoneBeyond : ℕ → List PathStep → List (List PathStep × Item) → Type 0
+HasNoneBeyond len path rows =
+    (at : ℕ) → len ≤ at → at + 1 < length path → IsTrue (has_keys_at path at)
+    → IsTrue (is_none (find path_cmp (take (at + 1) path) rows))

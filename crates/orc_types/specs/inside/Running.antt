@@ -1,17 +1,17 @@
 -- What is kept beside the enums so far, so that no question goes through them.
-use Rattle.std.specs.Prelude.{◌≡◌, ℕ, ℤ, pos, ◌+ℤ◌, Bool, List, [], ◌∷◌, ◌++◌, Option, Some, None, int_lt, option_map, if◌then◌else◌}
+use Rattle.std.specs.Prelude.{◌≡◌, ℕ, ℤ, pos, ◌+ℤ◌, Bool, true, cond, List, [], ◌∷◌, Option, Some, None, int_lt, option_map, if◌then◌else◌}
 use Rattle.std.specs.List.{list_any, find}
-use Rattle.std.specs.Ordering.{int_eq}
-use Rattle.std.specs.Str.{bytes_eq}
-use Rattle.indexmap.specs.IndexMap.{IndexMap, get_by}
+use Rattle.std.specs.Ordering.{int_eq, nat_cmp}
+use Rattle.std.specs.Cmp.Lexicographic.{slice_cmp}
+use Rattle.std.specs.BTreeMap.{BTreeMap, get_by}
 use denote.Ref.{Bor}
 use Rattle.orc_types.specs.declared.types.EnumName.{EnumName}
 use Rattle.orc_types.specs.Numbers.{only_if, is_int32}
 use Rattle.orc_types.specs.Enums.{has_name, has_value, greatest}
 
 -- the value that a map has under a name
-abbrev pub by_name : {S : Type 0} → IndexMap (Bor (List ℕ)) ℤ S → List ℕ → Option ℤ
-by_name m name = get_by (λ k. bytes_eq name k.now) m
+abbrev pub by_name : BTreeMap (Bor (List ℕ)) ℤ → List ℕ → Option ℤ
+by_name m name = get_by (λ k. slice_cmp nat_cmp name k.now) m
 
 -- the value of the first enum of each name
 abbrev pub HasFirsts : (List ℕ → Option ℤ) → List EnumName → Type 0
@@ -20,8 +20,9 @@ HasFirsts firsts es = (name : List ℕ) → firsts name ≡ option_map (λ e. e.
 abbrev pub is_taken : List ℤ → ℤ → Bool
 is_taken values z = list_any (int_eq z) values
 
-abbrev pub taken_too : List ℤ → ℤ → List ℤ
-taken_too values z = if is_taken values z then values else values ++ z ∷ []
+-- the values now are those of before and this one
+abbrev pub HasToo : List ℤ → ℤ → List ℤ → Type 0
+HasToo before value now = (z : ℤ) → is_taken now z ≡ cond (int_eq value z) true (is_taken before z)
 
 -- the values of the enums, however often each is there
 abbrev pub HasValues : List ℤ → List EnumName → Type 0

@@ -5,4 +5,4 @@ use Rattle.orc_declarations.proofs.statements.+copy.Goals as goal
 pub returns : goal.returns
 returns t c =
     same_parts c.args.statement.now _ _ _ _ c.in_ok-keyword.ensures c.in_ok-argument.ensures
-    (all_taken _ c.as_slice-sub-items.result.now c.loop-sub.sub-index c.loop-sub-test.false c.loop-sub.invariant ∙ c.as_slice-sub-items.ensures) refl
+    (c.from_vec.ensures ∙ all_taken _ c.as_slice-sub-items.result.now c.loop-sub.sub-index c.loop-sub-test.false c.loop-sub.invariant ∙ c.as_slice-sub-items.ensures) refl

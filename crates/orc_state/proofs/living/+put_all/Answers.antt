@@ -1,9 +1,9 @@
-use Rattle.std.proofs.Common.{◌≡◌, ℕ, ◌∙◌, ◌==◌, ◌++◌, ◌∷◌, [], List, length, false, true, rules, arith, sym, ap, subst, append_assoc}
+use Rattle.std.proofs.Common.{◌≡◌, ℕ, ◌∙◌, ◌==◌, ◌++◌, ◌∷◌, [], List, length, is_some, false, true, rules, arith, sym, ap, subst, append_assoc}
 use Rattle.std.proofs.lemmas.List.{length-map}
-use Rattle.orc_state.specs.inside.Placed.{filled}
+use Rattle.orc_state.specs.inside.Placed.{filled, noted}
 use Rattle.orc_state.specs.inside.Turns.{AreFresh}
 use Rattle.orc_state.specs.declared.state.Service.{Service}
-use Rattle.orc_state.proofs.Placed.{cut_first, none_come, not_zero}
+use Rattle.orc_state.proofs.Placed.{cut_first, names_first, names_later, none_come, not_zero}
 use Rattle.orc_state.proofs.living.+put_all.Goals as goal
 
 pub returns-then-is_empty-clause-more : goal.returns-then-is_empty-clause-more
@@ -46,8 +46,16 @@ put_in-requires-clause-fresh t c =
 pub put_in-requires-clause-room : goal.put_in-requires-clause-room
 put_in-requires-clause-room t c =
     let some : (length c.args.services.items == 0) ≡ false = search rules in
-    let one = not_zero (length c.args.services.items) some in
-    record { slot = omega (arith, c.requires.room.slot, one); place = omega (arith, c.requires.room.place, one) }
+    omega (arith, c.requires.room, not_zero (length c.args.services.items) some)
+
+pub put_in-requires-clause-name : goal.put_in-requires-clause-name
+put_in-requires-clause-name t c =
+    let some : (length c.args.services.items == 0) ≡ false = search rules in
+    let cut = cut_first (filled c.args.slots.now.items) c.args.names.items c.remove.new.self.items c.args.services.items c.remove-2.new.self.items
+    c.remove.result c.remove-2.result c.requires.names c.requires.fresh (not_zero (length c.args.services.items) some)
+    c.remove.ensures.value c.remove.ensures.items c.remove-2.ensures.value c.remove-2.ensures.items in
+    ap (λ (id : List ℕ). is_some (noted c.args.places.now id)) cut.named ∙ names_first c.args.places.now c.args.services.items c.remove-2.new.self.items c.remove-2.result
+    cut.whole c.requires.room_of_names
 
 pub put_all-requires : goal.put_all-requires
 put_all-requires t c =
@@ -58,15 +66,16 @@ put_all-requires t c =
     let count = ap (λ (l : List Service). length l) cut.whole in (
       omega (arith, count),
       (
-        c.put_in.ensures.placed,
+        c.put_in.ensures.noted,
         (
           cut.others,
           (
             subst (λ (l : List Service). AreFresh l c.remove-2.new.self.items) (sym c.put_in.ensures.more) cut.later,
-            record {
-              slot = omega (arith, c.requires.room.slot, c.put_in.ensures.room.len, c.put_in.ensures.room.slot, count);
-              place = omega (arith, c.requires.room.place, c.put_in.ensures.room.place, count);
-            },
+            (
+              omega (arith, c.requires.room, c.put_in.ensures.room.len, c.put_in.ensures.room.room, count),
+              names_later c.args.places.now c.put_in.new.places c.args.services.items c.remove-2.new.self.items c.remove-2.result cut.whole
+                  c.put_in.ensures.names c.requires.room_of_names,
+            ),
           ),
         ),
       ),

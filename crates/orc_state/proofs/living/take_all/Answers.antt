@@ -14,12 +14,11 @@ loop-id-preserved c =
     let front = take l.id-index c.args.ids.now in
     let more : take (l.id-index + 1) c.args.ids.now ≡ front ++ c.id-item.result ∷ [] =
     take_more c.args.ids.now l.id-index c.id-item.result c.loop-id-test.true ∙ ap (λ (id : List ℕ). front ++ id ∷ []) (sym c.id-item.is) in (
-      c.take_out.ensures.placed,
+      c.take_out.ensures.noted,
       c.take_out.ensures.left ∙ ap (λ (s : List Service). others s c.id-item.result) l.invariant.1
           ∙ sym (ap (left_by live) more ∙ left_more live front c.id-item.result),
       record {
         len = c.take_out.ensures.room.len ∙ l.invariant.2.len;
-        slot = omega (arith, c.take_out.ensures.room.slot, l.invariant.2.slot);
-        place = omega (arith, c.take_out.ensures.room.place, l.invariant.2.place);
+        room = omega (arith, c.take_out.ensures.room.room, l.invariant.2.room);
       },
     )

@@ -14,12 +14,8 @@ put_all-requires-clause-fresh c =
 
 pub put_all-requires-clause-room : goal.put_all-requires-clause-room
 put_all-requires-clause-room c =
-    let had = c.in_ok-make_room.ensures.room in
     let kept = c.take_all.ensures.room in
-    record {
-      slot = omega (arith, had.slot, kept.len, kept.slot, c.len-count.ensures, c.args.services.ok.0);
-      place = omega (arith, had.place, kept.place, c.len-count.ensures, c.args.services.ok.0);
-    }
+    omega (arith, c.in_ok-make_room.ensures.room, kept.len, kept.room)
 
 pub returns-clause-ok : goal.returns-clause-ok
 returns-clause-ok c =

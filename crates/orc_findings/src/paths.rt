@@ -1,0 +1,175 @@
+//! What is at fault in the path of a line, in its keys, or in the value behind it.
+use crate::openings::schema_in;
+use orc_body_findings::{PathForm, path_finding, value_finding};
+use orc_lines::{Declared, Keyword, cut};
+use orc_schema::Schema;
+use orc_state::Rule;
+use orc_text::{Memory, Text};
+use std::alloc::Global;
+
+// What a line names: a path of a device, or of the data, and the value that stands behind it.
+#[derive(Drop)]
+struct Named<'a> {
+    device: Option<&'a str>,
+    path: &'a str,
+    value: Option<&'a str>,
+    form: PathForm,
+}
+
+/// The finding in a line with this keyword and these words behind it that breaks `path`, or else `value`.
+pub(crate) fn named_path_finding(
+    alloc: Global,
+    declared: &Declared,
+    word: Keyword,
+    words: &str,
+    rule: Rule,
+) -> Result<Option<Text>, Memory> {
+    match named_in(word, words) {
+        Some(named) => match named.device {
+            Some(name) => of_device(alloc, declared, name, &named, rule),
+            None => of_data(alloc, declared, &named, rule),
+        },
+        None => Ok(None),
+    }
+}
+
+// The finding in a path of the data.
+fn of_data(
+    alloc: Global,
+    declared: &Declared,
+    named: &Named<'_>,
+    rule: Rule,
+) -> Result<Option<Text>, Memory> {
+    let schema = &declared.data_schema;
+    let lists = declared.services.as_slice();
+    match rule {
+        Rule::Path => path_finding(alloc, schema, Some(lists), named.path, named.form),
+        _ => value_finding(alloc, schema, named.path, named.value),
+    }
+}
+
+// The finding in a path of the device of a name.
+fn of_device(
+    alloc: Global,
+    declared: &Declared,
+    name: &str,
+    named: &Named<'_>,
+    rule: Rule,
+) -> Result<Option<Text>, Memory> {
+    let name = Text::from_str(alloc, name)?;
+    let plain = Schema::plain(alloc);
+    let schema = schema_of(declared, &name, &plain);
+    match rule {
+        Rule::Path => path_finding(alloc, schema, None, named.path, named.form),
+        _ => value_finding(alloc, schema, named.path, named.value),
+    }
+}
+
+// The schema of the device of a name; the plain one where none is declared.
+fn schema_of<'a>(declared: &'a Declared, name: &Text, plain: &'a Schema) -> &'a Schema {
+    match declared.names.place(name) {
+        Some(place) => match declared.devices.as_slice().get(place) {
+            Some(device) => schema_in(declared.schemas.as_slice(), device.schema, plain),
+            None => plain,
+        },
+        None => plain,
+    }
+}
+
+// What the words behind a keyword name.
+fn named_in<'a>(word: Keyword, words: &'a str) -> Option<Named<'a>> {
+    match word {
+        Keyword::Data | Keyword::Set => Some(item_in(None, words)),
+        Keyword::Base | Keyword::Write => device_item_in(words),
+        Keyword::Unbase => device_path_in(words, PathForm::Item),
+        Keyword::Meta => device_path_in(words, PathForm::Node),
+        Keyword::Rule => rule_in(words),
+        Keyword::Template => template_in(words),
+        Keyword::Unset => Some(data_path(words, PathForm::Item)),
+        Keyword::Redeploy | Keyword::Delete => Some(data_path(words, PathForm::Service)),
+        Keyword::Create | Keyword::Modify => body_in(words),
+        _ => None,
+    }
+}
+
+// A path of the data.
+fn data_path<'a>(path: &'a str, form: PathForm) -> Named<'a> {
+    Named {
+        device: None,
+        path,
+        value: None,
+        form,
+    }
+}
+
+// `PATH` or `PATH = VALUE`.
+fn item_in<'a>(device: Option<&'a str>, words: &'a str) -> Named<'a> {
+    match cut(words) {
+        Some((path, rest)) => Named {
+            device,
+            path,
+            value: value_in(rest),
+            form: PathForm::Leaf,
+        },
+        None => Named {
+            device,
+            path: words,
+            value: None,
+            form: PathForm::Entry,
+        },
+    }
+}
+
+// What stands behind `=` and a space.
+fn value_in(rest: &str) -> Option<&str> {
+    match cut(rest) {
+        Some((_, value)) => Some(value),
+        None => None,
+    }
+}
+
+// `D ITEM`.
+fn device_item_in<'a>(words: &'a str) -> Option<Named<'a>> {
+    let (device, rest) = cut(words)?;
+    Some(item_in(Some(device), rest))
+}
+
+// `D PATH`.
+fn device_path_in<'a>(words: &'a str, form: PathForm) -> Option<Named<'a>> {
+    let (device, path) = cut(words)?;
+    Some(Named {
+        device: Some(device),
+        path,
+        value: None,
+        form,
+    })
+}
+
+// `D max LISTPATH N` or `D forbid PATH = VALUE`.
+fn rule_in<'a>(words: &'a str) -> Option<Named<'a>> {
+    let (device, rest) = cut(words)?;
+    let (kind, rest) = cut(rest)?;
+    if kind == "forbid" {
+        return Some(item_in(Some(device), rest));
+    }
+    let (path, _) = cut(rest)?;
+    Some(Named {
+        device: Some(device),
+        path,
+        value: None,
+        form: PathForm::List,
+    })
+}
+
+// `T LISTPATH N`.
+fn template_in<'a>(words: &'a str) -> Option<Named<'a>> {
+    let (_, rest) = cut(words)?;
+    let (path, _) = cut(rest)?;
+    Some(data_path(path, PathForm::Template))
+}
+
+// `PATH JSON`.
+fn body_in<'a>(words: &'a str) -> Option<Named<'a>> {
+    let (path, _) = cut(words)?;
+    Some(data_path(path, PathForm::Service))
+}
