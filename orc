@@ -13,7 +13,7 @@ is_old() {
 if is_old; then
     "$top/.ci/build" </dev/null || exit 1
 fi
-# Definitions of a module may stand 5,000 in one another, each of which takes more than a kilobyte of the stack.
+# Typedefs, or nodes and groupings, of modules are followed 2,000 one inside another, each on up to 1,400 bytes of the stack.
 ulimit -S -s 65536 2>/dev/null
 # Trees are many small pieces all over the memory: in pages of two megabytes, which the C library asks the kernel
 # for, most of them are found sooner. What the caller set stays, and a kernel without such pages gives the usual ones.

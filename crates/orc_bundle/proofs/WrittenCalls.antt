@@ -39,7 +39,7 @@ use Rattle.orc_lines.specs.Names.{is_among}
 use Rattle.orc_lines.specs.Rules.{on_ok}
 use Rattle.orc_script.specs.Places.{device_item_of, device_item_words, device_path_of, device_path_words}
 use Rattle.orc_script.specs.Bodies.{is_long_body, is_long_put}
-use Rattle.orc_script.specs.Scripts.{after_base_put, after_base_remove, after_create, after_modify, after_redeploy, begins_as_path, on_service, service_alone, service_body_of, after_delete, after_end, after_literal, after_set, after_step, after_unset, after_write, an_action, behind_literal, call_end, is_followed, with_action, with_write, word_at, words_at}
+use Rattle.orc_script.specs.Scripts.{after_base_put, after_base_remove, after_create, after_modify, after_redeploy, begins_as_path, on_service, service_body_of, service_id_of, after_delete, after_end, after_literal, after_set, after_step, after_unset, after_write, an_action, behind_literal, call_end, is_followed, with_action, with_write, word_at, words_at}
 use Rattle.orc_lines.specs.Words.{cut_at}
 use Rattle.orc_bundle.specs.Written.{AreLinesOf, SpellsAction, SpellsBody, lines_of_action, line_of_write}
 use Rattle.orc_script.specs.declared.step.ScriptStep.{ScriptStep}
@@ -431,31 +431,29 @@ module _ (callers : List (List ℕ)) (done : List ScriptStep) (caller : List ℕ
         let short = l.short in
         rw name (rw ident (rw room (rw short (rw new refl))))
 
-    -- an action on a service of a list that is named alone
-    alone_made : (make : List ℕ → Action) (d : Declared) (id : List ℕ) → IsServiceOn d id → is_service_among actions id ≡ false
-        → service_alone make d (opened actions) id ≡ Ok (opened (actions ++ make id ∷ []))
-    alone_made make d id k new =
+    -- the id of a service of a list that is named alone
+    id_made : (d : Declared) (id : List ℕ) → IsServiceOn d id → is_service_among actions id ≡ false → service_id_of d (opened actions) id ≡ Ok id
+    id_made d id k new =
         let one : (nat_le MOST_ACTIONS (length actions) || is_some (cut_at 32 id)) ≡ false =
         or_from (nat_le MOST_ACTIONS (length actions)) (is_some (cut_at 32 id)) room
         (ap (λ (o : Option (List ℕ × List ℕ)). is_some o) (cut_alone id k.word)) in
         let next : List PathStep → Result (List ℕ) Rule = λ p. on_service (opened actions) (path_text p) (Ok (path_text p)) in
-        let rest : Result (List ℕ) Rule → Result Script Rule = λ r. on_ok r (λ i. Ok (with_action (opened actions) (make i))) in
-        ap (λ (b : Bool). rest (cond b (Err rule.Line) (on_ok (service_path_of d.services d.data_schema id) next))) one
-        ∙ ap (λ (r : Result (List PathStep) Rule). rest (on_ok r next)) k.again
-        ∙ ap (λ (i : List ℕ). rest (on_service (opened actions) i (Ok i))) k.spelled
-        ∙ ap (λ (b : Bool). rest (cond b (Err rule.Duplicate) (Ok id))) new
+        ap (λ (b : Bool). cond b (Err rule.Line) (on_ok (service_path_of d.services d.data_schema id) next)) one
+        ∙ ap (λ (r : Result (List PathStep) Rule). on_ok r next) k.again
+        ∙ ap (λ (i : List ℕ). on_service (opened actions) i (Ok i)) k.spelled
+        ∙ ap (λ (b : Bool). cond b (Err rule.Duplicate) (Ok id)) new
 
     redeploy_made : (d : Declared) (id : List ℕ) → IsServiceOn d id → is_service_among actions id ≡ false
         → after_redeploy d (opened actions) id ≡ Ok (opened (actions ++ action.Redeploy id ∷ []))
     unfolding after_redeploy
-    redeploy_made d id k new = alone_made action.Redeploy d id k new
+    redeploy_made d id k new = ap (λ (r : Result (List ℕ) Rule). on_ok r (λ i. Ok (with_action (opened actions) (action.Redeploy i)))) (id_made d id k new)
 
     delete_service_made : (d : Declared) (id : List ℕ) → IsServiceOn d id → is_service_among actions id ≡ false
         → after_delete d (opened actions) id ≡ Ok (opened (actions ++ action.Delete id ∷ []))
     unfolding after_delete
     delete_service_made d id k new =
         let path = k.slash in
-        rw path (alone_made action.Delete d id k new)
+        rw path (ap (λ (r : Result (List ℕ) Rule). on_ok r (λ i. Ok (with_action (opened actions) (action.Delete i)))) (id_made d id k new))
 
     -- the id of a service of a list, and its body
     bodied_made : (d : Declared) (id : List ℕ) (body : List Put) (json : List ℕ) → IsServiceOn d id → is_service_among actions id ≡ false

@@ -161,20 +161,32 @@ forbidden_again s p v h =
 
 -- paths
 
+-- what is known of a lawful path that can carry an item
+pub record IsCarrying (s : SchemaTable) (p : List PathStep) : Type 0 where
+  pub lawful : IsLawfulAt p (blank_item p)
+  pub carries : can_carry s p (blank_item p) ≡ true
+  pub own : (s.plain || are_canonical_steps s [] p) ≡ true
+
+pub carrying : (s : SchemaTable) (p : List PathStep) → is_path_under s p ≡ true → IsCarrying s p
+carrying s p h =
+    let one = and_parts (is_item_at p (blank_item p)) (is_in_schema s p (blank_item p) && (s.plain || are_canonical_steps s [] p)) h in
+    let parts = and_parts (is_in_schema s p (blank_item p)) (s.plain || are_canonical_steps s [] p) one.1 in
+    let lawful = lawful_at p (blank_item p) one.0 in
+    record { lawful = lawful; carries = and_from (fits p (blank_item p)) (is_in_schema s p (blank_item p)) lawful.fit parts.0; own = parts.1 }
+
 -- one of the data that can carry an item
 pub data_path_again : (lists : List ServiceList) (s : SchemaTable) (p : List PathStep) → is_data_path s p ≡ true → is_served lists p ≡ false
     → data_path_of lists s (path_text p) ≡ Ok p
 data_path_again lists s p h apart =
     let two = and_parts (is_path_under s p) (not (is_kept p)) h in
-    let one = and_parts (is_item_at p (blank_item p)) (is_in_schema s p (blank_item p) && (s.plain || are_canonical_steps s [] p)) two.0 in
-    let parts = and_parts (is_in_schema s p (blank_item p)) (s.plain || are_canonical_steps s [] p) one.1 in
-    let l = lawful_at p (blank_item p) one.0 in
+    let k = carrying s p two.0 in
+    let l = k.lawful in
     let some = path_some p in
     let kept = path_kept p l.path l.short in
     let again = path_of_text p l.path in
     let free = or_from (is_kept p) (is_served lists p) (untrue (is_kept p) two.1) apart in
-    let carries : can_carry s p (blank_item p) ≡ true = and_from (fits p (blank_item p)) (is_in_schema s p (blank_item p)) l.fit parts.0 in
-    let own = path_own s p parts.1 in
+    let carries = k.carries in
+    let own = path_own s p k.own in
     rw some (rw kept (rw again (rw free (rw carries (rw own (rw h refl))))))
 
 -- the entry of a service
@@ -182,17 +194,16 @@ pub service_path_again : (lists : List ServiceList) (s : SchemaTable) (p : List 
     → service_path_of lists s (path_text p) ≡ Ok p
 service_path_again lists s p h listed =
     let two = and_parts (is_path_under s p) (not (is_kept p)) h in
-    let one = and_parts (is_item_at p (blank_item p)) (is_in_schema s p (blank_item p) && (s.plain || are_canonical_steps s [] p)) two.0 in
-    let parts = and_parts (is_in_schema s p (blank_item p)) (s.plain || are_canonical_steps s [] p) one.1 in
-    let l = lawful_at p (blank_item p) one.0 in
+    let k = carrying s p two.0 in
+    let l = k.lawful in
     let some = path_some p in
     let kept = path_kept p l.path l.short in
     let again = path_of_text p l.path in
-    let carries : can_carry s p (blank_item p) ≡ true = and_from (fits p (blank_item p)) (is_in_schema s p (blank_item p)) l.fit parts.0 in
+    let carries = k.carries in
     let names : names_service lists s p ≡ true =
     and_from (is_some (list_with lists p)) (not (is_kept p) && can_carry s p (blank_item p)) listed (and_from (not (is_kept p)) (can_carry s p (blank_item p)) two.1 carries) in
     let at : is_service_at lists s p ≡ true = and_from (is_data_path s p) (is_some (list_with lists p)) h listed in
-    let own = path_own s p parts.1 in
+    let own = path_own s p k.own in
     rw some (rw kept (rw again (rw names (rw own (rw at refl)))))
 
 -- one of a list
@@ -224,18 +235,6 @@ list_path_again s p h =
 word_alone : (w : List ℕ) → IsWord w → nat_eq (length w) 0 ≡ false → is_no_word w ≡ false
 word_alone w is some = or_from (nat_eq (length w) 0) (is_some (cut_at 32 w)) some (ap (λ (o : Option (List ℕ × List ℕ)). is_some o) (cut_alone w is))
 
--- what is known of a lawful path that can carry an item
-pub record IsCarrying (s : SchemaTable) (p : List PathStep) : Type 0 where
-  pub lawful : IsLawfulAt p (blank_item p)
-  pub inside : is_in_schema s p (blank_item p) ≡ true
-  pub own : (s.plain || are_canonical_steps s [] p) ≡ true
-
-pub carrying : (s : SchemaTable) (p : List PathStep) → is_path_under s p ≡ true → IsCarrying s p
-carrying s p h =
-    let one = and_parts (is_item_at p (blank_item p)) (is_in_schema s p (blank_item p) && (s.plain || are_canonical_steps s [] p)) h in
-    let parts = and_parts (is_in_schema s p (blank_item p)) (s.plain || are_canonical_steps s [] p) one.1 in
-    record { lawful = lawful_at p (blank_item p) one.0; inside = parts.0; own = parts.1 }
-
 -- one of a device that can carry an item
 pub base_path_again : (s : SchemaTable) (p : List PathStep) → is_path_under s p ≡ true → base_path_of s false (path_text p) ≡ Ok p
 base_path_again s p h =
@@ -244,7 +243,7 @@ base_path_again s p h =
     let alone = word_alone (path_text p) (word_of_path p l.path) (path_some p) in
     let kept = path_kept p l.path l.short in
     let again = path_of_text p l.path in
-    let carries : can_carry s p (blank_item p) ≡ true = and_from (fits p (blank_item p)) (is_in_schema s p (blank_item p)) l.fit k.inside in
+    let carries = k.carries in
     let own = path_own s p k.own in
     rw alone (rw kept (rw again (rw carries (rw own (rw h refl)))))
 

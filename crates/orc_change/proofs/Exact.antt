@@ -2,9 +2,7 @@
 use Rattle.std.proofs.Common.{◌≡◌, ◌⊎◌, inl, inr, Bool, true, false, cond, ◌&&◌, T, List, [], ◌∷◌, ◌++◌, Some, None, refl, sym, ap, subst, ◌∙◌, is_some}
 use Rattle.std.specs.Prelude.{is_none}
 use Rattle.std.specs.declared.option.Option.{Option}
-use Rattle.std.specs.declared.cmp.Ordering.{Ordering}
-use Rattle.std.specs.declared.cmp.Ordering.TheVariants.{Less, Equal, Greater}
-use Rattle.std.specs.Ordering.{eq_by_cmp, is_eq, is_lt}
+use Rattle.std.specs.Ordering.{eq_by_cmp}
 use Rattle.std.specs.List.{list_all}
 use Rattle.std.specs.FinMap.{get, entries, entries_sorted, find, is_sorted, get-entries}
 use Rattle.std.specs.FinMap.Entries.{below_all}
@@ -16,7 +14,11 @@ use Rattle.orc_path.specs.Steps.{PathStep}
 use Rattle.orc_path.specs.Order.{path_cmp}
 use Rattle.orc_path.specs.Items.{fits}
 use Rattle.orc_path.specs.Configurations.{Config, IsConfig}
+use Rattle.orc_path.proofs.Bools.{first_of_both, second_of_both}
+use Rattle.orc_path.proofs.PathOrder.{path_cmp_total}
 use Rattle.orc_path.proofs.ConfigurationLaws.{same_config, same_path, path_ties}
+use Rattle.orc_tree.proofs.InOrder.{T_is_true}
+use Rattle.orc_tree.proofs.Pieces.{find_piece}
 use Rattle.orc_path.specs.declared.item.Item.{Item}
 use Rattle.orc_path.specs.declared.item.Item.TheVariants.{Entry, Leaf}
 use Rattle.orc_tree.specs.Changes.{applied, change_fits}
@@ -94,24 +96,8 @@ new_puts_mention (e ∷ es) from q item h new =
       | false ↦ λ t f. elim (has_item (get from e.0) e.1) as (λ b. Mentions q (cond b (new_puts es from) (Put e.0 e.1 ∷ new_puts es from))) [ true ↦ rest f | false ↦ inr (rest f) ]
     ] refl h
 
-first_of_both : (a b : Bool) → T (a && b) → T a
-first_of_both true b h = tt
-first_of_both false b h = h
-
-second_of_both : (a b : Bool) → T (a && b) → T b
-second_of_both true b h = h
-second_of_both false b h = absurd h
-
-not_tied : (o : Ordering) → T (is_lt o) → is_eq o ≡ false
-not_tied Less h = refl
-not_tied Equal h = absurd h
-not_tied Greater h = absurd h
-
 find-below : (q : List PathStep) (es : List (List PathStep × Item)) → T (below_all path_cmp q es) → find path_cmp q es ≡ None
-find-below q [] h = refl
-find-below q (e ∷ es) h =
-    cond-false (eq_by_cmp path_cmp q e.0) (Some e.1) (find path_cmp q es) (not_tied (path_cmp q e.0) (first_of_both (is_lt (path_cmp q e.0)) (below_all path_cmp q es) h))
-    ∙ find-below q es (second_of_both (is_lt (path_cmp q e.0)) (below_all path_cmp q es) h)
+find-below q es h = find_piece path_cmp path_cmp_total q [] [] es refl (T_is_true _ h)
 
 -- rows in order, each of which is found in a configuration
 are_of : (m : Config) (es : List (List PathStep × Item)) → T (is_sorted path_cmp es) → ((q : List PathStep) (x : Item) → find path_cmp q es ≡ Some x → get m q ≡ Some x) → AreHeld m es

@@ -207,8 +207,8 @@ fn push_each_new(
     Ok(())
 }
 
-// Whether this item is there.
-fn has_item(found: Option<&Item>, item: &Item) -> bool
+/// Whether what was found at a path is this item.
+pub fn has_item(found: Option<&Item>, item: &Item) -> bool
     ensures { result ≡ has_item (option_copied found.entry) item.now }
 {
     match found {

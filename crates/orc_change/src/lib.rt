@@ -7,4 +7,4 @@
 mod difference;
 mod likely;
 
-pub use difference::{between, reverse};
+pub use difference::{between, has_item, reverse};

@@ -1,5 +1,5 @@
 -- A test of rows that one path alone can meet.
-use Rattle.std.proofs.Common.{◌≡◌, Bool, true, false, ◌||◌, cond, List, [], ◌∷◌, refl, sym, ap, subst, ◌∙◌}
+use Rattle.std.proofs.Common.{◌≡◌, ◌-◌, ℕ, Bool, true, false, ◌||◌, cond, List, [], ◌∷◌, ◌++◌, length, take, drop, refl, sym, ap, subst, ◌∙◌}
 use Rattle.std.specs.declared.cmp.Ordering.{Ordering}
 use Rattle.std.specs.declared.cmp.Ordering.TheVariants.{Less, Equal, Greater}
 use Rattle.std.specs.Ordering.{is_lt, is_eq}
@@ -10,6 +10,7 @@ use Rattle.std.specs.Cmp.{tied_itself}
 use Rattle.std.specs.FinMap.{find, get, entries, is_sorted, entries_sorted, get-entries}
 use Rattle.std.specs.FinMap.Entries.{below_all}
 use Rattle.std.proofs.lemmas.Bool.{false≢true, and_parts, or_from}
+use Rattle.std.proofs.lemmas.List.{take_rest}
 use Rattle.orc_path.specs.Steps.{PathStep}
 use Rattle.orc_path.specs.Order.{path_cmp}
 use Rattle.orc_path.specs.Configurations.{Config}
@@ -17,6 +18,9 @@ use Rattle.orc_path.specs.declared.item.Item.{Item}
 use Rattle.orc_path.proofs.PathOrder.{path_cmp_total, path_cmp_exact}
 use Rattle.orc_tree.proofs.InOrder.{T_is_true}
 use Rattle.orc_tree.proofs.Maps.{Rows}
+use Rattle.orc_schema.specs.declared.line.Target.{Target}
+use Rattle.orc_check.specs.Validity.{plain_steps}
+use Rattle.orc_check.specs.inside.Named.{named_path, leaf_path}
 
 not_true : (b : Bool) → (b ≡ true → ⊥) → b ≡ false
 not_true true f = absurd (f refl)
@@ -64,16 +68,36 @@ module _ (f : (List PathStep × Item) → Bool) (q : List PathStep) (only : (row
   pub any_at : (c : Config) → list_any f (entries c) ≡ option_map_or (λ item. f (q, item)) (get c q) false
   any_at c = any_find (entries c) (T_is_true _ (entries_sorted c)) ∙ ap (λ o. option_map_or (λ item. f (q, item)) o false) (sym (get-entries c q))
 
--- what a test says of the row that was found, or of none
-pub here : (none : Bool) (f : (List PathStep × Item) → Bool) (q : List PathStep) (o : Option Item) (row : List PathStep × Item) → Some row ≡ option_map (λ (item : Item). (q, item)) o
-    → f row ≡ option_map_or (λ item. f (q, item)) o none
-here none f q None row e = cc
-here none f q (Some item) row e = let same : row ≡ (q, item) = cc in ap f same
+-- what a test says of the row that was found at a path, or of none, at the path that this one is
+module _ (none : Bool) (f : (List PathStep × Item) → Bool) where
+  here_of : (q : List PathStep) (o : Option Item) (row : List PathStep × Item) → Some row ≡ option_map (λ (item : Item). (q, item)) o → f row ≡ option_map_or (λ item. f (q, item)) o none
+  here_of q None row e = cc
+  here_of q (Some item) row e = let same : row ≡ (q, item) = cc in ap f same
 
-pub nothing : (none : Bool) (f : (List PathStep × Item) → Bool) (q : List PathStep) (o : Option Item)
-    → ◌≡◌ {A = Option (List PathStep × Item)} None (option_map (λ (item : Item). (q, item)) o) → none ≡ option_map_or (λ item. f (q, item)) o none
-nothing none f q None e = refl
-nothing none f q (Some item) e = cc
+  nothing_of : (q : List PathStep) (o : Option Item) → ◌≡◌ {A = Option (List PathStep × Item)} None (option_map (λ (item : Item). (q, item)) o) → none ≡ option_map_or (λ item. f (q, item)) o none
+  nothing_of q None e = refl
+  nothing_of q (Some item) e = cc
+
+  module _ {p q : List PathStep} (same : p ≡ q) (c : Config) where
+    pub here : (row : List PathStep × Item) → Some row ≡ option_map (λ (item : Item). (p, item)) (get c p) → f row ≡ option_map_or (λ item. f (q, item)) (get c q) none
+    here row e = subst (λ (at : List PathStep). f row ≡ option_map_or (λ item. f (at, item)) (get c at) none) same (here_of p (get c p) row e)
+
+    pub nothing : ◌≡◌ {A = Option (List PathStep × Item)} None (option_map (λ (item : Item). (p, item)) (get c p)) → none ≡ option_map_or (λ item. f (q, item)) (get c q) none
+    nothing e = subst (λ (at : List PathStep). none ≡ option_map_or (λ item. f (at, item)) (get c at) none) same (nothing_of p (get c p) e)
+
+-- the paths that a target names, as they are lent in parts
+pub named_path_is : (target : Target) (before : List (List ℕ)) (list text : List ℕ) (path : List PathStep) {front : List PathStep} → front ≡ take target.shared path
+    → front ++ (plain_steps (take (length before - target.shared) (drop target.shared before)) ++ record { node = list; keys = text ∷ [] } ∷ []) ≡ named_path target before list text path
+named_path_is target before list text path is =
+    let last : PathStep = record { node = list; keys = text ∷ [] } in
+    ap (λ (xs : List PathStep). xs ++ (plain_steps (take (length before - target.shared) (drop target.shared before)) ++ last ∷ [])) is
+    ∙ ap (λ (names : List (List ℕ)). take target.shared path ++ (plain_steps names ++ last ∷ [])) (take_rest before target.shared)
+
+pub leaf_path_is : (target : Target) (path : List PathStep) {front : List PathStep} {names : List (List ℕ)} → front ≡ take target.shared path → names ≡ target.names
+    → front ++ plain_steps (take (length names - target.shared) (drop target.shared names)) ≡ leaf_path target path
+leaf_path_is target path {names = names} is are =
+    ap (λ (xs : List PathStep). xs ++ plain_steps (take (length names - target.shared) (drop target.shared names))) is
+    ∙ ap (λ (later : List (List ℕ)). take target.shared path ++ plain_steps later) (take_rest names target.shared ∙ ap (drop target.shared) are)
 
 pub is_there : (q : List PathStep) (o : Option Item) (row : List PathStep × Item) → Some row ≡ option_map (λ (item : Item). (q, item)) o → false ≡ is_none o
 is_there q None row e = cc

@@ -17,6 +17,7 @@ use Rattle.orc_value.specs.Canon.{same_text}
 use Rattle.orc_schema.specs.Links.{names_cmp}
 use Rattle.orc_schema.specs.Schemas.{SchemaTable, Ascends, path_names}
 use Rattle.orc_schema.specs.declared.line.SchemaLine.{SchemaLine}
+use Rattle.orc_tree.proofs.Pieces.{lt_is}
 use Rattle.orc_check.specs.Validity.{Breach, behind, goes_down, plain_steps, node_breaches, line_breaches}
 use Rattle.orc_check.specs.inside.Lines.{leads_on, is_before}
 
@@ -41,11 +42,6 @@ not_before (step ∷ place) (name ∷ names) h = on (same_text step.node name) r
         let tied : slice_cmp nat_cmp name step.node ≡ Equal =
         ap (λ (n : List ℕ). slice_cmp nat_cmp name n) same ∙ tied_itself nat_list_cmp_total name in
         go (ap (λ o. is_lt (ordering_then o (names_cmp names (path_names place)))) (sym tied) ∙ h)
-
-is_less : (o : Ordering) → is_lt o ≡ true → o ≡ Less
-is_less Less h = refl
-is_less Equal h = absurd (false≢true h)
-is_less Greater h = absurd (false≢true h)
 
 -- names between those of a place and names that begin with these begin with them too
 between : (place : List PathStep) (x y : Names) → is_lt (names_cmp x (path_names place)) ≡ false → names_cmp x y ≡ Less → is_some (behind place y) ≡ true
@@ -90,7 +86,7 @@ none_up_to place (x ∷ lines) s zero d l h = or_from (leads_on place x) false (
 none_up_to place (x ∷ lines) s (suc i) d l h =
     let further : i < length lines = omega arith in
     let less : names_cmp x.names (get_or lines i d).names ≡ Less = less_all x.names lines (sorted_head names_cmp x.names (map (λ l. l.names) lines) s) i d further in
-    let before : names_cmp x.names (path_names place) ≡ Less = names_total.trans x.names (get_or lines i d).names (path_names place) less (is_less _ h) in
+    let before : names_cmp x.names (path_names place) ≡ Less = names_total.trans x.names (get_or lines i d).names (path_names place) less (lt_is _ h) in
     ap (λ n. list_any (leads_on place) (take n (x ∷ lines))) {x = suc i + 1} {y = suc (i + 1)} (omega arith)
     ∙ or_from (leads_on place x) (list_any (leads_on place) (take (i + 1) lines)) (not_before place x.names (ap is_lt before))
     (none_up_to place lines (sorted_tail names_cmp x.names (map (λ l. l.names) lines) s) i d further h)

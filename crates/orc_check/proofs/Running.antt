@@ -1,5 +1,5 @@
 -- The rows of chapters from a path's page on, in runs.
-use Rattle.std.proofs.Common.{◌≡◌, ℕ, zero, suc, ◌<◌, true, List, [], ◌∷◌, ◌++◌, None, length, take, drop, map, get_or, refl, sym, ap, subst, ◌∙◌, arith}
+use Rattle.std.proofs.Common.{◌≡◌, ℕ, zero, suc, ◌+◌, ◌-◌, ◌<◌, true, List, [], ◌∷◌, ◌++◌, None, length, take, drop, map, get_or, refl, sym, ap, subst, ◌∙◌, arith}
 use Rattle.std.specs.Ordering.{is_lt}
 use Rattle.std.specs.List.{All}
 use Rattle.std.specs.declared.alloc.Global.{Global}
@@ -7,7 +7,7 @@ use Rattle.std.specs.declared.sync.Arc.{Arc}
 use Rattle.std.specs.FinMap.{find, is_sorted}
 use Rattle.std.specs.FinMap.Entries.{below_all}
 use Rattle.std.proofs.lemmas.Bool.{and_parts, and_from}
-use Rattle.std.proofs.lemmas.List.{append_assoc}
+use Rattle.std.proofs.lemmas.List.{append_assoc, take_rest}
 use Rattle.std.proofs.lemmas.List.Folds.{list_all-append}
 use Rattle.std.proofs.lemmas.List.Elements.{All-nil, All-cons, All-head, All-tail}
 use Rattle.orc_path.specs.Steps.{PathStep}
@@ -39,9 +39,6 @@ are_laid (c ∷ cs) sized filled =
     All-cons IsLaid c cs (here, some_rows (chapter_pages c) here (All-head IsFilled c cs filled))
     (are_laid cs (All-behind IsSized (chapter_pages c) (pages_of cs) sized) (All-tail IsFilled c cs filled))
 
-pub laid_at : (cs : Chapters) (i : ℕ) (c : Arc Chapter Global) → AreLaid cs → i < length cs → c ≡ get_or cs i c → AreSized (chapter_pages c)
-laid_at cs i c laid l is = subst (λ (x : Arc Chapter Global). AreSized (chapter_pages x)) (sym is) (laid i c l).0
-
 -- ---- the runs from a page on
 
 all_rows-map : (ps : Pages) → all_rows (map page_rows ps) ≡ rows_of ps
@@ -65,7 +62,7 @@ drop_first (p ∷ ps) zero more l = refl
 drop_first (p ∷ ps) (suc n) more l = drop_first ps n more (omega arith)
 
 module _ (q : List PathStep) (cs : Chapters) (i : ℕ) (c : Arc Chapter Global) (n : ℕ) (for : IsChapterFor q cs i) (is : c ≡ get_or cs i c) (page : IsPageFor q (chapter_pages c) n) where
-  pub rest_from : (ps : Pages) (ds : Chapters) → ps ≡ drop n (chapter_pages c) → ds ≡ drop (suc i) cs → IsRestFor q (chapters_rows cs) (all_rows (map page_rows (ps ++ pages_of ds)))
+  rest_from : (ps : Pages) (ds : Chapters) → ps ≡ drop n (chapter_pages c) → ds ≡ drop (suc i) cs → IsRestFor q (chapters_rows cs) (all_rows (map page_rows (ps ++ pages_of ds)))
   rest_from ps ds same later =
       let front : Rows = chapters_rows (take i cs) ++ rows_of (take n (chapter_pages c)) in
       record {
@@ -81,13 +78,26 @@ module _ (q : List PathStep) (cs : Chapters) (i : ℕ) (c : Arc Chapter Global) 
             ∙ and_from (above_all q (chapters_rows (take i cs))) (above_all q (rows_of (take n (chapter_pages c)))) for.before page.before;
       }
 
-  pub behind_from : (ps : Pages) (ds : Chapters) → ps ≡ drop n (chapter_pages c) → ds ≡ drop (suc i) cs → below_all path_cmp q (all_rows (drop 1 (map page_rows (ps ++ pages_of ds)))) ≡ true
+  behind_from : (ps : Pages) (ds : Chapters) → ps ≡ drop n (chapter_pages c) → ds ≡ drop (suc i) cs → below_all path_cmp q (all_rows (drop 1 (map page_rows (ps ++ pages_of ds)))) ≡ true
   behind_from ps ds same later =
       ap (λ (x : Pages). below_all path_cmp q (all_rows (drop 1 (map page_rows (x ++ pages_of ds))))) same
       ∙ ap (λ (x : Chapters). below_all path_cmp q (all_rows (drop 1 (map page_rows (drop n (chapter_pages c) ++ pages_of x))))) later
       ∙ ap (λ (r : List Rows). below_all path_cmp q (all_rows r)) (drop_first (chapter_pages c) n (pages_of (drop (suc i) cs)) page.within)
       ∙ ap (below_all path_cmp q) (runs_rows (drop (suc n) (chapter_pages c)) (drop (suc i) cs))
       ∙ below_both q (rows_of (drop (suc n) (chapter_pages c))) (chapters_rows (drop (suc i) cs)) page.behind for.behind
+
+-- the runs from a page of a chapter on, as they are lent: the rest of the pages, and the chapters behind
+abbrev pub lent_runs : Pages → ℕ → Chapters → ℕ → List Rows
+lent_runs pages n cs i = map page_rows (take (length pages - n) (drop n pages) ++ pages_of (take (length cs - (i + 1)) (drop (i + 1) cs)))
+
+pub lent_from : (q : List PathStep) (cs : Chapters) (i : ℕ) (c : Arc Chapter Global) (n : ℕ) (pages : Pages) → IsChapterFor q cs i → c ≡ get_or cs i c → pages ≡ chapter_pages c → IsPageFor q pages n
+    → IsRestFor q (chapters_rows cs) (all_rows (lent_runs pages n cs i)) × (below_all path_cmp q (all_rows (drop 1 (lent_runs pages n cs i))) ≡ true)
+lent_from q cs i c n pages for is same page =
+    let own : IsPageFor q (chapter_pages c) n = subst (λ (ps : Pages). IsPageFor q ps n) same page in
+    let next : i + 1 ≡ suc i = omega arith in
+    let here : take (length pages - n) (drop n pages) ≡ drop n (chapter_pages c) = take_rest pages n ∙ ap (λ (ps : Pages). drop n ps) same in
+    let later : take (length cs - (i + 1)) (drop (i + 1) cs) ≡ drop (suc i) cs = take_rest cs (i + 1) ∙ ap (λ k. drop k cs) next in
+    (rest_from q cs i c n for is own _ _ here later, behind_from q cs i c n for is own _ _ here later)
 
 -- ---- what is sought in runs
 

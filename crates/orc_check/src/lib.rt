@@ -32,6 +32,7 @@ pub use best::Best;
 pub use fault::CheckFault;
 pub use laws::{least_breach_is_least, valid_is_typed};
 pub use reach::is_place;
+pub use references::{first_steps, target_in};
 pub use rules::{KEY, KIND, LEAFREF, MANDATORY, MAX_ELEMENTS, MIN_ELEMENTS};
 pub use under::{row_of_steps, rows_under};
 pub use validity::{broken, valid};

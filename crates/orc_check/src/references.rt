@@ -17,6 +17,7 @@ use crate::order::{is_plain, same_step};
 use crate::reach::{is_place, reached};
 use crate::sharing::has_row;
 use crate::spot::{Keyed, Spot};
+use crate::under::row_of_steps;
 use orc_path::{Item, Path, Step};
 use orc_schema::{Node, Schema, Target};
 use orc_text::Text;
@@ -166,8 +167,8 @@ pub(crate) fn row_has(
         && path_has(schema, &row.0, &row.1, target.names.as_slice(), text)
 }
 
-/// The first steps of a path.
-pub(crate) fn first_steps(path: &[Step], number: usize) -> &[Step]
+/// The first steps of a path, so many as there are up to this number.
+pub fn first_steps(path: &[Step], number: usize) -> &[Step]
     ensures { result.now ≡ take number path.now }
 {
     if path.len() <= number {
@@ -256,12 +257,7 @@ fn is_lacked(schema: &Schema, tree: &Tree, target: &Target, path: &[Step]) -> bo
 fn is_present(schema: &Schema, tree: &Tree, path: &[Step]) -> bool
     ensures { result ≡ is_present schema.now tree.now path.now }
 {
-    let spot = Spot {
-        steps: path,
-        names: &[],
-        entry: None,
-    };
-    match row_at(tree, &spot) {
+    match row_of_steps(tree, path) {
         Some(row) => is_place(schema, row),
         None => false,
     }
@@ -368,12 +364,7 @@ fn has_at(
 ) -> bool
     ensures { result ≡ has_at schema.now tree.now target.now text.now path.now steps.now }
 {
-    let spot = Spot {
-        steps,
-        names: &[],
-        entry: None,
-    };
-    match row_at(tree, &spot) {
+    match row_of_steps(tree, steps) {
         Some(row) => row_has(schema, target, text, path, row),
         None => false,
     }
@@ -475,8 +466,8 @@ fn has_instance(
     }
 }
 
-/// The target of a leafref.
-pub(crate) fn target_in(node: &Node) -> Option<&Target>
+/// The target of a leaf or a leaf-list whose type is a leafref (RFC 7950 section 9.9).
+pub fn target_in(node: &Node) -> Option<&Target>
     ensures { option_map (λ target. target.now) result ≡ target_in node.now }
 {
     match node {

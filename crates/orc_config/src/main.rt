@@ -8,13 +8,14 @@ use orc_check::{CheckFault, valid};
 use orc_json::{JsonFault, read, write};
 use orc_path::Path;
 use orc_schema::Schema;
+use orc_table_programs::{ended_apart, given_words};
 use orc_text::Memory;
 use orc_tree::Tree;
 use orc_yang::parse;
 use std::alloc::Global;
 use std::process::ExitCode;
 use std::rt::{Env, Files};
-use std::{env, fs, io};
+use std::{fs, io};
 
 // What is found in a text.
 enum Outcome {
@@ -24,20 +25,12 @@ enum Outcome {
 
 // Ends with 0 where the configuration was printed.
 fn main(rt: HostRuntime) -> ExitCode {
-    match run(&rt) {
-        Ok(true) => ExitCode::SUCCESS,
-        Ok(false) => ExitCode::FAILURE,
-        Err(error) => {
-            let _ = eprintln!(rt; "{error}");
-            ExitCode::FAILURE
-        }
-    }
+    ended_apart(&rt, run(&rt))
 }
 
 // Reads the two files, and prints what is found.
 fn run<R: Files<File = fs::File> + Env + Print + AllocGlobal>(rt: &R) -> io::Result<bool> {
-    let mut words = env::args(rt)?;
-    let _program = words.next();
+    let mut words = given_words(rt)?;
     let (Some(modules), Some(json)) = (words.next(), words.next()) else {
         println!(rt; "orc_config MODULES JSON")?;
         return Ok(false);

@@ -70,3 +70,15 @@ declared_pays d e at line later before h = on (nat_lt 0 d.skip) refl where
   on false is =
       let none : d.skip ≡ 0 = (let few = ltb-false 0 d.skip is in omega arith) in
       of_line d e line later before none (declares d e at line later none before h)
+
+-- behind the line `script` nothing is looked at any more
+pub script_pays : (d e : Declared) (at : ℕ) (line : List ℕ) (later lines : List (List ℕ)) → is_script d.section ≡ false → lines ≡ line ∷ later
+    → declared_at d at line later ≡ Ok e → is_script e.section ≡ true → ahead_declared d lines + declared_looks_at d line later ≤ length line
+script_pays d e at line later lines before first takes here =
+    let pays = declared_pays d e at line later before takes in
+    let is = ap (ahead_declared d) first in
+    let none = on e.section here in omega arith where
+      on : (s : Section) → is_script s ≡ true → ahead_in s e.skip later ≡ 0
+      on section.Header h = absurd (false≢true h)
+      on section.Declarations h = absurd (false≢true h)
+      on section.Script h = refl

@@ -46,11 +46,11 @@ at_fault fault = Err fault
 abbrev opens_not : BundleFault → Result (Unit {0}) BundleFault
 opens_not fault = Err fault
 
-pub is_opened : (n : ℕ) (front : Front) → is_opening front.declared ≡ true → opened n front ≡ Ok front
+is_opened : (n : ℕ) (front : Front) → is_opening front.declared ≡ true → opened n front ≡ Ok front
 is_opened n front h = ap (λ (b : Bool). cond b (front_at front) (fault_at n rule.Opening)) h
 
 -- the opening is at fault, and so is the line where the declarations end
-pub opening_fault : (answer : Result Front (ℕ × Rule)) (n : ℕ) (front : Front) (fault : BundleFault) → answer ≡ opened n front
+opening_fault : (answer : Result Front (ℕ × Rule)) (n : ℕ) (front : Front) (fault : BundleFault) → answer ≡ opened n front
     → IsOpened front.declared n (opens_not fault) → Declares answer front.declared (at_fault fault)
 opening_fault answer n front Memory is h = tt
 opening_fault answer n front (At line broken) is h =
@@ -58,7 +58,7 @@ opening_fault answer n front (At line broken) is h =
     ∙ ap (λ (l : ℕ). fault_at l rule.Opening) (sym h.1) ∙ ap (λ (r : Rule). fault_at line r) (sym h.2)
 
 -- it is handed on
-pub handed_on : (r : Result Behind BundleFault) (answer : Result Front (ℕ × Rule)) (n : ℕ) (front : Front) (fault : BundleFault)
+handed_on : (r : Result Behind BundleFault) (answer : Result Front (ℕ × Rule)) (n : ℕ) (front : Front) (fault : BundleFault)
     → IsErrAnd r (λ y. y ≡ fault) → answer ≡ opened n front → IsOpened front.declared n (opens_not fault) → Declares answer front.declared r
 handed_on r answer n front fault handed is h =
     let p = err_from_is_err_and r handed in
@@ -70,25 +70,59 @@ pub none_left : (r : Result Behind BundleFault) → IsErr r → left_of r ≡ 0
 none_left (Ok behind) h = absurd (false≢true h)
 none_left (Err fault) h = refl
 
--- behind the line `script`
-pub ends_script : (d e : Declared) (at n : ℕ) (line : List ℕ) (later : List (List ℕ)) → declared_at d at line later ≡ Ok e → is_script e.section ≡ true
-    → declarations_of d at n (line ∷ later) ≡ opened (n + 1) (record { declared = e; size = at; at = at + length line; number = n + 1; later = later })
-ends_script d e at n line later takes here =
-    ap (λ (r : Result Declared Rule). on_line (n + 1) r (λ x.
+-- the opening is looked at, in the line of this number
+abbrev Ends : Result Front (ℕ × Rule) → ℕ → Front → Type 0
+Ends answer n front = answer ≡ opened n front
+
+-- a line more, which is no fault
+pub goes_on : (d e : Declared) (at n : ℕ) (line : List ℕ) (later lines : List (List ℕ)) → lines ≡ line ∷ later → declared_at d at line later ≡ Ok e
+    → (b : Bool) → is_script e.section ≡ b → declarations_of d at n lines
+    ≡ cond b (opened (n + 1) (record { declared = e; size = at; at = at + length line; number = n + 1; later = later })) (declarations_of e (at + length line) (n + 1) later)
+goes_on d e at n line later lines first takes b is =
+    ap (declarations_of d at n) first
+    ∙ ap (λ (r : Result Declared Rule). on_line (n + 1) r (λ x.
     if is_script x.section
     then opened (n + 1) (record { declared = x; size = at; at = at + length line; number = n + 1; later = later })
     else declarations_of x (at + length line) (n + 1) later)) takes
-    ∙ ap (λ (b : Bool). cond b (opened (n + 1) (record { declared = e; size = at; at = at + length line; number = n + 1; later = later }))
-    (declarations_of e (at + length line) (n + 1) later)) here
+    ∙ ap (λ (t : Bool). cond t (opened (n + 1) (record { declared = e; size = at; at = at + length line; number = n + 1; later = later }))
+    (declarations_of e (at + length line) (n + 1) later)) is
+
+-- behind the line `script`
+module _ (answer : Result Front (ℕ × Rule)) (d e : Declared) (at n : ℕ) (line : List ℕ) (later lines : List (List ℕ))
+    (so_far : answer ≡ declarations_of d at n lines) (first : lines ≡ line ∷ later) (takes : declared_at d at line later ≡ Ok e)
+    (here : is_script e.section ≡ true) where
+  abbrev pub behind_script : Front
+  behind_script = record { declared = e; size = at; at = at + length line; number = n + 1; later = later }
+
+  ends_script : Ends answer (n + 1) behind_script
+  ends_script = so_far ∙ goes_on d e at n line later lines first takes true here
+
+  pub script_opens : is_opening e ≡ true → answer ≡ Ok behind_script
+  script_opens h = ends_script ∙ is_opened (n + 1) behind_script h
+
+  pub script_faults : (r : Result Behind BundleFault) (fault : BundleFault) → IsErrAnd r (λ y. y ≡ fault) → IsOpened e (n + 1) (opens_not fault) → Declares answer e r
+  script_faults r fault handed h = handed_on r answer (n + 1) behind_script fault handed ends_script h
 
 -- or behind the last line
-pub ends_text : (answer : Result Front (ℕ × Rule)) (d : Declared) (at n size : ℕ) (rest : List ℕ) → answer ≡ declarations_of d at n (lines_of rest)
-    → length rest ≡ 0 → at + length rest ≡ size
-    → answer ≡ opened (n + 1) (record { declared = d; size = size; at = at; number = n; later = lines_of rest })
-ends_text answer d at n size [] is none same =
-    let last : at ≡ size = omega arith in
-    is ∙ ap (λ (k : ℕ). opened (n + 1) (record { declared = d; size = k; at = at; number = n; later = [] })) last
-ends_text answer d at n size (b ∷ bs) is none same = absurd (omega arith)
+module _ (answer : Result Front (ℕ × Rule)) (d : Declared) (at n size : ℕ) (rest : List ℕ)
+    (so_far : answer ≡ declarations_of d at n (lines_of rest)) (none : length rest ≡ 0) (all : at + length rest ≡ size) where
+  abbrev pub behind_text : Front
+  behind_text = record { declared = d; size = size; at = at; number = n; later = lines_of rest }
+
+  ends_text : Ends answer (n + 1) behind_text
+  ends_text = on rest so_far none all where
+    on : (bytes : List ℕ) → answer ≡ declarations_of d at n (lines_of bytes) → length bytes ≡ 0 → at + length bytes ≡ size
+        → Ends answer (n + 1) (record { declared = d; size = size; at = at; number = n; later = lines_of bytes })
+    on [] is none same =
+        let last : at ≡ size = omega arith in
+        is ∙ ap (λ (k : ℕ). opened (n + 1) (record { declared = d; size = k; at = at; number = n; later = [] })) last
+    on (b ∷ bs) is none same = absurd (omega arith)
+
+  pub text_opens : is_opening d ≡ true → answer ≡ Ok behind_text
+  text_opens h = ends_text ∙ is_opened (n + 1) behind_text h
+
+  pub text_faults : (r : Result Behind BundleFault) (fault : BundleFault) → IsErrAnd r (λ y. y ≡ fault) → IsOpened d (n + 1) (opens_not fault) → Declares answer d r
+  text_faults r fault handed h = handed_on r answer (n + 1) behind_text fault handed ends_text h
 
 -- what is lawful there
 

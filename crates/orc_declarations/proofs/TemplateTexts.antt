@@ -2,12 +2,13 @@
 use Rattle.std.proofs.Common.{◌≡◌, ℕ, Bool, true, false, not, ◌&&◌, ◌||◌, cond, List, Option, Some, None, Result, Ok, Err, is_some, refl, ap, sym, subst, ◌∙◌}
 use Rattle.std.specs.Option.{is_none, option_map_or}
 use Rattle.std.specs.Str.{is_utf8}
-use Rattle.std.proofs.lemmas.Str.{IsUtf8-from_is_utf8, is_utf8-from_IsUtf8}
+use Rattle.std.proofs.lemmas.Str.{IsUtf8-from_is_utf8}
 use Rattle.serde_json.specs.Data.{Data, null}
 use Rattle.serde_json.specs.Read.{read}
 use Rattle.orc_path.specs.Steps.{PathStep}
 use Rattle.orc_schema.specs.Schemas.{SchemaTable, shape_at}
 use Rattle.orc_json.specs.Readings.{IsJson, IsNoJson}
+use Rattle.orc_template.proofs.Texts.{value_is}
 use Rattle.orc_template.specs.Said.{json_value, template_json}
 use Rattle.orc_template.specs.Templates.{ReadsTemplate, Site, template_fault}
 use Rattle.orc_template.specs.TheReaders.{the_readers}
@@ -27,10 +28,7 @@ use Rattle.orc_declarations.specs.Declarations.{is_listed_already, is_template_o
 use Rattle.orc_declarations.specs.inside.Faults.{of_template}
 use Rattle.orc_declarations.specs.inside.Templates.{template_of}
 
--- the text of a JSON value, and one of none
-
-json_is : (text : List ℕ) (d : Data) → IsJson text d → json_value text ≡ Some d
-json_is text d is = ap (λ (b : Bool). cond b (read text) None) (is_utf8-from_IsUtf8 text is.utf8) ∙ is.value
+-- the text of no JSON value
 
 json_is_none : (text : List ℕ) → IsNoJson text → json_value text ≡ None
 json_is_none text never = on (is_utf8 text) (read text) refl refl where
@@ -52,7 +50,7 @@ module _ (s : SchemaTable) (list : List PathStep) (text : List ℕ) where
 
   is_of : (d : Data) (o : Option TemplateFault) → IsJson text d → template_fault place d ≡ o → is_template_of s list text ≡ is_none o
   unfolding holds
-  is_of d o is fault = ap holds (json_is text d is) ∙ ap (λ (f : Option TemplateFault). is_none f) fault
+  is_of d o is fault = ap holds (value_is text d is) ∙ ap (λ (f : Option TemplateFault). is_none f) fault
 
   refused : (d : Data) (fault : TemplateFault) → IsJson text d → template_fault place d ≡ Some fault → template_of s list text ≡ Err rule.Template
   unfolding is_utf8 judged

@@ -1,7 +1,8 @@
 -- What the operations of the disk inside a stopping one say of both.
-use Rattle.std.specs.Prelude.{◌≡◌, ℕ, ◌-◌, ◌<◌, ◌≤◌, min, List, Bool, true, false}
+use Rattle.std.specs.Prelude.{◌≡◌, ℕ, ◌+◌, ◌-◌, ◌<◌, ◌≤◌, min, List, Bool, true, false}
 use Rattle.std.proofs.Common.{subst, sym, ap, ◌∙◌, arith, refl, inl, inr, ⊎_elim}
 use Rattle.std.proofs.lemmas.Bool.{false≢true, cases_lt}
+use Rattle.orc_text.specs.Counts.{capped}
 use Rattle.orc_io.specs.Counts.{next_count}
 use Rattle.orc_disk.proofs.Torn.{Torn-within}
 use Rattle.orc_disk.specs.Meanings.{DiskMeaning}
@@ -42,16 +43,17 @@ Led-inside disk x gave s t inner same running led =
     })
 
 module _ {D : Type 0} (disk : DiskMeaning D) where
-  -- an operation that is no write and no sync was refused
-  pub Led-refused : ((d : D) → disk.leads (row 0 false) d d) → (s t : Stopping D) → s.stopped ≡ true → t ≡ refused s → Counted true s.stops t.stops
-      → Led disk (row 0 true) s t
-  Led-refused stays s t down same count =
-      let counted : Counted true s.stops (next_count s.stops) = subst (λ (b : Stopping _). Counted true s.stops b.stops) same count in
-      subst (λ (b : Stopping _). Led disk (row 0 true) s b) (sym same) (record {
+  -- a stopped one refused an operation, with so many writes and syncs more that it was asked for
+  led_nowhere : ((d : D) → disk.leads (row 0 false) d d) → (operations ops : ℕ) (s t : Stopping D) → s.stopped ≡ true
+      → t ≡ record s { ops = ops; stops = next_count s.stops } → Counted true s.stops t.stops
+      → capped ops ≡ capped (capped s.ops + operations) → Led disk (row operations true) s t
+  led_nowhere stays operations ops s t down same count asks =
+      let counted : Counted true s.stops (next_count s.stops) = subst (λ (b : Stopping D). Counted true s.stops b.stops) same count in
+      subst (λ (b : Stopping D). Led disk (row operations true) s b) (sym same) (record {
         inner_course = row 0 false;
         inner = stays s.inner;
         gave = refl;
-        ops = grind arith;
+        ops = asks;
         bytes = refl;
         stops = counted.later;
         still = λ stopped. (stopped, refl);
@@ -64,30 +66,20 @@ module _ {D : Type 0} (disk : DiskMeaning D) where
         cause = λ failed. inr (down, counted.rose refl);
       })
 
+  -- an operation that is no write and no sync was refused
+  pub Led-refused : ((d : D) → disk.leads (row 0 false) d d) → (s t : Stopping D) → s.stopped ≡ true → t ≡ refused s → Counted true s.stops t.stops
+      → Led disk (row 0 true) s t
+  Led-refused stays s t down same count = led_nowhere stays 0 s.ops s t down same count (grind arith)
+
   -- a write or a sync was refused
   pub Led-refused-asked : ((d : D) → disk.leads (row 0 false) d d) → (s a t : Stopping D) → a ≡ asked s → a.stopped ≡ true → t ≡ refused a
       → Counted true a.stops t.stops → Led disk (row 1 true) s t
   Led-refused-asked stays s a t is stopped_a same_a count_a =
-      let down : s.stopped ≡ true = sym (ap (λ (b : Stopping D). b.stopped) is) ∙ stopped_a in
-      let same : t ≡ refused (asked s) = same_a ∙ ap refused is in
-      let count : Counted true s.stops t.stops = subst (λ (b : Stopping D). Counted true b.stops t.stops) is count_a in
-      let counted : Counted true s.stops (next_count s.stops) = subst (λ (b : Stopping D). Counted true s.stops b.stops) same count in
-      subst (λ (b : Stopping D). Led disk (row 1 true) s b) (sym same) (record {
-        inner_course = row 0 false;
-        inner = stays s.inner;
-        gave = refl;
-        ops = grind arith;
-        bytes = refl;
-        stops = counted.later;
-        still = λ stopped. (stopped, refl);
-        idle = λ stopped. (refl, refl);
-        passes = λ running _. absurd (false≢true (sym running ∙ down));
-        whole = λ running _. absurd (false≢true (sym running ∙ down));
-        comes = λ running _. absurd (false≢true (sym running ∙ down));
-        short = λ running _. absurd (false≢true (sym running ∙ down));
-        runs = λ none _. absurd (false≢true (sym none));
-        cause = λ failed. inr (down, counted.rose refl);
-      })
+      led_nowhere stays 1 (next_count s.ops) s t
+      (sym (ap (λ (b : Stopping D). b.stopped) is) ∙ stopped_a)
+      (same_a ∙ ap refused is)
+      (subst (λ (b : Stopping D). Counted true b.stops t.stops) is count_a)
+      (grind arith)
 
   -- the armed operation stopped one that ran, and the disk inside did it where a byte was left
   pub Led-stopped : (failed : Bool) (s t : Stopping D) (inner : D) → s.stopped ≡ false → s.op ≡ 1 → t ≡ stopped_at s inner

@@ -17,29 +17,22 @@ mod settings;
 use crate::case::Case;
 use crate::faults::faults;
 use crate::run::run_to_end;
+use orc_table_programs::{ended, given_words};
 use std::fs::File;
 use std::process::ExitCode;
 use std::rt::{Env, Files};
-use std::{env, fs, io};
+use std::{fs, io};
 
 // Ends with 0 where each example does what it must.
 fn main(rt: HostRuntime) -> ExitCode {
-    match run_all(&rt) {
-        Ok(true) => ExitCode::SUCCESS,
-        Ok(false) => ExitCode::FAILURE,
-        Err(error) => {
-            let _ = println!(rt; "{error}");
-            ExitCode::FAILURE
-        }
-    }
+    ended(&rt, run_all(&rt))
 }
 
 // Prints a line for each example that differs, in the order of their names, and one line where none does.
 fn run_all<R: Files<File = File> + Env + Print + AllocGlobal + Clone + Drop>(
     rt: &R,
 ) -> io::Result<bool> {
-    let mut words = env::args(rt)?;
-    let _program = words.next();
+    let mut words = given_words(rt)?;
     let folder = match words.next() {
         Some(folder) => folder,
         None => String::from_str(rt.alloc(), ".")?,

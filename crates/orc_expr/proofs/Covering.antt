@@ -9,7 +9,7 @@ use Rattle.std.specs.declared.cmp.Ordering.TheVariants.{Less, Equal, Greater}
 use Rattle.std.proofs.lemmas.Cmp.{tied_itself}
 use Rattle.orc_path.proofs.PathOrder.{path_cmp_total, path_cmp_exact}
 use Rattle.std.specs.Cmp.Lexicographic.{bytes_decides}
-use Rattle.std.proofs.lemmas.Bool.{and_parts, and_from, or_cases, false≢true, not-true, eqb-true, eq-eqb, ltb-true, lt-ltb, cases_eq}
+use Rattle.std.proofs.lemmas.Bool.{and_parts, and_from, or_cases, or_left, or_right, false≢true, not-true, eqb-true, eq-eqb, ltb-true, lt-ltb, cases_eq}
 use Rattle.std.proofs.lemmas.List.{take_all, nil_from_length}
 use Rattle.orc_path.specs.Steps.{PathStep, has_keys, ends_in_keys}
 use Rattle.orc_path.specs.Order.{path_cmp, step_eq, is_prefix}
@@ -22,7 +22,6 @@ use Rattle.orc_expr.specs.inside.Covering.{is_inside, is_entry_step, has_entry_o
 use Rattle.orc_expr.specs.declared.read.Read.TheVariants.{Item, Keys, Service}
 use Rattle.orc_expr.specs.declared.read.Target.{Target}
 use Rattle.orc_expr.specs.declared.read.Target.TheVariants.{One, Under}
-use Rattle.orc_expr.proofs.NameBytes.{or_left, or_right}
 
 and_assoc : (a b c : Bool) → (a && b && c) ≡ (a && (b && c))
 and_assoc true b c = refl
@@ -203,6 +202,15 @@ no_keys s h = by s.keys refl h
     by [] is h = λ i. record { node = s.node; keys = sym is i }
     by (k ∷ ks) is h = absurd (false≢true (sym h ∙ ap (λ (x : List (List ℕ)). nat_lt 0 (length x)) is ∙ lt-ltb 0 (length (k ∷ ks)) (omega arith)))
 
+-- a path that ends in keys, behind a step
+keyed_behind : (s : PathStep) (path : List PathStep) → ends_in_keys path ≡ true → ends_in_keys (s ∷ path) ≡ true
+keyed_behind s [] h = absurd (false≢true h)
+keyed_behind s (t ∷ rest) h = h
+
+listed_behind : (s : PathStep) (path : List PathStep) → ends_in_keys path ≡ true → list_of (s ∷ path) ≡ s ∷ list_of path
+listed_behind s [] h = absurd (false≢true h)
+listed_behind s (t ∷ rest) h = refl
+
 end_of_list : (top list : List PathStep) → is_prefix top list ≡ true → length top < length list → ends_in_keys list ≡ false
     → (is_prefix top (with_key_at_end list) ≡ true) × (ends_in_keys (with_key_at_end list) ≡ true) × (list_of (with_key_at_end list) ≡ list)
 end_of_list top [] p l k = absurd (omega (arith, l))
@@ -210,39 +218,11 @@ end_of_list [] (s ∷ []) p l k = (refl, refl, ap (λ t. t ∷ []) (no_keys s k)
 end_of_list (u ∷ us) (s ∷ []) p l k = absurd (omega (arith, l))
 end_of_list [] (s ∷ t ∷ rest) p l k =
     let rec = end_of_list [] (t ∷ rest) refl (omega arith) k in
-    (refl, keyed rec.1, listed rec.1 rec.2)
-  where
-    keyed : ends_in_keys (with_key_at_end (t ∷ rest)) ≡ true → ends_in_keys (s ∷ with_key_at_end (t ∷ rest)) ≡ true
-    keyed h = by (with_key_at_end (t ∷ rest)) h
-      where
-        by : (x : List PathStep) → ends_in_keys x ≡ true → ends_in_keys (s ∷ x) ≡ true
-        by [] h = absurd (false≢true h)
-        by (y ∷ ys) h = h
-
-    listed : ends_in_keys (with_key_at_end (t ∷ rest)) ≡ true → list_of (with_key_at_end (t ∷ rest)) ≡ t ∷ rest → list_of (s ∷ with_key_at_end (t ∷ rest)) ≡ s ∷ t ∷ rest
-    listed h e = by (with_key_at_end (t ∷ rest)) h ∙ ap (λ x. s ∷ x) e
-      where
-        by : (x : List PathStep) → ends_in_keys x ≡ true → list_of (s ∷ x) ≡ s ∷ list_of x
-        by [] h = absurd (false≢true h)
-        by (y ∷ ys) h = refl
+    (refl, keyed_behind s (with_key_at_end (t ∷ rest)) rec.1, listed_behind s (with_key_at_end (t ∷ rest)) rec.1 ∙ ap (λ x. s ∷ x) rec.2)
 end_of_list (u ∷ us) (s ∷ t ∷ rest) p l k =
     let parts = and_parts (step_eq u s) _ p in
     let rec = end_of_list us (t ∷ rest) parts.1 (omega (arith, l)) k in
-    (and_from _ _ parts.0 rec.0, keyed rec.1, listed rec.1 rec.2)
-  where
-    keyed : ends_in_keys (with_key_at_end (t ∷ rest)) ≡ true → ends_in_keys (s ∷ with_key_at_end (t ∷ rest)) ≡ true
-    keyed h = by (with_key_at_end (t ∷ rest)) h
-      where
-        by : (x : List PathStep) → ends_in_keys x ≡ true → ends_in_keys (s ∷ x) ≡ true
-        by [] h = absurd (false≢true h)
-        by (y ∷ ys) h = h
-
-    listed : ends_in_keys (with_key_at_end (t ∷ rest)) ≡ true → list_of (with_key_at_end (t ∷ rest)) ≡ t ∷ rest → list_of (s ∷ with_key_at_end (t ∷ rest)) ≡ s ∷ t ∷ rest
-    listed h e = by (with_key_at_end (t ∷ rest)) h ∙ ap (λ x. s ∷ x) e
-      where
-        by : (x : List PathStep) → ends_in_keys x ≡ true → list_of (s ∷ x) ≡ s ∷ list_of x
-        by [] h = absurd (false≢true h)
-        by (y ∷ ys) h = refl
+    (and_from _ _ parts.0 rec.0, keyed_behind s (with_key_at_end (t ∷ rest)) rec.1, listed_behind s (with_key_at_end (t ∷ rest)) rec.1 ∙ ap (λ x. s ∷ x) rec.2)
 
 -- the list of an entry that stands below a path
 below : (top q : List PathStep) → is_prefix top q ≡ true → length top < length q → ends_in_keys q ≡ true

@@ -9,6 +9,7 @@ use Rattle.orc_expr.specs.inside.Reading.{Place, Begin, Dot, Ups, UpDot, UpDots,
 use Rattle.orc_expr.specs.declared.expr.Test.TheVariants.{Any, Equals, Differs}
 use Rattle.orc_expr.proofs.NameBytes.{qualified_colon}
 
+-- what may stand in front is a term and an expression
 pub front_term : (e : Expression) → is_role Front e ≡ true → is_role Term e ≡ true
 front_term Here h = refl
 front_term (FromRoot n) h = h
@@ -17,7 +18,7 @@ front_term (Below e n) h = h
 front_term (Where e k t) h = h
 front_term (Quoted t) h = absurd (false≢true h)
 
-front_whole : (e : Expression) → is_role Front e ≡ true → is_role Whole e ≡ true
+pub front_whole : (e : Expression) → is_role Front e ≡ true → is_role Whole e ≡ true
 front_whole Here h = refl
 front_whole (FromRoot n) h = h
 front_whole (FromContext k n) h = h

@@ -3,9 +3,10 @@ use Rattle.std.proofs.Common.{◌≡◌, ℕ, suc, ◌-◌, ◌+◌, ◌==◌, B
 use Rattle.std.specs.Option.{option_and_then}
 use Rattle.std.proofs.lemmas.Bool.{and_parts, and_from, false≢true, eqb-true}
 use Rattle.orc_path.specs.Alphabet.{is_name_start, is_name_byte, is_identifier, is_qualified}
-use Rattle.orc_expr.specs.Expressions.{Expression, Here, FromRoot, FromContext, Below, Where, Quoted, Front, Whole, Term, is_role, is_quotable, ups_text, expression_text}
+use Rattle.orc_expr.specs.Expressions.{Expression, Here, FromRoot, FromContext, Below, Where, Quoted, Whole, Term, is_role, is_quotable, ups_text, expression_text}
 use Rattle.orc_expr.specs.Parts.{Bracket, closed}
 use Rattle.orc_expr.specs.inside.Reading.{Place, Begin, Dot, Ups, UpDot, UpDots, Slash, Module, Colon, RootName, FirstName, Next, LaterName, OpenAt, KeyName, InQuotes, EndQuotes, ClosedAt, Spaced, Bang, Sign, SignSpace, InTest, Tested, Reading, at, closing, ended, goes_on, in_name, starts, in_quotes, feed_key, feed_at, feed, feed_all, IsFront, FitsAt, FitBrackets, Fits, sign_text, place_text, outer_text, reading_text}
+use Rattle.orc_expr.proofs.Ends.{front_term, front_whole}
 use Rattle.orc_expr.proofs.NameBytes.{identifier_first, identifier_more, qualified_more, qualified_colon, list_all-push}
 
 -- a byte stands behind this text of the place, and what was read is whole
@@ -80,23 +81,6 @@ module _ (r : Reading) (brackets : FitBrackets r.outer) (depth : r.depth ≡ len
       (record { whole = whole; text = refl; none = parts.1; allowed = parts.0 }))
       (λ c. by_none))
       (λ u. by_none))
-
-  -- what may stand in front is a term and an expression
-  front_term : (e : Expression) → is_role Front e ≡ true → is_role Term e ≡ true
-  front_term Here h = refl
-  front_term (FromRoot n) h = h
-  front_term (FromContext k n) h = h
-  front_term (Below e n) h = h
-  front_term (Where e k t) h = h
-  front_term (Quoted t) h = absurd (false≢true h)
-
-  front_whole : (e : Expression) → is_role Front e ≡ true → is_role Whole e ≡ true
-  front_whole Here h = refl
-  front_whole (FromRoot n) h = h
-  front_whole (FromContext k n) h = h
-  front_whole (Below e n) h = h
-  front_whole (Where e k t) h = h
-  front_whole (Quoted t) h = absurd (false≢true h)
 
   by_goes_on : (e : Expression) → IsFront e → goes_on r e b ≡ Some s → Steps r (expression_text e) b s
   by_goes_on e whole =

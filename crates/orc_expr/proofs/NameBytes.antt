@@ -1,15 +1,8 @@
 -- Names and the bytes that stand around them.
 use Rattle.std.proofs.Common.{◌≡◌, ℕ, ◌==◌, Bool, true, false, cond, not, ◌&&◌, ◌||◌, List, [], ◌∷◌, ◌++◌, refl, sym, ap, ◌∙◌}
 use Rattle.std.specs.List.{list_all}
-use Rattle.std.proofs.lemmas.Bool.{and_parts, and_from, false≢true, eqb-true}
+use Rattle.std.proofs.lemmas.Bool.{and_parts, and_from, and_right, or_left, or_right, false≢true, eqb-true}
 use Rattle.orc_path.specs.Alphabet.{is_name_start, is_name_byte, is_identifier, is_qualified, is_qualified_rest, is_node_name}
-
-pub or_left : (a b : Bool) → a ≡ true → (a || b) ≡ true
-or_left a b h = ap (λ t. t || b) h
-
-pub or_right : (a b : Bool) → b ≡ true → (a || b) ≡ true
-or_right true b h = refl
-or_right false b h = h
 
 -- a byte at which a test fails is none at which it holds
 pub other_byte : (test : ℕ → Bool) (k : ℕ) → test k ≡ false → (b : ℕ) → test b ≡ true → (b == k) ≡ false
@@ -76,21 +69,12 @@ bytes_not_qualified [] h = refl
 bytes_not_qualified (c ∷ n) h =
     let parts = and_parts _ _ h in
     ap (λ t. cond t (is_identifier n) (is_name_byte c && is_qualified_rest n)) (other_byte is_name_byte 58 refl c parts.0)
-    ∙ ap (λ t. is_name_byte c && t) (bytes_not_qualified n parts.1) ∙ and_false (is_name_byte c)
-  where
-    and_false : (t : Bool) → (t && false) ≡ false
-    and_false true = refl
-    and_false false = refl
+    ∙ and_right (is_name_byte c) _ (bytes_not_qualified n parts.1)
 
 pub identifier_not_qualified : (n : List ℕ) → is_identifier n ≡ true → is_qualified n ≡ false
 identifier_not_qualified [] h = refl
 identifier_not_qualified (c ∷ n) h =
-    let parts = and_parts _ _ h in
-    ap (λ t. is_name_start c && t) (bytes_not_qualified n parts.1) ∙ and_false (is_name_start c)
-  where
-    and_false : (t : Bool) → (t && false) ≡ false
-    and_false true = refl
-    and_false false = refl
+    let parts = and_parts _ _ h in and_right (is_name_start c) _ (bytes_not_qualified n parts.1)
 
 -- a name that is no identifier is qualified
 pub qualified_is_not_identifier : (n : List ℕ) → is_node_name n ≡ true → is_qualified n ≡ not (is_identifier n)

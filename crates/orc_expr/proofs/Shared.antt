@@ -1,10 +1,10 @@
 -- What no differing path touches is shared.
-use Rattle.std.proofs.Common.{◌≡◌, ◌≢◌, ◌⊎◌, inl, inr, ℕ, Bool, true, false, cond, ◌||◌, List, [], ◌∷◌, Option, Some, None, map, refl, sym, ap, ◌∙◌}
+use Rattle.std.proofs.Common.{◌≡◌, ◌≢◌, ◌⊎◌, inl, inr, ℕ, Bool, true, false, cond, List, [], ◌∷◌, Option, Some, None, map, refl, sym, ap, ◌∙◌}
 use Rattle.std.specs.List.{All, filter}
 use Rattle.std.specs.Bool.{Decides}
 use Rattle.std.specs.FinMap.{get, find, entries, entries_sorted, get-entries}
 use Rattle.std.specs.FinMap.Entries.{where_key, is_sorted-where_key, find-where_key, same_entries}
-use Rattle.std.proofs.lemmas.Bool.{false≢true, true≢false}
+use Rattle.std.proofs.lemmas.Bool.{or_parts, false≢true}
 use Rattle.std.proofs.lemmas.List.Elements.{All-nil, All-cons}
 use Rattle.std.specs.declared.cmp.Ordering.TheVariants.{Equal}
 use Rattle.orc_path.specs.Steps.{PathStep}
@@ -44,10 +44,6 @@ keys_where test (row ∷ rows) = ap (λ rest. cond (test row.0) (row.0 ∷ rest)
         ≡ cond t (row.0 ∷ map path_at (where_key path_cmp test rows)) (map path_at (where_key path_cmp test rows))
     by true = refl
     by false = refl
-
-or_parts : (a b : Bool) → (a || b) ≡ false → (a ≡ false) × (b ≡ false)
-or_parts true b h = absurd (true≢false h)
-or_parts false b h = (refl, h)
 
 module _ (old new : Config) (shapes : List PathStep → List ℕ → Shape) where
   abbrev v : Viewed

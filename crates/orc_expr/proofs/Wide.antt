@@ -1,8 +1,8 @@
 -- Characters of several bytes stand in quotes alone.
-use Rattle.std.proofs.Common.{◌≡◌, ◌⊎◌, inl, inr, ℕ, ◌<◌, ◌≤◌, ◌==◌, nat_le, Bool, true, false, cond, ◌&&◌, ◌||◌, List, [], ◌∷◌, ◌++◌, Option, Some, None, length, encode_utf8, refl, sym, ap, ◌∙◌, arith}
+use Rattle.std.proofs.Common.{◌≡◌, ◌⊎◌, inl, inr, ℕ, ◌<◌, ◌≤◌, ◌==◌, nat_le, Bool, true, false, cond, List, [], ◌∷◌, ◌++◌, Option, Some, None, length, encode_utf8, refl, sym, ap, ◌∙◌, arith}
 use Rattle.std.specs.Option.{option_and_then}
 use Rattle.std.specs.List.{list_all}
-use Rattle.std.proofs.lemmas.Bool.{and_parts, ne_eqb, leb-true, lt-leb, cases_lt}
+use Rattle.std.proofs.lemmas.Bool.{and_parts, and_right, or_from, ne_eqb, leb-true, lt-leb, cases_lt}
 use Rattle.std.proofs.lemmas.Str.{encode_ascii, length-encode, len_utf8_bounds}
 use Rattle.orc_path.specs.Alphabet.{is_name_start, is_name_byte}
 use Rattle.orc_path.proofs.Plain.{are_wide-encode}
@@ -34,28 +34,12 @@ module _ (b : ℕ) (wide : wide_byte b ≡ true) where
   no_start : is_name_start b ≡ false
   no_start =
       let high = leb-true 128 b wide in
-      or_false _ _ (or_false _ _ (and_false (nat_le 65 b) _ (lt-leb b 90 (omega (arith, high)))) (and_false (nat_le 97 b) _ (lt-leb b 122 (omega (arith, high))))) (unlike 95 (omega arith))
-    where
-      or_false : (s t : Bool) → s ≡ false → t ≡ false → (s || t) ≡ false
-      or_false true t h k = h
-      or_false false t h k = k
-
-      and_false : (s t : Bool) → t ≡ false → (s && t) ≡ false
-      and_false true t h = h
-      and_false false t h = refl
+      or_from _ _ (or_from _ _ (and_right (nat_le 65 b) _ (lt-leb b 90 (omega (arith, high)))) (and_right (nat_le 97 b) _ (lt-leb b 122 (omega (arith, high))))) (unlike 95 (omega arith))
 
   no_byte : is_name_byte b ≡ false
   no_byte =
       let high = leb-true 128 b wide in
-      or_false _ _ (or_false _ _ (or_false _ _ no_start (and_false (nat_le 48 b) _ (lt-leb b 57 (omega (arith, high))))) (unlike 45 (omega arith))) (unlike 46 (omega arith))
-    where
-      or_false : (s t : Bool) → s ≡ false → t ≡ false → (s || t) ≡ false
-      or_false true t h k = h
-      or_false false t h k = k
-
-      and_false : (s t : Bool) → t ≡ false → (s && t) ≡ false
-      and_false true t h = h
-      and_false false t h = refl
+      or_from _ _ (or_from _ _ (or_from _ _ no_start (and_right (nat_le 48 b) _ (lt-leb b 57 (omega (arith, high))))) (unlike 45 (omega arith))) (unlike 46 (omega arith))
 
   module _ (r : Reading) where
     no_end : (e : Expression) → ended r e b ≡ None

@@ -1,5 +1,5 @@
 //! What expressions and conditions give.
-ghost use Rattle.std.specs.Prelude.{◌≡◌, ◌++◌, IfOk, OnOk, OnErr};
+ghost use Rattle.std.specs.Prelude.{◌≡◌, IfOk};
 ghost use Rattle.orc_expr.specs.Parts.{expression_of, condition_of};
 ghost use Rattle.orc_expr.specs.Looks.{texts_of, nodes_of, judged, is_met, is_only, is_other, AnswersLook, listed_result};
 ghost use Rattle.orc_expr.specs.Reads.{IsFixedByReads};
@@ -13,32 +13,18 @@ use orc_path::{DataView, Path};
 use orc_text::{Memory, Row, Text};
 use std::alloc::Global;
 use std::collections::LinkedList;
-use std::mem;
 
-// The reads of a look, in a row.
-fn in_row(alloc: Global, mut reads: LinkedList<Read>) -> Result<Vec<Read>, Memory>
-    ensures { IfOk result (λ row. row.items ≡ reads) }
+// The reads of a look, as a set.
+fn in_set(alloc: Global, mut reads: LinkedList<Read>) -> Result<ReadSet, Memory>
+    ensures { IfOk result (λ set. set.reads ≡ reads) }
 {
     let mut row = Vec::with_capacity(alloc, reads.len())?;
     while let Some(read) = reads.pop_front() {
         row.push(read)?;
     }
-    Ok(row)
-}
-
-// Adds reads. After want of memory the reads are as they were.
-fn add_reads(alloc: Global, reads: &mut ReadSet, more: LinkedList<Read>) -> Result<(), Memory>
-    ensures ok { OnOk result (reads.new.reads ≡ reads.old.reads ++ more) }
-    ensures err { OnErr result (reads.new.reads ≡ reads.old.reads) }
-{
-    let mut more = in_row(alloc, more)?;
-    let mut all = mem::replace(&mut reads.reads, Row::new(alloc)).into_vec();
-    let added = all.append(&mut more);
-    reads.reads = Row::from_vec(all);
-    match added {
-        Ok(()) => Ok(()),
-        Err(_) => Err(Memory),
-    }
+    Ok(ReadSet {
+        reads: Row::from_vec(row),
+    })
 }
 
 // The answer of a look, whose reads are added.
@@ -50,7 +36,7 @@ fn answered<T: Drop>(
     ensures { AnswersLook look.found look.reads reads.old.reads reads.new.reads (listed_result result) }
 {
     let Looked { found, reads: more } = look;
-    add_reads(alloc, reads, more)?;
+    reads.append(alloc, in_set(alloc, more)?)?;
     match found {
         Some(all) => Ok(all.into_vec()),
         None => Err(EvalFault::Many),

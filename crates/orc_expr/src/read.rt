@@ -4,6 +4,7 @@ ghost use Rattle.std.specs.Prelude.{◌≡◌, ◌++◌, ◌∷◌, [], IfOk, On
 use orc_path::Path;
 use orc_text::{Copied, Memory, Row, Text};
 use std::alloc::Global;
+use std::mem;
 
 /// What an expansion or a call reads: the item at a path, present or not; the entries of a list (or
 /// the values of a leaf-list); or whether a service lives.
@@ -55,6 +56,22 @@ impl ReadSet {
         ensures err { OnErr result (self.new ≡ self.old) }
     {
         self.reads.push(read)
+    }
+
+    /// Adds the reads of another set, behind its own. After want of memory the reads are as they
+    /// were.
+    pub fn append(&mut self, alloc: Global, more: ReadSet) -> Result<(), Memory>
+        ensures ok { OnOk result (self.new.reads ≡ self.old.reads ++ more.reads) }
+        ensures err { OnErr result (self.new ≡ self.old) }
+    {
+        let mut all = mem::replace(&mut self.reads, Row::new(alloc)).into_vec();
+        let mut more = more.reads.into_vec();
+        let added = all.append(&mut more);
+        self.reads = Row::from_vec(all);
+        match added {
+            Ok(()) => Ok(()),
+            Err(_) => Err(Memory),
+        }
     }
 
     /// An equal set.

@@ -1,8 +1,8 @@
 //! The actions that the lines of a table make.
-use crate::undone::Undone;
-use crate::words::{body_of, device_put_of, first_word, named, put_of, writes_of};
+use crate::words::{body_of, device_put_of, named, put_of, writes_of};
 use orc_call::Action;
 use orc_path::Path;
+use orc_table_programs::{Undone, first_word};
 use orc_text::Text;
 use std::alloc::Global;
 

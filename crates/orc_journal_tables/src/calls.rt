@@ -11,10 +11,9 @@
 //! - `again`: the call is encoded, counted, copied, and read back, whatever follows
 //! - `none`: the call has no encoding
 use crate::actions::action_of;
-use crate::table::Table;
-use crate::undone::Undone;
-use crate::words::{first_word, hex_of};
+use crate::words::hex_of;
 use orc_call::{Call, CodecFault, decode, encode, encoded_len, is_encodable};
+use orc_table_programs::{Table, Undone, first_word};
 use orc_text::{Row, Text};
 use std::alloc::Global;
 

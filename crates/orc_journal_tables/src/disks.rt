@@ -3,10 +3,8 @@
 //! - `holds TEXT`: a disk that holds this, all of it on the disk
 //! - `write AT TEXT`, `sync`: this is written at this offset, or what was written is synced
 //! - `image CHOICE TEXT`: a crash leaves this by this choice
-use crate::table::Table;
-use crate::undone::Undone;
-use crate::words::first_word;
 use orc_disk::{Disk, MemDisk};
+use orc_table_programs::{Table, Undone, first_word};
 use std::alloc::Global;
 
 // How many bytes more a disk has room for.

@@ -19,11 +19,10 @@ ghost use Rattle.orc_journal.specs.Entries.{IsWritable};
 ghost use Rattle.orc_journal.specs.Journals.{gated};
 ghost use Rattle.orc_journal.specs.Opened.{IsReady};
 
-use crate::table::Table;
-use crate::undone::Undone;
-use crate::words::{bytes_of, first_word, hex_of};
+use crate::words::hex_of;
 use orc_disk::{Disk, MemDisk, StopDisk};
 use orc_journal::{AppendFault, Entry, Journal, OpenFault, committed_by};
+use orc_table_programs::{Table, Undone, bytes_of, first_word};
 use std::alloc::{AllocError, Global};
 
 // How many bytes a journal may have, and how many more a disk has room for.
@@ -220,7 +219,10 @@ fn append_all<D: Disk>(
     ensures { IfOk result (λ _. IsReady D.disk journal.new) }
 {
     for entry in entries {
-        journal.append(alloc, entry)?;
+        match journal.append(alloc, entry) {
+            Ok(()) => {}
+            Err(_) => return Err(Undone),
+        }
     }
     Ok(())
 }

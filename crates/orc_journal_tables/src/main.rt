@@ -10,37 +10,26 @@ mod calls;
 mod disks;
 mod files;
 mod journals;
-mod table;
-mod undone;
 mod words;
 
 use crate::calls::Calls;
 use crate::disks::Disks;
 use crate::files::keeps_bytes;
 use crate::journals::Journals;
-use crate::table::Table;
+use orc_table_programs::{ended, given_words, run_lines};
 use std::process::ExitCode;
 use std::rt::{Env, Files};
-use std::{env, fs, io};
+use std::{fs, io};
 
 // Ends with 0 where each line holds and each file keeps its bytes.
 fn main(rt: HostRuntime) -> ExitCode {
-    match run_all(&rt) {
-        Ok(true) => ExitCode::SUCCESS,
-        Ok(false) => ExitCode::FAILURE,
-        Err(error) => {
-            let _ = println!(rt; "{error}");
-            ExitCode::FAILURE
-        }
-    }
+    ended(&rt, run_all(&rt))
 }
 
 // Prints a line for each word, and says whether all is as it must be.
 fn run_all<R: Files<File = fs::File> + Env + Print + AllocGlobal>(rt: &R) -> io::Result<bool> {
-    let mut names = env::args(rt)?;
-    let _program = names.next();
     let mut good = true;
-    for name in names {
+    for name in given_words(rt)? {
         let holds = match name.as_str().ends_with(".file") {
             true => keep(rt, name.as_str())?,
             false => run(rt, name.as_str())?,
@@ -70,28 +59,4 @@ fn run<R: Files + Print + AllocGlobal>(rt: &R, name: &str) -> io::Result<bool> {
     } else {
         run_lines(rt, name, text.as_str(), Journals::new(rt.alloc()))
     }
-}
-
-// Prints how many lines of a table hold, and the others, and says whether there are none of these.
-fn run_lines<R: Print, T: Table + Drop>(
-    rt: &R,
-    name: &str,
-    text: &str,
-    mut table: T,
-) -> io::Result<bool> {
-    let mut count: u64 = 0;
-    let mut good = true;
-    for line in text.lines() {
-        if line.is_empty() || line.starts_with('#') {
-            continue;
-        }
-        if table.take(line).unwrap_or(false) {
-            count = count.saturating_add(1);
-        } else {
-            println!(rt; "{name}: {line} DIFFERS")?;
-            good = false;
-        }
-    }
-    println!(rt; "{name}: {count} lines hold")?;
-    Ok(good)
 }

@@ -1,14 +1,9 @@
 //! The words of a line: items, lists and bytes.
-use crate::undone::Undone;
 use orc_call::{DevicePut, Put};
 use orc_path::{Item, Path, read_value};
-use orc_text::{Memory, Row, Text};
+use orc_table_programs::{Undone, first_word};
+use orc_text::{Row, Text};
 use std::alloc::Global;
-
-/// The first word, and what stands behind the space.
-pub(crate) fn first_word(line: &str) -> (&str, &str) {
-    line.split_once(' ').unwrap_or((line, ""))
-}
 
 /// The item of `PATH`, an entry, or of `PATH = VALUE`, a leaf, whose `VALUE` may be left out.
 pub(crate) fn put_of(alloc: Global, text: &str) -> Result<Put, Undone> {
@@ -81,12 +76,5 @@ pub(crate) fn hex_of(alloc: Global, text: &str) -> Result<Vec<u8>, Undone> {
     for digits in text.split_whitespace() {
         bytes.push(u8::from_str_radix(digits, 16)?)?;
     }
-    Ok(bytes)
-}
-
-/// The bytes of a text in which `%` and two digits stand for a byte.
-pub(crate) fn bytes_of(alloc: Global, text: &str) -> Result<Vec<u8>, Memory> {
-    let mut bytes = Vec::new(alloc);
-    percent_encoding::percent_decode(text.as_bytes()).append_to(&mut bytes)?;
     Ok(bytes)
 }

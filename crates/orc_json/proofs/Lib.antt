@@ -1,5 +1,5 @@
 mod Names
-mod Found
+pub mod Found
 mod EntryKeys
 mod JsonBack
 mod WrittenRead

@@ -4,9 +4,9 @@ use Rattle.std.specs.Prelude.{◌&&◌, is_some}
 use Rattle.std.specs.Option.{option_or}
 use Rattle.std.specs.FinMap.{empty, get, entries, entries_sorted, find as find_in, is_sorted, get-empty, get-entries}
 use Rattle.std.specs.FinMap.Entries.{below_all}
-use Rattle.std.specs.Ordering.{is_eq, is_lt, eq_by_cmp}
+use Rattle.std.specs.Ordering.{is_lt, eq_by_cmp}
 use Rattle.std.specs.declared.cmp.Ordering.{Ordering}
-use Rattle.std.specs.declared.cmp.Ordering.TheVariants.{Less, Equal, Greater}
+use Rattle.std.specs.declared.cmp.Ordering.TheVariants.{Less}
 use Rattle.std.proofs.lemmas.Bool.{cases_Bool, false≢true}
 use Rattle.std.proofs.lemmas.List.{take-append-drop}
 use Rattle.orc_path.specs.Configurations.{Config, IsConfig, IsWay, is_entry, put_item}
@@ -18,6 +18,8 @@ use Rattle.orc_path.proofs.ConfigurationLaws.{same_config, same_path, path_ties,
 use Rattle.orc_path.proofs.Bools.{first_of_both, second_of_both}
 use Rattle.orc_path.proofs.Extensions.{is_prefix-append, path_cmp-extension}
 use Rattle.orc_path.proofs.PathOrder.{path_cmp_total}
+use Rattle.orc_tree.proofs.InOrder.{is_less, T_is_true}
+use Rattle.orc_tree.proofs.Pieces.{find_piece}
 use Rattle.orc_json.specs.Readings.{find_all, nothing_read, with_fault}
 use Rattle.orc_json.specs.declared.fault.TheConstants.{DUPLICATE}
 use Rattle.orc_json.specs.Written.{Rows}
@@ -27,27 +29,14 @@ use Rattle.orc_json.proofs.WrittenRead.{stated}
 abbrev Path : Type 0
 Path = List PathStep
 
-lt_is : (o : Ordering) → T (is_lt o) → o ≡ Less
-lt_is Less h = refl
-lt_is Equal h = absurd h
-lt_is Greater h = absurd h
-
-not_tied : (o : Ordering) → T (is_lt o) → is_eq o ≡ false
-not_tied Less h = refl
-not_tied Equal h = absurd h
-not_tied Greater h = absurd h
-
 none_below : (q : Path) (es : Rows) → T (below_all path_cmp q es) → find_in path_cmp q es ≡ None
-none_below q [] h = refl
-none_below q (e ∷ es) h =
-    ap (λ t. cond t (Some e.1) (find_in path_cmp q es)) (not_tied (path_cmp q e.0) (first_of_both (is_lt (path_cmp q e.0)) (below_all path_cmp q es) h))
-    ∙ none_below q es (second_of_both (is_lt (path_cmp q e.0)) (below_all path_cmp q es) h)
+none_below q es h = find_piece path_cmp path_cmp_total q [] [] es refl (T_is_true _ h)
 
 below_more : (q p : Path) (es : Rows) → path_cmp q p ≡ Less → T (below_all path_cmp p es) → T (below_all path_cmp q es)
 below_more q p [] less h = tt
 below_more q p (e ∷ es) less h =
     let rest = below_more q p es less (second_of_both (is_lt (path_cmp p e.0)) (below_all path_cmp p es) h) in
-    let first = path_cmp_total.trans q p e.0 less (lt_is (path_cmp p e.0) (first_of_both (is_lt (path_cmp p e.0)) (below_all path_cmp p es) h)) in
+    let first = path_cmp_total.trans q p e.0 less (is_less (path_cmp p e.0) (first_of_both (is_lt (path_cmp p e.0)) (below_all path_cmp p es) h)) in
     subst (λ (o : Ordering). T (is_lt o && below_all path_cmp q es)) (sym first) rest
 
 way_less : (q p : Path) → IsWay q p → path_cmp q p ≡ Less

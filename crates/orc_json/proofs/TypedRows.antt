@@ -16,6 +16,7 @@ use Rattle.orc_path.specs.declared.item.Item.{Item}
 use Rattle.orc_path.proofs.Bools.{first_of_both, second_of_both}
 use Rattle.orc_path.proofs.ConfigurationLaws.{same_path, path_ties}
 use Rattle.orc_path.proofs.PathOrder.{step_cmp_total, path_cmp_exact}
+use Rattle.orc_tree.proofs.InOrder.{is_less}
 use Rattle.orc_json.specs.Written.{Rows}
 
 abbrev pub Path : Type 0
@@ -56,11 +57,6 @@ filled x xs e = omega (arith, ap length e)
 
 lt_from : (o : Ordering) → o ≡ Less → T (is_lt o)
 lt_from o e = subst (λ (r : Ordering). T (is_lt r)) (sym e) tt
-
-pub lt_is : (o : Ordering) → T (is_lt o) → o ≡ Less
-lt_is Less h = refl
-lt_is Equal h = absurd h
-lt_is Greater h = absurd h
 
 pub unlike : (o r : Ordering) → o ≡ r → is_lt o ≡ true → is_lt r ≡ false → ⊥
 unlike o r e h n = false≢true (sym n ∙ ap is_lt (sym e) ∙ h)
@@ -127,7 +123,7 @@ look-above q (row ∷ rows) p above h =
         → (is_some (look rows p) ≡ true → path_cmp q p ≡ Less) → path_cmp q p ≡ Less
     on true is h rec =
         subst (λ (x : Path). path_cmp q x ≡ Less) (sym (same_path p row.0 is))
-        (lt_is (path_cmp q row.0) (first_of_both (is_lt (path_cmp q row.0)) (below_all path_cmp q rows) above))
+        (is_less (path_cmp q row.0) (first_of_both (is_lt (path_cmp q row.0)) (below_all path_cmp q rows) above))
     on false is h rec = rec h
 
 -- Order of rows

@@ -1,32 +1,19 @@
 //! The keys of an entry.
-ghost use Rattle.std.specs.Prelude.{◌≡◌, ◌++◌, ◌∷◌, [], IfOk, IfSome, IsTrue, option_map, option_and_then};
+ghost use Rattle.std.specs.Prelude.{◌≡◌, ◌++◌, ◌∷◌, [], IfOk, IfSome, IsTrue};
 ghost use Rattle.std.specs.List.{list_all};
 ghost use Rattle.serde_json.specs.Find.{get};
 ghost use Rattle.serde_json.specs.View.{view};
 ghost use Rattle.orc_path.specs.Alphabet.{is_key};
 ghost use Rattle.orc_value.specs.Json.{canon_of_json};
-ghost use Rattle.orc_schema.specs.Schemas.{path_names, node_at, kind_in};
+ghost use Rattle.orc_schema.specs.Schemas.{path_names};
 ghost use Rattle.orc_json.specs.Findings.{entry_key, key_texts, entry_keys};
 
 use orc_path::Step;
-use orc_schema::{Node, Schema};
+use orc_schema::Schema;
 use orc_text::{Memory, Row, Text};
-use orc_value::{Kind, ValueFault, from_json};
+use orc_value::{ValueFault, from_json};
 use serde_json::Value;
 use std::alloc::Global;
-
-/// The kind of the values of a node.
-pub(crate) fn kind_in(node: Option<&Node>) -> Option<&Kind>
-    ensures { option_map (λ kind. kind.now) result ≡ option_and_then kind_in (option_map (λ n. n.now) node.entry) }
-{
-    match node {
-        Some(Node::Leaf(leaf)) => Some(&leaf.kind),
-        Some(Node::LeafList(values)) => Some(&values.kind),
-        Some(Node::Container) => None,
-        Some(Node::List(_)) => None,
-        None => None,
-    }
-}
 
 // The canonical text of a key, where the entry has a value of the key's type.
 fn entry_key(
@@ -40,7 +27,7 @@ fn entry_key(
         (λ text. text ≡ entry_key schema.now (path_names list.now) (view entry.now) key.now) }
     ensures key { IfOk result (λ text. IfSome text (λ key. IsTrue (is_key key))) }
 {
-    let Some(kind) = kind_in(schema.node_below(list, key.as_str())) else {
+    let Some(kind) = schema.kind_below(list, key.as_str()) else {
         return Ok(None);
     };
     let Some(value) = entry.get(key.as_str()) else {

@@ -11,7 +11,6 @@ ghost use Rattle.orc_schema.specs.Schemas.{path_names};
 ghost use Rattle.orc_json.specs.Findings.{below, key_kind};
 ghost use Rattle.orc_json.specs.Written.{AreValues, are_keys, with_key_member, with_key_members};
 
-use crate::keys::kind_in;
 use orc_path::{Item, Path, Step};
 use orc_schema::Schema;
 use orc_text::{Memory, Text};
@@ -107,7 +106,7 @@ fn put_key(
         ≡ with_key_member (key_kind schema.now (path_names list.now) name.now) name.now text.now
         (members_view members.old.entries)) }
 {
-    match kind_in(schema.node_below(list, name.as_str())) {
+    match schema.kind_below(list, name.as_str()) {
         Some(kind) => put_member(
             alloc,
             members,

@@ -6,6 +6,7 @@ pub mod DataPaths
 mod KeptPaths
 pub mod Keywords
 pub mod Lawful
+mod ListPaths
 pub mod LinesOf
 pub mod Numbers
 mod NumberedNames

@@ -1,5 +1,5 @@
 -- Lines, and where they are cut.
-use Rattle.std.proofs.Common.{◌≡◌, ℕ, zero, suc, ◌<◌, ◌+◌, ◌-◌, true, false, Bool, not, ◌==◌, List, [], ◌∷◌, ◌++◌, length, take, drop, get_or, refl, ap, ap₂, sym, ◌∙◌, arith, None, append_assoc}
+use Rattle.std.proofs.Common.{◌≡◌, ℕ, zero, suc, ◌<◌, ◌+◌, ◌-◌, true, false, Bool, not, ◌==◌, List, [], ◌∷◌, ◌++◌, length, take, drop, get_or, length-append, refl, ap, ap₂, sym, ◌∙◌, arith, None, append_assoc}
 use Rattle.std.specs.Option.{option_map}
 use Rattle.std.proofs.Math.Seq.{take-length, drop-length}
 use Rattle.std.proofs.lemmas.List.{take_more, take-append-drop}
@@ -50,3 +50,7 @@ pub block_step : (n : ℕ) (line : List ℕ) (later : List (List ℕ)) → 0 < n
     → block_of n (line ∷ later) ≡ option_map (λ (block : List ℕ). as_line (text_of line) ++ block) (block_of (n - 1) later)
 block_step zero line later some = absurd (omega arith)
 block_step (suc n) line later some = simp unary_clauses refl
+
+-- a line and what is behind it have the bytes of all
+pub parted : (bytes line later : List ℕ) → bytes ≡ line ++ later → length bytes ≡ length line + length later
+parted bytes line later parts = ap (λ (x : List ℕ). length x) parts ∙ length-append line later

@@ -1,10 +1,10 @@
 -- How long the parts of a text are.
-use Rattle.std.proofs.Common.{◌≡◌, ℕ, zero, suc, ◌<◌, ◌≤◌, ◌+◌, ◌*◌, Bool, true, false, ◌==◌, cond, List, [], ◌∷◌, ◌++◌, reverse, length, Option, Some, None, Ok, Err, Result, refl, sym, ap, subst, arith, length-append, MatchOption, IfSome, IfOk, Bor}
+use Rattle.std.proofs.Common.{◌≡◌, ℕ, zero, suc, ◌<◌, ◌≤◌, ◌+◌, ◌-◌, ◌*◌, Bool, true, false, ◌==◌, cond, List, [], ◌∷◌, ◌++◌, reverse, length, take, Option, Some, None, Ok, Err, Result, refl, sym, ap, subst, arith, length-append, MatchOption, IfSome, IfOk, Bor}
 use Rattle.std.specs.Prelude.{◌&&◌, nat_eq}
 use Rattle.std.specs.Cmp.Lexicographic.{pointwise}
 use Rattle.std.specs.List.{flat_map, onto_first, slice_split}
 use Rattle.std.specs.Option.{option_map}
-use Rattle.std.proofs.lemmas.List.{reverse-append}
+use Rattle.std.proofs.lemmas.List.{length-take, reverse-append}
 use Rattle.orc_path.specs.Alphabet.{is_value}
 use Rattle.orc_path.specs.Steps.{PathStep}
 use Rattle.orc_path.specs.Texts.{path_text, step_text, value_text}
@@ -167,3 +167,12 @@ path_counts path = let some = steps_within path in let all = path_within path in
 pub path_some : (path : List PathStep) → 1 ≤ length (path_text path)
 path_some [] = omega arith
 path_some (step ∷ later) = let all = path_counts (step ∷ later) in omega (arith, all)
+
+-- what looking at all its steps but the last costs, and what is counted in front of that
+pub front_within : (path steps : List PathStep) (first begun looked : ℕ) → steps ≡ path → begun ≡ first + 1
+    → looked ≤ begun + length (take (length steps - 1) steps) → looked ≤ first + length (path_text path)
+front_within path steps first begun looked same one cost =
+    let front = length-take (length steps - 1) steps in
+    let view = ap (λ (xs : List PathStep). length xs) same in
+    let counts = path_counts path in
+    let some = path_some path in omega (arith, one, cost, front, view, counts, some)

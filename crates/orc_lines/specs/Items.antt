@@ -18,7 +18,7 @@ use Rattle.orc_services.specs.declared.list.ServiceList.{ServiceList}
 use Rattle.orc_state.specs.Calls.{blank_item, has_entries, is_data_path, is_kept, is_list_path, is_served}
 use Rattle.orc_state.specs.declared.rule.Rule.{Rule}
 use Rattle.orc_state.specs.declared.rule.Rule.TheVariants as rule
-use Rattle.orc_lines.specs.Rules.{checked, or_rule, on_ok}
+use Rattle.orc_lines.specs.Rules.{checked, of_option, or_rule, on_ok}
 use Rattle.orc_lines.specs.Words.{cut_at, is_text}
 
 -- limits are those of what a text means, so a text that means nothing passes none
@@ -52,14 +52,16 @@ stored_put own own_item =
 abbrev pub canonical_put : SchemaTable → List PathStep → Item → Result Put Rule
 canonical_put schema path item = stored_put (canonical_path schema path) (canonical_item schema path item)
 
+-- the path that a word is, which keeps the limits; what stands in front of it may pass one
+abbrev pub kept_path_of : Bool → List ℕ → Result (List PathStep) Rule
+kept_path_of is_long word =
+    checked ((is_long || is_past_path (path_of word), rule.Size) ∷ []) (of_option (path_of word) rule.Path)
+
 -- `PATH`, an entry, of the data with its lists of services or of a device; a name in front of it may be too long
 abbrev pub entry_of : Option (List ServiceList) → SchemaTable → Bool → List ℕ → Result Put Rule
 entry_of lists schema is_long word =
-    checked (
-    (nat_eq (length word) 0, rule.Line)
-    ∷ (is_long || is_past_path (path_of word), rule.Size)
-    ∷ [])
-    (or_rule (path_of word) rule.Path (λ path.
+    checked ((nat_eq (length word) 0, rule.Line) ∷ [])
+    (on_ok (kept_path_of is_long word) (λ path.
     checked ((is_barred lists path || not (can_carry schema path Entry), rule.Path) ∷ [])
     (canonical_put schema path Entry)))
 
@@ -105,8 +107,8 @@ stored_data_path schema own =
 -- `PATH`, one of the data that can carry an item
 abbrev pub data_path_of : List ServiceList → SchemaTable → List ℕ → Result (List PathStep) Rule
 data_path_of lists schema word =
-    checked ((nat_eq (length word) 0, rule.Line) ∷ (is_past_path (path_of word), rule.Size) ∷ [])
-    (or_rule (path_of word) rule.Path (λ path.
+    checked ((nat_eq (length word) 0, rule.Line) ∷ [])
+    (on_ok (kept_path_of false word) (λ path.
     checked ((is_barred (Some lists) path || not (can_carry schema path (blank_item path)), rule.Path) ∷ [])
     (stored_data_path schema (canonical_path schema path))))
 
@@ -127,8 +129,8 @@ stored_service_path lists schema own =
 -- `PATH`, the entry of a service
 abbrev pub service_path_of : List ServiceList → SchemaTable → List ℕ → Result (List PathStep) Rule
 service_path_of lists schema word =
-    checked ((nat_eq (length word) 0, rule.Line) ∷ (is_past_path (path_of word), rule.Size) ∷ [])
-    (or_rule (path_of word) rule.Path (λ path.
+    checked ((nat_eq (length word) 0, rule.Line) ∷ [])
+    (on_ok (kept_path_of false word) (λ path.
     checked ((not (names_service lists schema path), rule.Path) ∷ [])
     (stored_service_path lists schema (canonical_path schema path))))
 
@@ -148,11 +150,8 @@ stored_list_path schema own =
 -- `LISTPATH`; a name in front of it may be too long
 abbrev pub list_path_of : SchemaTable → Bool → List ℕ → Result (List PathStep) Rule
 list_path_of schema is_long word =
-    checked (
-    (nat_eq (length word) 0, rule.Line)
-    ∷ (is_long || is_past_path (path_of word), rule.Size)
-    ∷ [])
-    (or_rule (path_of word) rule.Path (λ path.
+    checked ((nat_eq (length word) 0, rule.Line) ∷ [])
+    (on_ok (kept_path_of is_long word) (λ path.
     checked ((not (names_list schema path), rule.Path) ∷ [])
     (stored_list_path schema (canonical_path schema path))))
 

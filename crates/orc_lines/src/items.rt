@@ -6,7 +6,7 @@ ghost use Rattle.orc_path.specs.Texts.{path_text};
 ghost use Rattle.orc_path.specs.Values.{value_of};
 ghost use Rattle.orc_state.specs.Calls.{blank_item, is_data_path, is_forbid_rule, is_item_under, is_list_path, is_put, is_served};
 ghost use Rattle.orc_lines.specs.Answers.{ReadsLine};
-ghost use Rattle.orc_lines.specs.Items.{is_past_path, is_past_value, is_long_item, is_barred, can_carry, canonical_put, after_mark, data_path_of, entry_of, forbidden_of, leaf_in, leaf_of, list_path_of, put_of, stored_data_path, stored_list_path, names_service, is_service_at, service_path_of, stored_service_path};
+ghost use Rattle.orc_lines.specs.Items.{is_past_path, is_past_value, is_long_item, is_barred, can_carry, canonical_put, after_mark, data_path_of, entry_of, forbidden_of, kept_path_of, leaf_in, leaf_of, list_path_of, put_of, stored_data_path, stored_list_path, names_service, is_service_at, service_path_of, stored_service_path};
 ghost use Rattle.orc_schema.specs.Schemas.{SchemaTable, path_names};
 ghost use Rattle.orc_typed.specs.Typed.{canonical_path};
 ghost use Rattle.orc_typed.specs.Laws.{has_plain_text};
@@ -70,6 +70,28 @@ pub fn is_past_path<L: Ledger>(path: &Option<Path>, work: &mut Steps<L>) -> bool
     match path {
         Some(path) => path.is_long_counted(work),
         None => false,
+    }
+}
+
+/// The path that a word is, which keeps the limits. What stands in front of it may pass one. A limit
+/// that is passed is rule `size`, and a word that is no path rule `path`.
+pub fn read_kept_path<L: Ledger>(
+    alloc: Global,
+    is_long: bool,
+    word: &str,
+    work: &mut Steps<L>,
+) -> Result<Path, LineFault>
+    ensures reads { ReadsLine (kept_path_of is_long word.now) result }
+    ensures text { IfOk result (λ path. length (path_text path) ≤ length word.now) }
+    ensures worked { work.new ≤ work.old + 4 * length word.now }
+{
+    let path = read_path(alloc, word, work)?;
+    if is_long || is_past_path(&path, work) {
+        return breaks(Rule::Size);
+    }
+    match path {
+        Some(path) => Ok(path),
+        None => breaks(Rule::Path),
     }
 }
 
@@ -171,13 +193,7 @@ fn read_entry<L: Ledger>(
     if word.is_empty() {
         return breaks(Rule::Line);
     }
-    let path = read_path(alloc, word, work)?;
-    if is_long || is_past_path(&path, work) {
-        return breaks(Rule::Size);
-    }
-    let Some(path) = path else {
-        return breaks(Rule::Path);
-    };
+    let path = read_kept_path(alloc, is_long, word, work)?;
     if is_barred(lists, &path) || !can_carry(schema, &path, &Item::Entry, work) {
         return breaks(Rule::Path);
     }
@@ -293,13 +309,7 @@ pub fn read_data_path<L: Ledger>(
     if word.is_empty() {
         return breaks(Rule::Line);
     }
-    let path = read_path(alloc, word, work)?;
-    if is_past_path(&path, work) {
-        return breaks(Rule::Size);
-    }
-    let Some(path) = path else {
-        return breaks(Rule::Path);
-    };
+    let path = read_kept_path(alloc, false, word, work)?;
     if is_barred(Some(lists), &path) || !can_carry(schema, &path, &blank_item(alloc, &path), work) {
         return breaks(Rule::Path);
     }
@@ -373,13 +383,7 @@ pub fn read_service_path<L: Ledger>(
     if word.is_empty() {
         return breaks(Rule::Line);
     }
-    let path = read_path(alloc, word, work)?;
-    if is_past_path(&path, work) {
-        return breaks(Rule::Size);
-    }
-    let Some(path) = path else {
-        return breaks(Rule::Path);
-    };
+    let path = read_kept_path(alloc, false, word, work)?;
     if !names_service(alloc, lists, schema, &path, work) {
         return breaks(Rule::Path);
     }
@@ -422,13 +426,7 @@ pub fn read_list_path<L: Ledger>(
     if word.is_empty() {
         return breaks(Rule::Line);
     }
-    let path = read_path(alloc, word, work)?;
-    if is_long || is_past_path(&path, work) {
-        return breaks(Rule::Size);
-    }
-    let Some(path) = path else {
-        return breaks(Rule::Path);
-    };
+    let path = read_kept_path(alloc, is_long, word, work)?;
     if !names_list(schema, &path, work) {
         return breaks(Rule::Path);
     }

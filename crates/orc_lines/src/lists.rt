@@ -39,20 +39,16 @@ pub fn names_list<L: Ledger>(schema: &Schema, path: &Path, work: &mut Steps<L>) 
 }
 
 /// Whether it is one that can be stored: it keeps the limits, and its keys are in canonical form.
+#[tactic(auto, using(crate::proofs::ListPaths::list_path_parts, crate::proofs::Work::steps_counted))]
 pub(crate) fn is_list_path<L: Ledger>(schema: &Schema, path: &Path, work: &mut Steps<L>) -> bool
     ensures value { result ≡ is_list_path schema.now path.now }
     ensures worked { work.new ≤ work.old + 7 * length (path_text path.now) }
 {
     let steps = path.steps.as_slice();
-    if path.is_long_counted(work) || steps.is_empty() || path.ends_in_keys() {
+    if path.is_long_counted(work) || !names_list(schema, path, work) {
         return false;
     }
-    if schema.is_plain() {
-        return true;
-    }
-    work.tick();
-    stand_counted(schema, &steps[..steps.len() - 1], work)
-        && (are_canonical_steps_counted(schema, steps, work) && has_entries(schema.node(steps)))
+    schema.is_plain() || are_canonical_steps_counted(schema, steps, work)
 }
 
 // Whether the path can carry an item under the schema and its keys are in canonical form, and a line may

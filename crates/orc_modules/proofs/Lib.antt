@@ -3,5 +3,5 @@ mod Chains
 mod LeafTypes
 mod ByName
 mod Shallows
-mod Leaders
+pub mod Leaders
 mod Circles

@@ -1,5 +1,5 @@
 //! Groupings that bring no data node, through whatever groupings they use.
-ghost use Rattle.std.specs.Prelude.{◌≡◌, ◌∷◌, [], List, IfOk, OnOk, IfSome, Some, true, false, option_map, codes};
+ghost use Rattle.std.specs.Prelude.{◌≡◌, ◌∷◌, List, IfOk, OnOk, IfSome, Some, true, false, option_map, codes};
 ghost use Rattle.std.specs.List.{list_any};
 ghost use Rattle.orc_types.specs.Statements.{argument};
 ghost use Rattle.orc_modules.specs.Bare.{may_bring, Brings};
@@ -12,6 +12,7 @@ ghost use Rattle.orc_modules.specs.inside.Known.{AreBare, is_known};
 use crate::block::Block;
 use crate::looked::looks_below;
 use crate::looks::Looks;
+use crate::loops::is_top;
 use crate::parts::{Part, block_part, grouping};
 use crate::place::Modules;
 use crate::scope::{Above, Found, definition, is_local, plain_name};
@@ -150,18 +151,6 @@ fn is_bare_named<'a, 'm>(
             Ok(true)
         },
         false => Ok(false),
-    }
-}
-
-// Whether nothing is around.
-fn is_top(above: &Above<'_, '_>) -> bool
-    ensures { result ≡ true → stack above.now ≡ [] }
-{
-    match above {
-        Above::Top => true,
-        Above::Module(_) => false,
-        Above::Under(_, _) => false,
-        Above::Indexed(_, _) => false,
     }
 }
 

@@ -1,5 +1,5 @@
 //! Typedefs and groupings that lead back to themselves.
-ghost use Rattle.std.specs.Prelude.{◌≡◌, List, [], ◌∷◌, ◌||◌, false, IfOk, codes, option_map};
+ghost use Rattle.std.specs.Prelude.{◌≡◌, List, [], ◌∷◌, ◌||◌, true, false, IfOk, codes, option_map};
 ghost use Rattle.std.specs.Option.{option_map_or};
 ghost use Rattle.orc_types.specs.Statements.{is_a};
 ghost use Rattle.orc_modules.specs.Children.{grouping};
@@ -26,9 +26,10 @@ fn is_same_statement(one: &Stmt, other: &Stmt) -> bool
         && argument(one) == argument(other)
 }
 
-// Whether these are none.
-fn is_none(above: &Above<'_, '_>) -> bool
-    ensures { result ≡ are_same [] (stack above.now) }
+// Whether nothing is around.
+pub(crate) fn is_top(above: &Above<'_, '_>) -> bool
+    ensures same { result ≡ are_same [] (stack above.now) }
+    ensures top { result ≡ true → stack above.now ≡ [] }
 {
     match above {
         Above::Top => true,
@@ -44,9 +45,9 @@ fn is_alone(stmt: &Stmt, other: &Above<'_, '_>) -> bool
 {
     match other {
         Above::Top => false,
-        Above::Module(next) => is_same_statement(stmt, *next) && is_none(&Above::Top),
-        Above::Under(next, outer) => is_same_statement(stmt, *next) && is_none(*outer),
-        Above::Indexed(block, outer) => is_same_statement(stmt, block.here()) && is_none(*outer),
+        Above::Module(next) => is_same_statement(stmt, *next) && is_top(&Above::Top),
+        Above::Under(next, outer) => is_same_statement(stmt, *next) && is_top(*outer),
+        Above::Indexed(block, outer) => is_same_statement(stmt, block.here()) && is_top(*outer),
     }
 }
 
@@ -56,7 +57,7 @@ fn are_same(one: &Above<'_, '_>, other: &Above<'_, '_>) -> bool
     ensures { result ≡ are_same (stack one.now) (stack other.now) }
 {
     match one {
-        Above::Top => is_none(other),
+        Above::Top => is_top(other),
         Above::Module(stmt) => is_alone(*stmt, other),
         Above::Under(stmt, outer) => are_same_under(*stmt, *outer, other),
         Above::Indexed(block, outer) => are_same_under(block.here(), *outer, other),

@@ -1,15 +1,9 @@
 -- What the loops over characters, keys and steps take.
-use Rattle.std.proofs.Common.{◌≡◌, ℕ, ◌==◌, ◌+◌, ◌-◌, ◌≤◌, Bool, true, false, cond, List, [], ◌∷◌, ◌++◌, codes, length, get_or, take, drop, length-append, IsUtf8, refl, sym, ap, ◌∙◌, subst, arith}
+use Rattle.std.proofs.Common.{◌≡◌, ℕ, ◌==◌, ◌+◌, ◌-◌, ◌≤◌, Bool, true, false, cond, List, [], ◌∷◌, ◌++◌, codes, length, get_or, take, drop, length-append, refl, sym, ap, ◌∙◌, arith}
 use Rattle.std.proofs.Math.Seq.{take-length}
 use Rattle.std.specs.List.{flat_map}
-use Rattle.std.specs.Str.{chars}
-use Rattle.std.proofs.lemmas.Str.{encodes-chars, length-le-encodes}
 use Rattle.orc_path.specs.Steps.{PathStep}
 use Rattle.orc_path.specs.Texts.{escape, key_text, step_text, path_text}
-
--- a text has no more characters than bytes
-pub chars_within : (text : List ℕ) → IsUtf8 text → length (chars text) ≤ length text
-chars_within text u = subst (λ (bs : List ℕ). length (chars text) ≤ length bs) (encodes-chars text u) (length-le-encodes (chars text))
 
 -- a byte of a key has one byte at least in the text
 some_of : (t : Bool) (xs ys : List ℕ) → 1 ≤ length xs → 1 ≤ length ys → 1 ≤ length (cond t xs ys)

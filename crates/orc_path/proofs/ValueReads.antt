@@ -2,10 +2,9 @@
 use Rattle.std.proofs.Common.{◌≡◌, ℕ, ◌<◌, Bool, true, false, not, cond, List, [], ◌∷◌, ◌++◌, Some, None, Option, is_some, length, get_or, map, chars, encode_utf8, IsUtf8, refl, sym, ap, ◌∙◌, arith, append-nil}
 use Rattle.std.specs.List.{list_all}
 use Rattle.std.proofs.lemmas.List.{nil_from_length}
-use Rattle.std.proofs.lemmas.List.Folds.{list_all-map, list_all_at}
 use Rattle.std.proofs.lemmas.Str.{encode_ascii}
 use Rattle.orc_text.specs.Characters.{is_plain_character, is_plain_text}
-use Rattle.orc_text.proofs.Plain.{is_plain_text-utf8}
+use Rattle.orc_text.proofs.Characters.{not_plain_at, plain_all}
 use Rattle.orc_path.specs.Values.{value_of}
 use Rattle.orc_path.specs.inside.ValueReading.{value_unescape, is_never_raw, unescaped, led, behind, ahead}
 use Rattle.orc_path.specs.declared.value.ValueReader.{ValueReader}
@@ -101,8 +100,7 @@ ahead_first value text is = ap (λ v. led v (unescaped text)) is ∙ all (unesca
 module _ (text : List ℕ) where
   -- a character stands in it that no value has
   pub none_at : (n c : ℕ) → IsUtf8 text → n < length (chars text) → c ≡ get_or (chars text) n c → is_plain_character c ≡ false → false ≡ is_some (value_of text)
-  none_at n c u lt at h =
-      sym (ap is_some (value_of-not_plain text (is_plain_text-utf8 text u ∙ list_all_at is_plain_character (chars text) n c lt (ap is_plain_character (sym at) ∙ h))))
+  none_at n c u lt at h = sym (ap is_some (value_of-not_plain text (not_plain_at text u n c lt at h)))
 
   -- its escapes can't be read
   pub none_read : is_some (unescaped text) ≡ false → false ≡ is_some (value_of text)
@@ -114,8 +112,7 @@ module _ (text : List ℕ) where
 
   -- all its characters are those of values
   pub read_alike : (cs : List ℕ) → IsUtf8 text → map (λ c. c) cs ≡ chars text → list_all is_plain_character cs ≡ true → is_some (unescaped text) ≡ is_some (value_of text)
-  read_alike cs u all h =
-      sym (ap is_some (value_of-plain text (is_plain_text-utf8 text u ∙ ap (list_all is_plain_character) (sym all) ∙ list_all-map is_plain_character (λ c. c) cs ∙ h)))
+  read_alike cs u all h = sym (ap is_some (value_of-plain text (plain_all text u cs all h)))
 
   -- it is one
   pub value_read : is_some (value_of text) ≡ true → value_of text ≡ unescaped text

@@ -12,27 +12,20 @@ mod shown;
 use crate::planning::push_bundle;
 use orc_bundle::read_bundle;
 use orc_state::BundleFault;
+use orc_table_programs::{ended_apart, given_words};
 use std::alloc::Global;
 use std::process::ExitCode;
 use std::rt::{Env, Files};
-use std::{env, fs, io};
+use std::{fs, io};
 
 // Ends with 0 where each bundle was read and its calls were shown.
 fn main(rt: HostRuntime) -> ExitCode {
-    match run(&rt) {
-        Ok(true) => ExitCode::SUCCESS,
-        Ok(false) => ExitCode::FAILURE,
-        Err(error) => {
-            let _ = eprintln!(rt; "{error}");
-            ExitCode::FAILURE
-        }
-    }
+    ended_apart(&rt, run(&rt))
 }
 
 // Shows the calls of each bundle.
 fn run<R: Files<File = fs::File> + Env + Print + AllocGlobal>(rt: &R) -> io::Result<bool> {
-    let mut words = env::args(rt)?;
-    let _program = words.next();
+    let mut words = given_words(rt)?;
     for _ in 0..u64::MAX {
         let Some(when) = words.next() else {
             break;

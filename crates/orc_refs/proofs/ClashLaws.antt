@@ -13,6 +13,7 @@ use Rattle.orc_path.specs.Steps.{PathStep}
 use Rattle.orc_path.specs.Order.{path_cmp, text_cmp}
 use Rattle.orc_path.specs.Configurations.{Config}
 use Rattle.orc_path.specs.declared.item.Item.{Item}
+use Rattle.orc_tree.proofs.Pieces.{lt_is}
 use Rattle.orc_change.specs.Differences.{has_item}
 use Rattle.orc_change.proofs.Exact.{has_item_is, has_itself}
 use Rattle.orc_refs.specs.Ids.{is_id, holds_id, comes_before, are_rising}
@@ -118,11 +119,6 @@ equal≢greater a b e g = (let not_so : ⊥ = cc in not_so)
 itself : (id : List ℕ) → text_cmp id id ≢ Greater
 itself id = equal≢greater id id (tied_itself nat_list_cmp_total id)
 
-is_less : (o : Ordering) → is_lt o ≡ true → o ≡ Less
-is_less Less h = refl
-is_less Equal h = absurd (false≢true h)
-is_less Greater h = absurd (false≢true h)
-
 not_less : (a b : List ℕ) → is_lt (text_cmp b a) ≡ false → text_cmp a b ≢ Greater
 not_less a b h g = both_ways (is_lt (text_cmp b a)) h (ap is_lt (nat_list_cmp_total.antisymm b a ∙ ap ordering_reverse g))
 
@@ -144,7 +140,7 @@ lesser_keeps (Some least) id x h = on (is_lt (text_cmp id least)) refl
     below l Greater e = absurd (h e)
 
     on : (t : Bool) → is_lt (text_cmp id least) ≡ t → AtMost (cond t (Some id) (Some least)) x
-    on true e = below (is_less (text_cmp id least) e) (text_cmp least x) refl
+    on true e = below (lt_is (text_cmp id least) e) (text_cmp least x) refl
     on false e = h
 
 rival_keeps : (o : Option Item) (item : Item) (l : Option (List ℕ)) (id x : List ℕ) → AtMost l x → AtMost (lesser_rival o item l id) x
@@ -183,7 +179,7 @@ before_holds x id [] b h = absurd (false≢true h)
 before_holds x id (y ∷ ys) b h = on (λ g. before_holds x id ys (second_so _ _ b) g) (is_id y id) refl h
   where
     on : (holds_id id ys ≡ true → text_cmp x id ≡ Less) → (t : Bool) → is_id y id ≡ t → (t || holds_id id ys) ≡ true → text_cmp x id ≡ Less
-    on rest true e g = subst (λ (z : List ℕ). text_cmp x z ≡ Less) ((bytes_decides y id).0 e) (is_less (text_cmp x y) (first_so _ _ b))
+    on rest true e g = subst (λ (z : List ℕ). text_cmp x z ≡ Less) ((bytes_decides y id).0 e) (lt_is (text_cmp x y) (first_so _ _ b))
     on rest false e g = rest g
 
 -- the first of ids in order is the least

@@ -8,6 +8,7 @@ use Rattle.std.specs.FinMap.Entries.{below_all, same_entries}
 use Rattle.std.proofs.lemmas.Bool.{cond-true, cond-false}
 use Rattle.orc_path.specs.Steps.{PathStep}
 use Rattle.orc_path.specs.Order.{path_cmp}
+use Rattle.orc_path.proofs.Bools.{first_of_both, second_of_both}
 use Rattle.orc_path.proofs.PathOrder.{path_cmp_total, path_cmp_exact}
 use Rattle.orc_path.specs.Configurations.{Config}
 use Rattle.orc_path.proofs.ConfigurationLaws.{same_path}
@@ -28,14 +29,6 @@ Paths = List (List PathStep × Unit {0})
 
 abbrev pub Items : Type 0
 Items = List (List PathStep × Item)
-
-first_of_both : (a b : Bool) → T (a && b) → T a
-first_of_both true b h = tt
-first_of_both false b h = h
-
-second_of_both : (a b : Bool) → T (a && b) → T b
-second_of_both true b h = h
-second_of_both false b h = absurd h
 
 both : (a b : Bool) → T a → T b → T (a && b)
 both true b p q = q

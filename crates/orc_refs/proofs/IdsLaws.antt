@@ -1,5 +1,5 @@
 -- Ids that are entered and filtered.
-use Rattle.std.proofs.Common.{◌≡◌, ℕ, ◌+◌, ◌<◌, Bool, true, false, cond, ◌&&◌, ◌||◌, List, [], ◌∷◌, ◌++◌, length, take, drop, get_or, refl, sym, ap, ◌∙◌}
+use Rattle.std.proofs.Common.{◌≡◌, ℕ, ◌+◌, ◌<◌, Bool, true, false, cond, ◌&&◌, ◌||◌, List, [], ◌∷◌, ◌++◌, length, take, drop, get_or, refl, sym, ap, subst, ◌∙◌}
 use Rattle.std.specs.declared.cmp.Ordering.{Ordering}
 use Rattle.std.specs.declared.cmp.Ordering.TheVariants.{Less, Equal, Greater}
 use Rattle.std.specs.Ordering.{is_lt, ordering_reverse}
@@ -8,10 +8,10 @@ use Rattle.std.specs.Cmp.{first_so, second_so}
 use Rattle.std.specs.Cmp.Lexicographic.{bytes_decides, nat_list_cmp_total}
 use Rattle.std.specs.FinMap.{nat_cmp-IsAntisymmetric, slice_cmp-IsAntisymmetric}
 use Rattle.std.specs.FinMap.Entries.{by_order}
-use Rattle.std.proofs.lemmas.Bool.{false≢true}
 use Rattle.std.proofs.lemmas.List.{append_assoc, drop_more, take_more}
 use Rattle.std.proofs.lemmas.Map.Views.{any-filter_same}
 use Rattle.orc_path.specs.Order.{text_cmp}
+use Rattle.orc_tree.proofs.Pieces.{lt_is}
 use Rattle.orc_refs.specs.Ids.{is_id, holds_id, comes_before, are_rising}
 use Rattle.orc_refs.specs.inside.Settling.{enter_id}
 
@@ -46,12 +46,7 @@ holds_id-enter y id (x ∷ xs) = by (holds_id-enter y id xs) (text_cmp id x) ref
 before-less : (x y : List ℕ) (xs : List (List ℕ)) → text_cmp x y ≡ Less → comes_before y xs ≡ true → comes_before x xs ≡ true
 before-less x y [] l h = refl
 before-less x y (z ∷ zs) l h =
-    both _ _ (ap is_lt (nat_list_cmp_total.trans x y z l (is_less (text_cmp y z) (first_so _ _ h)))) (before-less x y zs l (second_so _ _ h))
-  where
-    is_less : (o : Ordering) → is_lt o ≡ true → o ≡ Less
-    is_less Less h = refl
-    is_less Equal h = absurd (false≢true h)
-    is_less Greater h = absurd (false≢true h)
+    both _ _ (ap is_lt (nat_list_cmp_total.trans x y z l (lt_is (text_cmp y z) (first_so _ _ h)))) (before-less x y zs l (second_so _ _ h))
 
 before-enter : (x id : List ℕ) (xs : List (List ℕ)) → text_cmp x id ≡ Less → comes_before x xs ≡ true → comes_before x (enter_id id xs) ≡ true
 before-enter x id [] l h = both _ _ (ap is_lt l) refl
@@ -101,6 +96,10 @@ enters_some id (x ∷ xs) e = by (text_cmp id x) e
 
 first_left : (ids : List (List ℕ)) (at : ℕ) (x : List ℕ) → at < length ids → x ≡ get_or ids at x → drop at ids ≡ x ∷ drop (at + 1) ids
 first_left ids at x l is = drop_more ids at x l ∙ ap (λ (y : List ℕ). y ∷ drop (at + 1) ids) (sym is)
+
+-- the id at a place of ids that are the same
+pub same_at : (held ids : List (List ℕ)) (at : ℕ) (x : List ℕ) → held ≡ ids → at < length held → x ≡ get_or held at x → (at < length ids) × (x ≡ get_or ids at x)
+same_at held ids at x same l is = (subst (λ (r : List (List ℕ)). at < length r) same l, subst (λ (r : List (List ℕ)). x ≡ get_or r at x) same is)
 
 -- an id that comes before the one at a place is entered there
 pub enter_less : (ids : List (List ℕ)) (at : ℕ) (id x : List ℕ) → at < length ids → x ≡ get_or ids at x → text_cmp id x ≡ Less → enter_id id (drop at ids) ≡ id ∷ drop at ids

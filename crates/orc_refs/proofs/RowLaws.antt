@@ -1,7 +1,6 @@
 -- Rows of back pointers.
-use Rattle.std.proofs.Common.{◌≡◌, ℕ, zero, suc, ◌<◌, Bool, true, false, cond, not, ◌&&◌, T, List, [], ◌∷◌, length, get_or, Some, None, refl, sym, ap, subst, ◌∙◌, arith}
-use Rattle.std.specs.declared.cmp.Ordering.{Ordering}
-use Rattle.std.specs.declared.cmp.Ordering.TheVariants.{Less, Equal, Greater}
+use Rattle.std.proofs.Common.{◌≡◌, ℕ, zero, suc, ◌<◌, true, false, cond, not, T, List, [], ◌∷◌, length, get_or, Some, None, refl, sym, ap, subst, ◌∙◌, arith}
+use Rattle.std.specs.declared.cmp.Ordering.TheVariants.{Less}
 use Rattle.std.specs.Ordering.{eq_by_cmp, is_eq, is_lt, ordering_reverse}
 use Rattle.std.specs.Cmp.{eq_by_cmp_equiv}
 use Rattle.std.specs.List.{remove as remove_at}
@@ -15,10 +14,11 @@ use Rattle.std.specs.FinMap.{get, insert, remove, from_sorted, find, put, is_sor
 use Rattle.std.proofs.lemmas.Option.{slice_get_read}
 use Rattle.orc_path.specs.Steps.{PathStep}
 use Rattle.orc_path.specs.Order.{path_cmp}
+use Rattle.orc_path.proofs.Bools.{first_of_both, second_of_both, not_cond}
 use Rattle.orc_path.proofs.PathOrder.{path_cmp_total, path_cmp_exact}
 use Rattle.orc_tree.specs.Rows.{IsRowOf, IsPlaceOf}
 use Rattle.orc_tree.proofs.Answered.{find-row, find-place}
-use Rattle.orc_tree.proofs.InOrder.{is_true_T, T_is_true}
+use Rattle.orc_tree.proofs.InOrder.{is_less, below_at, is_true_T, T_is_true}
 use Rattle.orc_path.proofs.ConfigurationLaws.{path_ties}
 
 abbrev pub BackRows : Type 0
@@ -46,19 +46,6 @@ ids-none o e = ap (λ (o : Option (List (List ℕ))). option_map_or (λ (x : Lis
 
 -- Edits of rows
 
-first_of_both : (a b : Bool) → T (a && b) → T a
-first_of_both true b h = tt
-first_of_both false b h = h
-
-second_of_both : (a b : Bool) → T (a && b) → T b
-second_of_both true b h = h
-second_of_both false b h = absurd h
-
-is_less : (o : Ordering) → T (is_lt o) → o ≡ Less
-is_less Less h = refl
-is_less Equal h = absurd h
-is_less Greater h = absurd h
-
 differs_from : (k : List PathStep) (e : List PathStep × List (List ℕ)) → path_cmp k e.0 ≡ Less → not (eq_by_cmp path_cmp k e.0) ≡ true
 differs_from k e l = ap (λ o. not (is_eq o)) l
 
@@ -67,11 +54,6 @@ keep_all k [] h = refl
 keep_all k (e ∷ es) h =
     cond-true _ _ _ (differs_from k e (is_less (path_cmp k e.0) (first_of_both (is_lt (path_cmp k e.0)) (below_all path_cmp k es) h)))
     ∙ ap (λ l. e ∷ l) (keep_all k es (second_of_both (is_lt (path_cmp k e.0)) (below_all path_cmp k es) h))
-
-below_at : (x : List PathStep) (es : BackRows) → T (below_all path_cmp x es) → (k : ℕ) (d : List PathStep × List (List ℕ)) → k < length es → path_cmp x (get_or es k d).0 ≡ Less
-below_at x [] h k d l = absurd (omega arith)
-below_at x (e ∷ es) h zero d l = is_less (path_cmp x e.0) (first_of_both (is_lt (path_cmp x e.0)) (below_all path_cmp x es) h)
-below_at x (e ∷ es) h (suc k) d l = below_at x es (second_of_both (is_lt (path_cmp x e.0)) (below_all path_cmp x es) h) k d (omega arith)
 
 -- the rows without the one of a path
 pub remove_here : (q : List PathStep) (es : BackRows) (i : ℕ) → T (is_sorted path_cmp es) → i < length es → ((d : List PathStep × List (List ℕ)) → (get_or es i d).0 ≡ q)
@@ -82,17 +64,13 @@ remove_here q (e ∷ es) zero h l here =
     sym (cond-false _ _ _ (ap not (path_ties q e.0 (sym (here e)))) ∙ keep_all q es (subst (λ (x : List PathStep). T (below_all path_cmp x es)) (here e) below))
 remove_here q (e ∷ es) (suc i) h l here =
     let below = first_of_both (below_all path_cmp e.0 es) (is_sorted path_cmp es) h in
-    let later : path_cmp e.0 q ≡ Less = subst (λ (x : List PathStep). path_cmp e.0 x ≡ Less) (here e) (below_at e.0 es below i e (omega arith)) in
+    let later : path_cmp e.0 q ≡ Less = subst (λ (x : List PathStep). path_cmp e.0 x ≡ Less) (here e) (below_at path_cmp path_cmp_total e.0 es below i e (omega arith)) in
     let other : not (eq_by_cmp path_cmp q e.0) ≡ true = ap (λ o. not (is_eq o)) (path_cmp_total.antisymm q e.0 ∙ ap ordering_reverse later) in
     ap (λ l. e ∷ l) (remove_here q es i (second_of_both (below_all path_cmp e.0 es) (is_sorted path_cmp es) h) (omega arith) here) ∙ sym (cond-true _ _ _ other)
 
 pub sorted-removed : (q : List PathStep) (rows new : BackRows) → is_sorted path_cmp rows ≡ true → new ≡ where_key path_cmp (λ x. not (eq_by_cmp path_cmp q x)) rows → is_sorted path_cmp new ≡ true
 sorted-removed q rows new s e =
     subst (λ (r : BackRows). is_sorted path_cmp r ≡ true) (sym e) (T_is_true _ (is_sorted-where_key path_cmp (λ x. not (eq_by_cmp path_cmp q x)) rows (is_true_T _ s)))
-
-not_cond : {A : Type 0} (b : Bool) (x y : A) → cond (not b) x y ≡ cond b y x
-not_cond true x y = refl
-not_cond false x y = refl
 
 pub map_of-removed : (q : List PathStep) (rows new : BackRows) → is_sorted path_cmp rows ≡ true → new ≡ where_key path_cmp (λ x. not (eq_by_cmp path_cmp q x)) rows
     → from_sorted {R = path_cmp} new ≡ remove (from_sorted rows) q

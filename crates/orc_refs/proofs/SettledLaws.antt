@@ -3,8 +3,7 @@ use Rattle.std.proofs.Common.{◌≡◌, ◌≢◌, ◌⊎◌, inl, inr, ⊎_eli
 use Rattle.std.specs.declared.option.Option.{Option}
 use Rattle.std.specs.List.{list_all}
 use Rattle.std.specs.Option.{option_map_or}
-use Rattle.std.specs.declared.cmp.Ordering.{Ordering}
-use Rattle.std.specs.declared.cmp.Ordering.TheVariants.{Less, Equal, Greater}
+use Rattle.std.specs.declared.cmp.Ordering.TheVariants.{Less}
 use Rattle.std.specs.Ordering.{eq_by_cmp, is_eq, is_lt}
 use Rattle.std.specs.FinMap.Entries.{below_all}
 use Rattle.std.proofs.lemmas.List.{append_assoc, drop_more, take_more}
@@ -14,12 +13,14 @@ use Rattle.std.proofs.lemmas.Bool.{false≢true, cases_Bool, cond-true, cond-fal
 use Rattle.std.proofs.lemmas.Option.{none-some, same_Some}
 use Rattle.orc_path.specs.Steps.{PathStep}
 use Rattle.orc_path.specs.Order.{path_cmp}
+use Rattle.orc_path.proofs.Bools.{first_of_both, second_of_both}
 use Rattle.orc_path.proofs.PathOrder.{path_cmp_total}
 use Rattle.orc_path.specs.Items.{fits}
 use Rattle.orc_path.specs.Configurations.{Config, IsConfig}
 use Rattle.orc_path.proofs.ConfigurationLaws.{same_path}
 use Rattle.orc_path.specs.declared.item.Item.{Item}
 use Rattle.orc_tree.specs.Changes.{applied, change_fits}
+use Rattle.orc_tree.proofs.InOrder.{is_less}
 use Rattle.orc_tree.specs.declared.change.Change.{Change}
 use Rattle.orc_tree.specs.declared.change.Change.TheVariants.{Put}
 use Rattle.orc_change.specs.Differences.{has_item}
@@ -281,19 +282,6 @@ length-rows_due b ms [] = refl
 length-rows_due b ms (e ∷ es) = ap suc (length-rows_due b ms es)
 
 -- The first clash
-
-first_of_both : (a b : Bool) → T (a && b) → T a
-first_of_both true b h = tt
-first_of_both false b h = h
-
-second_of_both : (a b : Bool) → T (a && b) → T b
-second_of_both true b h = h
-second_of_both false b h = absurd h
-
-is_less : (o : Ordering) → T (is_lt o) → o ≡ Less
-is_less Less h = refl
-is_less Equal h = absurd h
-is_less Greater h = absurd h
 
 none_below : (q k : List PathStep) (es : Paths) → path_cmp q k ≡ Less → T (below_all path_cmp k es) → find path_cmp q es ≡ None
 none_below q k [] l h = refl

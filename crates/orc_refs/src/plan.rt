@@ -12,8 +12,9 @@ ghost use Rattle.orc_refs.specs.inside.Plans.{HasCause, all_agree, come, gone, p
 use crate::backs::Backs;
 use crate::mark::Brought;
 use crate::rival::rival;
-use crate::settle::{all_are, any_stays, first_of, has_item, ids_after};
+use crate::settle::{all_are, any_stays, first_of, ids_after};
 use crate::{Move, RefsFault};
+use orc_change::has_item;
 use orc_io::Steps;
 use orc_path::{Item, Path};
 use orc_text::{Memory, Row, Text};

@@ -7,7 +7,8 @@ ghost use Rattle.orc_refs.specs.inside.Settling.{staying};
 
 use crate::Move;
 use crate::plan::Place;
-use crate::settle::{first_brought, has_item, is_moved, put_at};
+use crate::settle::{first_brought, is_moved, put_at};
+use orc_change::has_item;
 use orc_path::{Item, Path};
 use orc_text::{Memory, Text};
 use std::alloc::Global;

@@ -4,7 +4,6 @@ ghost use Rattle.std.specs.List.{list_any};
 ghost use Rattle.std.specs.Option.{option_copied};
 ghost use Rattle.std.specs.FinMap.{is_sorted};
 ghost use Rattle.orc_path.specs.Order.{path_cmp};
-ghost use Rattle.orc_change.specs.Differences.{has_item};
 ghost use Rattle.orc_refs.specs.Moves.{BringWhole, is_moved, put_at, rows_in};
 ghost use Rattle.orc_refs.specs.inside.Marks.{all_are, entered, first_of, shown};
 ghost use Rattle.orc_refs.specs.inside.Settling.{enter_id, first_brought, staying};
@@ -12,6 +11,7 @@ ghost use Rattle.orc_refs.specs.inside.Settling.{enter_id, first_brought, stayin
 use crate::Move;
 use crate::mark::Brought;
 use orc_call::Put;
+use orc_change::has_item;
 use orc_path::{Item, Path};
 use orc_text::{Memory, Text};
 use std::alloc::Global;
@@ -132,14 +132,4 @@ pub(crate) fn all_are(brought: &[Brought<'_>], item: Option<&Item>) -> bool
         }
     }
     true
-}
-
-// Whether this item is there.
-pub(crate) fn has_item(found: Option<&Item>, item: &Item) -> bool
-    ensures { result ≡ has_item (option_copied found.entry) item.now }
-{
-    match found {
-        None => false,
-        Some(found) => *found == *item,
-    }
 }

@@ -1,6 +1,5 @@
 mod Members
 mod Rowed
-mod Ordered
 mod Sames
 mod Uncut
 mod Instances

@@ -2,8 +2,7 @@
 use Rattle.std.proofs.Common.{◌≡◌, ◌≢◌, inl, inr, Bool, true, false, cond, List, [], ◌∷◌, Some, refl, sym, ap, ◌∙◌, is_some}
 use Rattle.std.specs.declared.option.Option.{Option}
 use Rattle.std.specs.Ordering.{eq_by_cmp, is_eq, is_lt, ordering_reverse}
-use Rattle.std.specs.declared.cmp.Ordering.{Ordering}
-use Rattle.std.specs.declared.cmp.Ordering.TheVariants.{Less, Equal, Greater}
+use Rattle.std.specs.declared.cmp.Ordering.TheVariants.{Less}
 use Rattle.std.specs.Cmp.Lexicographic.{bytes_decides}
 use Rattle.std.specs.FinMap.{get, entries, find, is_sorted, entries_sorted, get-entries}
 use Rattle.std.specs.FinMap.Entries.{below_all}
@@ -17,6 +16,7 @@ use Rattle.orc_path.specs.declared.item.Item.TheVariants as item
 use Rattle.orc_path.proofs.PathOrder.{path_cmp_total}
 use Rattle.orc_path.proofs.ConfigurationLaws.{same_path, path_ties}
 use Rattle.orc_tree.proofs.InOrder.{T_is_true}
+use Rattle.orc_tree.proofs.Pieces.{lt_is}
 use Rattle.orc_change.specs.Differences.{has_item}
 use Rattle.orc_change.proofs.Exact.{has_item_is}
 use Rattle.orc_revalidate.specs.inside.Looked.{has_row}
@@ -40,11 +40,6 @@ found_in (row ∷ rows) q x h = on (eq_by_cmp path_cmp q row.0) refl h (found_in
         inl (λ i. (path i, item i))
     on false is e later = inr (later e)
 
-is_less : (o : Ordering) → is_lt o ≡ true → o ≡ Less
-is_less Less h = refl
-is_less Equal h = absurd (false≢true h)
-is_less Greater h = absurd (false≢true h)
-
 below_in : (p : Path) (rows : List Row) (row : Row) → below_all path_cmp p rows ≡ true → In rows row → is_lt (path_cmp p row.0) ≡ true
 below_in p [] row below h = absurd h
 below_in p (r ∷ rows) row below (inl e) =
@@ -57,7 +52,7 @@ in_found (r ∷ rows) row sorted (inl e) =
     ap (λ b. cond b (Some r.1) (find path_cmp row.0 rows)) (path_ties row.0 r.0 (ap (λ (x : Row). x.0) (sym e))) ∙ ap (λ (x : Row). Some x.1) e
 in_found (r ∷ rows) row sorted (inr h) =
     let parts = and_parts (below_all path_cmp r.0 rows) (is_sorted path_cmp rows) sorted in
-    let less : path_cmp r.0 row.0 ≡ Less = is_less (path_cmp r.0 row.0) (below_in r.0 rows row parts.0 h) in
+    let less : path_cmp r.0 row.0 ≡ Less = lt_is (path_cmp r.0 row.0) (below_in r.0 rows row parts.0 h) in
     let apart : eq_by_cmp path_cmp row.0 r.0 ≡ false = ap is_eq (path_cmp_total.antisymm row.0 r.0 ∙ ap ordering_reverse less) in
     ap (λ b. cond b (Some r.1) (find path_cmp row.0 rows)) apart ∙ in_found rows row parts.1 h
 

@@ -4,7 +4,6 @@ ghost use Rattle.std.specs.List.{fold};
 ghost use Rattle.orc_check.specs.Validity.{lesser_breach, is_place, line_breaches};
 ghost use Rattle.orc_revalidate.specs.inside.Looked.{can_lack, front_breaches, has_bound, node_breaches_on, standing_breaches};
 
-use crate::names::line_at;
 use orc_check::{Best, is_place, row_of_steps};
 use orc_path::{Item, Path, Step};
 use orc_schema::{Node, Schema, SchemaLine};
@@ -111,7 +110,7 @@ pub(crate) fn keep_node<'a>(
 ) -> Best<'a>
     ensures { result ≡ fold lesser_breach best.entry (node_breaches_on schema.now tree.now path.now) }
 {
-    match line_at(schema, path) {
+    match schema.line(path) {
         Some(line) => keep_at(best, schema, tree, line, path),
         None => best,
     }

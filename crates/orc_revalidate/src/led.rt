@@ -1,14 +1,14 @@
 //! Whether a change may take an instance from a leafref elsewhere.
-ghost use Rattle.std.specs.Prelude.{◌≡◌, ◌&&◌, IfOk, is_some, is_none, map, option_map, take};
+ghost use Rattle.std.specs.Prelude.{◌≡◌, ◌&&◌, IfOk, is_some, is_none, map};
 ghost use Rattle.std.specs.List.{list_any};
 ghost use Rattle.std.specs.FinMap.{get};
 ghost use Rattle.orc_path.specs.Steps.{ends_in_keys};
-ghost use Rattle.orc_check.specs.Validity.{behind, target_in};
+ghost use Rattle.orc_check.specs.Validity.{behind};
 ghost use Rattle.orc_revalidate.specs.inside.Led.{is_cut_off, may_reach, leads_into, is_led_to, has_default_at, may_take, may_cover, target_takes, may_lose};
 
 use crate::inside::rows_inside;
 use crate::kept::has_row;
-use orc_check::row_of_steps;
+use orc_check::{first_steps, row_of_steps, target_in};
 use orc_expr::Target;
 use orc_path::{Item, Path, Step};
 use orc_schema::{Node, Schema, SchemaLine};
@@ -28,18 +28,6 @@ fn begin_with(names: &[Text], steps: &[Step]) -> bool
                 step.node.as_str() == name.as_str() && begin_with(later, below)
             }
         },
-    }
-}
-
-// The target of a leafref.
-fn target_in(node: &Node) -> Option<&orc_schema::Target>
-    ensures { option_map (λ target. target.now) result ≡ target_in node.now }
-{
-    match node {
-        Node::Leaf(leaf) => leaf.target.as_ref(),
-        Node::LeafList(values) => values.target.as_ref(),
-        Node::Container => None,
-        Node::List(_) => None,
     }
 }
 
@@ -64,16 +52,6 @@ fn is_absent(tree: &Tree, steps: &[Step]) -> bool
         Some(_row) => false,
         None => true,
     }
-}
-
-// The first steps of a path.
-fn first_steps(path: &[Step], number: usize) -> &[Step]
-    ensures { result.now ≡ take number path.now }
-{
-    if path.len() <= number {
-        return path;
-    }
-    &path[..number]
 }
 
 // Whether these steps are those of an entry that isn't there.

@@ -11,7 +11,6 @@ mod inside;
 mod kept;
 mod led;
 mod looks;
-mod names;
 mod verdict;
 
 pub use verdict::revalidate;

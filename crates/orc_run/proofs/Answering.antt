@@ -15,7 +15,7 @@ use Rattle.orc_journal.specs.declared.entry.Entry.{Entry}
 use Rattle.orc_run.specs.declared.controller.Controller.{Controller}
 use Rattle.orc_state.specs.declared.declarations.Decls.{Decls}
 use Rattle.orc_run.specs.declared.past.Past.{Past}
-use Rattle.orc_run.specs.declared.serving.Served.{Served}
+use Rattle.orc_run.specs.declared.serving.CallOutcome.{CallOutcome}
 use Rattle.orc_run.specs.Views.{View}
 use Rattle.orc_text.specs.declared.memory.Memory.{Memory}
 use Rattle.orc_run.proofs.Outcomes.{AreLaws, no_calls, outlives_kept}
@@ -23,7 +23,7 @@ use Rattle.orc_state.specs.States.{State}
 
 -- where serving a call led that left the controller as it was
 pub unchanged : {D : Type 0} (meaning : DiskMeaning D) → AreLaws meaning → (decls : Decls) (entries : List Entry) (old : Controller D) → Knows meaning decls entries old
-    → (call : Call) (result : Result Served Memory) (past : Past) → past ≡ old.past
+    → (call : Call) (result : Result CallOutcome Memory) (past : Past) → past ≡ old.past
     → IfOk result (λ served. ServesTo meaning decls (view_of old entries) call served.text served.end (view_of old entries))
     → LeadsTo meaning decls (view_of old entries) call result (record old { past = past })
 unchanged {D} meaning laws decls entries old sound call result past kept serves =
@@ -39,49 +39,33 @@ unchanged {D} meaning laws decls entries old sound call result past kept serves 
     w : View D
     w = view_of old entries
 
-    goes : (r : Result Served Memory) → IfOk r (λ served. served.end ≡ None → Knows meaning decls entries (record old { past = old.past }))
-    goes (Ok served) = λ on. record {
-      within = sound.within;
-      behind = sound.behind;
-      legal = sound.legal;
-      rests = sound.rests;
-      up = λ up. let u = sound.up up in record {
-        holds = u.holds;
-        ordered = u.ordered;
-        decided = u.decided;
-        numbers = u.numbers;
-        filled = u.filled;
-        named = u.named;
-        running = u.running;
-        limit = u.limit;
-        all = u.all;
-      };
-    }
+    goes : (r : Result CallOutcome Memory) → IfOk r (λ served. served.end ≡ None → Knows meaning decls entries (record old { past = old.past }))
+    goes (Ok served) = λ on. sound
     goes (Err memory) = tt
 
-    wants : (r : Result Served Memory) → OnErr r (view_of (record old { past = old.past }) entries ≡ view_of old entries)
+    wants : (r : Result CallOutcome Memory) → OnErr r (view_of (record old { past = old.past }) entries ≡ view_of old entries)
     wants (Ok served) = tt
     wants (Err memory) = refl
 
 -- memory was wanting, and nothing is changed
 pub wanting : {D : Type 0} (meaning : DiskMeaning D) → AreLaws meaning → (decls : Decls) (entries : List Entry) (old : Controller D) → Knows meaning decls entries old
-    → (call : Call) (result : Result Served Memory) (memory : Memory) → result ≡ Err memory → (past : Past) → past ≡ old.past
+    → (call : Call) (result : Result CallOutcome Memory) (memory : Memory) → result ≡ Err memory → (past : Past) → past ≡ old.past
     → LeadsTo meaning decls (view_of old entries) call result (record old { past = past })
 wanting meaning laws decls entries old sound call result memory is past kept =
-    subst (λ (r : Result Served Memory). LeadsTo meaning decls (view_of old entries) call r (record old { past = past })) (sym is)
+    subst (λ (r : Result CallOutcome Memory). LeadsTo meaning decls (view_of old entries) call r (record old { past = past })) (sym is)
     (unchanged meaning laws decls entries old sound call (Err memory) past kept tt)
 
 -- a call that is answered at once
 pub says : {D : Type 0} (meaning : DiskMeaning D) → AreLaws meaning → (decls : Decls) (entries : List Entry) (old : Controller D) → Knows meaning decls entries old
     → (call : Call) (given : Answer) (past : Past) → past ≡ old.past → (names : List (List ℕ)) → names ≡ decls.names
     → Serves meaning decls (view_of old entries) call (answer_line decls.names call.caller call.number given) (view_of old entries)
-    → (result : Result Served Memory) → IfOk result (λ served. served ≡ record { text = answer_line names call.caller call.number given; end = None })
+    → (result : Result CallOutcome Memory) → IfOk result (λ served. served ≡ record { text = answer_line names call.caller call.number given; end = None })
     → LeadsTo meaning decls (view_of old entries) call result (record old { past = past })
 says {D} meaning laws decls entries old sound call given past kept names all serves result is =
     unchanged meaning laws decls entries old sound call result past kept
     (IfOk-weaker result (λ served. served ≡ record { text = answer_line names call.caller call.number given; end = None })
     (λ served. ServesTo meaning decls (view_of old entries) call served.text served.end (view_of old entries))
-    (λ served e. subst (λ (s : Served). ServesTo meaning decls (view_of old entries) call s.text s.end (view_of old entries))
+    (λ served e. subst (λ (s : CallOutcome). ServesTo meaning decls (view_of old entries) call s.text s.end (view_of old entries))
     (sym (e ∙ ap (λ (ns : List (List ℕ)). record { text = answer_line ns call.caller call.number given; end = None }) all)) serves) is)
 
 module _ {D : Type 0} (meaning : DiskMeaning D)
@@ -95,7 +79,7 @@ module _ {D : Type 0} (meaning : DiskMeaning D)
     behind = subst (λ (l : List Call). IsBehind decls old.past l) knows_all sound.behind
 
     pub at_once : AreLaws meaning → (call : Call) (given : Answer) (past : Past) → past ≡ old.past → (names : List (List ℕ)) → names ≡ decls.names → AnswersAtOnce decls old.past.history call given
-        → (result : Result Served Memory) → IfOk result (λ served. served ≡ record { text = answer_line names call.caller call.number given; end = None })
+        → (result : Result CallOutcome Memory) → IfOk result (λ served. served ≡ record { text = answer_line names call.caller call.number given; end = None })
         → LeadsTo meaning decls (view_of old entries) call result (record old { past = past })
     at_once laws call given past kept names all answers result is =
         says meaning laws decls entries old sound call given past kept names all

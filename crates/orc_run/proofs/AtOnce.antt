@@ -3,8 +3,7 @@ use Rattle.std.proofs.Common.{◌≡◌, ℕ, ◌+◌, true, false, List, get_or
 use Rattle.std.specs.declared.option.Option.{Option}
 use Rattle.std.specs.declared.result.Result.{Result}
 use Rattle.std.specs.List.{slice_get}
-use Rattle.std.proofs.lemmas.Option.{get_or_from_slice_get, slice_get_within}
-use Rattle.std.proofs.lemmas.List.Elements.{All-get_or}
+use Rattle.std.proofs.lemmas.Option.{get_or_from_slice_get}
 use Rattle.std.proofs.lemmas.Bool.{true≢false}
 use Rattle.orc_text.specs.declared.memory.Memory.{Memory}
 use Rattle.orc_call.specs.declared.call.Call.{Call}
@@ -17,6 +16,7 @@ use Rattle.orc_run.specs.inside.Pasts.{IsBehind}
 use Rattle.orc_state.specs.declared.declarations.Decls.{Decls}
 use Rattle.orc_run.specs.declared.past.Past.{Past}
 use Rattle.orc_state.specs.States.{State}
+use Rattle.orc_run.proofs.OneAnswer.{not_due}
 
 read_there : (history : List Call) (n : ℕ) (entry read : Call) → slice_get history n ≡ Some entry → read ≡ get_or history n read → entry ≡ read
 read_there history n entry read at is = sym (get_or_from_slice_get history n entry read at) ∙ sym is
@@ -56,20 +56,6 @@ pub still_new : (decls : Decls) (old past : Past) (call copied : Call) (found : 
 still_new decls old past call copied None e due rest same =
     subst (λ (c : Call). IsNew past.history c) (sym same) (subst (λ (l : List Call). IsNew l call) (sym (ap (λ (p : Past). p.history) rest)) (due refl).new)
 still_new decls old past call copied (Some answer) e due rest same = absurd (true≢false e)
-
-some_is : {X : Type 0} (x : X) → None ≡ Some x → ⊥
-some_is x e = cc
-
-not_new : (history : List Call) (call entry : Call) (n : ℕ) → slice_get history n ≡ Some entry → IsSame entry call → IsNew history call → ⊥
-not_new history call entry n at one new =
-    subst (λ (e : Call). IsSame e call → ⊥) (get_or_from_slice_get history n entry entry at)
-    (All-get_or (λ (e : Call). IsSame e call → ⊥) history n entry (slice_get_within history n entry at) new) one
-
--- a call that is answered at once is not due
-not_due : (decls : Decls) (history : List Call) (call : Call) (answer : Answer) → AnswersAtOnce decls history call answer → IsDue decls history call → ⊥
-not_due decls history call _ (legal.AnswersAtOnce.again n at) due = not_new history call call n at (refl, refl) due.new
-not_due decls history call _ (legal.AnswersAtOnce.reused n entry at one other) due = not_new history call entry n at one due.new
-not_due decls history call answer (legal.AnswersAtOnce.refused _ new is) due = some_is answer (sym due.unrefused ∙ is)
 
 pub answered : (decls : Decls) (history : List Call) (call : Call) (found : Option Answer) → true ≡ is_some found
     → IfSome found (AnswersAtOnce decls history call) → IsDue decls history call → ⊥

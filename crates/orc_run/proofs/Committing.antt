@@ -1,5 +1,5 @@
 -- A call that is to be committed: what is so where its commit came to its end.
-use Rattle.std.proofs.Common.{◌≡◌, ◌⊎◌, ℕ, ◌+◌, ◌<◌, ◌≤◌, Bool, true, false, List, [], ◌∷◌, ◌++◌, codes, length, take, drop, All, IsTrue, Option, Some, None, IfSome, is_some, Result, Ok, Err, inl, inr, ⊎_elim, refl, sym, ap, subst, ◌∙◌, arith}
+use Rattle.std.proofs.Common.{◌≡◌, ◌⊎◌, ℕ, ◌+◌, ◌≤◌, Bool, true, false, List, [], ◌∷◌, ◌++◌, codes, length, take, drop, All, IsTrue, Option, Some, None, IfSome, is_some, Result, Ok, Err, inl, inr, ⊎_elim, refl, sym, ap, subst, ◌∙◌, arith}
 use Rattle.std.proofs.Math.Seq.{take-length, drop-length, take-append_seam, drop-append_seam}
 use Rattle.std.proofs.lemmas.List.{length-append}
 use Rattle.std.proofs.lemmas.Option.{IfSome_then}
@@ -34,20 +34,20 @@ use Rattle.orc_run.specs.Commits.{AppendsUpTo, Commits, commit_end, commit_text,
 use Rattle.orc_run.specs.Steps.{Breaks, EndsBecause, Serves}
 use Rattle.orc_run.specs.declared.opening.TheConstants.{LARGEST_JOURNAL}
 use Rattle.orc_run.specs.inside.Pasts.{IsBehind}
-use Rattle.orc_run.specs.inside.Transactions.{is_taken, AreNamed, IsFilled}
+use Rattle.orc_run.specs.inside.Transactions.{is_taken, AreNamed, TakesNumber}
 use Rattle.orc_run.specs.inside.Serving.{ComesBehind, EndsBehind, ServesTo, count_then, kept_then, up_behind}
 use Rattle.orc_run.specs.inside.Controllers.{view_of, IsCommitting, IsUp, Knows, LeadsTo}
-use Rattle.orc_run.specs.inside.Deciding.{IsIntentOf, HaveHistory}
+use Rattle.orc_run.specs.inside.Deciding.{HasBegun, HaveHistory}
 use Rattle.orc_run.specs.declared.commit.Stage.{Stage}
 use Rattle.orc_run.specs.declared.commit.Stage.TheVariants.{Intent, Decide, Settled}
 use Rattle.orc_run.specs.declared.controller.Controller.{Controller}
 use Rattle.orc_run.specs.declared.past.Past.{Past}
-use Rattle.orc_run.specs.declared.serving.Served.{Served}
+use Rattle.orc_run.specs.declared.serving.CallOutcome.{CallOutcome}
 use Rattle.orc_run.specs.declared.stop.Stop.{Stop}
 use Rattle.orc_run.specs.declared.stop.Stop.TheVariants as ending
-use Rattle.orc_run.proofs.Pasts.{all_taken, named_more, named_taken}
+use Rattle.orc_run.proofs.Pasts.{all_taken, named_more, named_taken, taken_again}
 use Rattle.orc_run.proofs.Outcomes.{outlives_kept}
-use Rattle.orc_run.proofs.Deciding.{unnamed_stage, opened, decided, may_end, newest, intent_has, decision_has, end_has}
+use Rattle.orc_run.proofs.CommitEntries.{unnamed_stage, opened, decided, may_end, newest, intent_has, decision_has, end_has}
 
 -- a cause that came later
 rose_later : (a b c : ℕ) → a ≤ b → Rose b c → Rose a c
@@ -275,7 +275,7 @@ module _ {D : Type 0} (meaning : DiskMeaning D) (only_now : (d : D) (c : List �
   known_unsettled Settled other = absurd (other refl)
 
   -- where memory was wanting before the intent was made
-  pub not_begun : (result : Result Served Memory) (memory : Memory) → result ≡ Err memory → (past : Past) → past.history ≡ old.past.history
+  pub not_begun : (result : Result CallOutcome Memory) (memory : Memory) → result ≡ Err memory → (past : Past) → past.history ≡ old.past.history
       → LeadsTo meaning decls (view_of old es) call result (record old { past = past })
   not_begun result memory is_err past same =
       let w = view_of old es in
@@ -287,7 +287,7 @@ module _ {D : Type 0} (meaning : DiskMeaning D) (only_now : (d : D) (c : List �
       let alike : w ≡ view_of (record old { past = past }) es = ap (λ (h : List Call). record w { known = take old.known h; pending = drop old.known h }) (sym same) in
       let outlives : Outlives meaning decls w w =
       outlives_kept meaning decls w w (omega arith) (started meaning w.disk (IsKept decls w) (λ c left. rests.images c (only_now w.disk c left))) refl in
-      subst (λ (r : Result Served Memory). LeadsTo meaning decls w call r (record old { past = past })) (sym is_err) (record {
+      subst (λ (r : Result CallOutcome Memory). LeadsTo meaning decls w call r (record old { past = past })) (sym is_err) (record {
         entries = es;
         serves = tt;
         sound = tt;
@@ -296,24 +296,27 @@ module _ {D : Type 0} (meaning : DiskMeaning D) (only_now : (d : D) (c : List �
         outlives = subst (λ (v : View D). Outlives meaning decls w v) alike outlives;
       })
 
-  module _ (t : ℕ) (devices : List ℕ) (intent : Entry) (intended : IsIntentOf t call devices intent) (free : is_taken old.past.numbers t ≡ false) where
+  module _ (devices : List ℕ) (past : Past) (t : ℕ) (intent : Entry) (begun : HasBegun old.past call devices past t intent) where
+    intended : intent ≡ entry.Intent t call devices
+    intended = begun.intended.is
+
     stage_old : stage_of t es ≡ None
-    stage_old = unnamed_stage old.past.numbers t es free is.up.numbers
+    stage_old = unnamed_stage old.past.numbers t es begun.number.free is.up.numbers
 
     -- the intent says no more
     have_intent : HaveHistory decls (es ++ intent ∷ []) old.past.history
-    have_intent = subst (λ (e : Entry). HaveHistory decls (es ++ e ∷ []) old.past.history) (sym intended.is)
+    have_intent = subst (λ (e : Entry). HaveHistory decls (es ++ e ∷ []) old.past.history) (sym intended)
         (intent_has t decls es old.past.history have_old call devices stage_old)
 
     -- the decision commits the call
     have_decision : HaveHistory decls ((es ++ intent ∷ []) ++ entry.Decide t ∷ []) (old.past.history ++ call ∷ [])
-    have_decision = subst (λ (e : Entry). HaveHistory decls ((es ++ e ∷ []) ++ entry.Decide t ∷ []) (old.past.history ++ call ∷ [])) (sym intended.is)
+    have_decision = subst (λ (e : Entry). HaveHistory decls ((es ++ e ∷ []) ++ entry.Decide t ∷ []) (old.past.history ++ call ∷ [])) (sym intended)
         (decision_has t decls (es ++ entry.Intent t call devices ∷ []) old.past.history
         (intent_has t decls es old.past.history have_old call devices stage_old) call devices
         (opened t call devices es stage_old) (newest t call devices es) legal_new)
 
     ends : IsTrue (follows ((es ++ intent ∷ []) ++ entry.Decide t ∷ []) (entry.Settled t))
-    ends = subst (λ (e : Entry). IsTrue (follows ((es ++ e ∷ []) ++ entry.Decide t ∷ []) (entry.Settled t))) (sym intended.is)
+    ends = subst (λ (e : Entry). IsTrue (follows ((es ++ e ∷ []) ++ entry.Decide t ∷ []) (entry.Settled t))) (sym intended)
         (may_end t call devices ((es ++ entry.Intent t call devices ∷ []) ++ entry.Decide t ∷ []) (decided t call devices (es ++ entry.Intent t call devices ∷ [])
         (opened t call devices es stage_old)))
 
@@ -374,11 +377,10 @@ module _ {D : Type 0} (meaning : DiskMeaning D) (only_now : (d : D) (c : List �
     is_free = on (is_named t es) refl
       where
         on : (b : Bool) → is_named t es ≡ b → is_named t es ≡ false
-        on true named = absurd (let taken = named_taken old.past.numbers t es is.up.numbers named in cc)
+        on true named = absurd (let free = begun.number.free in let taken = named_taken old.past.numbers t es is.up.numbers named in cc)
         on false named = named
 
-    module _ (touched : devices ≡ touched_devices decls (state_of decls (take old.known old.past.history)) call) (positive : 1 ≤ t)
-        (least : (u : ℕ) → 1 ≤ u → u < t → is_taken old.past.numbers u ≡ true)
+    module _ (touched : devices ≡ touched_devices decls (state_of decls (take old.known old.past.history)) call)
         (stage : Stage) (outcome : Appended) (j : OpenJournal (Stopping D))
         (so : AppendsUpTo meaning decls.text stage (journal_view old.journal es) intent t outcome (journal_view j (known_by stage outcome es intent t))) where
       abbrev known_now : List Entry
@@ -393,13 +395,13 @@ module _ {D : Type 0} (meaning : DiskMeaning D) (only_now : (d : D) (c : List �
           subst (λ m. A m LARGEST_JOURNAL) is.up.limit
           (subst (λ n. A old.journal.limit n) (limit_of meaning decls.text stage a b intent t outcome so ∙ is.up.limit) so)
 
-      module _ (up : Bool) (past : Past) (known : ℕ) (known_is : take known past.history ≡ known_then stage before call) (pending_is : drop known past.history ≡ pending_then stage call)
+      module _ (up : Bool) (kept : Past) (known : ℕ) (known_is : take known kept.history ≡ known_then stage before call) (pending_is : drop known kept.history ≡ pending_then stage call)
           (up_is : up ≡ is_up_behind outcome) where
         abbrev now : Controller D
-        now = record { journal = j; up = up; past = past; known = known }
+        now = record { journal = j; up = up; past = kept; known = known }
 
         the_intent : intent ≡ intent_of decls (view_of old es) call t
-        the_intent = intended.is ∙ ap (λ (l : List ℕ). entry.Intent t call l) touched
+        the_intent = intended ∙ ap (λ (l : List ℕ). entry.Intent t call l) touched
 
         commits : Commits meaning decls (view_of old es) call stage outcome (view_of now known_now)
         commits = record {
@@ -408,9 +410,9 @@ module _ {D : Type 0} (meaning : DiskMeaning D) (only_now : (d : D) (c : List �
             journal = is.up.holds.file;
             ordered = is.up.ordered;
             decided = is.up.decided ∙ sym known_old;
-            positive = positive;
+            positive = begun.number.positive;
             free = is_free;
-            least = λ u from below. is.up.named u (least u from below);
+            least = λ u from below. is.up.named u (begun.number.least u from below);
           };
           appends = subst (λ (e : Entry). AppendsUpTo meaning decls.text stage (journal_at meaning (view_of old es)) e t outcome
               (journal_at meaning (view_of now known_now))) the_intent moved;
@@ -447,7 +449,7 @@ module _ {D : Type 0} (meaning : DiskMeaning D) (only_now : (d : D) (c : List �
             (λ len. inl (call, refl)) tt
 
         abbrev text_now : List ℕ
-        text_now = commit_text decls.names call stage outcome (length (take known past.history))
+        text_now = commit_text decls.names call stage outcome (length (take known kept.history))
 
         -- it is served, or the run ends, by the outcome
         served_as : (end : Option Stop) → end ≡ commit_end outcome → ServesTo meaning decls (view_of old es) call text_now end (view_of now known_now)
@@ -458,8 +460,8 @@ module _ {D : Type 0} (meaning : DiskMeaning D) (only_now : (d : D) (c : List �
         stopped_as : (stage ≡ Settled → ⊥) → outcome ≡ appended.Stopped → ServesTo meaning decls (view_of old es) call text_now (Some ending.Memory) (view_of now known_now)
         stopped_as unsettled stops = (
           subst (λ (text : List ℕ). Breaks meaning decls (view_of old es) (Serve call) text ending.Memory (view_of now known_now))
-              (sym (ap (λ (o : Appended). commit_text decls.names call stage o (length (take known past.history))) stops
-              ∙ stopped_text decls.names call stage (length (take known past.history)) unsettled))
+              (sym (ap (λ (o : Appended). commit_text decls.names call stage o (length (take known kept.history))) stops
+              ∙ stopped_text decls.names call stage (length (take known kept.history)) unsettled))
               (Breaks.stopped call stage (view_of now known_now) is.running due unsettled
               (subst (λ (o : Appended). Commits meaning decls (view_of old es) call stage o (view_of now known_now)) stops commits)),
           tt,
@@ -491,26 +493,31 @@ module _ {D : Type 0} (meaning : DiskMeaning D) (only_now : (d : D) (c : List �
           outlives = outlives_now;
         }
 
-      module _ (past : Past) (taken : is_taken past.numbers t ≡ true) (others : (u : ℕ) → is_taken old.past.numbers u ≡ true → is_taken past.numbers u ≡ true)
-          (only : (u : ℕ) → is_taken past.numbers u ≡ true → (is_taken old.past.numbers u ≡ true) ⊎ (u ≡ t))
-          (filled : IsFilled past.numbers) (more : past.history ≡ behind) (state : past.state ≡ old.past.state)
+      module _ (state : past.state ≡ old.past.state)
           (open_now : (outcome ≡ appended.Stopped → ⊥) → (outcome ≡ appended.Failed → ⊥) → IsOpen meaning j decls.text (known_by stage outcome es intent t)) where
+        more : past.history ≡ behind
+        more = begun.pending
+
+        -- its number is taken, and again by its decision and its end
+        taken : TakesNumber old.past.numbers past.numbers (number_of intent)
+        taken = subst (λ (e : Entry). TakesNumber old.past.numbers past.numbers (number_of e)) (sym intended) begun.number.takes
+
+        again : TakesNumber past.numbers past.numbers t
+        again = taken_again old.past.numbers past.numbers t begun.number.takes
+
         numbers_first : All (λ e. is_taken past.numbers (number_of e) ≡ true) (es ++ intent ∷ [])
-        numbers_first = all_taken old.past.numbers past.numbers es intent is.up.numbers others
-            (subst (λ (e : Entry). is_taken past.numbers (number_of e) ≡ true) (sym intended.is) taken)
+        numbers_first = all_taken old.past.numbers past.numbers es intent is.up.numbers taken
 
         numbers_all : All (λ e. is_taken past.numbers (number_of e) ≡ true) (((es ++ intent ∷ []) ++ entry.Decide t ∷ []) ++ entry.Settled t ∷ [])
         numbers_all =
             all_taken past.numbers past.numbers ((es ++ intent ∷ []) ++ entry.Decide t ∷ []) (entry.Settled t)
-            (all_taken past.numbers past.numbers (es ++ intent ∷ []) (entry.Decide t) numbers_first (λ u h. h) taken) (λ u h. h) taken
+            (all_taken past.numbers past.numbers (es ++ intent ∷ []) (entry.Decide t) numbers_first again) again
 
         named_all : AreNamed past.numbers (((es ++ intent ∷ []) ++ entry.Decide t ∷ []) ++ entry.Settled t ∷ [])
         named_all =
             named_more past.numbers past.numbers ((es ++ intent ∷ []) ++ entry.Decide t ∷ []) (entry.Settled t)
             (named_more past.numbers past.numbers (es ++ intent ∷ []) (entry.Decide t)
-            (named_more old.past.numbers past.numbers es intent is.up.named
-            (subst (λ (e : Entry). (u : ℕ) → is_taken past.numbers u ≡ true → (is_taken old.past.numbers u ≡ true) ⊎ (u ≡ number_of e)) (sym intended.is) only))
-            (λ u h. inl h)) (λ u h. inl h)
+            (named_more old.past.numbers past.numbers es intent is.up.named taken) again) again
 
         module _ (state_now : State) where
           abbrev kept_past : Stage → Past
@@ -546,7 +553,7 @@ module _ {D : Type 0} (meaning : DiskMeaning D) (only_now : (d : D) (c : List �
                 ordered = have_end.ordered;
                 decided = have_end.decided ∙ sym more;
                 numbers = numbers_all;
-                filled = filled;
+                filled = begun.number.takes.filled;
                 named = named_all;
                 running = held.running;
                 limit = limit_of meaning decls.text stage (journal_view old.journal es) (journal_view j (known_by stage outcome es intent t)) intent t outcome so ∙ is.up.limit;

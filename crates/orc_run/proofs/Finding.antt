@@ -1,99 +1,85 @@
 -- A call of a history is found by its caller and number.
-use Rattle.std.proofs.Common.{◌≡◌, ℕ, suc, ◌+◌, Bool, true, false, cond, ◌&&◌, ◌||◌, nat_eq, List, [], ◌∷◌, ◌++◌, take, None, Some, refl, sym, ap, subst, ◌∙◌, arith}
-use Rattle.std.specs.Prelude.{Option, slice_get, MatchOption, if◌then◌else◌}
-use Rattle.std.specs.List.{list_any, position, position_from}
-use Rattle.std.specs.Cmp.{first_so, second_so}
-use Rattle.std.specs.Cmp.Lexicographic.{bytes_decides, pointwise}
-use Rattle.std.proofs.lemmas.Bool.{false≢true, eqb-true, eq-eqb}
-use Rattle.std.proofs.lemmas.Iterator.Adapters.{position_from-zero}
-use Rattle.std.proofs.lemmas.List.{map-append, take-map}
-use Rattle.std.proofs.lemmas.List.Elements.{All-head, All-tail, All-nil, All-cons}
-use Rattle.indexmap.specs.IndexSet.{insert_key}
+use Rattle.std.proofs.Common.{◌≡◌, ℕ, zero, suc, Bool, true, false, cond, ◌&&◌, nat_eq, List, [], ◌∷◌, ◌++◌, ◌⊎◌, inl, inr, length, take, get_or, Some, refl, sym, ap, subst, ◌∙◌}
+use Rattle.std.specs.Prelude.{Option, slice_get}
+use Rattle.std.specs.Option.{option_map_or}
+use Rattle.std.specs.Ordering.{is_eq, nat_cmp}
+use Rattle.std.specs.BTreeMap.{BTreeMap, get}
+use Rattle.std.specs.Cmp.{Equal-is}
+use Rattle.std.specs.Cmp.Lexicographic.{bytes_decides, slice_cmp}
+use Rattle.std.proofs.lemmas.Bool.{false≢true, eq-eqb}
+use Rattle.std.proofs.lemmas.Map.Lookups.{exact_bytes, exact_pairs, exact_unsigned}
+use Rattle.std.proofs.lemmas.Option.{get_or_from_slice_get, none-some, same_Some, slice_get-get_or, slice_get_within}
 use Rattle.orc_call.specs.declared.call.Call.{Call}
 use Rattle.orc_state.specs.Legal.{IsNew, IsSame}
-use Rattle.orc_run.specs.inside.Numbered.{caller_and_number, callers_and_numbers}
+use Rattle.orc_run.specs.inside.Numbered.{ArePlaced, caller_and_number, compared, is_named_as}
 
--- one caller and one number
-abbrev pub are_same : List ℕ × ℕ → List ℕ × ℕ → Bool
-are_same x y = pointwise nat_eq x.0 y.0 && nat_eq x.1 y.1
+abbrev Places : Type 0
+Places = BTreeMap (List ℕ × ℕ) ℕ
 
--- the call of a place has the caller and number
-abbrev Stands : List Call → Call → ℕ → Type 0
-Stands calls call place = (entry : Call) × (slice_get calls place ≡ Some entry) × IsSame entry call
+-- what ties in the order is one caller and one number
+same_name : (x y : List ℕ × ℕ) → is_eq (compared x y) ≡ true → x ≡ y
+same_name x y h = exact_pairs (slice_cmp nat_cmp) nat_cmp exact_bytes exact_unsigned x y ((Equal-is (compared x y)).0 h)
 
-module _ (call : Call) where
-  abbrev test : Call → Bool
-  test x = are_same (caller_and_number call) (caller_and_number x)
+names_same : (x y : Call) → IsSame x y → caller_and_number x ≡ caller_and_number y
+names_same x y same = λ i. (same.0 i, same.1 i)
 
-  one : (x : Call) → test x ≡ true → IsSame x call
-  one x e = (
-    sym ((bytes_decides call.caller x.caller).0 (first_so (pointwise nat_eq call.caller x.caller) (nat_eq call.number x.number) e)),
-    sym (eqb-true call.number x.number (second_so (pointwise nat_eq call.caller x.caller) (nat_eq call.number x.number) e)),
-  )
+named_one : (call entry : Call) → IsSame entry call → is_named_as call entry ≡ true
+named_one call entry same =
+    ap (λ (b : Bool). b && nat_eq entry.number call.number) ((bytes_decides entry.caller call.caller).1 same.0)
+    ∙ eq-eqb entry.number call.number same.1
 
-  other : (x : Call) → test x ≡ false → IsSame x call → ⊥
-  other x e same =
-      let caller : pointwise nat_eq call.caller x.caller ≡ true = (bytes_decides call.caller x.caller).1 (sym same.0) in
-      let number : nat_eq call.number x.number ≡ true = eq-eqb call.number x.number (sym same.1) in
-      false≢true (sym e ∙ ap (λ (b : Bool). b && nat_eq call.number x.number) caller ∙ number)
+-- where nothing is noted, or no such call stands at the noted place, there is none
+pub found_none : (calls : List Call) (places : Places) (call : Call) (o : Option ℕ) → ArePlaced calls places → get compared places (caller_and_number call) ≡ o
+    → option_map_or (λ place. option_map_or (is_named_as call) (slice_get calls place) false) o false ≡ false → IsNew calls call
+found_none calls places call o placed is none k d within same =
+    let entry = get_or calls k d in
+    let there : slice_get calls k ≡ Some entry = slice_get-get_or calls k d within in
+    let at : o ≡ Some k = sym is ∙ ap (get compared places) (sym (names_same entry call same)) ∙ placed.place k entry there in
+    let stood : option_map_or (is_named_as call) (slice_get calls k) false ≡ true = ap (λ (s : Option Call). option_map_or (is_named_as call) s false) there ∙ named_one call entry same in
+    false≢true (sym none ∙ ap (λ (p : Option ℕ). option_map_or (λ place. option_map_or (is_named_as call) (slice_get calls place) false) p false) at ∙ stood)
 
-  differs : (x : Call) → (IsSame x call → ⊥) → test x ≡ false
-  differs x apart = on (test x) refl
-    where
-      on : (t : Bool) → test x ≡ t → t ≡ false
-      on true e = absurd (apart (one x e))
-      on false e = refl
+-- a place that is noted of a new call changes nothing for the others
+pub placed_still : (calls : List Call) (old new : Places) (call : Call) (key : List ℕ × ℕ) (w : Option ℕ) → ArePlaced calls old → IsNew calls call → key ≡ caller_and_number call
+    → ((q : List ℕ × ℕ) → get compared new q ≡ cond (is_eq (compared key q)) w (get compared old q)) → ArePlaced calls new
+placed_still calls old new call key w placed fresh is put = record {
+  place = λ i entry h. put (caller_and_number entry) ∙ on i entry h (is_eq (compared key (caller_and_number entry))) refl ∙ placed.place i entry h;
+}
+  where
+    on : (i : ℕ) (entry : Call) → slice_get calls i ≡ Some entry → (t : Bool) → is_eq (compared key (caller_and_number entry)) ≡ t
+        → cond t w (get compared old (caller_and_number entry)) ≡ get compared old (caller_and_number entry)
+    on i entry h true e =
+        let one : caller_and_number entry ≡ caller_and_number call = sym (same_name key (caller_and_number entry) e) ∙ is in
+        let same : IsSame entry call = (ap (λ (n : List ℕ × ℕ). n.0) one, ap (λ (n : List ℕ × ℕ). n.1) one) in
+        absurd (fresh i entry (slice_get_within calls i entry h) (subst (λ (x : Call). IsSame x call) (sym (get_or_from_slice_get calls i entry entry h)) same))
+    on i entry h false e = refl
 
-  -- the first one from a place on, counted from there
-  abbrev Behind : ℕ → List Call → Option ℕ → Type 0
-  Behind at calls found = MatchOption found (IsNew calls call) (λ place. (k : ℕ) × ((place ≡ at + k) × Stands calls call k))
+last_or_before : (calls : List Call) (call : Call) (i : ℕ) (entry : Call) → slice_get (calls ++ call ∷ []) i ≡ Some entry
+    → (slice_get calls i ≡ Some entry) ⊎ ((i ≡ length calls) × (entry ≡ call))
+last_or_before [] call zero entry h = inr (refl, sym (same_Some _ _ h))
+last_or_before [] call (suc i) entry h = absurd (none-some entry h)
+last_or_before (x ∷ calls) call zero entry h = inl h
+last_or_before (x ∷ calls) call (suc i) entry h = elim (last_or_before calls call i entry h) [
+  | inl there ↦ inl there
+  | inr last ↦ inr (ap suc last.0, last.1)
+]
 
-  behind : (at : ℕ) (calls : List Call) → Behind at calls (position_from (are_same (caller_and_number call)) at (callers_and_numbers calls))
-  behind at [] = All-nil (λ (entry : Call). IsSame entry call → ⊥)
-  behind at (x ∷ xs) = on (test x) refl (behind (at + 1) xs)
-    where
-      rest : Option ℕ
-      rest = position_from (are_same (caller_and_number call)) (at + 1) (callers_and_numbers xs)
+-- one more call, whose place is noted
+pub placed_more : (calls after : List Call) (places : Places) (call : Call) (place : ℕ) (key : List ℕ × ℕ) → ArePlaced calls places → key ≡ caller_and_number call
+    → place ≡ length calls → get compared places key ≡ Some place → after ≡ calls ++ call ∷ [] → ArePlaced after places
+placed_more calls after places call place key placed is last noted grown =
+    subst (λ (l : List Call). ArePlaced l places) (sym grown) (record { place = λ i entry h. on i entry (last_or_before calls call i entry h) })
+  where
+    on : (i : ℕ) (entry : Call) → (slice_get calls i ≡ Some entry) ⊎ ((i ≡ length calls) × (entry ≡ call)) → get compared places (caller_and_number entry) ≡ Some i
+    on i entry (inl there) = placed.place i entry there
+    on i entry (inr h) = ap (λ (x : Call). get compared places (caller_and_number x)) h.1 ∙ ap (get compared places) (sym is) ∙ noted ∙ ap Some (last ∙ sym h.0)
 
-      later : (o : Option ℕ) → test x ≡ false → Behind (at + 1) xs o → Behind at (x ∷ xs) o
-      later None e new = All-cons (λ (entry : Call). IsSame entry call → ⊥) x xs (other x e) new
-      later (Some place) e found = (suc found.0, (omega (arith, found.1.0), found.1.1))
-
-      on : (t : Bool) → test x ≡ t → Behind (at + 1) xs rest → Behind at (x ∷ xs) (cond t (Some at) rest)
-      on true e h = (0, (omega arith, (x, refl, one x e)))
-      on false e h = later rest e h
-
-  from_start : (calls : List Call) (found : Option ℕ) → Behind 0 calls found → MatchOption found (IsNew calls call) (Stands calls call)
-  from_start calls None new = new
-  from_start calls (Some place) h =
-      let at : h.0 ≡ place = omega (arith, h.1.0) in
-      subst (λ (n : ℕ). Stands calls call n) at h.1.1
-
-  -- a search among callers and numbers finds the call that has them
-  pub found_in : (calls : List Call) (names : List (List ℕ × ℕ)) (name : List ℕ × ℕ) (found : Option ℕ) → names ≡ callers_and_numbers calls → name ≡ caller_and_number call
-      → found ≡ position (are_same name) names → MatchOption found (IsNew calls call) (λ place. (entry : Call) × (slice_get calls place ≡ Some entry) × IsSame entry call)
-  found_in calls names name found kept named is =
-      let at : found ≡ position_from (are_same (caller_and_number call)) 0 (callers_and_numbers calls) =
-      is ∙ ap (λ (n : List ℕ × ℕ). position (are_same n) names) named ∙ ap (position (are_same (caller_and_number call))) kept
-      ∙ position_from-zero (are_same (caller_and_number call)) (callers_and_numbers calls) in
-      subst (λ (o : Option ℕ). MatchOption o (IsNew calls call) (Stands calls call)) (sym at) (from_start calls _ (behind 0 calls))
-
-  not_among : (calls : List Call) → IsNew calls call → list_any (are_same (caller_and_number call)) (callers_and_numbers calls) ≡ false
-  not_among [] new = refl
-  not_among (x ∷ xs) new =
-      let apart : Call → Type 0 = λ entry. IsSame entry call → ⊥ in
-      ap (λ (b : Bool). b || list_any (are_same (caller_and_number call)) (callers_and_numbers xs)) (differs x (All-head apart x xs new)) ∙ not_among xs (All-tail apart x xs new)
-
-  -- a new call's caller and number stand behind the others
-  pub one_more : (calls all : List Call) (names more : List (List ℕ × ℕ)) (name : List ℕ × ℕ) → names ≡ callers_and_numbers calls → name ≡ caller_and_number call → IsNew calls call
-      → more ≡ insert_key are_same names name → all ≡ calls ++ call ∷ [] → more ≡ callers_and_numbers all
-  one_more calls all names more name kept named new is pushed =
-      let mine = caller_and_number call in
-      let theirs = callers_and_numbers calls in
-      is ∙ ap (λ (n : List ℕ × ℕ). insert_key are_same names n) named ∙ ap (λ (ns : List (List ℕ × ℕ)). insert_key are_same ns mine) kept
-      ∙ ap (λ (b : Bool). if b then theirs else theirs ++ mine ∷ []) (not_among calls new)
-      ∙ sym (map-append caller_and_number calls (call ∷ [])) ∙ ap callers_and_numbers (sym pushed)
+first_at : (n : ℕ) (calls : List Call) (i : ℕ) (entry : Call) → slice_get (take n calls) i ≡ Some entry → slice_get calls i ≡ Some entry
+first_at zero calls i entry h = absurd (none-some entry h)
+first_at (suc n) [] i entry h = h
+first_at (suc n) (x ∷ calls) zero entry h = h
+first_at (suc n) (x ∷ calls) (suc i) entry h = first_at n calls i entry h
 
 -- the first so many
-pub fewer : (n : ℕ) (calls few : List Call) (names left : List (List ℕ × ℕ)) → names ≡ callers_and_numbers calls → left ≡ take n names → few ≡ take n calls → left ≡ callers_and_numbers few
-fewer n calls few names left kept is cut = is ∙ ap (take n) kept ∙ take-map caller_and_number n calls ∙ ap callers_and_numbers (sym cut)
+pub fewer : (n : ℕ) (calls few : List Call) (places : Places) → ArePlaced calls places → few ≡ take n calls → ArePlaced few places
+fewer n calls few places placed cut =
+    subst (λ (l : List Call). ArePlaced l places) (sym cut) (record { place = λ i entry h. placed.place i entry (first_at n calls i entry h) })

@@ -20,14 +20,14 @@ mod Recoveries
 mod Outcomes
 mod Servings
 mod Soundness
-mod Deciding
+mod CommitEntries
 mod Answering
 mod Appending
 mod OneAnswer
 mod Parts
 mod Transcripts
 mod OneTranscript
-mod Decided
+mod FirstBytes
 mod Later
 mod Acknowledged
 mod Behind

@@ -71,8 +71,8 @@ module _ {D E : Type 0} (one : DiskMeaning D) (other : DiskMeaning E) (decls : D
       let known = histories_one decls (one.content before) start.known start'.known told p.history (subst (λ (o : Option (List ℕ)). IfSome o (λ file. HasHistory decls file start'.known)) (sym same) q.history) in
       let told' = ap is_some (sym same) ∙ told in
       record {
-        first = record { told = p.still_tells ∙ told; armed = p.armed; pending = p.pending; known_is = refl; up_is = p.up };
-        second = record { told = q.still_tells ∙ told'; armed = q.armed; pending = q.pending; known_is = sym known; up_is = q.up };
+        first = record { tells = p.still_tells ∙ told; armed = p.armed; pending = p.pending; known_is = refl; up_is = p.up };
+        second = record { tells = q.still_tells ∙ told'; armed = q.armed; pending = q.pending; known_is = sym known; up_is = q.up };
         greeted = greetings_one p.opened.1.opened.file q.opened.1.opened.file (length start.known) (length start'.known) greeting greeting'
             (files_one (one.content before) p.opened.1.opened.file q.opened.1.opened.file told (heard_told one decls before start.disk p.opened.0 p.opened.1)
             (subst (λ (o : Option (List ℕ)). IfSome o (λ held. q.opened.1.opened.file ≡ held)) (sym same) (heard_told other decls before' start'.disk q.opened.0 q.opened.1)))

@@ -1,5 +1,5 @@
 -- The past of entries, one entry more.
-use Rattle.std.proofs.Common.{◌⊎◌, ⊎_elim, Bool, ◌||◌, eqb, false, ◌≡◌, ℕ, zero, suc, ◌+◌, ◌<◌, true, List, [], ◌∷◌, ◌++◌, All, IsTrue, None, Some, length, drop, take, get_or, refl, sym, ap, subst, ◌∙◌, append-nil, arith}
+use Rattle.std.proofs.Common.{◌⊎◌, ⊎_elim, inl, Bool, ◌||◌, eqb, false, ◌≡◌, ℕ, zero, suc, ◌+◌, ◌<◌, true, List, [], ◌∷◌, ◌++◌, All, IsTrue, None, Some, length, drop, take, get_or, refl, sym, ap, subst, ◌∙◌, append-nil, arith}
 use Rattle.std.proofs.lemmas.List.{take_more}
 use Rattle.std.proofs.lemmas.Option.{slice_get_read}
 use Rattle.std.proofs.lemmas.List.Elements.{All-head, All-tail, All-nil, All-cons, All-append, All-weaker}
@@ -19,7 +19,7 @@ use Rattle.orc_state.specs.Calls.{is_call}
 use Rattle.orc_state.specs.Legal.{IsLegal, IsDue}
 use Rattle.orc_run.specs.inside.Pasts.{IsBehind, IsPast}
 use Rattle.orc_run.specs.Opening.{IsIllegalAt}
-use Rattle.orc_run.specs.inside.Transactions.{is_taken, AreNamed, IsFilled}
+use Rattle.orc_run.specs.inside.Transactions.{is_taken, AreNamed, IsFilled, TakesNumber}
 use Rattle.orc_state.specs.declared.declarations.Decls.{Decls}
 use Rattle.orc_run.specs.declared.numbers.Numbers.{Numbers}
 use Rattle.orc_run.specs.declared.past.Past.{Past}
@@ -29,21 +29,20 @@ use Rattle.orc_run.proofs.Fronts.{history_of-append}
 
 -- the numbers of entries are taken, with one more
 pub all_taken : (old new : Numbers) (entries : List Entry) (entry : Entry) → All (λ e. is_taken old (number_of e) ≡ true) entries
-    → ((u : ℕ) → is_taken old u ≡ true → is_taken new u ≡ true) → is_taken new (number_of entry) ≡ true
-    → All (λ e. is_taken new (number_of e) ≡ true) (entries ++ entry ∷ [])
-all_taken old new entries entry all others taken =
+    → TakesNumber old new (number_of entry) → All (λ e. is_taken new (number_of e) ≡ true) (entries ++ entry ∷ [])
+all_taken old new entries entry all takes =
     All-append (λ e. is_taken new (number_of e) ≡ true) entries (entry ∷ [])
-    (All-weaker (λ e. is_taken old (number_of e) ≡ true) (λ e. is_taken new (number_of e) ≡ true) (λ e. others (number_of e)) entries all)
-    (All-cons (λ e. is_taken new (number_of e) ≡ true) entry [] taken (All-nil (λ e. is_taken new (number_of e) ≡ true)))
+    (All-weaker (λ e. is_taken old (number_of e) ≡ true) (λ e. is_taken new (number_of e) ≡ true) (λ e. takes.others (number_of e)) entries all)
+    (All-cons (λ e. is_taken new (number_of e) ≡ true) entry [] takes.taken (All-nil (λ e. is_taken new (number_of e) ≡ true)))
 
 -- and each taken number is that of an entry
 pub named_more : (old new : Numbers) (entries : List Entry) (entry : Entry) → AreNamed old entries
-    → ((u : ℕ) → is_taken new u ≡ true → (is_taken old u ≡ true) ⊎ (u ≡ number_of entry)) → AreNamed new (entries ++ entry ∷ [])
-named_more old new entries entry named only u taken =
+    → TakesNumber old new (number_of entry) → AreNamed new (entries ++ entry ∷ [])
+named_more old new entries entry named takes u taken =
     list_any-append (λ e. number_of e == u) entries (entry ∷ [])
     ∙ ⊎_elim (λ before. ap (λ b. b || is_named u (entry ∷ [])) (named u before))
     (λ is. or_right (is_named u entries) (is_named u (entry ∷ [])) (here (eq-eqb (number_of entry) u (sym is))))
-    (only u taken)
+    (takes.only u taken)
   where
     or_right : (a b : Bool) → b ≡ true → (a || b) ≡ true
     or_right true b is = refl
@@ -51,6 +50,10 @@ named_more old new entries entry named only u taken =
 
     here : eqb (number_of entry) u ≡ true → is_named u (entry ∷ []) ≡ true
     here is = ap (λ b. b || false) is
+
+-- one that is taken can be taken once more
+pub taken_again : (old new : Numbers) (t : ℕ) → TakesNumber old new t → TakesNumber new new t
+taken_again old new t takes = record { taken = takes.taken; others = λ u h. h; only = λ u h. inl h; filled = takes.filled }
 
 -- an entry whose number is free is not among them
 pub named_taken : (numbers : Numbers) (t : ℕ) (entries : List Entry) → All (λ e. is_taken numbers (number_of e) ≡ true) entries → is_named t entries ≡ true → is_taken numbers t ≡ true
@@ -65,16 +68,15 @@ named_taken numbers t (e ∷ entries) all named =
 
 -- an entry that commits nothing
 pub past_same : (decls : Decls) (old : Past) (numbers : Numbers) (before : List Entry) (entry : Entry) → IsPast decls old before → commits before entry ≡ []
-    → is_taken numbers (number_of entry) ≡ true → ((u : ℕ) → is_taken old.numbers u ≡ true → is_taken numbers u ≡ true) → IsFilled numbers
-    → ((u : ℕ) → is_taken numbers u ≡ true → (is_taken old.numbers u ≡ true) ⊎ (u ≡ number_of entry))
+    → TakesNumber old.numbers numbers (number_of entry)
     → IsPast decls (record { numbers = numbers; history = old.history; state = old.state }) (before ++ entry ∷ [])
-past_same decls old numbers before entry past none taken others filled only =
+past_same decls old numbers before entry past none takes =
     let e : history_of before ≡ history_of (before ++ entry ∷ []) =
     sym (history_of-append before entry ∙ ap (λ (l : List Call). history_of before ++ l) none ∙ append-nil (history_of before)) in
     record {
-      numbers = all_taken old.numbers numbers before entry past.numbers others taken;
-      filled = filled;
-      named = named_more old.numbers numbers before entry past.named only;
+      numbers = all_taken old.numbers numbers before entry past.numbers takes;
+      filled = takes.filled;
+      named = named_more old.numbers numbers before entry past.named takes;
       history = past.history ∙ e;
       legal = subst (λ (l : List Call). IsLegal decls l) e past.legal;
       behind = subst (λ (l : List Call). IsBehind decls (record { numbers = numbers; history = old.history; state = old.state }) l) e
@@ -83,18 +85,17 @@ past_same decls old numbers before entry past none taken others filled only =
 
 -- an entry that commits a call
 pub past_more : (decls : Decls) (old new : Past) (before : List Entry) (entry : Entry) (call : Call) → IsPast decls old before → commits before entry ≡ call ∷ []
-    → is_taken new.numbers (number_of entry) ≡ true → ((u : ℕ) → is_taken old.numbers u ≡ true → is_taken new.numbers u ≡ true) → IsFilled new.numbers
-    → ((u : ℕ) → is_taken new.numbers u ≡ true → (is_taken old.numbers u ≡ true) ⊎ (u ≡ number_of entry))
+    → TakesNumber old.numbers new.numbers (number_of entry)
     → IsTrue (is_call decls call) → IsDue decls old.history call → new.history ≡ old.history ++ call ∷ [] → IsBehind decls new new.history
     → IsPast decls new (before ++ entry ∷ [])
-past_more decls old new before entry call past one taken others filled only lawful due more behind =
+past_more decls old new before entry call past one takes lawful due more behind =
     let e : history_of before ++ call ∷ [] ≡ history_of (before ++ entry ∷ []) =
     sym (history_of-append before entry ∙ ap (λ (l : List Call). history_of before ++ l) one) in
     let h : new.history ≡ history_of (before ++ entry ∷ []) = more ∙ ap (λ (l : List Call). l ++ call ∷ []) past.history ∙ e in
     record {
-      numbers = all_taken old.numbers new.numbers before entry past.numbers others taken;
-      filled = filled;
-      named = named_more old.numbers new.numbers before entry past.named only;
+      numbers = all_taken old.numbers new.numbers before entry past.numbers takes;
+      filled = takes.filled;
+      named = named_more old.numbers new.numbers before entry past.named takes;
       history = h;
       legal = subst (λ (l : List Call). IsLegal decls l) e
           (legal_more decls (history_of before) call past.legal lawful (subst (λ (l : List Call). IsDue decls l call) past.history due));

@@ -11,12 +11,15 @@ use Rattle.orc_run.specs.Views.{View, Rests, Outlives}
 use Rattle.orc_run.specs.Steps.{Does, EndsBecause}
 use Rattle.orc_run.specs.Runs.{StepsDone}
 use Rattle.orc_run.specs.Ends.{PrintsLast, RunsUntil, ScriptRun, Wrote}
+use Rattle.orc_run.specs.inside.Controllers.{StepsTo}
 use Rattle.orc_run.specs.inside.Halts.{Leads, Halts, Finishes}
 use Rattle.orc_disk.specs.Meanings.{DiskMeaning}
 use Rattle.orc_run.specs.Runs.StepsDone.{begun, one_more}
 use Rattle.orc_state.specs.declared.declarations.Decls.{Decls}
 use Rattle.orc_script.specs.declared.step.ScriptStep.{ScriptStep}
+use Rattle.orc_run.specs.declared.controller.LastStep.{LastStep}
 use Rattle.orc_run.specs.declared.stop.Done.{Done}
+use Rattle.orc_run.specs.declared.stop.Ended.{Ended}
 use Rattle.orc_run.specs.declared.stop.Stop.{Stop}
 use Rattle.orc_run.specs.declared.stop.Stop.TheVariants as ending
 
@@ -32,6 +35,23 @@ pub no_write : {D : Type 0} (meaning : DiskMeaning D) (decls : Decls) (w new : V
 no_write meaning decls w new s end cause is =
     let same : end ≡ ending.WriteFault = cc in
     subst (λ (x : Stop). EndsBecause meaning decls w s x new) same cause
+
+-- what a run leaves that ended at a step, by what the sink took of the text
+pub halted : {D : Type 0} (meaning : DiskMeaning D) (decls : Decls) (old : View D) (step : ScriptStep) (held held' : Option (List ℕ)) (last : LastStep D) (stop : Stop) (ended : Ended D)
+    → StepsTo meaning decls old step (Err last) → Wrote held held' last.text (Some last.stop) (Err stop) → ended ≡ record { disk = last.disk; status = Err stop }
+    → Halts meaning held held' decls old step ended.disk ended.status
+halted {D} meaning decls old step held held' last stop ended so wrote is =
+    subst (λ (e : Ended D). Halts meaning held held' decls old step e.disk e.status) (sym is) (record {
+      last = so.0;
+      text = last.text;
+      end = Some last.stop;
+      disk_is = so.1;
+      leads = (so.2, so.3, so.6);
+      outlives = so.4;
+      rests = so.5;
+      wrote = wrote;
+      failed = refl;
+    })
 
 -- a sink that took all so far and then a front of more took a front of all
 begins_more : (a b c : Option (List ℕ)) (before text : List ℕ) → Appends a b before → TakesFront b c text → TakesFront a c (before ++ text)

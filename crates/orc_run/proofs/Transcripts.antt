@@ -90,19 +90,19 @@ module _ {D : Type 0} (meaning : DiskMeaning D) (decls : Decls) where
   plain_done : (old new : View D) (call : Call) (text : List ℕ) (known : List Call) (up : Bool) → IsPlain meaning old known up → is_some (meaning.content new.disk) ≡ true → IsDone old call text new
       → IsPlain meaning new (known ++ call ∷ []) true
   plain_done old new call text known up is told done =
-      record { told = told; armed = done.armed; pending = done.pending; known_is = done.known ∙ ap (λ (l : List Call). l ++ call ∷ []) is.known_is; up_is = done.up }
+      record { tells = told; armed = done.armed; pending = done.pending; known_is = done.known ∙ ap (λ (l : List Call). l ++ call ∷ []) is.known_is; up_is = done.up }
 
   -- where nothing is pending a recovery learns what was known
   plain_recovered : (old new : View D) (text : List ℕ) (known : List Call) (up : Bool) → IsPlain meaning old known up → is_some (meaning.content new.disk) ≡ true → Recovers meaning decls old text new
       → IsPlain meaning new known true
   plain_recovered old new text known up is told recovers = record {
-    told = told;
+    tells = told;
     armed = recovers.armed;
     pending = recovers.pending;
     known_is = ⊎_elim
         (λ (same : new.known ≡ old.known). same ∙ is.known_is)
         (λ (more : new.known ≡ old.known ++ old.pending). more ∙ ap (λ (l : List Call). old.known ++ l) is.pending ∙ append-nil old.known ∙ is.known_is)
-        (recovers.known is.told);
+        (recovers.known is.tells);
     up_is = recovers.up;
   }
 
@@ -219,8 +219,8 @@ module _ {D E : Type 0} (one : DiskMeaning D) (other : DiskMeaning E) (decls : D
     known = known;
     up = false;
     distinct = distinct;
-    first = subst (λ (v : View D). IsPlain one v known false) (sym p.1) (record { told = is.told; armed = is.armed; pending = is.pending; known_is = is.known_is; up_is = refl });
-    second = subst (λ (v : View E). IsPlain other v known false) (sym q.1) (record { told = is'.told; armed = is'.armed; pending = is'.pending; known_is = is'.known_is; up_is = refl });
+    first = subst (λ (v : View D). IsPlain one v known false) (sym p.1) (record { tells = is.tells; armed = is.armed; pending = is.pending; known_is = is.known_is; up_is = refl });
+    second = subst (λ (v : View E). IsPlain other v known false) (sym q.1) (record { tells = is'.tells; armed = is'.armed; pending = is'.pending; known_is = is'.known_is; up_is = refl });
   }
   does_one known up old new old' new' (step.StopAt k b) text text' plain distinct is is' t t' p q = absurd cc
   does_one known up old new old' new' step.Recover text text' plain distinct is is' t t' p q =
@@ -255,7 +255,7 @@ module _ {D E : Type 0} (one : DiskMeaning D) (other : DiskMeaning E) (decls : D
       let parts = same_parts before before' s s' e in
       let so = runs_one known up first mid first' mid' before before' t t' parts.0 distinct is is' ((no_stops before (s ∷ []) plain).0) runs runs' in
       let last = does_one so.known so.up mid new mid' new' s more more' (first_so (arms_no_stop s) true (no_stops before (s ∷ []) plain).1) so.distinct so.first so.second
-      (outlives.still_tells ∙ so.first.told) (outlives'.still_tells ∙ so.second.told) does
+      (outlives.still_tells ∙ so.first.tells) (outlives'.still_tells ∙ so.second.tells) does
       (subst (λ (x : ScriptStep). Does other decls mid' x more' new') (sym parts.1) does') in
       record {
         prints = ap (λ (l : List ℕ). l ++ more) so.prints ∙ ap (λ (l : List ℕ). t' ++ l) last.prints;

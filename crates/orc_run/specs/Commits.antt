@@ -12,7 +12,7 @@ use Rattle.orc_journal.specs.Committed.{history_of}
 use Rattle.orc_journal.specs.declared.entry.Entry.{Entry}
 use Rattle.orc_journal.specs.declared.entry.Entry.TheVariants as entry
 use Rattle.orc_append.specs.Views.{JournalView}
-use Rattle.orc_append.specs.Appends.{Appends, known_behind}
+use Rattle.orc_append.specs.Appends.{Appends as AppendsEntry, known_behind}
 use Rattle.orc_append.specs.declared.outcome.Appended.{Appended}
 use Rattle.orc_append.specs.declared.outcome.Appended.TheVariants as appended
 use Rattle.orc_state.specs.Legal.{state_of}
@@ -39,18 +39,18 @@ known_by Settled outcome entries intent t =
     known_behind outcome ((entries ++ intent ∷ []) ++ entry.Decide t ∷ []) (entry.Settled t)
 
 module _ {D : Type 0} (meaning : DiskMeaning D) where
-  -- A commit appends the intent, the decision and the end, one behind the other, each as `Appends` says. It came to
-  -- this stage, whose append came to this outcome; those before it were done.
+  -- A commit appends the intent, the decision and the end, one behind the other, each as `Appends` of orc_append
+  -- says. It came to this stage, whose append came to this outcome; those before it were done.
   abbrev pub AppendsUpTo : List ℕ → Stage → JournalView D → Entry → ℕ → Appended → JournalView D → Type 0
   AppendsUpTo decls Intent old intent t outcome new =
-      (outcome ≢ appended.Done) × Appends meaning decls old intent outcome new
+      (outcome ≢ appended.Done) × AppendsEntry meaning decls old intent outcome new
   AppendsUpTo decls Decide old intent t outcome new = (outcome ≢ appended.Done) × ((begun : JournalView D)
-      × Appends meaning decls old intent appended.Done begun
-      × Appends meaning decls begun (entry.Decide t) outcome new)
+      × AppendsEntry meaning decls old intent appended.Done begun
+      × AppendsEntry meaning decls begun (entry.Decide t) outcome new)
   AppendsUpTo decls Settled old intent t outcome new = (begun decided : JournalView D)
-      × Appends meaning decls old intent appended.Done begun
-      × Appends meaning decls begun (entry.Decide t) appended.Done decided
-      × Appends meaning decls decided (entry.Settled t) outcome new
+      × AppendsEntry meaning decls old intent appended.Done begun
+      × AppendsEntry meaning decls begun (entry.Decide t) appended.Done decided
+      × AppendsEntry meaning decls decided (entry.Settled t) outcome new
 
   -- what can be told of the journal of a view
   abbrev pub journal_at : View D → JournalView D

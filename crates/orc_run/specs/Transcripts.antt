@@ -26,7 +26,7 @@ IsFrontOf front text = (rest : List ℕ) × (text ≡ front ++ rest)
 -- The disk of the view tells what it holds, no stop is armed and no call is open. These calls are known, and the
 -- controller is up or not.
 pub record IsPlain {D : Type 0} (meaning : DiskMeaning D) (view : View D) (known : List Call) (up : Bool) : Type 0 where
-  pub told : is_some (meaning.content view.disk) ≡ true
+  pub tells : is_some (meaning.content view.disk) ≡ true
   pub armed : view.armed ≡ 0
   pub pending : view.pending ≡ []
   pub known_is : view.known ≡ known

@@ -1,10 +1,10 @@
 //! The three entries of a commit, appended one behind the other.
-ghost use Rattle.std.specs.Prelude.{◌≡◌, ◌≢◌, ◌↔◌, ℕ, true, List, IsTrue};
+ghost use Rattle.std.specs.Prelude.{◌≡◌, ◌≢◌, ◌↔◌, true, IsTrue};
 ghost use Rattle.orc_append.specs.Views.{journal_view, CanAppend, IsOpen};
 ghost use Rattle.orc_append.specs.declared.outcome.Appended.{Appended};
 ghost use Rattle.orc_journal.specs.Entries.{IsEntry};
-ghost use Rattle.orc_journal.specs.declared.entry.Entry.{Entry};
 ghost use Rattle.orc_run.specs.Commits.{AppendsUpTo, known_by};
+ghost use Rattle.orc_run.specs.inside.Deciding.{WhereOpen};
 
 use orc_append::{Appended, StopJournal};
 use orc_disk::Disk;
@@ -35,12 +35,12 @@ pub(crate) fn append_commit<D: Disk>(
 ) -> Reached
     requires ready { CanAppend D.disk journal.old }
     requires intent { IsEntry intent.now }
-    ensures appends { (decls : List ℕ) (entries : List Entry) → IsOpen D.disk journal.old decls entries
-        → AppendsUpTo D.disk decls result.stage (journal_view journal.old entries) intent.now t result.outcome
-        (journal_view journal.new (known_by result.stage result.outcome entries intent.now t)) }
+    ensures appends { WhereOpen D.disk journal.old (λ decls entries.
+        AppendsUpTo D.disk decls result.stage (journal_view journal.old entries) intent.now t result.outcome
+        (journal_view journal.new (known_by result.stage result.outcome entries intent.now t))) }
     ensures open { result.outcome ≢ Appended.Stopped → result.outcome ≢ Appended.Failed
-        → (decls : List ℕ) (entries : List Entry) → IsOpen D.disk journal.old decls entries
-        → IsOpen D.disk journal.new decls (known_by result.stage result.outcome entries intent.now t) }
+        → WhereOpen D.disk journal.old (λ decls entries.
+        IsOpen D.disk journal.new decls (known_by result.stage result.outcome entries intent.now t)) }
     ensures stopped { (journal.new.disk.stopped ≡ true) ↔ (result.outcome ≡ Appended.Stopped) }
 {
     let begun = journal.append(alloc, intent);

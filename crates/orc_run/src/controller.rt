@@ -1,9 +1,11 @@
 //! The controller: it serves calls over a journal, stops, and recovers.
-ghost use Rattle.std.specs.Prelude.{◌≡◌};
+ghost use Rattle.std.specs.Prelude.{◌≡◌, ◌≤◌, length};
+ghost use Rattle.orc_run.specs.inside.Controllers.{known_of};
 
 use crate::Stop;
 use crate::past::Past;
 use orc_append::StopJournal;
+use orc_call::Call;
 use orc_disk::Disk;
 use orc_text::Row;
 
@@ -26,6 +28,14 @@ pub struct LastStep<D: Disk> {
 }
 
 impl<D: Disk> Controller<D> {
+    /// The calls that it knows as committed.
+    pub(crate) fn known_calls(&self) -> &[Call]
+        requires within { self.now.known ≤ length self.now.past.history }
+        ensures { result.now ≡ known_of self.now }
+    {
+        &self.past.history.as_slice()[..self.known]
+    }
+
     /// The disk.
     pub(crate) fn into_disk(self) -> D
         ensures { result ≡ self.journal.disk.inner }

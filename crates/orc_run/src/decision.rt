@@ -1,13 +1,13 @@
 //! The intent of a call that is to be committed, and the state behind what was decided.
-ghost use Rattle.std.specs.Prelude.{◌≡◌, ◌⊎◌, ◌≤◌, ◌<◌, ◌++◌, ◌∷◌, [], ℕ, true, false, None, IfOk, OnOk, OnErr, IsTrue};
+ghost use Rattle.std.specs.Prelude.{◌≡◌, None, IfOk, OnOk, OnErr, IsTrue};
 ghost use Rattle.orc_call.specs.Encoding.{IsCall};
 ghost use Rattle.orc_journal.specs.Entries.{AreDevices};
 ghost use Rattle.orc_state.specs.Next.{IsStateOf, after, refusal};
 ghost use Rattle.orc_state.specs.Calls.{is_call};
 ghost use Rattle.orc_state.specs.Legal.{IsLegal, IsNew, state_of};
 ghost use Rattle.orc_state.specs.Declarations.{AreDecls};
-ghost use Rattle.orc_run.specs.inside.Transactions.{is_taken, IsFilled};
-ghost use Rattle.orc_run.specs.inside.Deciding.{IsIntentOf};
+ghost use Rattle.orc_run.specs.inside.Transactions.{IsFilled};
+ghost use Rattle.orc_run.specs.inside.Deciding.{HasBegun};
 
 use crate::past::Past;
 use orc_call::Call;
@@ -28,16 +28,7 @@ pub(crate) fn begin(
     requires new { IsNew past.old.history call.now }
     requires encodable { IsCall call.now }
     requires devices { AreDevices devices }
-    ensures intent { IfOk result (λ begun. IsIntentOf begun.0 call.now devices begun.1) }
-    ensures new { IfOk result (λ begun. is_taken past.old.numbers begun.0 ≡ false) }
-    ensures least { IfOk result (λ begun. (u : ℕ) → 1 ≤ u → u < begun.0 → is_taken past.old.numbers u ≡ true) }
-    ensures taken { IfOk result (λ begun. is_taken past.new.numbers begun.0 ≡ true) }
-    ensures others { OnOk result ((u : ℕ) → is_taken past.old.numbers u ≡ true → is_taken past.new.numbers u ≡ true) }
-    ensures only { IfOk result (λ begun. (u : ℕ) → is_taken past.new.numbers u ≡ true
-        → (is_taken past.old.numbers u ≡ true) ⊎ (u ≡ begun.0)) }
-    ensures positive { IfOk result (λ begun. 1 ≤ begun.0) }
-    ensures filled { OnOk result (IsFilled past.new.numbers) }
-    ensures pending { OnOk result (past.new.history ≡ past.old.history ++ call.now ∷ []) }
+    ensures begun { IfOk result (λ made. HasBegun past.old call.now devices past.new made.0 made.1) }
     ensures history { OnErr result (past.new.history ≡ past.old.history) }
     ensures state { past.new.state ≡ past.old.state }
 {

@@ -1,32 +1,47 @@
-//! The history: the committed calls, in order, each found by its caller and number.
-ghost use Rattle.std.specs.Prelude.{◌≡◌, ◌++◌, ◌∷◌, [], length, take, slice_get, IfOk, MatchOption, OnOk, OnErr, Some};
+//! The history: the committed calls, in order, and behind them the call that is being committed; each is
+//! found by its caller and number.
+ghost use Rattle.std.specs.Prelude.{◌≡◌, ◌++◌, ◌∷◌, [], false, length, take, slice_get, IfOk, MatchOption, OnOk, OnErr, Some};
+ghost use Rattle.std.specs.Option.{option_map_or};
 ghost use Rattle.orc_state.specs.Legal.{IsNew, IsSame};
 ghost use Rattle.orc_call.specs.declared.call.Call.{Call};
+ghost use Rattle.orc_run.specs.inside.Numbered.{is_named_as};
 
-use indexmap::IndexSet;
 use orc_call::Call;
 use orc_text::{Memory, Text};
 use std::alloc::Global;
+use std::collections::BTreeMap;
 use std::marker::Model;
 
-/// Calls in the order in which they were committed. Beside them stand the caller and the number of
-/// each, in the same order, so that a call is found without a look at the others.
+/// Calls in the order in which they were committed, of which the last one may still be being committed.
+/// Beside them stands the place of each under its caller and number, in the order of these: however they are
+/// chosen, a call is compared with as many others as the logarithm of how many calls there were. What is noted
+/// of a call that is cut off, or that found no memory, stays, and leads to no other.
 #[derive(Drop)]
 pub struct History {
     calls: Vec<Call>,
-    names: IndexSet<(Text, u64)>,
+    places: BTreeMap<(Text, u64), usize>,
 }
 
 impl Model for History {
-    ghost use Rattle.std.specs.Prelude.{◌≡◌, List};
+    ghost use Rattle.std.specs.Prelude.{List};
     ghost use Rattle.orc_call.specs.declared.call.Call.{Call};
-    ghost use Rattle.orc_run.specs.inside.Numbered.{callers_and_numbers};
+    ghost use Rattle.orc_run.specs.inside.Numbered.{ArePlaced};
 
     ghost Value = { List Call };
 
     ghost view = { λ history. history.calls.items };
 
-    ghost invariant = { λ history. history.names.keys ≡ callers_and_numbers history.calls.items };
+    ghost invariant = { λ history. ArePlaced history.calls.items history.places };
+}
+
+// Whether the call of a place has this one's caller and number.
+fn stands(calls: &[Call], place: usize, call: &Call) -> bool
+    ensures { result ≡ option_map_or (is_named_as call.now) (slice_get calls.now place) false }
+{
+    match calls.get(place) {
+        Some(entry) => entry.caller == call.caller && entry.number == call.number,
+        None => false,
+    }
 }
 
 impl History {
@@ -36,7 +51,7 @@ impl History {
     {
         History {
             calls: Vec::new(alloc),
-            names: IndexSet::new(alloc),
+            places: BTreeMap::new(alloc),
         }
     }
 
@@ -62,7 +77,16 @@ impl History {
     {
         let caller = call.caller.copy(alloc)?;
         let name = (caller, call.number);
-        Ok(self.names.get_index_of(&name))
+        match self.places.get(&name) {
+            Some(place) => {
+                if stands(self.calls.as_slice(), *place, call) {
+                    Ok(Some(*place))
+                } else {
+                    Ok(None)
+                }
+            },
+            None => Ok(None),
+        }
     }
 
     /// Adds a call behind the others, of which none has its caller and number.
@@ -72,15 +96,10 @@ impl History {
         ensures err { OnErr result (self.new ≡ self.old) }
     {
         let caller = call.caller.copy(alloc)?;
-        let number = call.number;
+        let place = self.calls.len();
+        self.places.insert((caller, call.number), place)?;
         self.calls.push(call)?;
-        match self.names.insert((caller, number)) {
-            Ok(_) => Ok(()),
-            Err(_) => {
-                self.calls.pop();
-                Err(Memory)
-            }
-        }
+        Ok(())
     }
 
     /// Keeps the first so many calls.
@@ -88,6 +107,5 @@ impl History {
         ensures { self.new ≡ take count self.old }
     {
         self.calls.truncate(count);
-        self.names.truncate(count);
     }
 }

@@ -1,6 +1,6 @@
 //! The numbers of transactions.
-ghost use Rattle.std.specs.Prelude.{◌≡◌, ◌⊎◌, ◌≤◌, ◌<◌, ◌-◌, ◌^◌, ℕ, true, false, IfOk, OnOk, OnErr};
-ghost use Rattle.orc_run.specs.inside.Transactions.{is_taken, IsFilled};
+ghost use Rattle.std.specs.Prelude.{◌≡◌, ◌≤◌, ◌<◌, ◌-◌, ◌^◌, ℕ, true, false, IfOk, OnOk, OnErr};
+ghost use Rattle.orc_run.specs.inside.Transactions.{is_taken, IsFilled, TakesLeast, TakesNumber};
 
 use orc_text::Memory;
 use std::alloc::Global;
@@ -29,10 +29,7 @@ impl Numbers {
     /// Takes a number that the journal has.
     pub fn take(&mut self, t: u64) -> Result<(), Memory>
         requires { IsFilled self.old }
-        ensures taken { OnOk result (is_taken self.new t ≡ true) }
-        ensures others { OnOk result ((u : ℕ) → is_taken self.old u ≡ true → is_taken self.new u ≡ true) }
-        ensures only { OnOk result ((u : ℕ) → is_taken self.new u ≡ true → (is_taken self.old u ≡ true) ⊎ (u ≡ t)) }
-        ensures filled { OnOk result (IsFilled self.new) }
+        ensures { OnOk result (TakesNumber self.old self.new t) }
     {
         self.used.insert(t)?;
         Ok(())
@@ -42,14 +39,7 @@ impl Numbers {
     /// would hold them.
     pub fn give(&mut self) -> Result<u64, Memory>
         requires { IsFilled self.old }
-        ensures new { IfOk result (λ t. is_taken self.old t ≡ false) }
-        ensures least { IfOk result (λ t. (u : ℕ) → 1 ≤ u → u < t → is_taken self.old u ≡ true) }
-        ensures positive { IfOk result (λ t. 1 ≤ t) }
-        ensures taken { IfOk result (λ t. is_taken self.new t ≡ true) }
-        ensures others { OnOk result ((u : ℕ) → is_taken self.old u ≡ true → is_taken self.new u ≡ true) }
-        ensures only { IfOk result (λ t. (u : ℕ) → is_taken self.new u ≡ true
-            → (is_taken self.old u ≡ true) ⊎ (u ≡ t)) }
-        ensures filled { OnOk result (IsFilled self.new) }
+        ensures { IfOk result (TakesLeast self.old self.new) }
     {
         let t = self.least()?;
         self.used.insert(t)?;

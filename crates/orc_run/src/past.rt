@@ -19,8 +19,8 @@ use orc_state::{Decls, State, is_call};
 use orc_text::{Memory, Row};
 use std::alloc::Global;
 
-/// The numbers that transactions have, the calls that were committed, in order, and the state
-/// behind them.
+/// The numbers that transactions have; the calls that were committed, in order, and behind them the
+/// one that is being committed, where there is one; and the state by which calls are answered.
 #[derive(Drop)]
 pub struct Past {
     pub numbers: Numbers,

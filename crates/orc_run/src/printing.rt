@@ -8,7 +8,7 @@ ghost use Rattle.orc_run.specs.declared.commit.Stage.{Stage};
 ghost use Rattle.orc_run.specs.inside.Serving.{AreLinesOf};
 
 use crate::commit::{Reached, Stage};
-use crate::serving::Served;
+use crate::serving::CallOutcome;
 use orc_append::Appended;
 use orc_call::{Answer, Call};
 use orc_print::{answer, recovered, stopped};
@@ -21,12 +21,12 @@ pub(crate) fn answered(
     names: &[Text],
     call: &Call,
     given: &Answer,
-) -> Result<Served, Memory>
+) -> Result<CallOutcome, Memory>
     requires { IsTrue (is_answer_among (length names.now) given.now) }
     ensures { IfOk result (λ served. served
         ≡ record { text = answer_line names.now call.now.caller call.now.number given.now; end = None }) }
 {
-    Ok(Served {
+    Ok(CallOutcome {
         text: answer_text(alloc, names, call, given)?,
         end: None,
     })

@@ -1,12 +1,6 @@
 //! The steps of a script, each of which is written as it is done.
-ghost use Rattle.std.specs.Prelude.{[], ◌≤◌, ◌<◌, ◌^◌, List, ℕ, length, IfOk, IfErr, IsErrOf, IsTrue, All};
-ghost use Rattle.std.specs.List.{list_all};
-ghost use Rattle.std.specs.Io.KnownBytes.{Appends};
+ghost use Rattle.std.specs.Prelude.{[], ◌≤◌, IfOk, IfErr, IsErrOf};
 ghost use Rattle.orc_io.specs.Counts.{Rose};
-ghost use Rattle.orc_script.specs.Steps.{is_step};
-ghost use Rattle.orc_state.specs.Declarations.{AreDecls};
-ghost use Rattle.orc_run.specs.Views.{Outlives};
-ghost use Rattle.orc_run.specs.Steps.{Does};
 ghost use Rattle.orc_run.specs.inside.Controllers.{view_of, CanDo, CanRun, IsSound};
 ghost use Rattle.orc_run.specs.inside.Halts.{Halts, Finishes, WritesStep};
 ghost use Rattle.orc_run.specs.declared.stop.Stop.{Stop};

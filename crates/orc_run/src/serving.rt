@@ -1,5 +1,5 @@
 //! Serving a call: its answer at once, or its commit in the journal.
-ghost use Rattle.std.specs.Prelude.{◌≡◌, ◌≤◌, true, None, List, length, take, IfOk, IsTrue};
+ghost use Rattle.std.specs.Prelude.{◌≡◌, ◌≤◌, true, None, List, length, take, IsTrue};
 ghost use Rattle.orc_append.specs.declared.outcome.Appended.{Appended};
 ghost use Rattle.orc_journal.specs.Entries.{AreDevices};
 ghost use Rattle.orc_state.specs.Touched.{touched_devices};
@@ -27,7 +27,7 @@ use std::alloc::Global;
 
 /// What came of a call: what is printed of it, and why the run ends behind it, if it does.
 #[derive(Drop)]
-pub struct Served {
+pub struct CallOutcome {
     pub text: Row<u8>,
     pub end: Option<Stop>,
 }
@@ -39,7 +39,7 @@ impl<D: Disk> Controller<D> {
         alloc: Global,
         decls: &Decls,
         call: &Call,
-    ) -> Result<Served, Memory>
+    ) -> Result<CallOutcome, Memory>
         requires decls { AreDecls decls.now }
         requires sound { IsSound D.disk decls.now self.old }
         requires call { IsTrue (is_call decls.now call.now) }
@@ -65,7 +65,7 @@ impl<D: Disk> Controller<D> {
         decls: &Decls,
         call: &Call,
         devices: Row<u32>,
-    ) -> Result<Served, Memory>
+    ) -> Result<CallOutcome, Memory>
         requires decls { AreDecls decls.now }
         requires committing { (entries : List Entry) × IsCommitting D.disk decls.now call.now entries self.old }
         requires call { IsTrue (is_call decls.now call.now) }
@@ -80,7 +80,7 @@ impl<D: Disk> Controller<D> {
         let (t, intent) = begin(alloc, &mut self.past, call, devices)?;
         let reached = append_commit(alloc, &mut self.journal, &intent, t);
         let end = self.come(alloc, decls, reached);
-        Ok(Served {
+        Ok(CallOutcome {
             text: lines.line(alloc, reached),
             end,
         })
@@ -134,7 +134,7 @@ impl<D: Disk> Controller<D> {
         if self.up {
             return end;
         }
-        match state_behind(alloc, decls, &self.past.history.as_slice()[..self.known]) {
+        match state_behind(alloc, decls, self.known_calls()) {
             Ok(state) => {
                 self.past.state = state;
                 end

@@ -1,20 +1,20 @@
 //! The steps of a script, as the controller does them.
-ghost use Rattle.std.specs.Prelude.{[], Ok, ◌≡◌, ◌<◌, ◌^◌, false, length, codes, All, IfOk, IsTrue, MatchResult, if◌then◌else◌};
+ghost use Rattle.std.specs.Prelude.{[], Ok, ◌≡◌, ◌<◌, ◌≤◌, ◌^◌, false, length, codes, All, IfOk, IsTrue, MatchResult, if◌then◌else◌};
 ghost use Rattle.orc_schema.specs.Sound as schema;
 ghost use Rattle.orc_state.specs.States.{tree_due, name_of};
 ghost use Rattle.orc_state.specs.Calls.{is_call};
-ghost use Rattle.orc_script.specs.Steps.{is_step};
 ghost use Rattle.orc_state.specs.Legal.{state_of};
 ghost use Rattle.orc_state.specs.Declarations.{AreDecls};
+ghost use Rattle.orc_state.specs.declared.declarations.Decls.{Decls};
 ghost use Rattle.orc_print.specs.Printed.{data_text, history_text, tree_text};
 ghost use Rattle.orc_run.specs.Steps.{PrintsJson, PrintsMeta, device_schema};
-ghost use Rattle.orc_run.specs.inside.Controllers.{known_of, view_of, CanDo, GoesOn, IsSound, StepsTo, Wants};
+ghost use Rattle.orc_run.specs.inside.Controllers.{known_of, CanDo, GoesOn, IsSound, StepsFrom, Wants};
 ghost use Rattle.orc_script.specs.declared.step.ScriptStep.{ScriptStep};
 
 use crate::Stop;
 use crate::controller::{Controller, LastStep};
 use crate::printing::recovered_text;
-use crate::serving::Served;
+use crate::serving::CallOutcome;
 use orc_bundle::ScriptStep;
 use orc_call::Call;
 use orc_disk::Disk;
@@ -26,43 +26,34 @@ use orc_state::{Decls, device_name, tree_is_configuration, tree_is_typed};
 use orc_text::{Memory, Row};
 use std::alloc::Global;
 
+// Where a step leads: to the controller and what the step printed, or to the end of the run.
+type StepResult<D> = Result<(Controller<D>, Row<u8>), LastStep<D>>;
+
 impl<D: Disk> Controller<D> {
     /// Does a step of the script.
-    pub(crate) fn step(
-        self,
-        alloc: Global,
-        decls: &Decls,
-        step: &ScriptStep,
-    ) -> Result<(Controller<D>, Row<u8>), LastStep<D>>
+    pub(crate) fn step(self, alloc: Global, decls: &Decls, step: &ScriptStep) -> StepResult<D>
         requires can { CanDo D.disk decls.now self step.now }
-        ensures { (sound : IsSound D.disk decls.now self)
-            → StepsTo D.disk decls.now (view_of self sound.0) step.now result }
+        ensures { StepsFrom D.disk decls.now self step.now result }
     {
         match step {
             ScriptStep::Show(device) => self.show(alloc, decls, *device),
             ScriptStep::Json(device) => self.json(alloc, decls, *device),
             ScriptStep::Meta(device, path) => self.meta(alloc, decls, *device, path),
-            ScriptStep::Data => self.data(alloc, decls),
+            ScriptStep::Data => self.data(alloc),
             ScriptStep::Serve(call) => self.answer(alloc, decls, call),
-            ScriptStep::Settle => self.settled(alloc, decls),
-            ScriptStep::Stop => self.stop(alloc, decls),
-            ScriptStep::StopAt(op, bytes) => self.stop_at(alloc, decls, *op, *bytes),
+            ScriptStep::Settle => self.settled(alloc),
+            ScriptStep::Stop => self.stop(alloc),
+            ScriptStep::StopAt(op, bytes) => self.stop_at(alloc, *op, *bytes),
             ScriptStep::Recover => self.recover(alloc, decls),
-            ScriptStep::History => self.history(alloc, decls),
+            ScriptStep::History => self.history(alloc),
         }
     }
 
     // Prints the tree of a device.
-    fn show(
-        self,
-        alloc: Global,
-        decls: &Decls,
-        device: u32,
-    ) -> Result<(Controller<D>, Row<u8>), LastStep<D>>
+    fn show(self, alloc: Global, decls: &Decls, device: u32) -> StepResult<D>
         requires sound { IsSound D.disk decls.now self }
         requires device { device < length decls.now.names }
-        ensures { (sound : IsSound D.disk decls.now self)
-            → StepsTo D.disk decls.now (view_of self sound.0) (ScriptStep.Show device) result }
+        ensures { StepsFrom D.disk decls.now self (ScriptStep.Show device) result }
     {
         let text = self.tree_text(alloc, decls, device);
         self.printing(alloc, text)
@@ -80,19 +71,13 @@ impl<D: Disk> Controller<D> {
     }
 
     // Prints the tree of a device with a type, as JSON.
-    fn json(
-        self,
-        alloc: Global,
-        decls: &Decls,
-        device: u32,
-    ) -> Result<(Controller<D>, Row<u8>), LastStep<D>>
+    fn json(self, alloc: Global, decls: &Decls, device: u32) -> StepResult<D>
         requires decls { AreDecls decls.now }
         requires schemas { All schema.IsSound decls.now.schemas }
         requires sound { IsSound D.disk decls.now self }
         requires device { device < length decls.now.names }
         requires typed { (device_schema decls.now device).plain ≡ false }
-        ensures { (sound : IsSound D.disk decls.now self)
-            → StepsTo D.disk decls.now (view_of self sound.0) (ScriptStep.Json device) result }
+        ensures { StepsFrom D.disk decls.now self (ScriptStep.Json device) result }
     {
         let text = self.json_text(alloc, decls, device);
         self.printing(alloc, text)
@@ -117,17 +102,10 @@ impl<D: Disk> Controller<D> {
     }
 
     // Prints what is known of a path of a device.
-    fn meta(
-        self,
-        alloc: Global,
-        decls: &Decls,
-        device: u32,
-        path: &Path,
-    ) -> Result<(Controller<D>, Row<u8>), LastStep<D>>
+    fn meta(self, alloc: Global, decls: &Decls, device: u32, path: &Path) -> StepResult<D>
         requires sound { IsSound D.disk decls.now self }
         requires device { device < length decls.now.names }
-        ensures { (sound : IsSound D.disk decls.now self)
-            → StepsTo D.disk decls.now (view_of self sound.0) (ScriptStep.Meta device path.now) result }
+        ensures { StepsFrom D.disk decls.now self (ScriptStep.Meta device path.now) result }
     {
         let text = self.meta_text(alloc, decls, device, path);
         self.printing(alloc, text)
@@ -155,20 +133,17 @@ impl<D: Disk> Controller<D> {
     }
 
     // Prints the data.
-    fn data(self, alloc: Global, decls: &Decls) -> Result<(Controller<D>, Row<u8>), LastStep<D>>
-        requires sound { IsSound D.disk decls.now self }
-        ensures { (sound : IsSound D.disk decls.now self)
-            → StepsTo D.disk decls.now (view_of self sound.0) ScriptStep.Data result }
+    fn data(self, alloc: Global) -> StepResult<D>
+        ensures { (decls : Decls) → StepsFrom D.disk decls self ScriptStep.Data result }
     {
-        let text = self.data_text(alloc, decls);
+        let text = self.data_text(alloc);
         self.printing(alloc, text)
     }
 
     // The group of the data, or that the controller is down.
-    fn data_text(&self, alloc: Global, decls: &Decls) -> Result<Row<u8>, Memory>
-        requires sound { IsSound D.disk decls.now self.now }
-        ensures { IfOk result (λ text. text ≡ (if self.now.up then data_text
-            (state_of decls.now (known_of self.now)).data else codes "down\n")) }
+    fn data_text(&self, alloc: Global) -> Result<Row<u8>, Memory>
+        ensures { IfOk result (λ text. text
+            ≡ (if self.now.up then data_text self.now.past.state.data else codes "down\n")) }
     {
         if self.up {
             return Ok(Row::from_vec(data(alloc, self.past.state.data())?));
@@ -177,32 +152,28 @@ impl<D: Disk> Controller<D> {
     }
 
     // Prints the history.
-    fn history(self, alloc: Global, decls: &Decls) -> Result<(Controller<D>, Row<u8>), LastStep<D>>
-        requires sound { IsSound D.disk decls.now self }
-        ensures { (sound : IsSound D.disk decls.now self)
-            → StepsTo D.disk decls.now (view_of self sound.0) ScriptStep.History result }
+    fn history(self, alloc: Global) -> StepResult<D>
+        requires within { self.known ≤ length self.past.history }
+        ensures { (decls : Decls) → StepsFrom D.disk decls self ScriptStep.History result }
     {
-        let text = self.history_text(alloc, decls);
+        let text = self.history_text(alloc);
         self.printing(alloc, text)
     }
 
-    fn history_text(&self, alloc: Global, decls: &Decls) -> Result<Row<u8>, Memory>
-        requires sound { IsSound D.disk decls.now self.now }
+    fn history_text(&self, alloc: Global) -> Result<Row<u8>, Memory>
+        requires within { self.now.known ≤ length self.now.past.history }
         ensures { IfOk result (λ text. text ≡ (if self.now.up then history_text
             (known_of self.now) else codes "down\n")) }
     {
         if !self.up {
             return Ok(Row::from_vec(down(alloc)?));
         }
-        let known = &self.past.history.as_slice()[..self.known];
-        Ok(Row::from_vec(history(alloc, known)?))
+        Ok(Row::from_vec(history(alloc, self.known_calls())?))
     }
 
     // The controller stops.
-    fn stop(mut self, alloc: Global, decls: &Decls) -> Result<(Controller<D>, Row<u8>), LastStep<D>>
-        requires sound { IsSound D.disk decls.now self }
-        ensures { (sound : IsSound D.disk decls.now self)
-            → StepsTo D.disk decls.now (view_of self sound.0) ScriptStep.Stop result }
+    fn stop(mut self, alloc: Global) -> StepResult<D>
+        ensures { (decls : Decls) → StepsFrom D.disk decls self ScriptStep.Stop result }
     {
         match stopped(alloc) {
             Ok(text) => {
@@ -214,25 +185,15 @@ impl<D: Disk> Controller<D> {
     }
 
     // Nothing is in flight.
-    fn settled(self, alloc: Global, decls: &Decls) -> Result<(Controller<D>, Row<u8>), LastStep<D>>
-        requires sound { IsSound D.disk decls.now self }
-        ensures { (sound : IsSound D.disk decls.now self)
-            → StepsTo D.disk decls.now (view_of self sound.0) ScriptStep.Settle result }
+    fn settled(self, alloc: Global) -> StepResult<D>
+        ensures { (decls : Decls) → StepsFrom D.disk decls self ScriptStep.Settle result }
     {
         Ok((self, Row::new(alloc)))
     }
 
     // Arms a stop where the controller is up.
-    fn stop_at(
-        mut self,
-        alloc: Global,
-        decls: &Decls,
-        op: u64,
-        bytes: u64,
-    ) -> Result<(Controller<D>, Row<u8>), LastStep<D>>
-        requires sound { IsSound D.disk decls.now self }
-        ensures { (sound : IsSound D.disk decls.now self)
-            → StepsTo D.disk decls.now (view_of self sound.0) (ScriptStep.StopAt op bytes) result }
+    fn stop_at(mut self, alloc: Global, op: u64, bytes: u64) -> StepResult<D>
+        ensures { (decls : Decls) → StepsFrom D.disk decls self (ScriptStep.StopAt op bytes) result }
     {
         if !self.up {
             return Ok((self, Row::new(alloc)));
@@ -242,12 +203,11 @@ impl<D: Disk> Controller<D> {
     }
 
     // The controller stops where it is up, and opens its journal again.
-    fn recover(self, alloc: Global, decls: &Decls) -> Result<(Controller<D>, Row<u8>), LastStep<D>>
+    fn recover(self, alloc: Global, decls: &Decls) -> StepResult<D>
         requires decls { AreDecls decls.now }
         requires short { length decls.now.text < 2 ^ 32 }
         requires sound { IsSound D.disk decls.now self }
-        ensures { (sound : IsSound D.disk decls.now self)
-            → StepsTo D.disk decls.now (view_of self sound.0) ScriptStep.Recover result }
+        ensures { StepsFrom D.disk decls.now self ScriptStep.Recover result }
     {
         match Controller::open(alloc, decls, self.into_disk()) {
             Ok(controller) => {
@@ -263,17 +223,11 @@ impl<D: Disk> Controller<D> {
     }
 
     // Serves a call, and prints its answer.
-    fn answer(
-        mut self,
-        alloc: Global,
-        decls: &Decls,
-        call: &Call,
-    ) -> Result<(Controller<D>, Row<u8>), LastStep<D>>
+    fn answer(mut self, alloc: Global, decls: &Decls, call: &Call) -> StepResult<D>
         requires decls { AreDecls decls.now }
         requires sound { IsSound D.disk decls.now self }
         requires call { IsTrue (is_call decls.now call.now) }
-        ensures { (sound : IsSound D.disk decls.now self)
-            → StepsTo D.disk decls.now (view_of self sound.0) (ScriptStep.Serve call.now) result }
+        ensures { StepsFrom D.disk decls.now self (ScriptStep.Serve call.now) result }
     {
         match self.serve(alloc, decls, call) {
             Ok(served) => self.went(served),
@@ -282,10 +236,10 @@ impl<D: Disk> Controller<D> {
     }
 
     // The run goes on behind a call, or ends.
-    fn went(self, served: Served) -> Result<(Controller<D>, Row<u8>), LastStep<D>>
+    fn went(self, served: CallOutcome) -> StepResult<D>
         ensures { GoesOn served.end served.text self result }
     {
-        let Served { text, end } = served;
+        let CallOutcome { text, end } = served;
         match end {
             None => Ok((self, text)),
             Some(stop) => Err(LastStep {
@@ -297,11 +251,7 @@ impl<D: Disk> Controller<D> {
     }
 
     // The run goes on with what was printed, or ends where there was no memory for it.
-    fn printing(
-        self,
-        alloc: Global,
-        text: Result<Row<u8>, Memory>,
-    ) -> Result<(Controller<D>, Row<u8>), LastStep<D>>
+    fn printing(self, alloc: Global, text: Result<Row<u8>, Memory>) -> StepResult<D>
         ensures { MatchResult text (λ text. result ≡ Ok (self, text)) (λ _. Wants self result) }
     {
         match text {

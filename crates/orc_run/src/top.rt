@@ -1,13 +1,10 @@
 //! The top call.
-ghost use Rattle.std.specs.Prelude.{List, Option, ◌≡◌, ◌<◌, ◌+◌, ◌^◌, ◌∷◌, [], ℕ, map, length, IfOk, IfErr, OnErr, IsErrOf, IsTrue, All, Some};
-ghost use Rattle.std.specs.List.{list_all};
+ghost use Rattle.std.specs.Prelude.{List, Option, ◌≡◌, ◌<◌, ◌+◌, ◌^◌, ℕ, map, length, IfOk, IfErr, IsErrOf};
 ghost use Rattle.std.specs.String.{string_bytes};
 ghost use Rattle.orc_io.specs.Counts.{Rose};
 ghost use Rattle.orc_io.specs.Pieces.{GivesUpTo};
 ghost use Rattle.orc_lines.specs.declared.lines.TheConstants.{LARGEST_BUNDLE};
-ghost use Rattle.orc_script.specs.Steps.{is_step};
 ghost use Rattle.orc_bundle.specs.Bundles.{IsBundle};
-ghost use Rattle.orc_state.specs.Declarations.{AreDecls};
 ghost use Rattle.orc_words.specs.Words.{command_of};
 ghost use Rattle.orc_run.specs.inside.Controllers.{CanRun, IsSound};
 ghost use Rattle.orc_run.specs.Ends.{EndsBy, EndsOver, GivesBundle, GivesFault};

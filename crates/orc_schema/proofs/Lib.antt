@@ -2,7 +2,7 @@ mod Barren
 mod Standing
 mod Lawful
 mod Chains
-mod Ordered
+pub mod Ordered
 mod InOrder
 mod Orders
 mod Tables

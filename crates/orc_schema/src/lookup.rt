@@ -1,8 +1,9 @@
 //! What a schema has at a path.
-ghost use Rattle.std.specs.Prelude.{◌≡◌, ◌++◌, ◌∷◌, [], IfOk, option_map};
+ghost use Rattle.std.specs.Prelude.{◌≡◌, ◌++◌, ◌∷◌, [], IfOk, option_map, option_and_then};
+ghost use Rattle.std.specs.List.{find};
 ghost use Rattle.orc_schema.specs.Links.{names_cmp};
 ghost use Rattle.orc_schema.specs.declared.line.Node.TheVariants.{Leaf};
-ghost use Rattle.orc_schema.specs.Schemas.{Ascends, path_names, node_in_lines, node_at, shape_of, shape_at, kind_at_path};
+ghost use Rattle.orc_schema.specs.Schemas.{Ascends, path_names, is_line_at, node_in_lines, node_at, shape_of, shape_at, kind_in, kind_at_path};
 
 use crate::Schema;
 use crate::line::{LeafNode, Node, SchemaLine};
@@ -66,13 +67,13 @@ fn compare_below(names: &[Text], steps: &[Step], last: &str) -> Ordering
     }
 }
 
-// The node at the names of steps.
-fn node_at<'a>(lines: &'a [SchemaLine], steps: &[Step]) -> Option<&'a Node>
+// The line of the names of steps among lines in order. It halves the lines with each comparison.
+fn line_at<'a>(lines: &'a [SchemaLine], steps: &[Step]) -> Option<&'a SchemaLine>
     requires { Ascends lines.now }
-    ensures { option_map (λ node. node.now) result ≡ node_in_lines lines.now (path_names steps.now) }
+    ensures { option_map (λ line. line.now) result ≡ find (is_line_at (path_names steps.now)) lines.now }
 {
     match lines.binary_search_by(|line| compare(line.names.as_slice(), steps)) {
-        Ok(place) => Some(&lines[place].node),
+        Ok(place) => Some(&lines[place]),
         Err(_) => None,
     }
 }
@@ -127,11 +128,21 @@ fn shape_of(alloc: Global, node: &Node) -> Result<Shape, Memory>
 }
 
 impl Schema {
+    /// The line at the names of these steps, whatever their keys, if there is one. It takes no memory.
+    pub fn line(&self, steps: &[Step]) -> Option<&SchemaLine>
+        ensures { option_map (λ line. line.now) result ≡ find (is_line_at (path_names steps.now)) self.now.lines }
+    {
+        line_at(self.lines(), steps)
+    }
+
     /// The node at the names of these steps, whatever their keys. It takes no memory.
     pub fn node(&self, steps: &[Step]) -> Option<&Node>
         ensures { option_map (λ node. node.now) result ≡ node_at self.now (path_names steps.now) }
     {
-        node_at(self.lines(), steps)
+        match self.line(steps) {
+            Some(line) => Some(&line.node),
+            None => None,
+        }
     }
 
     /// The node of this name below the node at these steps, whatever their keys. It takes no memory.
@@ -156,6 +167,18 @@ impl Schema {
         match self.node_below(parent.steps.as_slice(), name.as_str()) {
             Some(node) => shape_of(alloc, node),
             None => Ok(Shape::Absent),
+        }
+    }
+
+    /// The kind of the values at a name below the node at these steps, whatever their keys; a leafref has
+    /// its target's. It takes no memory.
+    pub fn kind_below(&self, steps: &[Step], name: &str) -> Option<&Kind>
+        ensures { option_map (λ kind. kind.now) result
+            ≡ option_and_then kind_in (node_at self.now (path_names steps.now ++ name.now ∷ [])) }
+    {
+        match self.node_below(steps, name) {
+            Some(node) => node.kind(),
+            None => None,
         }
     }
 

@@ -1,21 +1,20 @@
 -- What two statements share of which one is the other with two neighbours in it the other way round.
-use Rattle.std.proofs.Common.{◌≡◌, refl, sym, ◌∙◌, ap, subst, List, [], ◌∷◌, ◌++◌, map, ℕ, zero, suc, ◌+◌, Bool, true, false, cond, if◌then◌else◌}
+use Rattle.std.proofs.Common.{◌≡◌, refl, sym, ◌∙◌, ap, subst, List, [], ◌∷◌, ◌++◌, ℕ, zero, suc, ◌+◌, Bool, true, false, cond, if◌then◌else◌}
 use Rattle.std.specs.Prelude.{Option, Some, None, ◌&&◌, ◌||◌, option_map, option_and_then, unwrap_or, codes}
 use Rattle.std.specs.Option.{option_or}
-use Rattle.std.specs.List.{find, fold, sum_by, list_any}
+use Rattle.std.specs.List.{find, sum_by, list_any}
 use Rattle.std.specs.List.Sorted.{IsPermutation}
 use Rattle.std.proofs.lemmas.Bool.{false≢true}
 use Rattle.std.proofs.lemmas.List.Sums.{sum_by-cons, sum_by-append}
 use Rattle.std.proofs.lemmas.List.Sorted.{IsPermutation-append_left, IsPermutation-append_right, IsPermutation-append_comm, sum_by-IsPermutation, list_any-IsPermutation}
 use Rattle.orc_value.specs.Canon.{same_text}
 use Rattle.orc_yang.specs.declared.statement.Stmt.{Stmt}
-use Rattle.orc_yang.specs.declared.statement.Stmt.TheViews.{out-Stmt, roll-out-Stmt}
-use Rattle.orc_yang.specs.declared.statement.Stmt.TheFolds.{para-roll-Stmt}
 use Rattle.orc_types.specs.Statements.{keyword, subs, argument, is_a, first_of}
 use Rattle.orc_modules.specs.Words.{word_of}
-use Rattle.orc_modules.specs.Statements.{word, is_data, is_state, defines, may_lead, leaders, leader_step, argument_below, sub_text}
+use Rattle.orc_modules.specs.Statements.{word, is_data, is_state, defines, may_lead, leaders, argument_below, sub_text}
 use Rattle.orc_modules.specs.Scopes.{imports_as}
 use Rattle.orc_modules.specs.Children.{block_part, block_part_of}
+use Rattle.orc_modules.proofs.Leaders.{leaders_are}
 use Rattle.orc_schema_laws.specs.Laws.{IsTurned, HasTurned, TurnsIn}
 
 pub data Alike (x y : Stmt) : Type 0 where
@@ -106,23 +105,6 @@ module _ {X : Type 0} (p : X → Bool) (s t : X) (back : List X) (apart : (p s &
 
 shuffled : (front : List Stmt) (s t : Stmt) (back : List Stmt) → IsPermutation (front ++ s ∷ t ∷ back) (front ++ t ∷ s ∷ back)
 shuffled front s t back = IsPermutation-append_right front (s ∷ t ∷ back) (t ∷ s ∷ back) (IsPermutation-append_left back (s ∷ t ∷ []) (t ∷ s ∷ []) (IsPermutation-append_comm (s ∷ []) (t ∷ [])))
-
--- how many statements lead on
-abbrev with_count : Stmt → Stmt × ℕ
-with_count t = (t, leaders t)
-
-counts_from : (a : ℕ) (xs : List Stmt) → fold (λ (n : ℕ) (t : Stmt × ℕ). n + t.1) a (map with_count xs) ≡ fold (λ (n : ℕ) (t : Stmt). n + leaders t) a xs
-counts_from a [] = refl
-counts_from a (x ∷ xs) = counts_from (a + leaders x) xs
-
-themselves : (xs : List Stmt) → map (λ (t : Stmt × ℕ). t.0) (map with_count xs) ≡ xs
-themselves [] = refl
-themselves (x ∷ xs) = ap (λ ys. x ∷ ys) (themselves xs)
-
-leaders_are : (s : Stmt) → leaders s ≡ sum_by leaders (subs s) + (if may_lead (keyword s) (subs s) then 1 else 0)
-leaders_are s = ap leaders (sym (roll-out-Stmt s)) ∙ para-roll-Stmt ℕ leader_step (out-Stmt s)
-    ∙ ap (λ n. n + (if may_lead (keyword s) (map (λ (t : Stmt × ℕ). t.0) (map with_count (subs s))) then 1 else 0)) (counts_from 0 (subs s))
-    ∙ ap (λ ts. sum_by leaders (subs s) + (if may_lead (keyword s) ts then 1 else 0)) (themselves (subs s))
 
 turned_block : (x y : Stmt) → IsTurned x y → IsPermutation (subs x) (subs y)
 turned_block x y h = subst (λ ss. IsPermutation ss (subs y)) (sym h.before) (subst (λ ss. IsPermutation (h.front ++ h.s ∷ h.t ∷ h.back) ss) (sym h.after) (shuffled h.front h.s h.t h.back))

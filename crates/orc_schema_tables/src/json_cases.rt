@@ -11,6 +11,7 @@
 use orc_json::{DUPLICATE, JsonFault, KEY, KIND, MEMBER, VALUE, read, read_entry, write};
 use orc_path::{Item, Path, push_item};
 use orc_schema::Schema;
+use orc_table_programs::Score;
 use orc_text::Memory;
 use orc_tree::Tree;
 use orc_yang::parse;
@@ -239,49 +240,46 @@ fn show_line<R: Print + AllocGlobal>(
     }
 }
 
-// Prints the lines of a case that don't hold. Says how many hold, and whether all do.
+// Prints the lines of a case that don't hold, and takes in which do.
 fn show_lines<R: Print + AllocGlobal>(
     rt: &R,
     name: &str,
     schema: &Schema,
     lines: &str,
-) -> io::Result<(u64, bool)> {
-    let mut count: u64 = 0;
-    let mut good = true;
+    score: &mut Score,
+) -> io::Result<()> {
     for line in lines.lines() {
-        if line.is_empty() {
-            continue;
-        }
-        if show_line(rt, name, schema, line)? {
-            count = count.saturating_add(1);
-        } else {
-            good = false;
+        if !line.is_empty() {
+            score.take(show_line(rt, name, schema, line)?);
         }
     }
-    Ok((count, good))
+    Ok(())
 }
 
-fn show_case<R: Print + AllocGlobal>(rt: &R, name: &str, text: &str) -> io::Result<(u64, bool)> {
+// The same of the lines of a text, where it is a case.
+fn show_case<R: Print + AllocGlobal>(
+    rt: &R,
+    name: &str,
+    text: &str,
+    score: &mut Score,
+) -> io::Result<()> {
     if let Some((_title, rest)) = text.split_once('\n') {
         if let Some((modules, lines)) = rest.split_once("---\n") {
             if let Some(schema) = schema_of(rt.alloc(), modules.trim()) {
-                return show_lines(rt, name, &schema, lines);
+                return show_lines(rt, name, &schema, lines, score);
             }
         }
     }
     println!(rt; "{name}: {text} is no case")?;
-    Ok((0, false))
+    score.take(false);
+    Ok(())
 }
 
 /// Prints how many lines of a file hold, and the others, and says whether there are none of these.
 pub(crate) fn run<R: Print + AllocGlobal>(rt: &R, name: &str, text: &str) -> io::Result<bool> {
-    let mut count: u64 = 0;
-    let mut good = true;
+    let mut score = Score::new();
     for case in text.split("\n=== ").skip(1) {
-        let (lines, all) = show_case(rt, name, case)?;
-        count = count.saturating_add(lines);
-        good = good && all;
+        show_case(rt, name, case, &mut score)?;
     }
-    println!(rt; "{name}: {count} lines hold")?;
-    Ok(good)
+    score.told(rt, name, "lines")
 }

@@ -14,28 +14,20 @@ mod json_cases;
 mod listing;
 
 use crate::case::Case;
+use orc_table_programs::{Score, ended, given_words};
 use std::process::ExitCode;
 use std::rt::{Env, Files};
-use std::{env, fs, io};
+use std::{fs, io};
 
 // Ends with 0 where each case holds.
 fn main(rt: HostRuntime) -> ExitCode {
-    match run_all(&rt) {
-        Ok(true) => ExitCode::SUCCESS,
-        Ok(false) => ExitCode::FAILURE,
-        Err(error) => {
-            let _ = println!(rt; "{error}");
-            ExitCode::FAILURE
-        }
-    }
+    ended(&rt, run_all(&rt))
 }
 
 // Runs each file, and says whether all is as it must be.
 fn run_all<R: Files<File = fs::File> + Env + Print + AllocGlobal>(rt: &R) -> io::Result<bool> {
-    let mut names = env::args(rt)?;
-    let _program = names.next();
     let mut good = true;
-    for name in names {
+    for name in given_words(rt)? {
         let text = fs::read_to_string(rt, name.as_str())?;
         let holds = if name.as_str().ends_with("json") {
             json_cases::run(rt, name.as_str(), text.as_str())?
@@ -49,17 +41,11 @@ fn run_all<R: Files<File = fs::File> + Env + Print + AllocGlobal>(rt: &R) -> io:
 
 // Prints how many cases of a file hold, and the others, and says whether there are none of these.
 fn run<R: Print + AllocGlobal>(rt: &R, name: &str, text: &str) -> io::Result<bool> {
-    let mut count: u64 = 0;
-    let mut good = true;
+    let mut score = Score::new();
     for case in text.split("\n=== ").skip(1) {
-        if show(rt, name, case)? {
-            count = count.saturating_add(1);
-        } else {
-            good = false;
-        }
+        score.take(show(rt, name, case)?);
     }
-    println!(rt; "{name}: {count} cases hold")?;
-    Ok(good)
+    score.told(rt, name, "cases")
 }
 
 // Whether a case holds; prints what came where it doesn't.

@@ -3,7 +3,7 @@ use Rattle.std.proofs.Common.{◌≡◌, ℕ, Bool, true, false, cond, List, Opt
 use Rattle.std.specs.Option.{option_and_then, option_map}
 use Rattle.std.specs.Result.{result_ok}
 use Rattle.std.specs.Str.{is_utf8}
-use Rattle.std.proofs.lemmas.Str.{IsUtf8-from_is_utf8, is_utf8-from_IsUtf8}
+use Rattle.std.proofs.lemmas.Str.{IsUtf8-from_is_utf8}
 use Rattle.serde_json.specs.Data.{Data}
 use Rattle.serde_json.specs.Read.{read}
 use Rattle.orc_path.specs.Configurations.{Config}
@@ -13,13 +13,11 @@ use Rattle.orc_schema.specs.Schemas.{SchemaTable}
 use Rattle.orc_json.specs.Readings.{IsJson, IsNoJson, JsonGives, outcome, reading, rows_below}
 use Rattle.orc_json.specs.declared.fault.JsonFault.{JsonFault}
 use Rattle.orc_json.specs.declared.fault.JsonFault.TheVariants.{Bad, Syntax}
+use Rattle.orc_template.proofs.Texts.{value_is}
 use Rattle.orc_template.specs.Said.{json_value}
 use Rattle.orc_script.specs.Bodies.{body_in, body_of, puts_of}
 
--- the text of a JSON value, and one of none
-
-json_is : (text : List ℕ) (d : Data) → IsJson text d → json_value text ≡ Some d
-json_is text d is = ap (λ (b : Bool). cond b (read text) None) (is_utf8-from_IsUtf8 text is.utf8) ∙ is.value
+-- the text of no JSON value
 
 json_is_none : (text : List ℕ) → IsNoJson text → json_value text ≡ None
 json_is_none text never = on (is_utf8 text) (read text) refl refl where
@@ -31,7 +29,7 @@ json_is_none text never = on (is_utf8 text) (read text) refl refl where
 module _ (s : SchemaTable) (entry : List PathStep) (text : List ℕ) where
   of_outcome : (d : Data) → IsJson text d → body_of s entry text
       ≡ option_map (λ (config : Config). puts_of (rows_below entry config)) (result_ok (outcome (reading s entry d)))
-  of_outcome d is = ap (option_and_then (body_in s entry)) (json_is text d is)
+  of_outcome d is = ap (option_and_then (body_in s entry)) (value_is text d is)
 
   -- it has one, ..
   pub body_found : (d : Data) (config : Config) (rows : List (List PathStep × Item)) → IsJson text d → result_ok (outcome (reading s entry d)) ≡ Some config

@@ -1,5 +1,5 @@
 -- What a line of a script makes of the steps so far.
-use Rattle.std.proofs.Common.{◌≡◌, ℕ, Bool, true, false, not, ◌||◌, nat_eq, cond, List, [], ◌∷◌, ◌++◌, codes, length, Ok, Option, Some, None, is_some, refl, ap, sym, ◌∙◌, subst}
+use Rattle.std.proofs.Common.{◌≡◌, ℕ, Bool, true, false, not, ◌||◌, nat_eq, cond, List, [], ◌∷◌, ◌++◌, codes, length, Ok, Result, Option, Some, None, is_some, refl, ap, sym, ◌∙◌, subst}
 use Rattle.std.specs.List.{list_any}
 use Rattle.std.specs.Str.{is_utf8}
 use Rattle.std.proofs.lemmas.Bool.{false≢true, or_parts}
@@ -7,20 +7,19 @@ use Rattle.orc_path.specs.Alphabet.{is_identifier}
 use Rattle.orc_path.specs.Limits.{is_long_name}
 use Rattle.orc_call.specs.declared.call.Action.TheVariants as action
 use Rattle.orc_call.specs.declared.call.Call.{Call}
-use Rattle.orc_state.specs.Actions.{is_service_among}
 use Rattle.orc_state.specs.Calls.{schema_named}
 use Rattle.orc_state.specs.declared.rule.Rule.{Rule}
 use Rattle.orc_state.specs.declared.rule.Rule.TheVariants as rule
 use Rattle.orc_lines.specs.declared.declared.Declared.{Declared}
 use Rattle.orc_path.specs.Reading.{path_of}
 use Rattle.orc_path.specs.Steps.{PathStep}
-use Rattle.orc_lines.specs.Items.{data_path_of, is_past_path, put_of}
+use Rattle.orc_lines.specs.Items.{data_path_of, is_past_path, kept_path_of, put_of}
 use Rattle.orc_script.specs.Places.{device_item_of, device_node_of, device_node_words, device_path_of, is_no_word, node_path_of}
 use Rattle.orc_lines.specs.Keywords.{keyword_of}
 use Rattle.orc_lines.specs.Lines.{is_end, is_large, is_settled, is_skipped, text_of}
 use Rattle.orc_lines.specs.Names.{place_of, with_name}
-use Rattle.orc_lines.specs.Rules.{checked, on_ok, or_rule}
-use Rattle.orc_script.specs.Scripts.{a_step, after_bare, after_base_put, after_base_remove, after_call, after_delete, after_end, after_json, after_literal, after_meta, after_set, after_show, after_step, after_stop, after_unset, after_write, an_action, bare_step, behind_literal, call_end, call_words, is_call_full, is_caller_more, is_followed, is_full, name_rules, scripted_at, step_words, stop_words, with_action, with_call, with_literal, with_step, with_write, word_at, words_at, after_create, after_modify, after_redeploy, begins_as_path, service_alone, service_body_of, service_id_of}
+use Rattle.orc_lines.specs.Rules.{on_ok, or_rule}
+use Rattle.orc_script.specs.Scripts.{a_step, after_bare, after_base_put, after_base_remove, after_call, after_delete, after_end, after_json, after_literal, after_meta, after_set, after_show, after_step, after_stop, after_unset, after_write, an_action, bare_step, behind_literal, call_end, call_words, is_call_full, is_caller_more, is_followed, is_full, scripted_at, step_name_of, new_name_of, named_or_listed, with_literal_open, step_words, stop_words, with_action, with_call, with_literal, with_step, with_write, word_at, words_at, after_create, after_modify, after_redeploy, service_body_of, service_id_of}
 use Rattle.orc_lines.specs.Words.{cut_at, first_word, is_text, number_in, word_before}
 use Rattle.orc_script.specs.declared.step.ScriptStep.{ScriptStep}
 use Rattle.orc_script.specs.declared.step.ScriptStep.TheVariants.{Show, Json, Meta, Data, Serve, Settle, Stop, StopAt, Recover, History}
@@ -145,18 +144,24 @@ module _ (d : Declared) (s : Script) (text : List ℕ) (later : List (List ℕ))
     one_word keyword.Data is h = a_bare Data refl (λ e. absurd (no_settle keyword.Data is refl e)) (unlooked_at keyword.Data is refl) h
     one_word _ is h = absurd (no_ok rule.Line t h)
 
+    -- a step that names a device has room
+    name_room : (rest name : List ℕ) → step_name_of s rest ≡ Ok name → is_full s ≡ false
+    name_room rest name h =
+        let one = passed (not (is_identifier rest)) rule.Line _ name h in
+        let two = passed (is_long_name rest || is_full s) rule.Size _ name one.1 in
+        (or_parts (is_long_name rest) (is_full s) two.0).1
+
     shown : (rest : List ℕ) → word ≡ keyword.Show → after_show d s rest ≡ Ok t → MakesOf s text later t
     unfolding after_show step_looks_at
     shown rest is h =
-        let one = passed (not (is_identifier rest)) rule.Line _ t h in
-        let two = passed (is_long_name rest || is_full s) rule.Size _ t one.1 in
-        let found = or_rule_ok (place_of d.names rest) rule.Unknown (λ n. Ok (with_step s (Show n))) t two.1 in
+        let named = on_ok_ok (step_name_of s rest) _ t h in
+        let found = or_rule_ok (place_of d.names named.0) rule.Unknown (λ n. Ok (with_step s (Show n))) t named.1.1 in
         let step = Show found.0 in
         stepped (record {
           step = step;
           kept = kept;
           resting = resting;
-          room = (or_parts (is_long_name rest) (is_full s) two.0).1;
+          room = name_room rest named.0 named.1.0;
           is = sym (same_ok (with_step s step) t found.1.1);
           plain = refl;
           settles = λ e. absurd (no_settle keyword.Show is refl e);
@@ -166,15 +171,14 @@ module _ (d : Declared) (s : Script) (text : List ℕ) (later : List (List ℕ))
     printed : (rest : List ℕ) → word ≡ keyword.Json → after_json d s rest ≡ Ok t → MakesOf s text later t
     unfolding after_json step_looks_at
     printed rest is h =
-        let one = passed (not (is_identifier rest)) rule.Line _ t h in
-        let two = passed (is_long_name rest || is_full s) rule.Size _ t one.1 in
-        let three = passed (schema_named d.schemas d.devices rest).plain rule.Unknown _ t two.1 in
-        let found = or_rule_ok (place_of d.names rest) rule.Unknown (λ n. Ok (with_step s (Json n))) t three.1 in
+        let named = on_ok_ok (step_name_of s rest) _ t h in
+        let typed = passed (schema_named d.schemas d.devices named.0).plain rule.Unknown _ t named.1.1 in
+        let found = or_rule_ok (place_of d.names named.0) rule.Unknown (λ n. Ok (with_step s (Json n))) t typed.1 in
         stepped (record {
           step = Json found.0;
           kept = kept;
           resting = resting;
-          room = (or_parts (is_long_name rest) (is_full s) two.0).1;
+          room = name_room rest named.0 named.1.0;
           is = sym (same_ok (with_step s (Json found.0)) t found.1.1);
           plain = refl;
           settles = λ e. absurd (no_settle keyword.Json is refl e);
@@ -193,7 +197,8 @@ module _ (d : Declared) (s : Script) (text : List ℕ) (later : List (List ℕ))
           let one = passed (not (is_identifier words.0)) rule.Line _ node h in
           let found = on_ok_ok (node_path_of (schema_named d.schemas d.devices words.0) long words.1) _ node one.1 in
           let two = passed (is_no_word words.1) rule.Line _ found.0 found.1.0 in
-          let three = passed (long || past) rule.Size _ found.0 two.1 in
+          let kept = on_ok_ok (kept_path_of long words.1) _ found.0 two.1 in
+          let three = passed (long || past) rule.Size _ kept.0 kept.1.0 in
           (or_parts (is_long_name words.0) full (or_parts long past three.0).0).1
 
     told : (rest : List ℕ) → word ≡ keyword.Meta → after_meta d s rest ≡ Ok t → MakesOf s text later t
@@ -281,12 +286,6 @@ module _ (d : Declared) (s : Script) (text : List ℕ) (later : List (List ℕ))
 
     -- behind the actions so far, where an open literal is one of them
     module _ (u : Script) (open_yet : is_resting u.part ≡ false) (steps : u.steps ≡ s.steps) (callers : u.callers ≡ s.callers) (caller : u.caller ≡ s.caller) where
-      names : (name : List ℕ) (v : Script) → checked (name_rules u name) (ok Script Rule v) ≡ Ok t → ok Script Rule v ≡ Ok t
-      names name v h =
-          let one = passed (not (is_identifier name) || is_call_full u) rule.Line _ t h in
-          let two = passed (is_long_name name) rule.Size _ t one.1 in
-          (passed (is_service_among u.actions name) rule.Duplicate (Ok v) t two.1).1
-
       sets : (rest : List ℕ) → word ≡ keyword.Set → after_set d u rest ≡ Ok t → MakesOf s text later t
       unfolding after_set step_looks_at
       sets rest is h =
@@ -315,11 +314,11 @@ module _ (d : Declared) (s : Script) (text : List ℕ) (later : List (List ℕ))
           let found = on_ok_ok (device_path_of d rest) (λ named. Ok (with_action u (action.BaseRemove named.0 named.1))) t one.1 in
           goes_on keyword.Unbase is refl refl (with_action u (action.BaseRemove found.0.0 found.0.1)) found.1.1 open_yet steps callers caller
 
-      -- an action on a service of a list
-      serves : (k : Keyword) → word ≡ k → is_end_word k ≡ false → step_looks_at k later ≡ 0 → (make : List ℕ → Action) (rest : List ℕ)
-          → service_alone make d u rest ≡ Ok t → MakesOf s text later t
-      serves k is other none make rest h =
-          let found = on_ok_ok (service_id_of d u rest) (λ id. Ok (with_action u (make id))) t h in
+      -- an action on a service, of this id
+      serves : (k : Keyword) → word ≡ k → is_end_word k ≡ false → step_looks_at k later ≡ 0 → (make : List ℕ → Action) (named : Result (List ℕ) Rule)
+          → on_ok named (λ id. ok Script Rule (with_action u (make id))) ≡ Ok t → MakesOf s text later t
+      serves k is other none make named h =
+          let found = on_ok_ok named (λ id. Ok (with_action u (make id))) t h in
           goes_on k is other none (with_action u (make found.0)) found.1.1 open_yet steps callers caller
 
       bodied : (k : Keyword) → word ≡ k → is_end_word k ≡ false → step_looks_at k later ≡ 0 → (make : List ℕ → List Put → Action) (rest : List ℕ)
@@ -328,25 +327,15 @@ module _ (d : Declared) (s : Script) (text : List ℕ) (later : List (List ℕ))
           let found = on_ok_ok (service_body_of d u rest) (λ made. Ok (with_action u (make made.0 made.1))) t h in
           goes_on k is other none (with_action u (make found.0.0 found.0.1)) found.1.1 open_yet steps callers caller
 
-      deletes : (rest : List ℕ) → word ≡ keyword.Delete → after_delete d u rest ≡ Ok t → MakesOf s text later t
-      unfolding after_delete step_looks_at
-      deletes rest is h = on (begins_as_path rest) h where
-        v : Script
-        v = with_action u (action.Delete rest)
-
-        on : (b : Bool) → cond b (service_alone action.Delete d u rest) (checked (name_rules u rest) (Ok v)) ≡ Ok t → MakesOf s text later t
-        on true h = serves keyword.Delete is refl refl action.Delete rest h
-        on false h = goes_on keyword.Delete is refl refl v (names rest v h) open_yet steps callers caller
-
       acts : (k : Keyword) (rest : List ℕ) → word ≡ k → an_action k d u rest ≡ Ok t → MakesOf s text later t
-      unfolding an_action after_literal after_create after_modify after_redeploy step_looks_at
+      unfolding an_action after_literal after_create after_modify after_redeploy after_delete step_looks_at
       acts keyword.Literal rest is h =
-          let v : Script = record u { part = part.Literal; name = rest; writes = [] } in
-          goes_on keyword.Literal is refl refl v (names rest v h) refl steps callers caller
+          let found = on_ok_ok (new_name_of u rest) (λ name. Ok (with_literal_open u name)) t h in
+          goes_on keyword.Literal is refl refl (with_literal_open u found.0) found.1.1 refl steps callers caller
       acts keyword.Create rest is h = bodied keyword.Create is refl refl action.Create rest h
       acts keyword.Modify rest is h = bodied keyword.Modify is refl refl action.Modify rest h
-      acts keyword.Redeploy rest is h = serves keyword.Redeploy is refl refl action.Redeploy rest h
-      acts keyword.Delete rest is h = deletes rest is h
+      acts keyword.Redeploy rest is h = serves keyword.Redeploy is refl refl action.Redeploy (service_id_of d u rest) h
+      acts keyword.Delete rest is h = serves keyword.Delete is refl refl action.Delete (named_or_listed d u rest) h
       acts keyword.Set rest is h = sets rest is h
       acts keyword.Unset rest is h = unsets rest is h
       acts keyword.Base rest is h = puts_base rest is h

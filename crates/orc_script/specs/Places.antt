@@ -4,7 +4,6 @@ use Rattle.std.specs.declared.option.Option.TheVariants.{None, Some}
 use Rattle.std.specs.declared.result.Result.TheVariants.{Ok, Err}
 use Rattle.orc_path.specs.Alphabet.{is_identifier}
 use Rattle.orc_path.specs.Limits.{is_long_name, is_long_path}
-use Rattle.orc_path.specs.Reading.{path_of}
 use Rattle.orc_path.specs.Steps.{PathStep, is_path}
 use Rattle.orc_schema.specs.Schemas.{SchemaTable}
 use Rattle.orc_typed.specs.Typed.{are_canonical_steps, canonical_path, stand}
@@ -15,7 +14,7 @@ use Rattle.orc_state.specs.declared.rule.Rule.TheVariants as rule
 use Rattle.orc_lines.specs.Rules.{checked, or_rule, on_ok}
 use Rattle.orc_lines.specs.Words.{cut_at}
 use Rattle.orc_lines.specs.Names.{is_among, place_of}
-use Rattle.orc_lines.specs.Items.{can_carry, is_past_path, names_list, put_of}
+use Rattle.orc_lines.specs.Items.{can_carry, kept_path_of, names_list, put_of}
 use Rattle.orc_lines.specs.declared.declared.Declared.{Declared}
 
 -- items
@@ -47,8 +46,8 @@ is_no_word text = nat_eq (length text) 0 || is_some (cut_at 32 text)
 -- `PATH`, one that can carry an item of a device's base; a name in front of it may be too long
 abbrev pub base_path_of : SchemaTable → Bool → List ℕ → Result (List PathStep) Rule
 base_path_of schema is_long word =
-    checked ((is_no_word word, rule.Line) ∷ (is_long || is_past_path (path_of word), rule.Size) ∷ [])
-    (or_rule (path_of word) rule.Path (λ path.
+    checked ((is_no_word word, rule.Line) ∷ [])
+    (on_ok (kept_path_of is_long word) (λ path.
     checked ((not (can_carry schema path (blank_item path)), rule.Path) ∷ [])
     (stored_base_path schema (canonical_path schema path))))
 
@@ -84,8 +83,8 @@ stored_node_path schema own =
 -- `PATH`, any one of the schema; what stands in front of it may pass a limit
 abbrev pub node_path_of : SchemaTable → Bool → List ℕ → Result (List PathStep) Rule
 node_path_of schema is_long word =
-    checked ((is_no_word word, rule.Line) ∷ (is_long || is_past_path (path_of word), rule.Size) ∷ [])
-    (or_rule (path_of word) rule.Path (λ path.
+    checked ((is_no_word word, rule.Line) ∷ [])
+    (on_ok (kept_path_of is_long word) (λ path.
     checked ((not (names_node schema path), rule.Path) ∷ [])
     (stored_node_path schema (canonical_path schema path))))
 

@@ -62,21 +62,23 @@ with_step s step = record s { steps = s.steps ++ step ∷ [] }
 abbrev pub after_bare : Script → ScriptStep → Result Script Rule
 after_bare s step = checked ((is_full s, rule.Size) ∷ []) (Ok (with_step s step))
 
+-- `D`, the name of a device, in a step more
+abbrev pub step_name_of : Script → List ℕ → Result (List ℕ) Rule
+step_name_of s rest =
+    checked ((not (is_identifier rest), rule.Line) ∷ (is_long_name rest || is_full s, rule.Size) ∷ []) (Ok rest)
+
 -- `show D`, behind these declarations
 unfoldable pub after_show : Declared → Script → List ℕ → Result Script Rule
 after_show d s rest =
-    checked ((not (is_identifier rest), rule.Line) ∷ (is_long_name rest || is_full s, rule.Size) ∷ [])
-    (or_rule (place_of d.names rest) rule.Unknown (λ n. Ok (with_step s (step.Show n))))
+    on_ok (step_name_of s rest) (λ name.
+    or_rule (place_of d.names name) rule.Unknown (λ n. Ok (with_step s (step.Show n))))
 
 -- `json D`, of a device with a type
 unfoldable pub after_json : Declared → Script → List ℕ → Result Script Rule
 after_json d s rest =
-    checked (
-    (not (is_identifier rest), rule.Line)
-    ∷ (is_long_name rest || is_full s, rule.Size)
-    ∷ ((schema_named d.schemas d.devices rest).plain, rule.Unknown)
-    ∷ [])
-    (or_rule (place_of d.names rest) rule.Unknown (λ n. Ok (with_step s (step.Json n))))
+    on_ok (step_name_of s rest) (λ name.
+    checked (((schema_named d.schemas d.devices name).plain, rule.Unknown) ∷ [])
+    (or_rule (place_of d.names name) rule.Unknown (λ n. Ok (with_step s (step.Json n)))))
 
 -- `meta D PATH`
 unfoldable pub after_meta : Declared → Script → List ℕ → Result Script Rule
@@ -132,25 +134,27 @@ after_call s rest followed = call_words s followed (cut_at 32 rest)
 abbrev pub is_call_full : Script → Bool
 is_call_full s = nat_le MOST_ACTIONS (length s.actions)
 
--- what is said of the service that an action more names: the call has room, and names it once
-abbrev pub name_rules : Script → List ℕ → List (Bool × Rule)
-name_rules s name =
-    (not (is_identifier name) || is_call_full s, rule.Line)
-    ∷ (is_long_name name, rule.Size)
-    ∷ (is_service_among s.actions name, rule.Duplicate)
-    ∷ []
+-- what follows for the id of a service, which no other action of the call names
+abbrev pub on_service : {X : Type 0} → Script → List ℕ → Result X Rule → Result X Rule
+on_service s id answer = checked ((is_service_among s.actions id, rule.Duplicate) ∷ []) answer
 
--- `literal NAME`, whose writes are to come
+-- `NAME`, the id of a service, in an action more: the call has room, and names it once
+abbrev pub new_name_of : Script → List ℕ → Result (List ℕ) Rule
+new_name_of s name =
+    checked ((not (is_identifier name) || is_call_full s, rule.Line) ∷ (is_long_name name, rule.Size) ∷ [])
+    (on_service s name (Ok name))
+
+-- a literal whose writes are to come
+abbrev pub with_literal_open : Script → List ℕ → Script
+with_literal_open s name = record s { part = part.Literal; name = name; writes = [] }
+
+-- `literal NAME`
 unfoldable pub after_literal : Script → List ℕ → Result Script Rule
-after_literal s name = checked (name_rules s name) (Ok (record s { part = part.Literal; name = name; writes = [] }))
+after_literal s rest = on_ok (new_name_of s rest) (λ name. Ok (with_literal_open s name))
 
 -- an action more
 abbrev pub with_action : Script → Action → Script
 with_action s action = record s { actions = s.actions ++ action ∷ [] }
-
--- what follows for the id of a service, which no other action of the call names
-abbrev pub on_service : {X : Type 0} → Script → List ℕ → Result X Rule → Result X Rule
-on_service s id answer = checked ((is_service_among s.actions id, rule.Duplicate) ∷ []) answer
 
 -- `PATH`, the entry of a service: its id is the path's text
 abbrev pub service_id_of : Declared → Script → List ℕ → Result (List ℕ) Rule
@@ -159,24 +163,22 @@ service_id_of d s rest =
     (on_ok (service_path_of d.services d.data_schema rest) (λ path.
     on_service s (path_text path) (Ok (path_text path))))
 
--- an action on it
-abbrev pub service_alone : (List ℕ → Action) → Declared → Script → List ℕ → Result Script Rule
-service_alone make d s rest = on_ok (service_id_of d s rest) (λ id. Ok (with_action s (make id)))
-
 -- `redeploy PATH`
 unfoldable pub after_redeploy : Declared → Script → List ℕ → Result Script Rule
-after_redeploy d s rest = service_alone action.Redeploy d s rest
+after_redeploy d s rest = on_ok (service_id_of d s rest) (λ id. Ok (with_action s (action.Redeploy id)))
 
 -- the text begins as that of a path does, and a name doesn't
 abbrev pub begins_as_path : List ℕ → Bool
 begins_as_path [] = false
 begins_as_path (b ∷ bs) = b == 47
 
+-- `NAME` and `PATH`, the id of any service
+abbrev pub named_or_listed : Declared → Script → List ℕ → Result (List ℕ) Rule
+named_or_listed d s rest = if begins_as_path rest then service_id_of d s rest else new_name_of s rest
+
 -- `delete NAME` and `delete PATH`
 unfoldable pub after_delete : Declared → Script → List ℕ → Result Script Rule
-after_delete d s rest =
-    if begins_as_path rest then service_alone action.Delete d s rest
-    else checked (name_rules s rest) (Ok (with_action s (action.Delete rest)))
+after_delete d s rest = on_ok (named_or_listed d s rest) (λ id. Ok (with_action s (action.Delete id)))
 
 -- `PATH JSON`, the entry of a service and its body. A limit goes before a service that is named twice; a body that is
 -- none passes no limit.

@@ -1,14 +1,13 @@
 //! What each line of a call block makes of the open call.
-ghost use Rattle.std.specs.Prelude.{◌≡◌, ◌≤◌, ◌+◌, ℕ, IfOk, IsTrue, Ok, OnOk, false};
+ghost use Rattle.std.specs.Prelude.{◌≡◌, ◌≤◌, ◌+◌, ◌||◌, ℕ, IfOk, IsTrue, OnOk, false};
 ghost use Rattle.orc_state.specs.declared.declarations.Decls.{Decls};
 ghost use Rattle.orc_state.specs.declared.lawful.TheConstants.{MOST_WRITES};
-ghost use Rattle.orc_script.specs.Scripts.{after_base_put, after_base_remove, after_delete, after_end, after_literal, after_create, after_modify, after_redeploy, after_set, after_unset, after_write, an_action, name_rules, service_alone, service_body_of, service_id_of, with_action, behind_literal, call_end, is_call_full, with_literal};
+ghost use Rattle.orc_script.specs.Scripts.{after_base_put, after_base_remove, after_delete, after_end, after_literal, after_create, after_modify, after_redeploy, after_set, after_unset, after_write, an_action, named_or_listed, new_name_of, service_body_of, service_id_of, behind_literal, call_end, is_call_full, with_literal};
 ghost use Rattle.orc_lines.specs.Lawful.{AreDeclared, decls_in};
-ghost use Rattle.orc_script.specs.inside.Lawful.{AreSteps};
+ghost use Rattle.orc_script.specs.inside.Lawful.{AreSteps, StaysInCall};
 ghost use Rattle.orc_lines.specs.Answers.{ReadsLine, Takes};
-ghost use Rattle.orc_lines.specs.Rules.{checked};
 ghost use Rattle.orc_state.specs.Actions.{is_service_among};
-ghost use Rattle.orc_state.specs.Calls.{has_body, is_service};
+ghost use Rattle.orc_state.specs.Calls.{has_body, is_lawful_name, is_service};
 ghost use Rattle.orc_lines.specs.Work.{work_on};
 
 use crate::bodies::{begins_as_path, is_long_body, keep_body, read_body};
@@ -35,17 +34,17 @@ impl Script {
         self.actions.len() >= MOST_ACTIONS
     }
 
-    // `literal NAME`, whose writes are to come.
-    #[tactic(auto, unfolding(crate::specs::Scripts::after_literal))]
-    fn take_literal<L: Ledger>(
-        &mut self,
+    // `NAME`, the id of a service that no other action of the call names.
+    fn read_new_name<L: Ledger>(
+        &self,
         alloc: Global,
         name: &str,
         work: &mut Steps<L>,
-    ) -> Result<(), LineFault>
-        ensures takes { Takes (after_literal self.old name.now) self.new result }
-        ensures lawful { (decls : Decls) (most : ℕ) → AreSteps decls most self.old
-            → self.old.part ≡ Part.Call → OnOk result (AreSteps decls most self.new) }
+    ) -> Result<Text, LineFault>
+        ensures reads { ReadsLine (new_name_of self.now name.now) result }
+        ensures lawful { IfOk result (λ id. IsTrue (is_lawful_name id)) }
+        ensures new { IfOk result (λ id. is_service_among self.now.actions id ≡ false) }
+        ensures room { OnOk result (is_call_full self.now ≡ false) }
         ensures worked { work.new ≤ work.old + work_on name.now }
     {
         if !is_identifier_counted(name, work) || self.is_call_full() {
@@ -58,6 +57,22 @@ impl Script {
         if is_service_among(self.actions.as_slice(), &name) {
             return breaks(Rule::Duplicate);
         }
+        Ok(name)
+    }
+
+    // `literal NAME`, whose writes are to come.
+    #[tactic(auto, unfolding(crate::specs::Scripts::after_literal))]
+    fn take_literal<L: Ledger>(
+        &mut self,
+        alloc: Global,
+        name: &str,
+        work: &mut Steps<L>,
+    ) -> Result<(), LineFault>
+        ensures takes { Takes (after_literal self.old name.now) self.new result }
+        ensures lawful { (decls : Decls) → StaysInCall decls self.old self.new result }
+        ensures worked { work.new ≤ work.old + work_on name.now }
+    {
+        let name = self.read_new_name(alloc, name, work)?;
         self.part = Part::Literal;
         self.name = name;
         self.writes = Row::new(alloc);
@@ -100,8 +115,7 @@ impl Script {
         work: &mut Steps<L>,
     ) -> Result<(), LineFault>
         ensures takes { Takes (after_redeploy declared.now self.old rest.now) self.new result }
-        ensures lawful { (most : ℕ) → AreSteps (decls_in declared.now) most self.old
-            → self.old.part ≡ Part.Call → OnOk result (AreSteps (decls_in declared.now) most self.new) }
+        ensures lawful { StaysInCall (decls_in declared.now) self.old self.new result }
         ensures worked { work.new ≤ work.old + work_on rest.now }
     {
         let id = self.read_service(alloc, declared, rest, work)?;
@@ -109,50 +123,24 @@ impl Script {
         Ok(())
     }
 
-    // `delete PATH`.
-    fn take_delete_service<L: Ledger>(
-        &mut self,
+    // `NAME` or `PATH`, the id of a service that no other action of the call names.
+    fn read_any_service<L: Ledger>(
+        &self,
         alloc: Global,
         declared: &Declared,
         rest: &str,
         work: &mut Steps<L>,
-    ) -> Result<(), LineFault>
-        ensures takes { Takes (service_alone Action.Delete declared.now self.old rest.now) self.new result }
-        ensures lawful { (most : ℕ) → AreSteps (decls_in declared.now) most self.old
-            → self.old.part ≡ Part.Call → OnOk result (AreSteps (decls_in declared.now) most self.new) }
+    ) -> Result<Text, LineFault>
+        ensures reads { ReadsLine (named_or_listed declared.now self.now rest.now) result }
+        ensures lawful { IfOk result (λ id. IsTrue (is_lawful_name id || is_service (decls_in declared.now) id)) }
+        ensures new { IfOk result (λ id. is_service_among self.now.actions id ≡ false) }
+        ensures room { OnOk result (is_call_full self.now ≡ false) }
         ensures worked { work.new ≤ work.old + work_on rest.now }
     {
-        let id = self.read_service(alloc, declared, rest, work)?;
-        self.actions.push(Action::Delete(id))?;
-        Ok(())
-    }
-
-    // `delete NAME`.
-    fn take_delete_name<L: Ledger>(
-        &mut self,
-        alloc: Global,
-        name: &str,
-        work: &mut Steps<L>,
-    ) -> Result<(), LineFault>
-        ensures takes { Takes
-            (checked (name_rules self.old name.now) (Ok (with_action self.old (Action.Delete name.now))))
-            self.new result }
-        ensures lawful { (decls : Decls) (most : ℕ) → AreSteps decls most self.old
-            → self.old.part ≡ Part.Call → OnOk result (AreSteps decls most self.new) }
-        ensures worked { work.new ≤ work.old + work_on name.now }
-    {
-        if !is_identifier_counted(name, work) || self.is_call_full() {
-            return breaks(Rule::Line);
+        if begins_as_path(rest.as_bytes()) {
+            return self.read_service(alloc, declared, rest, work);
         }
-        if is_long_name(name) {
-            return breaks(Rule::Size);
-        }
-        let name = Text::from_str(alloc, name)?;
-        if is_service_among(self.actions.as_slice(), &name) {
-            return breaks(Rule::Duplicate);
-        }
-        self.actions.push(Action::Delete(name))?;
-        Ok(())
+        self.read_new_name(alloc, rest, work)
     }
 
     // `delete ID`.
@@ -165,14 +153,12 @@ impl Script {
         work: &mut Steps<L>,
     ) -> Result<(), LineFault>
         ensures takes { Takes (after_delete declared.now self.old rest.now) self.new result }
-        ensures lawful { (most : ℕ) → AreSteps (decls_in declared.now) most self.old
-            → self.old.part ≡ Part.Call → OnOk result (AreSteps (decls_in declared.now) most self.new) }
+        ensures lawful { StaysInCall (decls_in declared.now) self.old self.new result }
         ensures worked { work.new ≤ work.old + work_on rest.now }
     {
-        if begins_as_path(rest.as_bytes()) {
-            return self.take_delete_service(alloc, declared, rest, work);
-        }
-        self.take_delete_name(alloc, rest, work)
+        let id = self.read_any_service(alloc, declared, rest, work)?;
+        self.actions.push(Action::Delete(id))?;
+        Ok(())
     }
 
     // `PATH JSON`: the id of a service that no other action of the call names, and its body.
@@ -223,8 +209,7 @@ impl Script {
         work: &mut Steps<L>,
     ) -> Result<(), LineFault>
         ensures takes { Takes (after_create declared.now self.old rest.now) self.new result }
-        ensures lawful { (most : ℕ) → AreSteps (decls_in declared.now) most self.old
-            → self.old.part ≡ Part.Call → OnOk result (AreSteps (decls_in declared.now) most self.new) }
+        ensures lawful { StaysInCall (decls_in declared.now) self.old self.new result }
         ensures worked { work.new ≤ work.old + work_on rest.now }
     {
         let made = self.read_bodied(alloc, declared, rest, work)?;
@@ -242,8 +227,7 @@ impl Script {
         work: &mut Steps<L>,
     ) -> Result<(), LineFault>
         ensures takes { Takes (after_modify declared.now self.old rest.now) self.new result }
-        ensures lawful { (most : ℕ) → AreSteps (decls_in declared.now) most self.old
-            → self.old.part ≡ Part.Call → OnOk result (AreSteps (decls_in declared.now) most self.new) }
+        ensures lawful { StaysInCall (decls_in declared.now) self.old self.new result }
         ensures worked { work.new ≤ work.old + work_on rest.now }
     {
         let made = self.read_bodied(alloc, declared, rest, work)?;
@@ -261,8 +245,7 @@ impl Script {
         work: &mut Steps<L>,
     ) -> Result<(), LineFault>
         ensures takes { Takes (after_set declared.now self.old rest.now) self.new result }
-        ensures lawful { (most : ℕ) → AreSteps (decls_in declared.now) most self.old
-            → self.old.part ≡ Part.Call → OnOk result (AreSteps (decls_in declared.now) most self.new) }
+        ensures lawful { StaysInCall (decls_in declared.now) self.old self.new result }
         ensures worked { work.new ≤ work.old + work_on rest.now }
     {
         if self.is_call_full() {
@@ -284,8 +267,7 @@ impl Script {
         work: &mut Steps<L>,
     ) -> Result<(), LineFault>
         ensures takes { Takes (after_unset declared.now self.old rest.now) self.new result }
-        ensures lawful { (most : ℕ) → AreSteps (decls_in declared.now) most self.old
-            → self.old.part ≡ Part.Call → OnOk result (AreSteps (decls_in declared.now) most self.new) }
+        ensures lawful { StaysInCall (decls_in declared.now) self.old self.new result }
         ensures worked { work.new ≤ work.old + work_on rest.now }
     {
         if self.is_call_full() || cut(rest).is_some() {
@@ -308,8 +290,7 @@ impl Script {
     ) -> Result<(), LineFault>
         requires { AreDeclared declared.now }
         ensures takes { Takes (after_base_put declared.now self.old rest.now) self.new result }
-        ensures lawful { (most : ℕ) → AreSteps (decls_in declared.now) most self.old
-            → self.old.part ≡ Part.Call → OnOk result (AreSteps (decls_in declared.now) most self.new) }
+        ensures lawful { StaysInCall (decls_in declared.now) self.old self.new result }
         ensures worked { work.new ≤ work.old + work_on rest.now }
     {
         if self.is_call_full() {
@@ -331,8 +312,7 @@ impl Script {
     ) -> Result<(), LineFault>
         requires { AreDeclared declared.now }
         ensures takes { Takes (after_base_remove declared.now self.old rest.now) self.new result }
-        ensures lawful { (most : ℕ) → AreSteps (decls_in declared.now) most self.old
-            → self.old.part ≡ Part.Call → OnOk result (AreSteps (decls_in declared.now) most self.new) }
+        ensures lawful { StaysInCall (decls_in declared.now) self.old self.new result }
         ensures worked { work.new ≤ work.old + work_on rest.now }
     {
         if self.is_call_full() {
@@ -375,8 +355,7 @@ impl Script {
     ) -> Result<(), LineFault>
         requires { AreDeclared declared.now }
         ensures takes { Takes (an_action word declared.now self.old rest.now) self.new result }
-        ensures lawful { (most : ℕ) → AreSteps (decls_in declared.now) most self.old
-            → self.old.part ≡ Part.Call → OnOk result (AreSteps (decls_in declared.now) most self.new) }
+        ensures lawful { StaysInCall (decls_in declared.now) self.old self.new result }
         ensures worked { work.new ≤ work.old + work_on rest.now }
     {
         match word {
@@ -435,8 +414,7 @@ impl Script {
     #[tactic(auto, unfolding(crate::specs::Scripts::after_end))]
     fn take_end(&mut self, alloc: Global, followed: bool) -> Result<(), LineFault>
         ensures takes { Takes (after_end self.old followed) self.new result }
-        ensures lawful { (decls : Decls) (most : ℕ) → AreSteps decls most self.old
-            → self.old.part ≡ Part.Call → OnOk result (AreSteps decls most self.new) }
+        ensures lawful { (decls : Decls) → StaysInCall decls self.old self.new result }
     {
         if self.actions.len() == 0 {
             return breaks(Rule::Line);
@@ -464,8 +442,7 @@ impl Script {
         followed: bool,
     ) -> Result<(), LineFault>
         ensures takes { Takes (call_end word self.old followed) self.new result }
-        ensures lawful { (decls : Decls) (most : ℕ) → AreSteps decls most self.old
-            → self.old.part ≡ Part.Call → OnOk result (AreSteps decls most self.new) }
+        ensures lawful { (decls : Decls) → StaysInCall decls self.old self.new result }
     {
         match word {
             Keyword::End => self.take_end(alloc, followed),

@@ -14,8 +14,7 @@ use crate::step::ScriptStep;
 use orc_call::DevicePut;
 use orc_io::Steps;
 use orc_lines::{
-    Declared, LineFault, blank_item, breaks, can_carry, cut, is_past_path, names_list, read_path,
-    read_put,
+    Declared, LineFault, blank_item, breaks, can_carry, cut, names_list, read_kept_path, read_put,
 };
 use orc_path::{Path, is_identifier_counted, is_long_name};
 use orc_schema::Schema;
@@ -126,13 +125,7 @@ fn read_base_path<L: Ledger>(
     if is_no_word(word) {
         return breaks(Rule::Line);
     }
-    let path = read_path(alloc, word, work)?;
-    if is_long || is_past_path(&path, work) {
-        return breaks(Rule::Size);
-    }
-    let Some(path) = path else {
-        return breaks(Rule::Path);
-    };
+    let path = read_kept_path(alloc, is_long, word, work)?;
     if !can_carry(schema, &path, &blank_item(alloc, &path), work) {
         return breaks(Rule::Path);
     }
@@ -227,13 +220,7 @@ fn read_node_path<L: Ledger>(
     if is_no_word(word) {
         return breaks(Rule::Line);
     }
-    let path = read_path(alloc, word, work)?;
-    if is_long || is_past_path(&path, work) {
-        return breaks(Rule::Size);
-    }
-    let Some(path) = path else {
-        return breaks(Rule::Path);
-    };
+    let path = read_kept_path(alloc, is_long, word, work)?;
     if !names_node(schema, &path, work) {
         return breaks(Rule::Path);
     }

@@ -3,12 +3,12 @@ ghost use Rattle.std.specs.Prelude.{◌≡◌, ◌<◌, ◌≤◌, ◌+◌, ◌^
 ghost use Rattle.orc_lines.specs.Keywords.{keyword_of};
 ghost use Rattle.orc_lines.specs.Lines.{lines_of};
 ghost use Rattle.orc_lines.specs.Words.{first_word};
-ghost use Rattle.orc_script.specs.Scripts.{no_steps, is_full, is_caller_more, after_bare, after_show, after_json, after_meta, after_stop, after_call, after_step, a_step, bare_step, is_followed, words_at, word_at, scripted_at};
-ghost use Rattle.orc_lines.specs.Answers.{Takes};
+ghost use Rattle.orc_script.specs.Scripts.{no_steps, is_full, is_caller_more, after_bare, after_show, after_json, after_meta, after_stop, after_call, after_step, a_step, bare_step, is_followed, step_name_of, words_at, word_at, scripted_at};
+ghost use Rattle.orc_lines.specs.Answers.{ReadsLine, Takes};
 ghost use Rattle.orc_lines.specs.Work.{work_on};
 ghost use Rattle.orc_script.specs.inside.Costs.{scripted_looks_at, step_looks_at};
 ghost use Rattle.orc_lines.specs.Lawful.{AreDeclared, decls_in};
-ghost use Rattle.orc_script.specs.inside.Lawful.{AreSteps};
+ghost use Rattle.orc_script.specs.inside.Lawful.{AreSteps, StaysAnywhere, StaysLawful};
 ghost use Rattle.orc_state.specs.declared.declarations.Decls.{Decls};
 ghost use Rattle.orc_script.specs.Steps.{is_step};
 ghost use Rattle.orc_state.specs.declared.lawful.TheConstants.{MOST_WRITES};
@@ -111,6 +111,25 @@ impl Script {
         Ok(())
     }
 
+    // `D`, the name of a device, in a step more.
+    fn read_step_name<L: Ledger>(
+        &self,
+        alloc: Global,
+        rest: &str,
+        work: &mut Steps<L>,
+    ) -> Result<Text, LineFault>
+        ensures reads { ReadsLine (step_name_of self.now rest.now) result }
+        ensures worked { work.new ≤ work.old + work_on rest.now }
+    {
+        if !is_identifier_counted(rest, work) {
+            return breaks(Rule::Line);
+        }
+        if is_long_name(rest) || self.is_full() {
+            return breaks(Rule::Size);
+        }
+        Ok(Text::from_str(alloc, rest)?)
+    }
+
     // `show D`.
     #[tactic(auto, unfolding(crate::specs::Scripts::after_show))]
     fn take_show<L: Ledger>(
@@ -122,17 +141,10 @@ impl Script {
     ) -> Result<(), LineFault>
         requires { AreDeclared declared.now }
         ensures takes { Takes (after_show declared.now self.old rest.now) self.new result }
-        ensures lawful { (most : ℕ) → AreSteps (decls_in declared.now) most self.old
-            → OnOk result (AreSteps (decls_in declared.now) most self.new) }
+        ensures lawful { StaysLawful (decls_in declared.now) self.old self.new result }
         ensures worked { work.new ≤ work.old + work_on rest.now }
     {
-        if !is_identifier_counted(rest, work) {
-            return breaks(Rule::Line);
-        }
-        if is_long_name(rest) || self.is_full() {
-            return breaks(Rule::Size);
-        }
-        let name = Text::from_str(alloc, rest)?;
+        let name = self.read_step_name(alloc, rest, work)?;
         let Some(n) = declared.names.place(&name) else {
             return breaks(Rule::Unknown);
         };
@@ -151,17 +163,10 @@ impl Script {
     ) -> Result<(), LineFault>
         requires { AreDeclared declared.now }
         ensures takes { Takes (after_json declared.now self.old rest.now) self.new result }
-        ensures lawful { (most : ℕ) → AreSteps (decls_in declared.now) most self.old
-            → OnOk result (AreSteps (decls_in declared.now) most self.new) }
+        ensures lawful { StaysLawful (decls_in declared.now) self.old self.new result }
         ensures worked { work.new ≤ work.old + work_on rest.now }
     {
-        if !is_identifier_counted(rest, work) {
-            return breaks(Rule::Line);
-        }
-        if is_long_name(rest) || self.is_full() {
-            return breaks(Rule::Size);
-        }
-        let name = Text::from_str(alloc, rest)?;
+        let name = self.read_step_name(alloc, rest, work)?;
         let plain = Schema::plain(alloc);
         if declared.schema_named(&name, &plain).is_plain() {
             return breaks(Rule::Unknown);
@@ -184,8 +189,7 @@ impl Script {
     ) -> Result<(), LineFault>
         requires { AreDeclared declared.now }
         ensures takes { Takes (after_meta declared.now self.old rest.now) self.new result }
-        ensures lawful { (most : ℕ) → AreSteps (decls_in declared.now) most self.old
-            → OnOk result (AreSteps (decls_in declared.now) most self.new) }
+        ensures lawful { StaysLawful (decls_in declared.now) self.old self.new result }
         ensures worked { work.new ≤ work.old + work_on rest.now }
     {
         let node = read_device_node(alloc, declared, self.is_full(), rest, work)?;
@@ -197,8 +201,7 @@ impl Script {
     #[tactic(auto, unfolding(crate::specs::Scripts::after_stop))]
     fn take_stop(&mut self, rest: &str) -> Result<(), LineFault>
         ensures takes { Takes (after_stop self.old rest.now) self.new result }
-        ensures lawful { (decls : Decls) (most : ℕ) → AreSteps decls most self.old
-            → OnOk result (AreSteps decls most self.new) }
+        ensures lawful { (decls : Decls) → StaysLawful decls self.old self.new result }
     {
         let Some((count, bytes)) = cut(rest) else {
             return breaks(Rule::Line);
@@ -229,8 +232,7 @@ impl Script {
         work: &mut Steps<L>,
     ) -> Result<(), LineFault>
         ensures takes { Takes (after_call self.old rest.now followed) self.new result }
-        ensures lawful { (decls : Decls) (most : ℕ) → AreSteps decls most self.old
-            → OnOk result (AreSteps decls most self.new) }
+        ensures lawful { (decls : Decls) → StaysLawful decls self.old self.new result }
         ensures worked { work.new ≤ work.old + work_on rest.now }
     {
         let Some((caller, number)) = cut(rest) else {
@@ -270,8 +272,7 @@ impl Script {
     ) -> Result<(), LineFault>
         requires { AreDeclared declared.now }
         ensures takes { Takes (a_step word declared.now self.old rest.now followed) self.new result }
-        ensures lawful { (most : ℕ) → AreSteps (decls_in declared.now) most self.old
-            → OnOk result (AreSteps (decls_in declared.now) most self.new) }
+        ensures lawful { StaysLawful (decls_in declared.now) self.old self.new result }
         ensures worked { work.new ≤ work.old + work_on rest.now }
     {
         match word {
@@ -288,8 +289,7 @@ impl Script {
     #[tactic(auto, unfolding(crate::specs::Scripts::bare_step))]
     fn take_bare_step(&mut self, word: Keyword) -> Result<(), LineFault>
         ensures takes { Takes (bare_step word self.old) self.new result }
-        ensures lawful { (decls : Decls) (most : ℕ) → AreSteps decls most self.old
-            → OnOk result (AreSteps decls most self.new) }
+        ensures lawful { (decls : Decls) → StaysLawful decls self.old self.new result }
     {
         match word {
             Keyword::Settle => self.take_bare(ScriptStep::Settle),
@@ -316,8 +316,7 @@ impl Script {
         ensures takes { Takes
             (words_at self.old.part word declared.now self.old rest.now followed)
             self.new result }
-        ensures lawful { (most : ℕ) → AreSteps (decls_in declared.now) most self.old → most ≤ MOST_WRITES
-            → OnOk result (AreSteps (decls_in declared.now) (most + 1) self.new) }
+        ensures lawful { StaysAnywhere (decls_in declared.now) self.old self.new result }
         ensures worked { work.new ≤ work.old + work_on rest.now }
     {
         match self.part {
@@ -357,8 +356,7 @@ impl Script {
     ) -> Result<(), LineFault>
         requires { AreDeclared declared.now }
         ensures takes { Takes (after_step declared.now self.old text.now (lines_of later.now)) self.new result }
-        ensures lawful { (most : ℕ) → AreSteps (decls_in declared.now) most self.old → most ≤ MOST_WRITES
-            → OnOk result (AreSteps (decls_in declared.now) (most + 1) self.new) }
+        ensures lawful { StaysAnywhere (decls_in declared.now) self.old self.new result }
         ensures cost { steps.new ≡ steps.old + step_looks_at (keyword_of (first_word text.now)) (lines_of later.now) }
         ensures worked { work.new ≤ work.old + work_on text.now }
     {
@@ -385,8 +383,7 @@ impl Script {
         requires room { at + length line.now < 2 ^ 63 }
         requires declared { AreDeclared declared.now }
         ensures takes { Takes (scripted_at declared.now self.old at line.now (lines_of later.now)) self.new result }
-        ensures lawful { (most : ℕ) → AreSteps (decls_in declared.now) most self.old → most ≤ MOST_WRITES
-            → OnOk result (AreSteps (decls_in declared.now) (most + 1) self.new) }
+        ensures lawful { StaysAnywhere (decls_in declared.now) self.old self.new result }
         ensures small { OnOk result (at + length line.now ≤ LARGEST_BUNDLE) }
         ensures counts { steps.old ≤ steps.new }
         ensures cost { steps.new ≤ steps.old + scripted_looks_at line.now (lines_of later.now) }

@@ -1,5 +1,5 @@
 -- The items of a configuration fit their paths as writes.
-use Rattle.std.proofs.Common.{◌≡◌, ℕ, ◌≤◌, Bool, true, false, length, drop, append-nil, ◌&&◌, List, [], ◌∷◌, ◌++◌, map, IsTrue, refl, sym, ap, subst, ◌∙◌}
+use Rattle.std.proofs.Common.{◌≡◌, ℕ, ◌≤◌, true, length, drop, append-nil, List, [], ◌∷◌, ◌++◌, map, IsTrue, refl, sym, ap, subst, ◌∙◌}
 use Rattle.std.specs.Cmp.{first_so, second_so}
 use Rattle.std.specs.List.{list_all}
 use Rattle.std.specs.FinMap.{entries}
@@ -12,22 +12,19 @@ use Rattle.orc_change.proofs.Exact.{entries_are}
 use Rattle.orc_call.specs.declared.call.DevicePut.{DevicePut}
 use Rattle.orc_services.specs.Fitting.{fits_writes}
 use Rattle.std.proofs.lemmas.List.{drop_all}
+use Rattle.std.proofs.lemmas.Bool.{and_from}
 use Rattle.orc_services.specs.Expanded.{write_of, writes_of, writes_to}
-
-both : (a b : Bool) → a ≡ true → b ≡ true → (a && b) ≡ true
-both true b p q = q
-both false b p q = p
 
 held_fit : (name : List ℕ) (config : Config) (rows : List (List PathStep × Item)) → IsConfig config → AreHeld config rows
     → fits_writes (map (write_of name) rows) ≡ true
 held_fit name config [] is held = refl
 held_fit name config (row ∷ rows) is held =
-    both (fits row.0 row.1) (fits_writes (map (write_of name) rows)) (is.fit row.0 row.1 held.0) (held_fit name config rows is held.1)
+    and_from (fits row.0 row.1) (fits_writes (map (write_of name) rows)) (is.fit row.0 row.1 held.0) (held_fit name config rows is held.1)
 
 append_fit : (xs ys : List DevicePut) → fits_writes xs ≡ true → fits_writes ys ≡ true → fits_writes (xs ++ ys) ≡ true
 append_fit [] ys x y = y
 append_fit (w ∷ xs) ys x y =
-    both (fits w.path w.item) (fits_writes (xs ++ ys)) (first_so (fits w.path w.item) (fits_writes xs) x)
+    and_from (fits w.path w.item) (fits_writes (xs ++ ys)) (first_so (fits w.path w.item) (fits_writes xs) x)
     (append_fit xs ys (second_so (fits w.path w.item) (fits_writes xs) x) y)
 
 pub pushed_fit : (name : List ℕ) (config : Config) (old new : List DevicePut) → IsConfig config → fits_writes old ≡ true

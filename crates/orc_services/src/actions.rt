@@ -1,5 +1,5 @@
 //! What actions on templated services come to.
-ghost use Rattle.std.specs.Prelude.{◌≡◌, ◌++◌, ℕ, List, [], IfOk, IsTrue, OnErr, OnOk, Result, Some};
+ghost use Rattle.std.specs.Prelude.{◌≡◌, ℕ, List, [], IfOk, IsTrue, OnErr, Result, Some};
 ghost use Rattle.std.specs.Option.{option_map};
 ghost use Rattle.orc_expr.specs.declared.read.Read.{Read};
 ghost use Rattle.orc_template.specs.TheReaders.{the_readers};
@@ -20,7 +20,6 @@ use orc_template::{Devices, ExpandFault, Template, View, the_readers_read_back};
 use orc_text::{Memory, Row, Text};
 use orc_tree::Tree;
 use std::alloc::Global;
-use std::mem;
 
 /// What was written on each device, or the block at fault and the rule.
 #[derive(Drop)]
@@ -162,21 +161,6 @@ fn expand_all(
     Ok(Ok(expanded))
 }
 
-// Adds reads. After want of memory the reads are as they were.
-fn add_reads(alloc: Global, reads: &mut ReadSet, more: ReadSet) -> Result<(), Memory>
-    ensures ok { OnOk result (reads.new.reads ≡ reads.old.reads ++ more.reads) }
-    ensures err { OnErr result (reads.new.reads ≡ reads.old.reads) }
-{
-    let mut all = mem::replace(&mut reads.reads, Row::new(alloc)).into_vec();
-    let mut more = more.reads.into_vec();
-    let added = all.append(&mut more);
-    reads.reads = Row::from_vec(all);
-    match added {
-        Ok(()) => Ok(()),
-        Err(_) => Err(Memory),
-    }
-}
-
 /// What the actions of a call come to, once its data is done: each that creates, modifies or redeploys
 /// a service is that of a literal one with the items of its expansion on the data. Or the answer is
 /// the first that can't be expanded. What the expansions read is added, also where the answer is a
@@ -198,6 +182,6 @@ pub fn expand_actions(
 {
     let mut read = ReadSet::new(alloc);
     let outcome = expand_all(alloc, lists, devices, view, actions, &mut read)?;
-    add_reads(alloc, reads, read)?;
+    reads.append(alloc, read)?;
     Ok(outcome)
 }

@@ -10,6 +10,7 @@ use Rattle.std.specs.List.{filter, fold, Contains}
 use Rattle.std.specs.Cmp.Lexicographic.{bytes_decides}
 use Rattle.std.specs.FinMap.{find, get}
 use Rattle.std.proofs.lemmas.List.Elements.{All-contains, All-head, All-tail, All-nil, All-cons, Contains-append_cases, Contains-append_left, Contains-append_right, Contains-push, Contains-push_cases}
+use Rattle.std.proofs.lemmas.Bool.{or_right}
 use Rattle.orc_path.specs.Steps.{PathStep}
 use Rattle.orc_path.specs.Order.{path_cmp}
 use Rattle.orc_path.proofs.PathOrder.{path_cmp_exact}
@@ -164,13 +165,9 @@ origin devices (action ∷ actions) live s c = on (origin devices actions (live_
           All-contains (IsMade devices) (new_services devices action) s (made_is_made devices action) made,
         )
 
-    named_too : (a b : Bool) → b ≡ true → (a || b) ≡ true
-    named_too true b e = refl
-    named_too false b e = e
-
     on : Origin devices actions (live_step devices live action) s → Origin devices (action ∷ actions) live s
     on (inl old) = by_step old.1 (Contains-append_cases (filter left live) (new_services devices action) s old.0)
-    on (inr made) = inr (named_too (names action s.id) (is_named_by actions s.id) made.0, made.1)
+    on (inr made) = inr (or_right (names action s.id) (is_named_by actions s.id) made.0, made.1)
 
 -- no two services of one name
 

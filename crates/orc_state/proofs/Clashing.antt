@@ -10,6 +10,7 @@ use Rattle.std.specs.List.{find, flat_map, fold, Contains}
 use Rattle.std.specs.Cmp.Lexicographic.{bytes_decides}
 use Rattle.std.specs.FinMap.{get, nat_cmp-IsAntisymmetric, slice_cmp-IsAntisymmetric}
 use Rattle.std.proofs.lemmas.List.Elements.{All-weaker, All-contains_itself, Contains-append_left, Contains-append_right}
+use Rattle.std.proofs.lemmas.Bool.{or_right}
 use Rattle.orc_path.specs.Steps.{PathStep}
 use Rattle.orc_path.specs.Order.{path_cmp, text_cmp}
 use Rattle.orc_path.proofs.PathOrder.{path_cmp_exact, path_cmp_total}
@@ -33,12 +34,9 @@ use Rattle.orc_state.specs.inside.Keeping.{IsStoreFor, clash_on}
 use Rattle.orc_state.specs.declared.state.Service.{Service}
 use Rattle.orc_state.proofs.Agreement.{AreUnique, first_in, in_cases, later_in, none_in_nil, on_none}
 use Rattle.orc_state.proofs.Lists.{true_not_false}
-use Rattle.orc_state.proofs.LeastClash.{At, LeastAt, clash_has, least_at}
+use Rattle.orc_state.proofs.LeastClash.{At, LeastAt, clash_has, least_at, some_is}
 use Rattle.orc_state.proofs.Named.{behind-once, is_text_itself, touched-once, unnamed}
 use Rattle.orc_state.proofs.OnDevice.{moves-distinct, moves_in, written}
-
-some_is : {A : Type 0} {a b : A} → Some a ≡ Some b → a ≡ b
-some_is q = cc
 
 some_none : {A : Type 0} {a : A} → Some a ≡ None → ⊥
 some_none q = cc
@@ -218,27 +216,19 @@ made_moves devices live d (Literal own ws ∷ actions) s c =
     made : Service
     made = record { id = own; parts = expansion devices ws }
 
-    or_true : (b : Bool) → (b || true) ≡ true
-    or_true true = refl
-    or_true false = refl
-
     on : (made ≡ s) ⊎ Contains (flat_map (new_services devices) actions) s
         → (Contains (flat_map (new_services devices) actions) s → is_moved (moves_in devices live d actions) s.id ≡ true)
         → (is_same_text own s.id || is_moved (moves_in devices live d actions) s.id) ≡ true
     on (inl one) rest =
         ap (λ t. t || is_moved (moves_in devices live d actions) s.id) (ap (λ (x : Service). is_same_text own x.id) (sym one) ∙ is_text_itself own)
-    on (inr later) rest = ap (λ t. is_same_text own s.id || t) (rest later) ∙ or_true (is_same_text own s.id)
+    on (inr later) rest = or_right (is_same_text own s.id) _ (rest later)
 made_moves devices live d (Delete own ∷ actions) s c = on (find (has_id own) live) (made_moves devices live d actions s c)
   where
-    or_true : (b : Bool) → (b || true) ≡ true
-    or_true true = refl
-    or_true false = refl
-
     on : (o : Option Service) → is_moved (moves_in devices live d actions) s.id ≡ true
         → is_moved (option_map_or (λ (x : Service). record { service = own; old = items_of (part x d); new = [] } ∷ []) o []
         ++ moves_in devices live d actions) s.id ≡ true
     on None rest = rest
-    on (Some x) rest = ap (λ t. is_same_text own s.id || t) rest ∙ or_true (is_same_text own s.id)
+    on (Some x) rest = or_right (is_same_text own s.id) _ rest
 made_moves devices live d (other ∷ actions) s c = made_moves devices live d actions s c
 
 -- a mover in front of others brings what it brings
@@ -251,11 +241,7 @@ distinct_later m ms h = on (is_moved ms m.service) refl h
 
 moved_there : (fs : List Move) (m : Move) (bs : List Move) → is_moved (fs ++ m ∷ bs) m.service ≡ true
 moved_there [] m bs = ap (λ t. t || is_moved bs m.service) (is_text_itself m.service)
-moved_there (f ∷ fs) m bs = ap (λ t. is_same_text f.service m.service || t) (moved_there fs m bs) ∙ or_true (is_same_text f.service m.service)
-  where
-    or_true : (b : Bool) → (b || true) ≡ true
-    or_true true = refl
-    or_true false = refl
+moved_there (f ∷ fs) m bs = or_right (is_same_text f.service m.service) _ (moved_there fs m bs)
 
 other_mover : (f : Move) (fs : List Move) (m : Move) (bs : List Move) → are_distinct (f ∷ fs ++ m ∷ bs) ≡ true → is_same_text f.service m.service ≡ false
 other_mover f fs m bs h = on (is_same_text f.service m.service) refl
@@ -294,10 +280,6 @@ mover_made devices live d p x (Literal own ws ∷ actions) front m back is bring
     mine : Move
     mine = record { service = own; old = held_by live d own; new = items_of (part made d) }
 
-    or_true : (b : Bool) → (b || true) ≡ true
-    or_true true = refl
-    or_true false = refl
-
     more : (f : Move) (fs : List Move) → mine ≡ f → IsMover rest fs m.service → IsMover (made ∷ rest) (f ∷ fs) m.service
     more f fs same found = record {
       before = made ∷ found.before;
@@ -312,7 +294,7 @@ mover_made devices live d p x (Literal own ws ∷ actions) front m back is bring
         by s (inl one) =
             ap (λ t. t || is_moved fs s.id)
             (ap (λ (z : Move). is_same_text z.service s.id) (sym same) ∙ ap (λ (z : Service). is_same_text own z.id) (sym one) ∙ is_text_itself own)
-        by s (inr later) = ap (λ t. is_same_text f.service s.id || t) (found.moved s later) ∙ or_true (is_same_text f.service s.id)
+        by s (inr later) = or_right (is_same_text f.service s.id) _ (found.moved s later)
 
     on : (fs : List Move) → mine ∷ moves_in devices live d actions ≡ fs ++ m ∷ back
         → ((gs : List Move) → moves_in devices live d actions ≡ gs ++ m ∷ back → IsMover rest gs m.service)
@@ -337,10 +319,6 @@ mover_made devices live d p x (Delete own ∷ actions) front m back is brings =
     rest : List Service
     rest = flat_map (new_services devices) actions
 
-    or_true : (b : Bool) → (b || true) ≡ true
-    or_true true = refl
-    or_true false = refl
-
     gone : Service → Move
     gone s = record { service = own; old = items_of (part s d); new = [] }
 
@@ -351,7 +329,7 @@ mover_made devices live d p x (Delete own ∷ actions) front m back is brings =
       later = found.later;
       parts = found.parts;
       named = found.named;
-      moved = λ s c. ap (λ t. is_same_text f.service s.id || t) (found.moved s c) ∙ or_true (is_same_text f.service s.id);
+      moved = λ s c. or_right (is_same_text f.service s.id) _ (found.moved s c);
     }
 
     on : (o : Option Service) (fs : List Move)

@@ -10,6 +10,7 @@ use Rattle.orc_path.specs.Steps.{PathStep, ends_in_keys, is_path}
 use Rattle.orc_path.specs.declared.item.Item.TheVariants.{Entry, Leaf}
 use Rattle.std.specs.declared.option.Option.{Option}
 use Rattle.std.specs.Option.{option_map_or}
+use Rattle.std.proofs.lemmas.Bool.{and_from}
 use Rattle.orc_state.proofs.Lists.{not_true}
 use Rattle.orc_path.specs.declared.item.Item.{Item}
 use Rattle.orc_schema.specs.Schemas.{SchemaTable}
@@ -120,16 +121,12 @@ service-fits : (decls : Decls) (id : List ℕ) (body : List Put) → is_service 
     → (is_entry_id id && fits_body body) ≡ true
 service-fits decls id body is has = on (path_of id) is has
   where
-    both : (a b : Bool) → a ≡ true → b ≡ true → (a && b) ≡ true
-    both true b p q = q
-    both false b p q = absurd cc
-
     on : (o : Option (List PathStep)) → option_map_or (is_service_path decls) o false ≡ true
         → option_map_or (λ entry. is_body decls.data_schema entry body) o false ≡ true
         → (option_map_or (λ path. fits path Entry) o true && fits_body body) ≡ true
     on None i h = cc
     on (Some path) i h =
-        both (fits path Entry) (fits_body body) (service_entry decls path i).1
+        and_from (fits path Entry) (fits_body body) (service_entry decls path i).1
         (body-fits decls.data_schema path body (second_so _ (list_all (is_body_item decls.data_schema path) body) (first_so _ _ h)))
 
 -- the items that an action of a bundle writes fit their paths

@@ -11,6 +11,7 @@ use Rattle.std.specs.Cmp.Lexicographic.{bytes_decides, nat_list_cmp_total}
 use Rattle.std.specs.FinMap.{find, get, entries, is_sorted, get-entries, entries_sorted}
 use Rattle.std.specs.FinMap.Entries.{below_all}
 use Rattle.std.proofs.lemmas.List.Elements.{All-contains, All-nil, All-cons, All-tail}
+use Rattle.std.proofs.lemmas.Bool.{or_right}
 use Rattle.orc_path.specs.Steps.{PathStep}
 use Rattle.orc_path.specs.Order.{path_cmp, text_cmp}
 use Rattle.orc_path.proofs.PathOrder.{path_cmp_exact, path_cmp_total}
@@ -343,10 +344,6 @@ pub any_of : {X : Type 0} (p : X → Bool) (xs : List X) (x : X) → Contains xs
 any_of p [] x c h = absurd (none_in_nil x c)
 any_of p (y ∷ ys) x c h = on (any_of p ys x) (in_cases y x ys c)
   where
-    or_true : (b : Bool) → (b || true) ≡ true
-    or_true true = refl
-    or_true false = refl
-
     on : (Contains ys x → p x ≡ true → list_any p ys ≡ true) → (y ≡ x) ⊎ Contains ys x → (p y || list_any p ys) ≡ true
     on rest (inl one) = ap (λ t. t || list_any p ys) (ap p one ∙ h)
-    on rest (inr later) = ap (λ t. p y || t) (rest later h) ∙ or_true (p y)
+    on rest (inr later) = or_right (p y) _ (rest later h)

@@ -1,5 +1,5 @@
 -- What services write on one device, and what the actions of a call make of it.
-use Rattle.std.proofs.Common.{◌≡◌, ℕ, Bool, true, false, cond, not, ◌&&◌, ◌||◌, List, [], ◌∷◌, ◌++◌, map, None, Some, refl, sym, ap, subst, ◌∙◌}
+use Rattle.std.proofs.Common.{◌≡◌, ℕ, Bool, true, false, cond, not, ◌||◌, List, [], ◌∷◌, ◌++◌, map, None, Some, refl, sym, ap, subst, ◌∙◌}
 use Rattle.std.specs.declared.option.Option.{Option}
 use Rattle.std.specs.Option.{option_map_or}
 use Rattle.std.specs.List.{filter, find, flat_map, fold, list_all, list_any, Contains}
@@ -9,6 +9,7 @@ use Rattle.std.specs.FinMap as map
 use Rattle.std.specs.Ordering.{eq_by_cmp}
 use Rattle.std.proofs.lemmas.List.{nil_from_length}
 use Rattle.std.proofs.lemmas.List.Elements.{All-contains, All-head, All-tail}
+use Rattle.std.proofs.lemmas.Bool.{and_from}
 use Rattle.orc_path.specs.Steps.{PathStep}
 use Rattle.orc_path.specs.Order.{path_cmp}
 use Rattle.orc_path.specs.Items.{fits}
@@ -357,13 +358,9 @@ edits-fit name (BasePut put ∷ actions) h =
     on (is_same_text put.device name) (All-head (λ (a : Action). fits_action a ≡ true) (BasePut put) actions h)
     (edits-fit name actions (All-tail (λ (a : Action). fits_action a ≡ true) (BasePut put) actions h))
   where
-    both : (a b : Bool) → a ≡ true → b ≡ true → (a && b) ≡ true
-    both true b p q = q
-    both false b p q = absurd cc
-
     on : (t : Bool) → fits put.path put.item ≡ true → list_all edit_fits (flat_map (edits_of name) actions) ≡ true
         → list_all edit_fits (cond t (edit.Put (record { path = put.path; item = put.item }) ∷ []) [] ++ flat_map (edits_of name) actions) ≡ true
-    on true f rest = both (fits put.path put.item) _ f rest
+    on true f rest = and_from (fits put.path put.item) _ f rest
     on false f rest = rest
 edits-fit name (BaseRemove device path ∷ actions) h =
     on (is_same_text device name) (edits-fit name actions (All-tail (λ (a : Action). fits_action a ≡ true) (BaseRemove device path) actions h))

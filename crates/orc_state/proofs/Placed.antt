@@ -8,7 +8,7 @@ use Rattle.orc_state.specs.States.{has_id, is_same_text, lives, others}
 use Rattle.orc_state.specs.inside.Placed.{AreNamedOnce, AreNoted, HasNames, IsPlaced, KeepsNames, KeepsNoted, filled, is_at, noted, place_among}
 use Rattle.orc_state.specs.inside.Turns.{AreFresh, left_by}
 use Rattle.orc_state.specs.declared.state.Service.{Service}
-use Rattle.std.proofs.lemmas.Bool.{eqb-true}
+use Rattle.std.proofs.lemmas.Bool.{eqb-true, or_right, false_from_ne_true}
 use Rattle.std.proofs.lemmas.List.{nil_from_length}
 use Rattle.std.proofs.lemmas.List.Elements.{All-head, All-more, All-tail, All-weaker}
 use Rattle.orc_state.proofs.Lists.{true_not_false}
@@ -16,6 +16,7 @@ use Rattle.orc_state.proofs.Named.{is_text_itself, other_way}
 use Rattle.std.specs.Ordering.{is_eq, nat_cmp}
 use Rattle.std.specs.Cmp.Lexicographic.{bytes_decides, slice_cmp}
 use Rattle.std.proofs.lemmas.Map.Text.{is_eq-slice_cmp}
+use Rattle.std.proofs.lemmas.Option.{same_Some}
 
 -- small facts
 
@@ -24,23 +25,6 @@ less i j e = omega (arith, e)
 
 zero_suc : (i : ℕ) → 0 ≡ suc i → ⊥
 zero_suc i e = absurd (omega (arith, e))
-
-falls : (t : Bool) → (t ≡ true → ⊥) → t ≡ false
-falls true h = absurd (h refl)
-falls false h = refl
-
-or_right : (a b : Bool) → b ≡ true → (a || b) ≡ true
-or_right true b e = refl
-or_right false b e = e
-
-same_place : (a b : ℕ) → Some a ≡ Some b → a ≡ b
-same_place a b e = cc
-
-same_slot : (a b : Option Service) → Some a ≡ Some b → a ≡ b
-same_slot a b e = cc
-
-same_service : (a b : Service) → Some a ≡ Some b → a ≡ b
-same_service a b e = cc
 
 pub any_find : {X : Type 0} (p : X → Bool) (xs : List X) → list_any p xs ≡ is_some (find p xs)
 any_find p [] = refl
@@ -58,7 +42,7 @@ later_alone : (slot : Option Service) (slots : List (Option Service)) → StandA
 later_alone slot slots u id i j h k = less i j (u id (suc i) (suc j) h k)
 
 placed_alone : (slots : List (Option Service)) (places : List ℕ → Option ℕ) → IsPlaced slots places → StandAlone slots
-placed_alone slots places is id i j h k = same_place i j (sym (is.alone id i h) ∙ is.alone id j k)
+placed_alone slots places is id i j h k = same_Some i j (sym (is.alone id i h) ∙ is.alone id j k)
 
 -- where each service's place is noted, it is found there
 pub placed-noted : (slots : List (Option Service)) (places : BTreeMap (List ℕ) ℕ) → AreNoted slots places → IsPlaced slots (place_among slots places)
@@ -72,7 +56,7 @@ placed-noted slots places is = record {
     there id i (Some j) h = on (is_at slots id j) refl h
       where
         on : (t : Bool) → is_at slots id j ≡ t → cond t (Some j) None ≡ Some i → is_at slots id i ≡ true
-        on true e k = ap (is_at slots id) (sym (same_place j i k)) ∙ e
+        on true e k = ap (is_at slots id) (sym (same_Some j i k)) ∙ e
         on false e k = let not_so : None ≡ Some i = k in absurd cc
 
 pub place_same : (slots slots' : List (Option Service)) (places : BTreeMap (List ℕ) ℕ) (id : List ℕ) (o : Option ℕ) → slots ≡ slots'
@@ -85,7 +69,7 @@ others_differ : (slots : List (Option Service)) (x : Service) → ((i : ℕ) →
     → AllByRecursion (λ other. is_same_text x.id other ≡ false) (map (λ service. service.id) (filled slots))
 others_differ [] x none = tt
 others_differ (None ∷ slots) x none = others_differ slots x (λ i h. none (suc i) h)
-others_differ (Some y ∷ slots) x none = (other_way y.id x.id (falls (is_same_text y.id x.id) (none 0)), others_differ slots x (λ i h. none (suc i) h))
+others_differ (Some y ∷ slots) x none = (other_way y.id x.id (false_from_ne_true (is_same_text y.id x.id) (none 0)), others_differ slots x (λ i h. none (suc i) h))
 
 named_once : (slots : List (Option Service)) → StandAlone slots → AreNamedOnce (filled slots)
 unfolding IsDistinct
@@ -104,10 +88,10 @@ placed-once slots places is = named_once slots (placed_alone slots places is)
 find_there : (slots : List (Option Service)) (id : List ℕ) (place : ℕ) (s : Service) → ((i : ℕ) → is_at slots id i ≡ true → i ≡ place)
     → slice_get slots place ≡ Some (Some s) → has_id id s ≡ true → find (has_id id) (filled slots) ≡ Some s
 find_there [] id place s only e is = let not_so : None ≡ Some (Some s) = e in absurd cc
-find_there (None ∷ slots) id zero s only e is = let not_so : None ≡ Some s = same_slot None (Some s) e in absurd cc
+find_there (None ∷ slots) id zero s only e is = let not_so : None ≡ Some s = same_Some None (Some s) e in absurd cc
 find_there (None ∷ slots) id (suc place) s only e is = find_there slots id place s (λ i h. less i place (only (suc i) h)) e is
 find_there (Some x ∷ slots) id zero s only e is =
-    let same : x ≡ s = same_service x s (same_slot (Some x) (Some s) e) in
+    let same : x ≡ s = same_Some x s (same_Some (Some x) (Some s) e) in
     ap (λ t. if t then Some x else find (has_id id) (filled slots)) (ap (has_id id) same ∙ is) ∙ ap Some same
 find_there (Some x ∷ slots) id (suc place) s only e is = on (has_id id x) refl (find_there slots id place s (λ i h. less i place (only (suc i) h)) e is)
   where
@@ -119,7 +103,7 @@ find_none : (slots : List (Option Service)) (id : List ℕ) → ((i : ℕ) → i
 find_none [] id none = refl
 find_none (None ∷ slots) id none = find_none slots id (λ i h. none (suc i) h)
 find_none (Some x ∷ slots) id none =
-    ap (λ t. if t then Some x else find (has_id id) (filled slots)) (falls (has_id id x) (none 0))
+    ap (λ t. if t then Some x else find (has_id id) (filled slots)) (false_from_ne_true (has_id id x) (none 0))
     ∙ find_none slots id (λ i h. none (suc i) h)
 
 module _ (slots : List (Option Service)) (places : List ℕ → Option ℕ) (is : IsPlaced slots places) (id : List ℕ) where
@@ -129,7 +113,7 @@ module _ (slots : List (Option Service)) (places : List ℕ → Option ℕ) (is 
     where
       on : (o : Option Service) → slice_get slots place ≡ Some o → option_map_or (has_id id) o false ≡ true → o ≡ find (has_id id) (filled slots)
       on None e h = absurd (true_not_false (sym h))
-      on (Some s) e h = sym (find_there slots id place s (λ i there. same_place i place (sym (is.alone id i there) ∙ at)) e h)
+      on (Some s) e h = sym (find_there slots id place s (λ i there. same_Some i place (sym (is.alone id i there) ∙ at)) e h)
 
   pub found_none : places id ≡ None → None ≡ find (has_id id) (filled slots)
   found_none at = sym (find_none slots id (λ i there. let not_so : None ≡ Some i = sym at ∙ is.alone id i there in cc))
@@ -178,7 +162,7 @@ noted_more slots old new s id place is named last fresh says = record { place = 
   where
     on : (q : List ℕ) (i : ℕ) → (is_at slots q i ≡ true) ⊎ ((i ≡ length slots) × (has_id q s ≡ true)) → noted new q ≡ Some i
     on q i (inl h) =
-        let another : is_same_text id q ≡ false = falls (is_same_text id q) (λ e.
+        let another : is_same_text id q ≡ false = false_from_ne_true (is_same_text id q) (λ e.
         let same : q ≡ s.id = sym ((bytes_decides id q).0 e) ∙ named in
         true_not_false (sym (lives_at slots q i h) ∙ ap (lives (filled slots)) same ∙ fresh)) in
         says q ∙ ap (λ t. cond t (Some place) (noted old q)) another ∙ is.place q i h
@@ -222,7 +206,7 @@ none_left : (slots : List (Option Service)) (id : List ℕ) → ((i : ℕ) → i
 none_left [] id none = refl
 none_left (None ∷ slots) id none = none_left slots id (λ i h. none (suc i) h)
 none_left (Some x ∷ slots) id none =
-    ap (λ t. cond (not t) (x ∷ others (filled slots) id) (others (filled slots) id)) (falls (has_id id x) (none 0))
+    ap (λ t. cond (not t) (x ∷ others (filled slots) id) (others (filled slots) id)) (false_from_ne_true (has_id id x) (none 0))
     ∙ ap (λ (l : List Service). x ∷ l) (none_left slots id (λ i h. none (suc i) h))
 
 one_left : (slots : List (Option Service)) (id : List ℕ) (place : ℕ) → is_at slots id place ≡ true → ((i : ℕ) → is_at slots id i ≡ true → i ≡ place)
@@ -235,12 +219,12 @@ one_left (Some x ∷ slots) id zero h only =
     ∙ none_left slots id (λ i k. zero_suc i (sym (only (suc i) k))))
 one_left (Some x ∷ slots) id (suc place) h only =
     ap (λ (l : List Service). x ∷ l) (one_left slots id place h (λ i k. less i place (only (suc i) k)))
-    ∙ sym (ap (λ t. cond (not t) (x ∷ others (filled slots) id) (others (filled slots) id)) (falls (has_id id x) (λ e. zero_suc place (only 0 e))))
+    ∙ sym (ap (λ t. cond (not t) (x ∷ others (filled slots) id) (others (filled slots) id)) (false_from_ne_true (has_id id x) (λ e. zero_suc place (only 0 e))))
 
 pub filled-less : (slots : List (Option Service)) (places : List ℕ → Option ℕ) → IsPlaced slots places → (id : List ℕ) (place : ℕ)
     → places id ≡ Some place → filled (slice_set slots place None) ≡ others (filled slots) id
 filled-less slots places is id place at =
-    one_left slots id place (is.there id place at) (λ i h. same_place i place (sym (is.alone id i h) ∙ at))
+    one_left slots id place (is.there id place at) (λ i h. same_Some i place (sym (is.alone id i h) ∙ at))
 
 pub filled-same : (slots : List (Option Service)) (places : List ℕ → Option ℕ) → IsPlaced slots places → (id : List ℕ)
     → places id ≡ None → filled slots ≡ others (filled slots) id
@@ -311,7 +295,7 @@ noted_new old new id place none put q i h =
     noted_put (noted old q) (noted new q) id q place (put q) ∙ ap (λ (t : Bool). cond t (Some place) (noted old q)) another ∙ h
   where
     another : is_same_text id q ≡ false
-    another = falls (is_same_text id q) (λ e.
+    another = false_from_ne_true (is_same_text id q) (λ e.
         let not_so : None ≡ Some i = sym none ∙ ap (noted old) ((bytes_decides id q).0 e) ∙ h in cc)
 
 -- of a name of which something is noted

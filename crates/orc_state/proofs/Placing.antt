@@ -27,13 +27,10 @@ use Rattle.orc_state.specs.inside.Turns.{AreFresh, comers, left_by, turn_id, tur
 use Rattle.orc_state.specs.inside.Keeping.{AreChanges, AreKept, IsBehind, IsStoreFor, clash_on, on_device, picked, placed}
 use Rattle.orc_state.specs.declared.declarations.Decls.{Decls}
 use Rattle.orc_state.specs.declared.state.Service.{Service}
-use Rattle.orc_state.proofs.Agreement.{AreUnique, in_cases, none_in_nil}
+use Rattle.orc_state.proofs.Agreement.{AreUnique, in_cases, none_in_nil, some}
 use Rattle.orc_state.proofs.Kept.{behind-complete}
 use Rattle.orc_state.proofs.Lists.{filter_all, not_true, or_first, or_second, or_true, true_not_false}
 use Rattle.orc_state.proofs.Named.{behind-once, is_text_itself, once_first, once_later, other_way}
-
-some_same : {A : Type 0} {a b : A} → Some a ≡ Some b → a ≡ b
-some_same q = cc
 
 none_some : {A : Type 0} {a : A} → None ≡ Some a → ⊥
 none_some q = cc
@@ -82,7 +79,7 @@ laid_same (x ∷ xs) d base = laid_same xs d (overlay (part x d) base)
 pub based : (stores : List Store) (d : ℕ) (store : Store) → slice_get stores d ≡ Some store
     → config_of (map (λ (s : Store). s.base) stores) d ≡ store.base
 based [] d store is = absurd (none_some is)
-based (x ∷ xs) zero store is = ap (λ (s : Store). s.base) (some_same is)
+based (x ∷ xs) zero store is = ap (λ (s : Store). s.base) (some is)
 based (x ∷ xs) (suc d) store is = based xs d store is
 
 pub tree-kept : StoreIsOverlay → (state : State) (stores : List Store) (d : ℕ) (store : Store) → AreKept stores state.live → AreNamedOnce state.live
@@ -97,7 +94,7 @@ tree-kept law state stores d store kept once bases is =
 
 pushed : {X : Type 0} (xs : List X) (x : X) (d : ℕ) (y : X) → slice_get (xs ++ x ∷ []) d ≡ Some y
     → (slice_get xs d ≡ Some y) ⊎ ((d ≡ length xs) × (y ≡ x))
-pushed [] x zero y h = inr (refl, sym (some_same h))
+pushed [] x zero y h = inr (refl, sym (some h))
 pushed [] x (suc d) y h = absurd (none_some h)
 pushed (z ∷ zs) x zero y h = inl h
 pushed (z ∷ zs) x (suc d) y h = on (pushed zs x d y h)
@@ -119,7 +116,7 @@ more-changes devices live actions stores changes store change before is new = re
     on d s c hs (inl there) = before.each d s c hs there
     on d s c hs (inr last) =
         let here : slice_get stores (length changes) ≡ Some s = ap (slice_get stores) (sym last.0) ∙ hs in
-        let same : store ≡ s = some_same (sym is ∙ here) in
+        let same : store ≡ s = some (sym is ∙ here) in
         subst (λ n. IsBehind devices live actions n s.base (picked s c)) (sym last.0)
         (subst (λ (x : Option Store). IsBehind devices live actions (length changes) s.base (picked s x)) (sym last.1)
         (subst (λ (x : Store). IsBehind devices live actions (length changes) x.base (picked x change)) same new))
@@ -177,7 +174,7 @@ pub placed-get : (stores : List Store) (changes : List (Option Store)) → lengt
     → (s : Store) × (c : Option Store) × (slice_get stores d ≡ Some s) × (slice_get changes d ≡ Some c) × (t ≡ picked s c)
 placed-get [] changes n d t h = absurd (none_some h)
 placed-get (s ∷ stores) [] n d t h = absurd (omega (arith, n))
-placed-get (s ∷ stores) (c ∷ changes) n zero t h = (s, c, refl, refl, sym (some_same h))
+placed-get (s ∷ stores) (c ∷ changes) n zero t h = (s, c, refl, refl, sym (some h))
 placed-get (s ∷ stores) (c ∷ changes) n (suc d) t h = placed-get stores changes (omega (arith, n)) d t h
 
 pub placed-count : (stores : List Store) (changes : List (Option Store)) → length (placed stores changes) ≡ length stores

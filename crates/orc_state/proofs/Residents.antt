@@ -12,6 +12,7 @@ use Rattle.std.specs.FinMap.{empty, get, empty_of_len, get-empty, get-insert, le
 use Rattle.std.proofs.lemmas.Bool.Decides.{Decides-like}
 use Rattle.std.proofs.lemmas.Fmt.{decimal_injective}
 use Rattle.std.proofs.lemmas.List.Elements.{All-head, All-tail}
+use Rattle.std.proofs.Math.Bool.{or-false, and-false, and-true, or_comm}
 use Rattle.orc_path.specs.Steps.{PathStep}
 use Rattle.orc_path.specs.Order.{path_cmp}
 use Rattle.orc_path.specs.Configurations.{Config, is_removed_with, put_item}
@@ -37,24 +38,6 @@ same_test false false f g = refl
 pub not_so : (b : Bool) → (b ≡ true → ⊥) → b ≡ false
 not_so true h = absurd (h refl)
 not_so false h = refl
-
-or_false : (b : Bool) → (b || false) ≡ b
-or_false true = refl
-or_false false = refl
-
-and_false : (b : Bool) → (b && false) ≡ false
-and_false true = refl
-and_false false = refl
-
-and_true : (b : Bool) → (b && true) ≡ b
-and_true true = refl
-and_true false = refl
-
-or_swap : (a b : Bool) → (a || b) ≡ (b || a)
-or_swap true true = refl
-or_swap true false = refl
-or_swap false true = refl
-or_swap false false = refl
 
 pub text_swap : (a b : List ℕ) → is_same_text a b ≡ is_same_text b a
 text_swap a b =
@@ -154,13 +137,13 @@ one_here : (id own : List ℕ) (n : ℕ) (c m : Config)
 one_here id own n c m = on (len c == 0)
   where
     on : (t : Bool) → is_entered (cond t m (put_item m (device_row id n) Entry)) (device_row own n) ≡ (is_entered m (device_row own n) || (is_same_text own id && not t))
-    on true = sym (ap (λ t. is_entered m (device_row own n) || t) (and_false (is_same_text own id)) ∙ or_false (is_entered m (device_row own n)))
+    on true = sym (ap (λ t. is_entered m (device_row own n) || t) (and-false (is_same_text own id)) ∙ or-false (is_entered m (device_row own n)))
     on false =
         row_put m id n (device_row own n)
         ∙ ap (λ t. eq_by_cmp path_cmp (device_row own n) (device_row id n) || (t || is_entered m (device_row own n))) (row_no_entry own id n)
         ∙ ap (λ t. t || is_entered m (device_row own n)) (row_here own id n)
-        ∙ or_swap (is_same_text own id) (is_entered m (device_row own n))
-        ∙ ap (λ t. is_entered m (device_row own n) || t) (sym (and_true (is_same_text own id)))
+        ∙ or_comm (is_same_text own id) (is_entered m (device_row own n))
+        ∙ ap (λ t. is_entered m (device_row own n) || t) (sym (and-true (is_same_text own id)))
 
 abbrev is_used : List Config → ℕ → Bool
 is_used parts d = not (len (config_of parts d) == 0)
@@ -182,7 +165,7 @@ parts_rows : (id own : List ℕ) (n d at : ℕ) (parts : List Config) (m : Confi
     → is_entered (enter_parts id n parts m) (device_row own at) ≡ (is_entered m (device_row own at) || (is_same_text own id && is_used parts d))
 parts_rows id own n d at [] m room small is =
     sym (ap (λ n. is_entered m (device_row own at) || (is_same_text own id && not (n == 0))) (len-empty path_cmp Item)
-    ∙ ap (λ t. is_entered m (device_row own at) || t) (and_false (is_same_text own id)) ∙ or_false (is_entered m (device_row own at)))
+    ∙ ap (λ t. is_entered m (device_row own at) || t) (and-false (is_same_text own id)) ∙ or-false (is_entered m (device_row own at)))
 parts_rows id own n zero at (c ∷ parts) m room small is =
     let here : at ≡ n = omega (arith, is) in
     parts_below id own (n + 1) at parts (enter_one id n c m) (omega (arith, room)) (omega (arith, here))
@@ -192,7 +175,7 @@ parts_rows id own n (suc d) at (c ∷ parts) m room small is =
     ∙ ap (λ t. t || (is_same_text own id && is_used parts d)) (one_other id own n at c m small (omega (arith, room)) (λ e. omega (arith, e, is)))
 
 any_more : (p : Service → Bool) (xs : List Service) (x : Service) → list_any p (xs ++ x ∷ []) ≡ (list_any p xs || p x)
-any_more p [] x = or_false (p x)
+any_more p [] x = or-false (p x)
 any_more p (y ∷ xs) x = ap (λ t. p y || t) (any_more p xs x) ∙ on (p y)
   where
     on : (t : Bool) → (t || (list_any p xs || p x)) ≡ ((t || list_any p xs) || p x)
@@ -205,7 +188,7 @@ entered_entry known s own =
     parts_entry s.id own 0 s.parts (put_item known (service_entry s.id) Entry)
     (entry_put known s.id (service_entry s.id) ∙ ap (λ t. t || is_entered known (service_entry s.id)) (same_entry s.id s.id ∙ is_text_itself s.id))
     ∙ entry_put known s.id (service_entry own) ∙ ap (λ t. t || is_entered known (service_entry own)) (same_entry own s.id ∙ text_swap own s.id)
-    ∙ or_swap (has_id own s) (is_entered known (service_entry own))
+    ∙ or_comm (has_id own s) (is_entered known (service_entry own))
 
 entered_rows : (known : Config) (s : Service) (own : List ℕ) (d : ℕ) → length s.parts < 2 ^ 32 → d < 2 ^ 32
     → is_entered (enter_living known s) (device_row own d) ≡ (is_entered known (device_row own d) || is_held_by own d s)
@@ -228,7 +211,7 @@ knows_more live known s few k = record {
 -- leaving
 
 removed : (id own : List ℕ) (rest : List PathStep) → is_removed_with (service_entry id) (service_step own ∷ rest) ≡ is_same_text own id
-removed id own rest = and_true (is_same_text id own && true) ∙ and_true (is_same_text id own) ∙ text_swap id own
+removed id own rest = and-true (is_same_text id own && true) ∙ and-true (is_same_text id own) ∙ text_swap id own
 
 leaves : (t : Bool) (o : Option Item) → is_some (cond t None o) ≡ cond t false (is_some o)
 leaves true o = refl
@@ -268,7 +251,7 @@ left_any q own id (x ∷ xs) = on (left_any q own id xs) (has_id id x) (is_same_
 
 any_so : (own : List ℕ) (live : List Service) → list_any (λ s. has_id own s && true) live ≡ lives live own
 any_so own [] = refl
-any_so own (x ∷ xs) = ap (λ t. t || list_any (λ (s : Service). has_id own s && true) xs) (and_true (has_id own x)) ∙ ap (λ t. has_id own x || t) (any_so own xs)
+any_so own (x ∷ xs) = ap (λ t. t || list_any (λ (s : Service). has_id own s && true) xs) (and-true (has_id own x)) ∙ ap (λ t. has_id own x || t) (any_so own xs)
 
 knows_less : (live : List Service) (known : Config) (id : List ℕ) → KnowsLiving live known → KnowsLiving (others live id) (leave_living known id)
 knows_less live known id k = record {

@@ -5,6 +5,7 @@ use Rattle.std.specs.Option.{option_to_list}
 use Rattle.std.specs.List.{find, list_any, AllByRecursion, IsDistinct}
 use Rattle.std.proofs.lemmas.List.Elements.{All-nil, All-cons, All-head, All-tail, All-append, All-weaker}
 use Rattle.std.specs.Cmp.Lexicographic.{bytes_decides}
+use Rattle.std.proofs.Math.Bool.{or-false, or-true}
 use Rattle.orc_call.specs.declared.call.Action.{Action}
 use Rattle.orc_call.specs.declared.call.Action.TheVariants.{Literal, Delete, BasePut, BaseRemove}
 use Rattle.orc_state.specs.States.{State, IsComplete, has_id, is_same_text, name_of}
@@ -16,17 +17,9 @@ use Rattle.orc_state.proofs.Named.{other_way}
 
 -- tests
 
-or_false : (b : Bool) → b ≡ (b || false)
-or_false true = refl
-or_false false = refl
-
-or_true : (b : Bool) → true ≡ (b || true)
-or_true true = refl
-or_true false = refl
-
 crossed : (a b c d : Bool) → ((a || b) || (c || d)) ≡ ((a || c) || (b || d))
 crossed true b c d = refl
-crossed false b true d = sym (or_true b)
+crossed false b true d = or-true b
 crossed false b false d = refl
 
 any-append : {X : Type 0} (p : X → Bool) (xs ys : List X) → list_any p (xs ++ ys) ≡ (list_any p xs || list_any p ys)
@@ -66,8 +59,8 @@ module _ (names : List (List ℕ)) (state : State) (d : ℕ) (once : AreNamedOnc
       → (is_edited_by (name_of names d) action || list_any (is_on d) (option_to_list (taken_by state.live action))) ≡ is_touched_by names state d action
   one (Literal id writes) = ap (λ t. is_written_by writes (name_of names d) || t) (sym (held_found d id state.live once))
   one (Delete id) = sym (held_found d id state.live once)
-  one (BasePut put) = sym (or_false (is_same_text put.device (name_of names d)))
-  one (BaseRemove device path) = sym (or_false (is_same_text device (name_of names d)))
+  one (BasePut put) = or-false (is_same_text put.device (name_of names d))
+  one (BaseRemove device path) = or-false (is_same_text device (name_of names d))
   one other = refl
 
   all : (actions : List Action)

@@ -1,37 +1,36 @@
 -- What stands in the trees of devices is typed.
-use Rattle.std.proofs.Common.{◌≡◌, ℕ, zero, suc, Bool, true, false, cond, ◌&&◌, ◌||◌, nat_eq, nat_lt, List, [], ◌∷◌, ◌++◌, inl, inr, length, take, map, All, is_some, None, Some, refl, sym, ap, subst, ◌∙◌, arith, append_assoc}
+use Rattle.std.proofs.Common.{◌≡◌, ℕ, zero, suc, Bool, true, false, cond, List, [], ◌∷◌, inl, inr, map, All, None, Some, refl, sym, ap, subst, ◌∙◌}
 use Rattle.std.specs.Prelude.{Option, option_map, slice_get, if◌then◌else◌}
 use Rattle.std.specs.Option.{option_map_or, option_or}
-use Rattle.std.specs.List.{list_all, AllByRecursion, IsDistinct}
+use Rattle.std.specs.List.{list_all, IsDistinct}
 use Rattle.std.specs.Cmp.{first_so, second_so}
 use Rattle.std.specs.Cmp.Lexicographic.{bytes_decides}
 use Rattle.std.specs.FinMap.{empty, get, get-empty}
-use Rattle.std.proofs.lemmas.Bool.{and_from, eqb-true, false≢true}
+use Rattle.std.proofs.lemmas.Bool.{and_from}
 use Rattle.std.proofs.lemmas.List.Elements.{All-nil, All-cons, All-head, All-tail, All-append, All-filter, All-weaker}
-use Rattle.orc_path.specs.Steps.{PathStep, ends_in_keys, has_keys}
+use Rattle.orc_path.specs.Steps.{PathStep}
 use Rattle.orc_path.specs.Order.{path_cmp}
-use Rattle.orc_path.specs.Configurations.{Config, IsWay, drop_item, is_removed_with, overlay, put_item}
+use Rattle.orc_path.specs.Configurations.{Config, drop_item, is_removed_with, overlay, put_item}
 use Rattle.orc_path.specs.declared.item.Item.{Item}
 use Rattle.orc_path.specs.declared.item.Item.TheVariants.{Entry}
 use Rattle.orc_path.proofs.ConfigurationLaws.{get-drop_item, get-overlay, put_item_cases}
-use Rattle.orc_schema.specs.Schemas.{SchemaTable, kind_at_path, node_at, path_names, plain_table}
-use Rattle.orc_schema.specs.declared.line.Node.{Node}
-use Rattle.orc_schema.specs.declared.line.Node.TheVariants.{Container, List as ListOf, Leaf, LeafList}
-use Rattle.orc_typed.specs.Typed.{are_canonical_steps, carries, each_step, has_canonical_keys, is_canonical_value, is_carried, is_typed, stand, stands_at, step_kinds}
+use Rattle.orc_schema.specs.Schemas.{SchemaTable, plain_table}
+use Rattle.orc_typed.specs.Typed.{is_typed}
 use Rattle.orc_call.specs.declared.call.Put.{Put}
 use Rattle.orc_call.specs.declared.call.Call.{Call}
 use Rattle.orc_call.specs.declared.call.Action.{Action}
 use Rattle.orc_call.specs.declared.call.Action.TheVariants.{Literal, BasePut, BaseRemove}
 use Rattle.orc_call.specs.declared.call.DevicePut.{DevicePut}
 use Rattle.orc_refs.specs.Live.{overlaid}
-use Rattle.orc_state.specs.States.{config_of, declared_base, expansion, is_same_text, name_of, names_of, opening, part, put_all, puts_on}
+use Rattle.orc_state.specs.States.{config_of, declared_base, expansion, is_same_text, name_of, opening, part, put_all, puts_on}
 use Rattle.orc_state.specs.Actions.{bases_after, data_after, live_after, live_step, new_services}
 use Rattle.orc_state.specs.Next.{after, expanded_call, expanded_to}
 use Rattle.orc_template.specs.Laws.{WrittenIsTyped}
-use Rattle.orc_state.proofs.Written.{is_expanded, named_there, expanded_may}
+use Rattle.orc_template.proofs.TypedWays.{way_typed}
+use Rattle.orc_state.proofs.Written.{is_expanded, declared_there, named_there, expanded_may}
 use Rattle.orc_state.specs.Histories.{fold_from}
 use Rattle.orc_state.specs.Legal.{state_of}
-use Rattle.orc_state.specs.Calls.{device_named, is_action, is_device, is_put, is_write, schema_in, schema_named}
+use Rattle.orc_state.specs.Calls.{is_action, is_device, is_put, is_write, schema_in, schema_named}
 use Rattle.orc_state.specs.Declarations.{AreDecls}
 use Rattle.orc_state.specs.Laws.{AreActions, TreeIsTyped}
 use Rattle.orc_state.specs.declared.declarations.Decls.{Decls}
@@ -40,87 +39,21 @@ use Rattle.orc_state.specs.declared.state.Service.{Service}
 use Rattle.orc_state.specs.States.{State}
 use Rattle.orc_state.proofs.Bases.{KeepsBase, base_kept}
 use Rattle.orc_state.proofs.Fits.{base-items, list_all_weaker, write-item}
-use Rattle.std.proofs.lemmas.Option.{slice_get-map}
-
--- ---- the entries on the way to what is typed
-
--- what is so of each step of a path is so of each step of a front
-front_steps : (test : List (List ℕ) → PathStep → Bool) (above : List (List ℕ)) (n : ℕ) (steps : List PathStep)
-    → each_step test above steps ≡ true → each_step test above (take n steps) ≡ true
-front_steps test above zero steps h = refl
-front_steps test above (suc n) [] h = refl
-front_steps test above (suc n) (step ∷ later) h =
-    let names = above ++ step.node ∷ [] in
-    and_from (test names step) (each_step test names (take n later)) (first_so (test names step) (each_step test names later) h)
-    (front_steps test names n later (second_so (test names step) (each_step test names later) h))
-
-no_keys : (keys : List (List ℕ)) → nat_eq (length keys) 0 ≡ true → nat_lt 0 (length keys) ≡ true → ⊥
-no_keys [] none some = false≢true some
-no_keys (key ∷ keys) none some = let nothing : length (key ∷ keys) ≡ 0 = eqb-true _ _ none in absurd (omega (arith, nothing))
-
-module _ (s : SchemaTable) where
-  -- a node of which a step has keys carries an entry
-  keyed_carries : (names : List (List ℕ)) (step : PathStep) (o : Option Node)
-      → (is_some o && nat_eq (length step.keys) (length (option_map_or (step_kinds s names) o []))) ≡ true → has_keys step ≡ true
-      → option_map_or (λ (node : Node). carries node Entry) o false ≡ true
-  keyed_carries names step None h keyed = absurd (false≢true h)
-  keyed_carries names step (Some Container) h keyed = absurd (no_keys step.keys h keyed)
-  keyed_carries names step (Some (ListOf l)) h keyed = refl
-  keyed_carries names step (Some (Leaf l)) h keyed = absurd (no_keys step.keys h keyed)
-  keyed_carries names step (Some (LeafList l)) h keyed = refl
-
-  carried_below : (above : List (List ℕ)) (steps : List PathStep) → stand s above steps ≡ true → ends_in_keys steps ≡ true
-      → option_map_or (λ (node : Node). carries node Entry) (node_at s (above ++ path_names steps)) false ≡ true
-  carried_below above [] h keyed = absurd (false≢true keyed)
-  carried_below above (step ∷ []) h keyed =
-      let names = above ++ step.node ∷ [] in
-      keyed_carries names step (node_at s names) (first_so (stands_at s names step) true h) keyed
-  carried_below above (step ∷ next ∷ later) h keyed =
-      let names = above ++ step.node ∷ [] in
-      subst (λ (ns : List (List ℕ)). option_map_or (λ (node : Node). carries node Entry) (node_at s ns) false ≡ true)
-      (append_assoc above (step.node ∷ []) (path_names (next ∷ later)))
-      (carried_below names (next ∷ later) (second_so (stands_at s names step) (stand s names (next ∷ later)) h) keyed)
-
-  entry_carried : (way : List PathStep) → stand s [] way ≡ true → ends_in_keys way ≡ true → is_carried s way Entry ≡ true
-  entry_carried [] h keyed = absurd (false≢true keyed)
-  entry_carried (step ∷ later) h keyed = carried_below [] (step ∷ later) h keyed
-
-  way_typed : (p : List PathStep) (item : Item) (w : List PathStep) → is_typed s p item ≡ true → IsWay w p → is_typed s w Entry ≡ true
-  way_typed p item w h way = on s.plain h
-    where
-      value : Bool
-      value = is_canonical_value (kind_at_path s p) item
-
-      on : (t : Bool) → (t || ((t || (stand s [] p && is_carried s p item)) && (are_canonical_steps s [] p && value))) ≡ true
-          → (t || ((t || (stand s [] w && is_carried s w Entry)) && (are_canonical_steps s [] w && true))) ≡ true
-      on true h = refl
-      on false h =
-          let inside = stand s [] p && is_carried s p item in
-          let canonical = are_canonical_steps s [] p && value in
-          let stands : stand s [] w ≡ true = subst (λ (q : List PathStep). stand s [] q ≡ true) (sym way.begins)
-          (front_steps (stands_at s) [] (length w) p (first_so (stand s [] p) (is_carried s p item) (first_so inside canonical h))) in
-          let keys : are_canonical_steps s [] w ≡ true = subst (λ (q : List PathStep). are_canonical_steps s [] q ≡ true) (sym way.begins)
-          (front_steps (has_canonical_keys s) [] (length w) p (first_so (are_canonical_steps s [] p) value (second_so inside canonical h))) in
-          and_from (stand s [] w && is_carried s w Entry) (are_canonical_steps s [] w && true)
-          (and_from (stand s [] w) (is_carried s w Entry) stands (entry_carried w stands way.keyed))
-          (and_from (are_canonical_steps s [] w) true keys refl)
+use Rattle.std.proofs.lemmas.Option.{same_Some, slice_get-map}
 
 -- ---- configurations of what is typed
 
 abbrev IsTypedUnder : SchemaTable → Config → Type 0
 IsTypedUnder s c = (path : List PathStep) (item : Item) → get c path ≡ Some item → is_typed s path item ≡ true
 
-same_item : (x y : Item) → Some x ≡ Some y → x ≡ y
-same_item x y e = cc
-
 typed-empty : (s : SchemaTable) → IsTypedUnder s empty
 typed-empty s path item e = let not_so : None ≡ Some item = sym (get-empty path_cmp path) ∙ e in absurd cc
 
 typed-put_item : (s : SchemaTable) (m : Config) (p : List PathStep) (put : Item) → IsTypedUnder s m → is_typed s p put ≡ true → IsTypedUnder s (put_item m p put)
 typed-put_item s m p put typed here path item e = elim (put_item_cases m p put path) [
-  | inl at ↦ subst (λ (q : List PathStep). is_typed s q item ≡ true) (sym at.0) (subst (λ (x : Item). is_typed s p x ≡ true) (same_item put item (sym at.1 ∙ e)) here)
+  | inl at ↦ subst (λ (q : List PathStep). is_typed s q item ≡ true) (sym at.0) (subst (λ (x : Item). is_typed s p x ≡ true) (same_Some put item (sym at.1 ∙ e)) here)
   | inr away ↦ elim away [
-    | inl way ↦ subst (λ (x : Item). is_typed s path x ≡ true) (same_item Entry item (sym way.1 ∙ e)) (way_typed s p put path here way.0)
+    | inl way ↦ subst (λ (x : Item). is_typed s path x ≡ true) (same_Some Entry item (sym way.1 ∙ e)) (way_typed s p put path here way.0)
     | inr same ↦ typed path item (sym same ∙ e)
   ]
 ]
@@ -278,24 +211,12 @@ module _ (decls : Decls) (is : AreDecls decls) where
           subst (λ (o : Option Config). IsTypedUnder (own decls d) (option_map_or (λ config. config) o empty))
           (sym (slice_get-map declared_base decls.devices d ∙ ap (option_map declared_base) at))
           (subst (λ (s : SchemaTable). IsTypedUnder s (declared_base device)) (sym schema)
-          (typed-put_all (schema_in decls.schemas device.schema) device.base empty (items device (declared d device at)) (typed-empty _)))
+          (typed-put_all (schema_in decls.schemas device.schema) device.base empty (items device (declared_there decls.schemas decls.devices d device is.devices at)) (typed-empty _)))
         where
           items : (x : Device) → is_device decls.schemas x ≡ true → list_all (is_typed_put (schema_in decls.schemas x.schema)) x.base ≡ true
           items x h =
               let s = schema_in decls.schemas x.schema in
               list_all_weaker (is_put s) (is_typed_put s) (λ p q. second_so _ (is_typed_put s p) q) x.base (base-items decls.schemas x h)
-
-          declared : (n : ℕ) (x : Device) → slice_get decls.devices n ≡ Some x → is_device decls.schemas x ≡ true
-          declared n x = found decls.devices n is.devices
-            where
-              found : (devices : List Device) (n : ℕ) → list_all (is_device decls.schemas) devices ≡ true → slice_get devices n ≡ Some x → is_device decls.schemas x ≡ true
-              found [] n h e = let not_so : None ≡ Some x = e in absurd cc
-              found (first ∷ rest) zero h e =
-                  subst (λ (y : Device). is_device decls.schemas y ≡ true) (same first x e) (first_so (is_device decls.schemas first) (list_all (is_device decls.schemas) rest) h)
-                where
-                  same : (y z : Device) → Some y ≡ Some z → y ≡ z
-                  same y z e = cc
-              found (first ∷ rest) (suc n) h e = found rest n (second_so (is_device decls.schemas first) (list_all (is_device decls.schemas) rest) h) e
 
 pub trees_are_typed : WrittenIsTyped → TreeIsTyped
 trees_are_typed law decls history d is calls =

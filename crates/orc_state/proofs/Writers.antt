@@ -32,6 +32,7 @@ use Rattle.orc_state.proofs.Lists.{filter_from, or_first, or_second, passes, tru
 use Rattle.orc_state.proofs.Named.{is_text_itself, other_way}
 use Rattle.orc_state.proofs.OnDevice.{written}
 use Rattle.orc_state.proofs.Placing.{based, named_unique, placed_at}
+use Rattle.orc_state.proofs.Residents.{same_test}
 
 some_none : {A : Type 0} {a : A} → Some a ≡ None → ⊥
 some_none q = cc
@@ -123,11 +124,6 @@ names_count live p ids once of =
 
 -- who writes a path
 
-same_truth : (a b : Bool) → (a ≡ true → b ≡ true) → (b ≡ true → a ≡ true) → a ≡ b
-same_truth true b h k = sym (h refl)
-same_truth false true h k = k refl
-same_truth false false h k = refl
-
 any_in : (p : Service → Bool) (xs : List Service) → list_any p xs ≡ true → (s : Service) × Contains xs s × (p s ≡ true)
 any_in p [] h = absurd (true_not_false (sym h))
 any_in p (x ∷ xs) h = on (p x) refl h (any_in p xs)
@@ -145,7 +141,7 @@ pub names_of_writers : (live : List Service) (d : ℕ) (store : Store) (path : L
     → AreNamesOf (filter (λ service. is_some (get (part service d) path)) live) (ids_at store path)
 names_of_writers live d store path once for = record {
   rising = for.sound.rising path;
-  exact = λ id. same_truth _ _ (there id) (back id);
+  exact = λ id. same_test _ _ (there id) (back id);
 }
   where
     p : Service → Bool

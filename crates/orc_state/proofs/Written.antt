@@ -10,7 +10,7 @@ use Rattle.std.specs.Cmp.Lexicographic.{bytes_decides}
 use Rattle.std.specs.FinMap.{entries, get}
 use Rattle.std.proofs.lemmas.Bool.{and_from, ltb-true}
 use Rattle.std.proofs.lemmas.List.Elements.{All-nil, All-cons, All-head, All-tail}
-use Rattle.std.proofs.lemmas.Option.{slice_get-map}
+use Rattle.std.proofs.lemmas.Option.{same_Some, slice_get-map}
 use Rattle.orc_path.specs.Steps.{PathStep, is_path}
 use Rattle.orc_path.specs.Limits.{is_long_path}
 use Rattle.orc_path.specs.Items.{fits}
@@ -50,10 +50,7 @@ apart : (devices : List Device) (n : ℕ) (d : Device) (name : List ℕ) → sli
     → AllByRecursion (λ other. is_same_text name other ≡ false) (names_of devices) → is_same_text name d.name ≡ false
 apart [] n d name e h = let not_so : None ≡ Some d = e in absurd cc
 apart (first ∷ rest) zero d name e h =
-    let same : first ≡ d = same_device first d e in subst (λ (x : Device). is_same_text name x.name ≡ false) same h.0
-  where
-    same_device : (x y : Device) → Some x ≡ Some y → x ≡ y
-    same_device x y e = cc
+    let same : first ≡ d = same_Some first d e in subst (λ (x : Device). is_same_text name x.name ≡ false) same h.0
 apart (first ∷ rest) (suc n) d name e h = apart rest n d name e h.1
 
 pub named_there : (devices : List Device) (n : ℕ) (d : Device) → IsDistinct is_same_text (names_of devices) → slice_get devices n ≡ Some d
@@ -61,23 +58,17 @@ pub named_there : (devices : List Device) (n : ℕ) (d : Device) → IsDistinct 
 unfolding IsDistinct
 named_there [] n d h e = let not_so : None ≡ Some d = e in absurd cc
 named_there (first ∷ rest) zero d h e =
-    let same : first ≡ d = same_device first d e in
+    let same : first ≡ d = same_Some first d e in
     ap (λ t. if t then Some first else device_named rest d.name) ((bytes_decides d.name first.name).1 (sym (ap (λ (x : Device). x.name) same))) ∙ ap Some same
-  where
-    same_device : (x y : Device) → Some x ≡ Some y → x ≡ y
-    same_device x y e = cc
 named_there (first ∷ rest) (suc n) d h e =
     ap (λ t. if t then Some first else device_named rest d.name) (other_way first.name d.name (apart rest n d first.name e h.0))
     ∙ named_there rest n d h.1 e
 
-declared_there : (schemas : List SchemaTable) (devices : List Device) (n : ℕ) (x : Device) → list_all (is_device schemas) devices ≡ true
+pub declared_there : (schemas : List SchemaTable) (devices : List Device) (n : ℕ) (x : Device) → list_all (is_device schemas) devices ≡ true
     → slice_get devices n ≡ Some x → is_device schemas x ≡ true
 declared_there schemas [] n x h e = let not_so : None ≡ Some x = e in absurd cc
 declared_there schemas (first ∷ rest) zero x h e =
-    subst (λ (y : Device). is_device schemas y ≡ true) (same first x e) (first_so (is_device schemas first) (list_all (is_device schemas) rest) h)
-  where
-    same : (y z : Device) → Some y ≡ Some z → y ≡ z
-    same y z e = cc
+    subst (λ (y : Device). is_device schemas y ≡ true) (same_Some first x e) (first_so (is_device schemas first) (list_all (is_device schemas) rest) h)
 declared_there schemas (first ∷ rest) (suc n) x h e =
     declared_there schemas rest n x (second_so (is_device schemas first) (list_all (is_device schemas) rest) h) e
 
@@ -152,7 +143,7 @@ module _ (decls : Decls) (is : AreDecls decls) where
           let named : Some device.name ≡ Some name =
           sym (ap (λ (l : List (List ℕ)). slice_get l n) (ap (λ t. t.names) is.table ∙ is.named)
           ∙ slice_get-map (λ (x : Device). x.name) decls.devices n ∙ ap (option_map (λ (x : Device). x.name)) found) ∙ at in
-          let same : device.name ≡ name = same_name device.name name named in
+          let same : device.name ≡ name = same_Some device.name name named in
           let distinct = subst (λ (names : List (List ℕ)). IsDistinct is_same_text names) is.named is.distinct in
           let first : device_named decls.devices name ≡ Some device =
           subst (λ (x : List ℕ). device_named decls.devices x ≡ Some device) same (named_there decls.devices n device distinct found) in
@@ -161,9 +152,6 @@ module _ (decls : Decls) (is : AreDecls decls) where
           ap (λ o. option_map_or (λ (x : Device). schema_in decls.schemas x.schema) o plain_table) first in
           let own = own_schema n device found in
           rows_may s name config (entries config) (ap is_some first) schema (are.written n config s there own) (entries_are config)
-        where
-          same_name : (x y : List ℕ) → Some x ≡ Some y → x ≡ y
-          same_name x y e = cc
 
   module _ (law : WrittenIsTyped) (config : Config) where
     abbrev s : Serving

@@ -1,27 +1,8 @@
 //! Numbers of entries.
 ghost use Rattle.std.specs.Prelude.{◌≡◌};
-ghost use Rattle.orc_value.specs.Numerals.{all_digits, is_numeral};
-ghost use Rattle.orc_types.specs.Numbers.{is_count};
 ghost use Rattle.orc_statements.specs.Arguments.{count_of, is_unbounded, is_greatest};
 
-fn all_digits(text: &[u8]) -> bool
-    ensures { result ≡ all_digits text.now }
-{
-    text.iter().all(|byte| byte.is_ascii_digit())
-}
-
-fn is_numeral(text: &[u8]) -> bool
-    ensures { result ≡ is_numeral text.now }
-{
-    !text.is_empty() && all_digits(text)
-}
-
-// Whether there are digits without a leading zero.
-fn is_count(text: &[u8]) -> bool
-    ensures { result ≡ is_count text.now }
-{
-    is_numeral(text) && (text.len() == 1 || !matches!(text, [b'0', ..]))
-}
+use orc_types::is_count;
 
 /// The number of entries that the text writes, with 64 bits.
 pub fn count_of(text: &str) -> Option<u64>

@@ -3,11 +3,11 @@ ghost use Rattle.std.specs.Prelude.{◌≡◌, ◌+◌, ◌*◌, ◌≤◌, [], 
 ghost use Rattle.orc_refs.specs.Moves.{AreWhole};
 ghost use Rattle.orc_store_tables.specs.Holdings.{Writes, holding};
 
-use crate::undone::Undone;
 use orc_call::Put;
 use orc_io::Steps;
 use orc_path::{Item, Path};
 use orc_refs::{Move, Refs};
+use orc_table_programs::Undone;
 use orc_text::{Memory, Row, Text};
 use orc_tree::{ChangeSet, Tree};
 use std::alloc::Global;
@@ -102,8 +102,10 @@ pub(crate) fn bring<L: Ledger>(
     ensures steps { steps.new ≤ steps.old + 2 * (length held + length next.now) }
 {
     let moves = one_move(alloc, service, held, next)?;
-    let set = refs.apply(alloc, moves.as_slice(), &[], steps)?;
-    Ok(set)
+    match refs.apply(alloc, moves.as_slice(), &[], steps) {
+        Ok(set) => Ok(set),
+        Err(_) => Err(Undone),
+    }
 }
 
 // The same for a service that holds nothing.

@@ -6,11 +6,10 @@ mod items;
 mod rounds;
 mod shown;
 mod small;
-mod undone;
 
 use crate::rounds::push_rounds;
 use crate::small::{push_between, push_store};
-use crate::undone::Undone;
+use orc_table_programs::{Undone, ended};
 use std::alloc::Global;
 use std::io;
 use std::marker::Brand;
@@ -19,14 +18,7 @@ use std::sync::ledger::Blank;
 
 // Ends with 0 where all is shown.
 fn main(rt: HostRuntime) -> ExitCode {
-    match run(&rt) {
-        Ok(true) => ExitCode::SUCCESS,
-        Ok(false) => ExitCode::FAILURE,
-        Err(error) => {
-            let _ = println!(rt; "{error}");
-            ExitCode::FAILURE
-        }
-    }
+    ended(&rt, run(&rt))
 }
 
 // Prints what is shown, and says whether all is.

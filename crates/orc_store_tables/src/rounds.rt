@@ -5,10 +5,10 @@ ghost use Rattle.orc_store_tables.specs.Holdings.{Writes};
 
 use crate::items::{bring, bring_first, holding_with, set_leaf, unwritten};
 use crate::shown::{Tally, push_state, push_tally};
-use crate::undone::Undone;
 use orc_call::Put;
 use orc_io::Steps;
 use orc_refs::Refs;
+use orc_table_programs::Undone;
 use orc_text::{Row, Text};
 use orc_tree::Tree;
 use std::alloc::Global;

@@ -1,7 +1,7 @@
 //! Change sets and paths of a store as lines of text.
-use crate::undone::Undone;
 use orc_path::{Item, Path, push_item};
 use orc_refs::{Meta, Refs};
+use orc_table_programs::Undone;
 use orc_tree::{Change, ChangeSet};
 use std::alloc::Global;
 

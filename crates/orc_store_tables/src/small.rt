@@ -3,9 +3,9 @@ ghost use Rattle.std.specs.Prelude.{◌≡◌, ◌<◌};
 
 use crate::items::{bring_first, holding_with, tree_with, unwritten};
 use crate::shown::{push_set, push_state};
-use crate::undone::Undone;
 use orc_change::{between, reverse};
 use orc_io::Steps;
+use orc_table_programs::Undone;
 use orc_text::Text;
 use orc_tree::Tree;
 use std::alloc::Global;

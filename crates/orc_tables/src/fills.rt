@@ -1,7 +1,6 @@
 //! Many leaves in an order: the leaf of the number 7 is `/if:m007`.
-use crate::undone::Undone;
-use crate::words::first_word;
 use orc_path::Path;
+use orc_table_programs::{Undone, first_word};
 use std::alloc::Global;
 
 // How far the next number of a mixed order is from the one before.

@@ -1,9 +1,8 @@
 //! A line of a table: a call, what it is given, and what must come, with `|` between them.
 use crate::restrictions::{is_default, is_typed};
 use crate::statements::is_parsed;
-use crate::table::Table;
-use crate::undone::Undone;
 use crate::values::{is_canon, is_read, is_written};
+use orc_table_programs::{Table, Undone, bytes_of};
 use orc_text::{Memory, Text};
 use std::alloc::Global;
 
@@ -41,14 +40,7 @@ fn does_answer(alloc: Global, call: &str, given: &str, expected: &str) -> Result
     }
 }
 
-// The bytes of a text in which `%` and two digits stand for a byte.
-pub(crate) fn bytes_of(alloc: Global, text: &str) -> Result<Vec<u8>, Memory> {
-    let mut bytes = Vec::new(alloc);
-    percent_encoding::percent_decode(text.as_bytes()).append_to(&mut bytes)?;
-    Ok(bytes)
-}
-
-// The same as a text, where the bytes are one.
+// The text in which `%` and two digits stand for a byte, where the bytes are one.
 pub(crate) fn text_of(alloc: Global, text: &str) -> Result<Option<Text>, Memory> {
     let bytes = bytes_of(alloc, text)?;
     match String::from_utf8(bytes) {

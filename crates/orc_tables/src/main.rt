@@ -10,39 +10,28 @@ mod line;
 mod paths;
 mod restrictions;
 mod statements;
-mod table;
 mod trees;
-mod undone;
 mod values;
 mod words;
 
 use crate::line::Answers;
 use crate::paths::Paths;
 use crate::statements::is_listed;
-use crate::table::Table;
 use crate::trees::Trees;
+use orc_table_programs::{ended, given_words, run_lines};
 use std::process::ExitCode;
 use std::rt::{Env, Files};
-use std::{env, fs, io};
+use std::{fs, io};
 
 // Ends with 0 where each line holds and each module is as listed.
 fn main(rt: HostRuntime) -> ExitCode {
-    match run_all(&rt) {
-        Ok(true) => ExitCode::SUCCESS,
-        Ok(false) => ExitCode::FAILURE,
-        Err(error) => {
-            let _ = println!(rt; "{error}");
-            ExitCode::FAILURE
-        }
-    }
+    ended(&rt, run_all(&rt))
 }
 
 // Prints a line for each word, and says whether all is as it must be.
 fn run_all<R: Files<File = fs::File> + Env + Print + AllocGlobal>(rt: &R) -> io::Result<bool> {
-    let mut names = env::args(rt)?;
-    let _program = names.next();
     let mut good = true;
-    for name in names {
+    for name in given_words(rt)? {
         let holds = match name.as_str().rsplit_once('.') {
             Some((module, "yang")) => list(rt, module)?,
             _ => run(rt, name.as_str())?,
@@ -62,30 +51,6 @@ fn run<R: Files + Print + AllocGlobal>(rt: &R, name: &str) -> io::Result<bool> {
     } else {
         run_lines(rt, name, text.as_str(), Answers::new(rt.alloc()))
     }
-}
-
-// Prints how many lines of a table hold, and the others, and says whether there are none of these.
-fn run_lines<R: Print, T: Table + Drop>(
-    rt: &R,
-    name: &str,
-    text: &str,
-    mut table: T,
-) -> io::Result<bool> {
-    let mut count: u64 = 0;
-    let mut good = true;
-    for line in text.lines() {
-        if line.is_empty() || line.starts_with('#') {
-            continue;
-        }
-        if table.take(line).unwrap_or(false) {
-            count = count.saturating_add(1);
-        } else {
-            println!(rt; "{name}: {line} DIFFERS")?;
-            good = false;
-        }
-    }
-    println!(rt; "{name}: {count} lines hold")?;
-    Ok(good)
 }
 
 // Prints whether a module has the statements of its listing, and says so.

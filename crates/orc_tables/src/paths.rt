@@ -10,10 +10,8 @@
 //! - `novalue TEXT`: it is no text of a value
 //! - `writes PATH NAME`: a write at the path comes before one of the service
 use crate::line::text_of;
-use crate::table::Table;
-use crate::undone::Undone;
-use crate::words::first_word;
 use orc_path::{Name, Path, PathFault, Write, push_value, read_value};
+use orc_table_programs::{Table, Undone, first_word};
 use orc_text::{Row, Text};
 use std::alloc::Global;
 use std::cmp::Ordering;

@@ -1,5 +1,6 @@
 //! The types that `type` statements make, each of what the one before it made.
-use crate::line::{bytes_of, text_of};
+use crate::line::text_of;
+use orc_table_programs::bytes_of;
 use orc_text::{Memory, Text};
 use orc_types::{Base, EnumName, LeafType, TypeFault, built_in, default_of, type_of};
 use orc_value::Kind;

@@ -1,5 +1,5 @@
 //! The statements of texts and modules.
-use crate::line::bytes_of;
+use orc_table_programs::bytes_of;
 use orc_text::Memory;
 use orc_yang::{Stmt, YangFault, parse};
 use std::alloc::{AllocError, Global};

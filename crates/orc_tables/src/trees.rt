@@ -13,10 +13,9 @@
 //! - `copies N`: so many copies of its items are made, each anew
 //! - `equal`, `unequal`: it has the items of the other, or not
 use crate::fills::{Order, leaf_path};
-use crate::table::Table;
-use crate::undone::Undone;
-use crate::words::{Placed, first_word, placed_of};
+use crate::words::{Placed, placed_of};
 use orc_path::{Item, Path, push_item};
+use orc_table_programs::{Table, Undone, first_word};
 use orc_text::Text;
 use orc_tree::Tree;
 use std::alloc::Global;

@@ -1,6 +1,6 @@
-//! The words of a line, and the item that they name.
-use crate::undone::Undone;
+//! The item that the words of a line name.
 use orc_path::{Item, Path, read_value};
+use orc_table_programs::Undone;
 use std::alloc::Global;
 
 /// An item, and its path.
@@ -8,11 +8,6 @@ use std::alloc::Global;
 pub(crate) struct Placed {
     pub(crate) path: Path,
     pub(crate) item: Item,
-}
-
-/// The first word, and what stands behind the space.
-pub(crate) fn first_word(line: &str) -> (&str, &str) {
-    line.split_once(' ').unwrap_or((line, ""))
 }
 
 /// The item of `PATH`, an entry, or of `PATH = VALUE`, a leaf.

@@ -14,7 +14,7 @@ use Rattle.orc_template.specs.Writing.{Ended, go_on, with_done, write_at, member
 use Rattle.orc_template.specs.declared.writing.Writing.{Writing}
 use Rattle.orc_template.specs.declared.fault.Halt.{Halt}
 use Rattle.orc_template.proofs.Handed.{writes_so, with_does, with_on, wrote, stops_on}
-use Rattle.orc_template.proofs.Paths.{entry_fits}
+use Rattle.orc_json.proofs.Found.{entry_fits}
 
 names_below : (at : List PathStep) (name : List ℕ) → path_names (below at name []) ≡ path_names at ++ name ∷ []
 names_below at name = map-append (λ (step : PathStep). step.node) at _

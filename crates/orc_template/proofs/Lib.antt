@@ -2,7 +2,6 @@ mod ReadBack
 mod Inside
 mod Fixed
 mod Answered
-mod Paths
 mod Told
 mod Cutting
 mod Doubled
@@ -20,6 +19,7 @@ mod Targets
 mod Fors
 mod Moved
 mod Adding
+pub mod TypedWays
 mod TypedPuts
 mod TypedWritten
 mod FaultNames

@@ -8,7 +8,7 @@ use Rattle.std.specs.FinMap.{empty, get as get_item}
 use Rattle.std.proofs.lemmas.Bool.{and_from, eq-eqb}
 use Rattle.std.proofs.lemmas.List.{map-append, length-map, length-set}
 use Rattle.std.proofs.lemmas.List.Folds.{list_all-append}
-use Rattle.std.proofs.lemmas.Option.{slice_get-map}
+use Rattle.std.proofs.lemmas.Option.{same_Some, slice_get-map}
 use Rattle.serde_json.specs.Data.{Data, null, boolean, number, string, array, object, Items, no_items, item, Members, no_members, member}
 use Rattle.serde_json.specs.Find.{get, as_str, as_bool, as_number, as_array, as_integer}
 use Rattle.orc_path.specs.Alphabet.{is_key, is_value}
@@ -48,7 +48,7 @@ use Rattle.orc_template.specs.Laws.{IsConfigUnder, AreDeviceTrees, WrittenIsType
 use Rattle.orc_template.specs.declared.fault.TheConstants.{BAD_LEAF, SELF_CLASH}
 use Rattle.orc_template.specs.declared.writing.Writing.{Writing}
 use Rattle.orc_template.proofs.Entries.{keyed_fits}
-use Rattle.orc_template.proofs.Paths.{entry_fits, leaf_fits}
+use Rattle.orc_json.proofs.Found.{entry_fits, leaf_fits}
 use Rattle.orc_template.proofs.TypedPuts.{nothing_written as nothing_yet, put_written as put_more}
 
 -- Values --------------------------------------------------------------------------------------------------------------
@@ -397,9 +397,6 @@ get_put (x ∷ xs) (suc n) (suc m) tree found h = elim (get_put xs n m tree foun
   | inr away ↦ inr away
 ]
 
-same_schema : (s t : SchemaTable) → Some s ≡ Some t → s ≡ t
-same_schema s t h = cc
-
 module _ (devices : DeviceTable) where
   abbrev Trees : List Config → Type 0
   Trees = AreDeviceTrees devices
@@ -410,7 +407,7 @@ module _ (devices : DeviceTable) where
       at_each : (m : ℕ) (found : Config) (t : SchemaTable) → slice_get (slice_set written n tree) m ≡ Some found → schema_of_device devices m ≡ Some t → IsConfigUnder t found
       at_each m found t at of = elim (get_put written n m tree found at) [
         | inl here ↦ subst (λ (x : Config). IsConfigUnder t x) here.1
-            (subst (λ (x : SchemaTable). IsConfigUnder x tree) (same_schema s t (sym is ∙ ap (schema_of_device devices) (sym here.0) ∙ of)) c)
+            (subst (λ (x : SchemaTable). IsConfigUnder x tree) (same_Some s t (sym is ∙ ap (schema_of_device devices) (sym here.0) ∙ of)) c)
         | inr away ↦ h.written m found t away of
       ]
 

@@ -1,5 +1,5 @@
 //! Templates.
-ghost use Rattle.std.specs.Prelude.{◌≡◌, List, ◌++◌, IfOk, OnOk, OnErr, MatchOption, map};
+ghost use Rattle.std.specs.Prelude.{◌≡◌, List, IfOk, MatchOption, map};
 ghost use Rattle.std.specs.FinMap.{empty};
 ghost use Rattle.serde_json.specs.View.{view as json_view};
 ghost use Rattle.orc_json.specs.Readings.{IsJson, IsNoJson};
@@ -24,7 +24,6 @@ use orc_tree::Tree;
 use serde_json::Value;
 use std::alloc::Global;
 use std::marker::Model;
-use std::mem;
 
 /// A template: the text of a JSON value, whose strings hold expressions.
 #[derive(Drop)]
@@ -304,27 +303,12 @@ fn with_reads<T: Drop>(
     match answer {
         Err(ExpandFault::Memory) => Err(ExpandFault::Memory),
         Err(ExpandFault::At { block, rule }) => {
-            add_reads(alloc, reads, read)?;
+            reads.append(alloc, read)?;
             Err(ExpandFault::At { block, rule })
         }
         Ok(value) => {
-            add_reads(alloc, reads, read)?;
+            reads.append(alloc, read)?;
             Ok(value)
         }
-    }
-}
-
-// Adds reads. After want of memory the reads are as they were.
-fn add_reads(alloc: Global, reads: &mut ReadSet, more: ReadSet) -> Result<(), Memory>
-    ensures ok { OnOk result (reads.new.reads ≡ reads.old.reads ++ more.reads) }
-    ensures err { OnErr result (reads.new.reads ≡ reads.old.reads) }
-{
-    let mut all = mem::replace(&mut reads.reads, Row::new(alloc)).into_vec();
-    let mut more = more.reads.into_vec();
-    let added = all.append(&mut more);
-    reads.reads = Row::from_vec(all);
-    match added {
-        Ok(()) => Ok(()),
-        Err(_) => Err(Memory),
     }
 }

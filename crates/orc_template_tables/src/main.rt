@@ -9,28 +9,21 @@ mod held;
 mod shown;
 
 use crate::bench::Bench;
+use orc_table_programs::{ended_apart, given_words};
 use orc_text::Memory;
 use std::alloc::Global;
 use std::process::ExitCode;
 use std::rt::{Env, Files};
-use std::{env, fs, io};
+use std::{fs, io};
 
 // Ends with 0 where the whole table was shown.
 fn main(rt: HostRuntime) -> ExitCode {
-    match run(&rt) {
-        Ok(true) => ExitCode::SUCCESS,
-        Ok(false) => ExitCode::FAILURE,
-        Err(error) => {
-            let _ = eprintln!(rt; "{error}");
-            ExitCode::FAILURE
-        }
-    }
+    ended_apart(&rt, run(&rt))
 }
 
 // Reads the three files, and prints what is shown.
 fn run<R: Files<File = fs::File> + Env + Print + AllocGlobal>(rt: &R) -> io::Result<bool> {
-    let mut words = env::args(rt)?;
-    let _program = words.next();
+    let mut words = given_words(rt)?;
     let (Some(data), Some(device), Some(table)) = (words.next(), words.next(), words.next()) else {
         println!(rt; "orc_template_tables MODULES MODULES TABLE")?;
         return Ok(false);

@@ -1,5 +1,5 @@
 -- The rows of chapters, and of the pages that stand in them.
-use Rattle.std.proofs.Common.{◌≡◌, ◌==◌, ℕ, ◌≤◌, Bool, false, List, [], ◌∷◌, ◌++◌, length, get_or, refl, sym, ap, subst, ◌∙◌, arith}
+use Rattle.std.proofs.Common.{◌≡◌, ◌==◌, ℕ, ◌<◌, ◌≤◌, Bool, false, List, [], ◌∷◌, ◌++◌, length, get_or, refl, sym, ap, subst, ◌∙◌, arith}
 use Rattle.std.specs.List.{splice}
 use Rattle.std.specs.declared.alloc.Global.{Global}
 use Rattle.std.specs.declared.sync.Arc.{Arc}
@@ -19,6 +19,9 @@ Chapters = List (Arc Chapter Global)
 pub chapters_rows-pages : (cs : Chapters) → rows_of (pages_of cs) ≡ chapters_rows cs
 chapters_rows-pages [] = refl
 chapters_rows-pages (c ∷ cs) = rows_of-append page_rows (chapter_pages c) (pages_of cs) ∙ ap (λ (r : Rows). chapter_rows c ++ r) (chapters_rows-pages cs)
+
+pub IsLaid-at : (cs : Chapters) (i : ℕ) (c : Arc Chapter Global) → AreLaid cs → i < length cs → c ≡ get_or cs i c → IsLaid c
+IsLaid-at cs i c laid l is = subst IsLaid (sym is) (laid i c l)
 
 pub AreLaid-some : (cs : Chapters) → AreLaid cs → HaveRows chapter_rows cs
 AreLaid-some cs laid = λ k d l. (laid k d l).1

@@ -152,6 +152,6 @@ rows_of-split (q ∷ ps) (suc i) p front behind l e = ap (λ (r : Rows). page_ro
 pub AreSized-insert : (ps : Pages) (i : ℕ) (p : Arc Page Global) → AreSized ps → 1 ≤ length (page_rows p) → length (page_rows p) ≤ 16 → AreSized (insert ps i p)
 AreSized-insert ps i p s low high = AreSized-splice ps (p ∷ []) i i s (AreSized-push [] p (λ k d l. absurd (omega arith)) low high)
 
--- the second half of a full page
-pub half_left : (whole front behind : Rows) → front ++ behind ≡ whole → length whole ≡ 16 → length front ≡ 8 → length behind ≡ 8
+-- the rest of a full page
+pub half_left : (whole front behind : Rows) → front ++ behind ≡ whole → length whole ≡ 16 → length front ≡ 12 → length behind ≡ 4
 half_left whole front behind e l n = omega (arith, ap length e, length-append front behind, l, n)

@@ -8,9 +8,6 @@ use orc_text::{Memory, Row};
 use std::alloc::Global;
 use std::sync::Arc;
 
-// The most pages of a chapter.
-pub(crate) const CHAPTER_PAGES: usize = 64;
-
 /// A run of the pages of a tree, at least one.
 #[derive(Debug, Drop)]
 pub struct Chapter {

@@ -4,13 +4,13 @@ ghost use Rattle.orc_tree.specs.Pages.{rows_of, AreSized, chapters_rows};
 ghost use Rattle.orc_tree.specs.inside.Places.{AreLaid};
 ghost use Rattle.orc_tree.specs.inside.Puts.{chapters_with};
 
-use crate::chapter::{CHAPTER_PAGES, Chapter};
+use crate::chapter::Chapter;
 use crate::page::{Page, push_shared};
 use orc_text::{Memory, Row};
 use std::alloc::Global;
 use std::sync::Arc;
 
-// How many pages a chapter gets where more than `CHAPTER_PAGES` are laid out.
+// The fewest pages that a chapter gets where more are laid out than one has.
 const LAID_PAGES: usize = 48;
 
 // How many pages two neighbouring chapters have at most that become one after a removal.
@@ -38,16 +38,31 @@ pub(crate) fn push_chapter(
     Ok(())
 }
 
-// New chapters with these pages.
-fn chapters_of(alloc: Global, pages: Vec<Arc<Page>>) -> Result<Vec<Arc<Chapter>>, Memory>
-    requires { AreSized pages.items }
+// How many pages a chapter gets where more are laid out than one has, in a tree of so many chapters:
+// half as many, so that changes in two places have about as many counters of chapters to copy as of
+// pages, and `LAID_PAGES` at least.
+fn laid_pages(chapters: usize) -> usize
+    ensures { 1 ≤ result }
+{
+    let half = chapters / 2;
+    if half > LAID_PAGES { half } else { LAID_PAGES }
+}
+
+// New chapters with these pages, each of the number that is given, and the last of up to a third more.
+fn chapters_of(
+    alloc: Global,
+    pages: Vec<Arc<Page>>,
+    laid: usize,
+) -> Result<Vec<Arc<Chapter>>, Memory>
+    requires some { 1 ≤ laid }
+    requires sized { AreSized pages.items }
     ensures rows { IfOk result (λ chapters. chapters_rows chapters.items ≡ rows_of pages.items) }
     ensures laid { IfOk result (λ chapters. AreLaid chapters.items) }
 {
     let mut chapters = Vec::new(alloc);
     let mut rest = pages;
-    while rest.len() > CHAPTER_PAGES {
-        let behind = rest.split_off(LAID_PAGES)?;
+    while rest.len() - rest.len() / 4 > laid {
+        let behind = rest.split_off(laid)?;
         push_chapter(&mut chapters, alloc, rest)?;
         rest = behind;
     }
@@ -71,7 +86,8 @@ pub(crate) fn replace_chapters(
     ensures err { OnErr result (chapters.new.items ≡ chapters.old.items) }
     ensures laid { AreLaid chapters.new.items }
 {
-    let new = chapters_of(*chapters.allocator(), pages)?;
+    let laid = laid_pages(chapters.len());
+    let new = chapters_of(*chapters.allocator(), pages, laid)?;
     chapters.splice(from..to, new)?;
     Ok(())
 }
@@ -101,8 +117,8 @@ fn lay_anew(chapters: &mut Vec<Arc<Chapter>>, from: usize, to: usize) -> Result<
     replace_chapters(chapters, from, to, pages)
 }
 
-// Splits a chapter that has more than `CHAPTER_PAGES` pages. Where memory is wanted it stays as it
-// is: it has the same rows.
+// Splits a chapter of more pages than `laid_pages` and a third of these. Where memory is wanted it
+// stays as it is: it has the same rows.
 pub(crate) fn split_long(chapters: &mut Vec<Arc<Chapter>>, at: usize)
     requires laid { AreLaid chapters.old.items }
     ensures rows { chapters_rows chapters.new.items ≡ chapters_rows chapters.old.items }
@@ -111,7 +127,8 @@ pub(crate) fn split_long(chapters: &mut Vec<Arc<Chapter>>, at: usize)
     if at >= chapters.len() {
         return;
     }
-    if chapters[at].pages.len() > CHAPTER_PAGES {
+    let count = chapters[at].pages.len();
+    if count - count / 4 > laid_pages(chapters.len()) {
         let _ = lay_anew(chapters, at, at + 1);
     }
 }

@@ -24,6 +24,7 @@ pub use builtins::{built_in, is_left_out};
 pub use defaults::default_of;
 pub use fault::TypeFault;
 pub use laws::{enums_differ, lengths_narrow, numbers_read_back, ranges_narrow};
+pub use numbers::is_count;
 pub use paths::{is_leafref_path, is_reference};
 pub use restrict::type_of;
 pub use statements::{argument, first_of, has, is_a, is_idle};

@@ -19,8 +19,9 @@ fn is_numeral(text: &[u8]) -> bool
     !text.is_empty() && all_digits(text)
 }
 
-// Whether there are digits without a leading zero.
-fn is_count(text: &[u8]) -> bool
+/// Whether the text is a non-negative-integer-value: decimal digits without a leading zero, which `0`
+/// alone may be (RFC 7950 section 14). It takes no memory.
+pub fn is_count(text: &[u8]) -> bool
     ensures { result ≡ is_count text.now }
 {
     is_numeral(text) && (text.len() == 1 || !matches!(text, [b'0', ..]))

@@ -1,16 +1,8 @@
 -- How long the parts of a text are.
-use Rattle.std.proofs.Common.{◌≡◌, ℕ, ◌+◌, ◌*◌, ◌≤◌, ◌==◌, Bool, true, false, cond, List, map, take, drop, ◌++◌, length, length-append, length-drop, get_or, slice_index, chars, IsUtf8, ◌<◌, sym, ap, ◌∙◌, subst, arith}
-use Rattle.std.specs.List.{list_all, before_first, after_first, position_or_len}
+use Rattle.std.proofs.Common.{◌≡◌, ℕ, ◌+◌, ◌*◌, ◌≤◌, ◌==◌, Bool, true, false, cond, List, take, drop, ◌++◌, length, length-append, length-drop, slice_index, ap, arith}
+use Rattle.std.specs.List.{before_first, after_first, position_or_len}
 use Rattle.std.specs.Str.Parse.{starts_with_minus, without_leading_plus, without_leading_sign}
 use Rattle.std.proofs.lemmas.List.{length-take}
-use Rattle.std.proofs.lemmas.List.Folds.{list_all-map, list_all_at}
-use Rattle.std.proofs.lemmas.Str.{encodes-chars, length-le-encodes}
-use Rattle.orc_text.specs.Characters.{is_plain_character, is_plain_text}
-use Rattle.orc_text.proofs.Plain.{is_plain_text-utf8}
-
--- a text has no more characters than bytes
-pub chars_within : (text : List ℕ) → IsUtf8 text → length (chars text) ≤ length text
-chars_within text u = subst (λ (bs : List ℕ). length (chars text) ≤ length bs) (encodes-chars text u) (length-le-encodes (chars text))
 
 -- the parts before a mark and behind it
 pub parts_within : (p : ℕ → Bool) (text : List ℕ) → length (before_first p text) + length (after_first p text) ≤ length text
@@ -54,12 +46,3 @@ decimal_pays text unsigned whole fraction near far p n is_unsigned is_whole is_f
     let g = ap length is_near in
     let h = ap length is_far in
     omega (arith, a, b, c, d, e, f, g, h)
-
--- whether a text is plain, by its characters
-
-module _ (text : List ℕ) (u : IsUtf8 text) where
-  pub none_at : (n c : ℕ) → n < length (chars text) → c ≡ get_or (chars text) n c → is_plain_character c ≡ false → false ≡ is_plain_text text
-  none_at n c lt at h = sym (is_plain_text-utf8 text u ∙ list_all_at is_plain_character (chars text) n c lt (ap is_plain_character (sym at) ∙ h))
-
-  pub plain_all : (cs : List ℕ) → map (λ c. c) cs ≡ chars text → list_all is_plain_character cs ≡ true → true ≡ is_plain_text text
-  plain_all cs all h = sym (is_plain_text-utf8 text u ∙ ap (list_all is_plain_character) (sym all) ∙ list_all-map is_plain_character (λ c. c) cs ∙ h)

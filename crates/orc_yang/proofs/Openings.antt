@@ -1,6 +1,7 @@
 -- The strings and comments that are open behind a front of a text.
 use Rattle.std.proofs.Common.{◌≡◌, ℕ, ◌||◌, Bool, true, false, List, [], ◌∷◌, ◌++◌, length, Option, Some, None, Ok, Err, refl, sym, ap, ◌∙◌, subst, append_assoc}
 use Rattle.std.specs.Str.{encode_utf8_all}
+use Rattle.orc_yang.specs.declared.character.Sort.{Sort}
 use Rattle.orc_yang.specs.declared.character.Sort.TheVariants.{DoubleQuote, SingleQuote, Slash, Star}
 use Rattle.orc_yang.specs.declared.fault.YangFault.{YangFault}
 use Rattle.orc_yang.specs.declared.fault.YangFault.TheVariants.{NotUtf8, BadToken, BadEscape, OpenString, OpenBlock, Depth, Memory}
@@ -11,27 +12,25 @@ use Rattle.orc_yang.specs.Faults.{TakesString, TakesComment, ends_single, ends_d
 use Rattle.orc_yang.specs.Machine.{Work, Slashed, InBlock, BehindStar, Lone, InSingle, InDouble, BehindBackslash, Fed}
 use Rattle.orc_yang.proofs.Viable.{pending}
 
--- an open single-quoted string, with its opening quote in this place
-pub record OpenSingle (front : List ℕ) (o : ℕ) : Type 0 where
+-- an open string between such quotes, with the opening one in this place: whether it ends is told by `begins` of what is
+-- behind that quote, and by `ends` of what is still to come
+pub record OpenQuoted (quotes : Sort) (begins ends : List ℕ → Bool) (front : List ℕ) (o : ℕ) : Type 0 where
   pub before : List ℕ
   pub inner : List ℕ
   pub quote : ℕ
   pub is : front ≡ before ++ quote ∷ inner
-  pub sort : sort_of quote ≡ SingleQuote
+  pub sort : sort_of quote ≡ quotes
   pub place : o ≡ length (encode_utf8_all before)
   pub takes : TakesString before
-  pub goes : (rest : List ℕ) → ends_single (inner ++ rest) ≡ ends_single rest
+  pub goes : (rest : List ℕ) → begins (inner ++ rest) ≡ ends rest
 
--- the same of a double-quoted one, behind a backslash or not
-pub record OpenDouble (b : Bool) (front : List ℕ) (o : ℕ) : Type 0 where
-  pub before : List ℕ
-  pub inner : List ℕ
-  pub quote : ℕ
-  pub is : front ≡ before ++ quote ∷ inner
-  pub sort : sort_of quote ≡ DoubleQuote
-  pub place : o ≡ length (encode_utf8_all before)
-  pub takes : TakesString before
-  pub goes : (rest : List ℕ) → ends_double false (inner ++ rest) ≡ ends_double b rest
+-- a single-quoted one
+abbrev pub OpenSingle : List ℕ → ℕ → Type 0
+OpenSingle front o = OpenQuoted SingleQuote ends_single ends_single front o
+
+-- a double-quoted one, behind a backslash or not
+abbrev pub OpenDouble : Bool → List ℕ → ℕ → Type 0
+OpenDouble b front o = OpenQuoted DoubleQuote (ends_double false) (ends_double b) front o
 
 -- the same of a comment, behind a `*` or not
 pub record OpenComment (b : Bool) (front : List ℕ) (o : ℕ) : Type 0 where
@@ -88,8 +87,10 @@ After front c after (Ok t) = Opened (front ++ c ∷ []) t.work × Pends (front +
 After front c after (Err f) = Found (front ++ c ∷ after) f
 
 module _ (front : List ℕ) (c : ℕ) where
-  pub single_more : {o : ℕ} → is_quote (sort_of c) ≡ false → OpenSingle front o → OpenSingle (front ++ c ∷ []) o
-  single_more e w = record {
+  -- a character that leaves a string open
+  quoted_more : {o : ℕ} (quotes : Sort) (begins ends next : List ℕ → Bool) → ((rest : List ℕ) → ends (c ∷ rest) ≡ next rest)
+      → OpenQuoted quotes begins ends front o → OpenQuoted quotes begins next (front ++ c ∷ []) o
+  quoted_more quotes begins ends next turn w = record {
     before = w.before;
     inner = w.inner ++ c ∷ [];
     place = w.place;
@@ -97,60 +98,41 @@ module _ (front : List ℕ) (c : ℕ) where
     quote = w.quote;
     sort = w.sort;
     is = ap (λ l. l ++ c ∷ []) w.is ∙ append_assoc w.before (w.quote ∷ w.inner) (c ∷ []);
-    goes = λ rest. ap ends_single (append_assoc w.inner (c ∷ []) rest) ∙ (w.goes (c ∷ rest) ∙ ap (λ b. b || ends_single rest) e);
+    goes = λ rest. ap begins (append_assoc w.inner (c ∷ []) rest) ∙ (w.goes (c ∷ rest) ∙ turn rest);
   }
+
+  pub single_more : {o : ℕ} → is_quote (sort_of c) ≡ false → OpenSingle front o → OpenSingle (front ++ c ∷ []) o
+  single_more e w = quoted_more SingleQuote ends_single ends_single ends_single (λ rest. ap (λ b. b || ends_single rest) e) w
 
   pub double_more : {o : ℕ} (b : Bool) → is_double_quote (sort_of c) ≡ false → is_backslash (sort_of c) ≡ b → OpenDouble false front o → OpenDouble b (front ++ c ∷ []) o
-  double_more b e e' w = record {
-    before = w.before;
-    inner = w.inner ++ c ∷ [];
-    place = w.place;
-    takes = w.takes;
-    quote = w.quote;
-    sort = w.sort;
-    is = ap (λ l. l ++ c ∷ []) w.is ∙ append_assoc w.before (w.quote ∷ w.inner) (c ∷ []);
-    goes = λ rest. ap (ends_double false) (append_assoc w.inner (c ∷ []) rest) ∙ (w.goes (c ∷ rest) ∙ (ap (λ q. q || ends_double (is_backslash (sort_of c)) rest) e ∙ ap (λ q. ends_double q rest) e'));
-  }
+  double_more b e e' w = quoted_more DoubleQuote (ends_double false) (ends_double false) (ends_double b)
+      (λ rest. ap (λ q. q || ends_double (is_backslash (sort_of c)) rest) e ∙ ap (λ q. ends_double q rest) e') w
 
   pub double_escaped : {o : ℕ} → OpenDouble true front o → OpenDouble false (front ++ c ∷ []) o
-  double_escaped w = record {
+  double_escaped w = quoted_more DoubleQuote (ends_double false) (ends_double true) (ends_double false) (λ rest. refl) w
+
+  -- a character that leaves a comment open
+  comment_goes_on : {o : ℕ} (b next : Bool) → ((rest : List ℕ) → ends_comment b (c ∷ rest) ≡ ends_comment next rest)
+      → OpenComment b front o → OpenComment next (front ++ c ∷ []) o
+  comment_goes_on b next turn w = record {
     before = w.before;
     inner = w.inner ++ c ∷ [];
     place = w.place;
     takes = w.takes;
-    quote = w.quote;
-    sort = w.sort;
-    is = ap (λ l. l ++ c ∷ []) w.is ∙ append_assoc w.before (w.quote ∷ w.inner) (c ∷ []);
-    goes = λ rest. ap (ends_double false) (append_assoc w.inner (c ∷ []) rest) ∙ w.goes (c ∷ rest);
+    slash = w.slash;
+    star = w.star;
+    slash_sort = w.slash_sort;
+    star_sort = w.star_sort;
+    is = ap (λ l. l ++ c ∷ []) w.is ∙ append_assoc w.before (w.slash ∷ w.star ∷ w.inner) (c ∷ []);
+    goes = λ rest. ap (ends_comment false) (append_assoc w.inner (c ∷ []) rest) ∙ (w.goes (c ∷ rest) ∙ turn rest);
   }
 
   pub comment_more : {o : ℕ} (b : Bool) → is_star (sort_of c) ≡ b → OpenComment false front o → OpenComment b (front ++ c ∷ []) o
-  comment_more b e w = record {
-    before = w.before;
-    inner = w.inner ++ c ∷ [];
-    place = w.place;
-    takes = w.takes;
-    slash = w.slash;
-    star = w.star;
-    slash_sort = w.slash_sort;
-    star_sort = w.star_sort;
-    is = ap (λ l. l ++ c ∷ []) w.is ∙ append_assoc w.before (w.slash ∷ w.star ∷ w.inner) (c ∷ []);
-    goes = λ rest. ap (ends_comment false) (append_assoc w.inner (c ∷ []) rest) ∙ (w.goes (c ∷ rest) ∙ ap (λ q. ends_comment q rest) e);
-  }
+  comment_more b e w = comment_goes_on false b (λ rest. ap (λ q. ends_comment q rest) e) w
 
   pub comment_star : {o : ℕ} (b : Bool) → is_slash (sort_of c) ≡ false → is_star (sort_of c) ≡ b → OpenComment true front o → OpenComment b (front ++ c ∷ []) o
-  comment_star b e e' w = record {
-    before = w.before;
-    inner = w.inner ++ c ∷ [];
-    place = w.place;
-    takes = w.takes;
-    slash = w.slash;
-    star = w.star;
-    slash_sort = w.slash_sort;
-    star_sort = w.star_sort;
-    is = ap (λ l. l ++ c ∷ []) w.is ∙ append_assoc w.before (w.slash ∷ w.star ∷ w.inner) (c ∷ []);
-    goes = λ rest. ap (ends_comment false) (append_assoc w.inner (c ∷ []) rest) ∙ (w.goes (c ∷ rest) ∙ (ap (λ q. q || ends_comment (is_star (sort_of c)) rest) e ∙ ap (λ q. ends_comment q rest) e'));
-  }
+  comment_star b e e' w = comment_goes_on true b
+      (λ rest. ap (λ q. q || ends_comment (is_star (sort_of c)) rest) e ∙ ap (λ q. ends_comment q rest) e') w
 
 module _ (front : List ℕ) (c : ℕ) (done : List Stmt) (frames : List Frame) where
   -- new strings and comments

@@ -1,12 +1,11 @@
 //! From bytes to statements.
-ghost use Rattle.std.specs.Prelude.{◌≡◌, ◌<◌, ◌≤◌, ◌+◌, ◌*◌, ◌^◌, ◌++◌, ◌⊎◌, ℕ, true, length, MatchResult, IfOk, IfErr, IsErrOf, List};
-ghost use Rattle.std.specs.Str.{chars, all_scalars, encode_utf8_all};
+ghost use Rattle.std.specs.Prelude.{◌≡◌, ◌<◌, ◌≤◌, ◌+◌, ◌*◌, ◌^◌, length, MatchResult, IfOk, IfErr, IsErrOf};
+ghost use Rattle.std.specs.Str.{chars};
 ghost use Rattle.orc_yang.specs.Text.{placed, next_column, IsTextOf};
 ghost use Rattle.orc_yang.specs.Machine.{run, start};
-ghost use Rattle.orc_yang.specs.Faults.{IsFault, IsUnclosed, byte_count};
-ghost use Rattle.orc_yang.specs.Parsing.{statements_of, FailsWith};
+ghost use Rattle.orc_yang.specs.Faults.{IsFault};
+ghost use Rattle.orc_yang.specs.Parsing.{IsParseOf, ReadsNoOther, TellsUnclosed, FailsWith};
 ghost use Rattle.orc_yang.specs.inside.Wanting.{RunMayTake};
-ghost use Rattle.orc_yang.specs.declared.statement.Stmt.{Stmt};
 
 use crate::character::Character;
 use crate::parser::Parser;
@@ -20,22 +19,16 @@ use std::sync::ledger::{Blank, Ledger};
 /// The statements that the bytes spell.
 pub fn parse(alloc: Global, bytes: &[u8]) -> Result<Vec<Stmt>, YangFault>
     // The one answer, unless memory runs out.
-    ensures answer { MatchResult result
-        (λ list. statements_of bytes.now ≡ Ok list.items)
-        (FailsWith (statements_of bytes.now)) }
+    ensures answer { IsParseOf bytes.now result }
     // What is read is spelled so.
     ensures found { IfOk result (λ list. IsTextOf bytes.now list.items) }
     // What is spelled so is read, unless memory runs out, and as no other list.
-    ensures only { (list : List Stmt) → IsTextOf bytes.now list
-        → MatchResult result (λ read. read.items ≡ list) (λ fault. fault ≡ YangFault.Memory) }
+    ensures only { ReadsNoOther bytes.now result }
     // Where bytes that are not UTF-8 cease to be; else what the fault means for the characters.
     // Memory is wanted only of a text that comes to a keyword.
     ensures faults { IfErr result (IsFault bytes.now) }
     // A string or a comment without end is the fault, whatever stands in it, unless memory runs out.
-    ensures unclosed { (front rest : List ℕ) → all_scalars (front ++ rest) ≡ true
-        → encode_utf8_all (front ++ rest) ≡ bytes.now → IsUnclosed front rest
-        → MatchResult result (λ _. ⊥)
-        (λ fault. (fault ≡ YangFault.OpenString (byte_count front)) ⊎ (fault ≡ YangFault.Memory)) }
+    ensures unclosed { TellsUnclosed bytes.now result }
 {
     parse_uncounted::<Brand>(alloc, bytes, Blank::new(1))
 }
@@ -49,17 +42,11 @@ fn parse_uncounted<L: Ledger>(
     requires name { blank.name ≡ L.name }
     requires parts { blank.parts ≡ L.parts }
     requires some { 0 < blank.parts }
-    ensures answer { MatchResult result
-        (λ list. statements_of bytes.now ≡ Ok list.items)
-        (FailsWith (statements_of bytes.now)) }
+    ensures answer { IsParseOf bytes.now result }
     ensures found { IfOk result (λ list. IsTextOf bytes.now list.items) }
-    ensures only { (list : List Stmt) → IsTextOf bytes.now list
-        → MatchResult result (λ read. read.items ≡ list) (λ fault. fault ≡ YangFault.Memory) }
+    ensures only { ReadsNoOther bytes.now result }
     ensures faults { IfErr result (IsFault bytes.now) }
-    ensures unclosed { (front rest : List ℕ) → all_scalars (front ++ rest) ≡ true
-        → encode_utf8_all (front ++ rest) ≡ bytes.now → IsUnclosed front rest
-        → MatchResult result (λ _. ⊥)
-        (λ fault. (fault ≡ YangFault.OpenString (byte_count front)) ⊎ (fault ≡ YangFault.Memory)) }
+    ensures unclosed { TellsUnclosed bytes.now result }
 {
     let mut steps = Steps::<L>::new(blank);
     parse_counted(alloc, bytes, &mut steps)
@@ -75,22 +62,16 @@ pub fn parse_counted<L: Ledger>(
     steps: &mut Steps<L>,
 ) -> Result<Vec<Stmt>, YangFault>
     // The one answer, unless memory runs out.
-    ensures answer { MatchResult result
-        (λ list. statements_of bytes.now ≡ Ok list.items)
-        (FailsWith (statements_of bytes.now)) }
+    ensures answer { IsParseOf bytes.now result }
     // What is read is spelled so.
     ensures found { IfOk result (λ list. IsTextOf bytes.now list.items) }
     // What is spelled so is read, unless memory runs out, and as no other list.
-    ensures only { (list : List Stmt) → IsTextOf bytes.now list
-        → MatchResult result (λ read. read.items ≡ list) (λ fault. fault ≡ YangFault.Memory) }
+    ensures only { ReadsNoOther bytes.now result }
     // Where bytes that are not UTF-8 cease to be; else what the fault means for the characters.
     // Memory is wanted only of a text that comes to a keyword.
     ensures faults { IfErr result (IsFault bytes.now) }
     // A string or a comment without end is the fault, whatever stands in it, unless memory runs out.
-    ensures unclosed { (front rest : List ℕ) → all_scalars (front ++ rest) ≡ true
-        → encode_utf8_all (front ++ rest) ≡ bytes.now → IsUnclosed front rest
-        → MatchResult result (λ _. ⊥)
-        (λ fault. (fault ≡ YangFault.OpenString (byte_count front)) ⊎ (fault ≡ YangFault.Memory)) }
+    ensures unclosed { TellsUnclosed bytes.now result }
     // Ten steps for each byte at most.
     ensures cost { steps.new ≤ steps.old + 10 * length bytes.now }
 {

@@ -22,7 +22,7 @@ use Rattle.orc_disk.specs.Meanings.{DiskMeaning}
 use Rattle.orc_state.specs.declared.declarations.Decls.{Decls}
 use Rattle.orc_script.specs.declared.step.ScriptStep.{ScriptStep}
 use Rattle.orc_script.specs.declared.step.ScriptStep.TheVariants.{Recover}
-use Rattle.orc_run.specs.declared.serving.Served.{Served}
+use Rattle.orc_run.specs.declared.serving.CallOutcome.{CallOutcome}
 use Rattle.orc_run.specs.declared.stop.Stop.{Stop}
 use Rattle.orc_run.specs.declared.stop.Stop.TheVariants as ending
 use Rattle.orc_run.specs.declared.controller.Controller.{Controller}
@@ -127,9 +127,13 @@ module _ {D : Type 0} (meaning : DiskMeaning D) where
       × Outlives meaning decls old last × Rests meaning decls last
       × (step ≡ Recover → FailsToRecover meaning decls old end.stop last)
 
+  -- where a step leads a sound controller, whatever entries it knows
+  abbrev pub StepsFrom : Decls → Controller D → ScriptStep → StepResult D → Type 0
+  StepsFrom decls c step result = (sound : IsSound decls c) → StepsTo decls (view_of c sound.0) step result
+
   -- where serving a call led; where memory was wanting for it a user can tell no difference
-  pub record LeadsTo (decls : Decls) (old : View D) (call : Call) (result : Result Served Memory) (c : Controller D)
-      : Type 0 where
+  pub record LeadsTo (decls : Decls) (old : View D) (call : Call) (result : Result CallOutcome Memory)
+      (c : Controller D) : Type 0 where
     pub entries : List Entry
     pub serves : IfOk result (λ served. ServesTo meaning decls old call served.text served.end (view_of c entries))
     pub sound : IfOk result (λ served. served.end ≡ None → Knows decls entries c)

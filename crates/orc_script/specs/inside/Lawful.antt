@@ -1,10 +1,12 @@
 -- The steps that were read so far are lawful.
-use Rattle.std.specs.Prelude.{◌≤◌, ◌^◌, ℕ, Bool, true, not, ◌&&◌, nat_le, nat_lt, length, IsTrue}
+use Rattle.std.specs.Prelude.{◌≡◌, ◌≤◌, ◌+◌, ◌^◌, ℕ, Bool, true, not, ◌&&◌, nat_le, nat_lt, length, IsTrue, OnOk, Result}
 use Rattle.std.specs.List.{list_all}
 use Rattle.orc_call.specs.declared.call.TheConstants.{MOST_ACTIONS}
 use Rattle.orc_state.specs.Actions.{is_service_among, services_once}
 use Rattle.orc_state.specs.Calls.{is_action, is_lawful_name, is_write}
 use Rattle.orc_state.specs.declared.declarations.Decls.{Decls}
+use Rattle.orc_state.specs.declared.lawful.TheConstants.{MOST_WRITES}
+use Rattle.orc_lines.specs.declared.fault.LineFault.{LineFault}
 use Rattle.orc_script.specs.Steps.{is_step}
 use Rattle.orc_script.specs.declared.script.Script.{Script}
 use Rattle.orc_script.specs.declared.script.Part.{Part}
@@ -35,3 +37,17 @@ pub record AreSteps (decls : Decls) (most : ℕ) (s : Script) : Type 0 where
   pub steps : IsTrue (list_all (is_step decls) s.steps)
   pub call : IsTrue (is_open decls s s.part)
   pub few : length s.writes ≤ most
+
+-- what a line that is no fault leaves lawful: the steps so far, ..
+abbrev pub StaysLawful : {T : Type 0} → Decls → Script → Script → Result T LineFault → Type 0
+StaysLawful decls old new result = (most : ℕ) → AreSteps decls most old → OnOk result (AreSteps decls most new)
+
+-- .. where it stands in an open call, ..
+abbrev pub StaysInCall : {T : Type 0} → Decls → Script → Script → Result T LineFault → Type 0
+StaysInCall decls old new result =
+    (most : ℕ) → AreSteps decls most old → old.part ≡ part.Call → OnOk result (AreSteps decls most new)
+
+-- .. and where it may stand anywhere, so that it may hold one write more
+abbrev pub StaysAnywhere : {T : Type 0} → Decls → Script → Script → Result T LineFault → Type 0
+StaysAnywhere decls old new result =
+    (most : ℕ) → AreSteps decls most old → most ≤ MOST_WRITES → OnOk result (AreSteps decls (most + 1) new)

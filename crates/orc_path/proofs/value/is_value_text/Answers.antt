@@ -1,10 +1,8 @@
-use Rattle.std.proofs.Common.{◌∙◌, false, [], ◌∷◌, is_some, length, refl, sym, ap, arith}
-use Rattle.std.proofs.lemmas.Bool.{and_from}
-use Rattle.std.proofs.lemmas.List.Folds.{list_all-append}
+use Rattle.std.proofs.Common.{◌∙◌, false, is_some, length, refl, sym, ap, arith}
 use Rattle.std.proofs.lemmas.Iterator.{YieldsList-from_chars}
 use Rattle.std.proofs.lemmas.Iterator.Consumers.{YieldsList-turn, YieldsList-end}
 use Rattle.std.proofs.lemmas.List.{length_push}
-use Rattle.orc_text.specs.Characters.{is_plain_character}
+use Rattle.orc_text.proofs.Characters.{plain_more}
 use Rattle.orc_path.specs.inside.ValueReading.{behind}
 use Rattle.orc_path.proofs.ValueReads.{nothing_left, none_at, none_read, read_alike}
 use Rattle.orc_path.proofs.value.is_value_text.Goals as goal
@@ -24,9 +22,7 @@ loop-character-preserved g c =
       goes_on =
           sym (c.in-Some-next_escaped.ensures c.next.new.self.rest.now)
           ∙ ap (λ rest. is_some (behind l.is_escaped rest)) (sym c.in-Some.ensures.steps.0) ∙ l.invariant.goes_on;
-      plain =
-          list_all-append is_plain_character l.yielded (c.in-Some.character ∷ [])
-          ∙ and_from _ _ l.invariant.plain (and_from _ _ (sym c.if-not-is_plain_character.ensures) refl);
+      plain = plain_more l.yielded c.in-Some.character l.invariant.plain c.if-not-is_plain_character.ensures;
       cost = (let more = length_push l.yielded c.in-Some.character in omega (arith, l.invariant.cost, c.tick.ensures, more));
     }
 

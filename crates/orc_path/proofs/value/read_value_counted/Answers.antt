@@ -4,7 +4,7 @@ use Rattle.std.proofs.lemmas.Iterator.Consumers.{YieldsList-turn, YieldsList-end
 use Rattle.std.proofs.lemmas.List.{length_push}
 use Rattle.orc_path.specs.inside.ValueReading.{ahead}
 use Rattle.orc_path.proofs.Bools.{if_so, if_not}
-use Rattle.orc_path.proofs.Counting.{chars_within}
+use Rattle.orc_text.proofs.Characters.{chars_within}
 use Rattle.orc_path.proofs.ValueReads.{ahead_first, ahead_end, ahead_end_escaped, value_none, value_read}
 use Rattle.orc_path.proofs.value.read_value_counted.Goals as goal
 

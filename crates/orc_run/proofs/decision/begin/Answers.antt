@@ -1,5 +1,5 @@
--- The intent is that of the call on the devices.
-use Rattle.std.proofs.Common.{arith, sym, ap, subst}
+-- The number is given, the intent is that of the call on the devices, and the call stands behind the history.
+use Rattle.std.proofs.Common.{arith, rules, sym, ap, subst}
 use Rattle.orc_call.specs.Encoding.{IsCall}
 use Rattle.orc_call.specs.declared.call.Call.{Call}
 use Rattle.orc_journal.specs.declared.entry.Entry.TheVariants.{Intent}
@@ -9,8 +9,12 @@ use Rattle.orc_run.proofs.decision.begin.Goals as goal
 pub push-requires : goal.push-requires
 push-requires c = subst (IsNew c.args.past.now.history) (sym c.in_ok-copy-2.ensures) c.requires.new
 
-pub returns-clause-intent : goal.returns-clause-intent
-returns-clause-intent c = record {
-  is = ap (λ (call : Call). Intent c.in_ok-t.t call c.args.devices) c.in_ok-copy.ensures;
-  fields = (omega arith, subst IsCall (sym c.in_ok-copy.ensures) c.requires.encodable, c.requires.devices);
+pub returns-clause-begun : goal.returns-clause-begun
+returns-clause-begun c = record {
+  number = c.in_ok-t.ensures;
+  intended = record {
+    is = ap (λ (call : Call). Intent c.in_ok-t.t call c.args.devices) c.in_ok-copy.ensures;
+    fields = (omega arith, subst IsCall (sym c.in_ok-copy.ensures) c.requires.encodable, c.requires.devices);
+  };
+  pending = search rules;
 }

@@ -1,4 +1,4 @@
-use Rattle.orc_run.proofs.Decided.{bytes_decide}
+use Rattle.orc_run.proofs.FirstBytes.{bytes_decide}
 use Rattle.orc_run.proofs.laws.bytes_decide.Goals as goal
 
 pub returns : goal.returns

@@ -1,4 +1,4 @@
-use Rattle.std.proofs.Common.{None, Some, refl, sym, subst}
+use Rattle.std.proofs.Common.{None, refl, sym, subst}
 use Rattle.std.specs.Result.{IsErrOf}
 use Rattle.orc_io.specs.Counts.{Rose}
 use Rattle.orc_run.specs.declared.stop.Stop.TheVariants as ending
@@ -7,7 +7,7 @@ use Rattle.orc_io.specs.Pieces.{TakesFront}
 use Rattle.orc_run.specs.inside.Controllers.{view_of}
 use Rattle.orc_run.specs.inside.Halts.{Halts}
 use Rattle.orc_run.specs.declared.stop.Ended.{Ended}
-use Rattle.orc_run.proofs.Runs.{no_write, wrote_end}
+use Rattle.orc_run.proofs.Runs.{halted, no_write, wrote_end}
 use Rattle.orc_run.proofs.run.run_step.Goals as goal
 
 pub returns-in-Ok-write_whole-clause-sound : goal.returns-in-Ok-write_whole-clause-sound
@@ -54,36 +54,16 @@ returns-in-Ok-clause-halts g c old =
 pub returns-in-Ok-write_whole-2-clause-halts : goal.returns-in-Ok-write_whole-2-clause-halts
 returns-in-Ok-write_whole-2-clause-halts g c old =
     let d = g.D.Disk.disk in
-    let so = c.in-Err.ensures old in
     let held = g.K.Sink.sink.held in
+    let so = c.in-Err.ensures old in
+    let w = view_of c.args.controller old.0 in
     let took = subst (Appends (held c.args.sink.now) (held c.write_whole-in-Err.new.sink)) c.as_slice-in-Err.ensures c.in-Ok-write_whole-2.ensures.ok in
-    subst (λ (e : Ended g.row.D.Denot). Halts d (held c.args.sink.now) (held c.write_whole-in-Err.new.sink) c.args.decls.now (view_of c.args.controller old.0) c.args.step.now e.disk e.status) (sym c.at-in-Ok-write_whole-2.ensures)
-    (record {
-      last = so.0;
-      text = c.in-Err.last.text;
-      end = Some c.in-Err.last.stop;
-      disk_is = so.1;
-      leads = (so.2, so.3, so.6);
-      outlives = so.4;
-      rests = so.5;
-      wrote = wrote_end d c.args.decls.now (view_of c.args.controller old.0) so.0 c.args.step.now _ _ c.in-Err.last.text c.in-Err.last.stop so.3 took;
-      failed = refl;
-    })
+    halted d c.args.decls.now w c.args.step.now _ _ c.in-Err.last c.in-Err.last.stop c.at-in-Ok-write_whole-2.result so
+    (wrote_end d c.args.decls.now w so.0 c.args.step.now _ _ c.in-Err.last.text c.in-Err.last.stop so.3 took) c.at-in-Ok-write_whole-2.ensures
 
 pub returns-clause-halts : goal.returns-clause-halts
 returns-clause-halts g c old =
-    let d = g.D.Disk.disk in
-    let so = c.in-Err.ensures old in
     let held = g.K.Sink.sink.held in
-    subst (λ (e : Ended g.row.D.Denot). Halts d (held c.args.sink.now) (held c.write_whole-in-Err.new.sink) c.args.decls.now (view_of c.args.controller old.0) c.args.step.now e.disk e.status) (sym c.at-in-Err-write_whole-2.ensures)
-    (record {
-      last = so.0;
-      text = c.in-Err.last.text;
-      end = Some c.in-Err.last.stop;
-      disk_is = so.1;
-      leads = (so.2, so.3, so.6);
-      outlives = so.4;
-      rests = so.5;
-      wrote = subst (TakesFront (held c.args.sink.now) (held c.write_whole-in-Err.new.sink)) c.as_slice-in-Err.ensures c.in-Err-write_whole-2.ensures.err;
-      failed = refl;
-    })
+    let took = subst (TakesFront (held c.args.sink.now) (held c.write_whole-in-Err.new.sink)) c.as_slice-in-Err.ensures c.in-Err-write_whole-2.ensures.err in
+    halted g.D.Disk.disk c.args.decls.now (view_of c.args.controller old.0) c.args.step.now _ _ c.in-Err.last ending.WriteFault c.at-in-Err-write_whole-2.result
+    (c.in-Err.ensures old) took c.at-in-Err-write_whole-2.ensures

@@ -1,10 +1,11 @@
-use Rattle.std.proofs.Common.{◌≡◌, ◌+◌, ℕ, List, length, length-append, ap, ◌∙◌, arith, Result}
+use Rattle.std.proofs.Common.{◌+◌, length, ap, ◌∙◌, arith, Result}
 use Rattle.orc_state.specs.declared.rule.Rule.{Rule}
 use Rattle.orc_script.specs.declared.script.Script.{Script}
 use Rattle.orc_lines.specs.Lines.{lines_of}
 use Rattle.orc_lines.specs.Rules.{on_line}
 use Rattle.orc_script.specs.Scripts.{script_steps}
 use Rattle.orc_script.specs.inside.Costs.{ahead_scripted}
+use Rattle.orc_lines.proofs.LinesOf.{parted}
 use Rattle.orc_script.proofs.Costs.{ahead_scripted_within, scripted_pays, scripted_within}
 use Rattle.orc_script.proofs.read.read_steps.Goals as goal
 
@@ -14,8 +15,7 @@ lines-preserved g c =
     let line = c.first_line.result.0.now in
     let later = c.first_line.result.1.now in
     let inv = c.lines.invariant in
-    let bytes : length c.lines.rest.now ≡ length line + length later =
-    ap (λ (x : List ℕ). length x) c.first_line.ensures.parts ∙ length-append line later in
+    let bytes = parted c.lines.rest.now c.first_line.result.0.now c.first_line.result.1.now c.first_line.ensures.parts in
     let some = c.first_line.ensures.some in
     let rest = inv.1 in
     let count = inv.2 in
@@ -38,21 +38,15 @@ lines-preserved g c =
 
 pub returns-in-Err-clause-cost : goal.returns-in-Err-clause-cost
 returns-in-Err-clause-cost g c =
-    let line = c.first_line.result.0.now in
-    let later = c.first_line.result.1.now in
-    let bytes : length c.lines.rest.now ≡ length line + length later =
-    ap (λ (x : List ℕ). length x) c.first_line.ensures.parts ∙ length-append line later in
+    let bytes = parted c.lines.rest.now c.first_line.result.0.now c.first_line.result.1.now c.first_line.ensures.parts in
     let line_steps = c.first_line.ensures.cost in
     let looked = c.take.ensures.cost in
-    let looks = scripted_within line later in
+    let looks = scripted_within c.first_line.result.0.now c.first_line.result.1.now in
     let ahead = ahead_scripted_within c.lines.script.part c.lines.rest.now in
     let so_far = c.lines.invariant.5 in omega arith
 
 pub returns-in-Err-clause-worked : goal.returns-in-Err-clause-worked
 returns-in-Err-clause-worked g c =
-    let line = c.first_line.result.0.now in
-    let later = c.first_line.result.1.now in
-    let bytes : length c.lines.rest.now ≡ length line + length later =
-    ap (λ (x : List ℕ). length x) c.first_line.ensures.parts ∙ length-append line later in
+    let bytes = parted c.lines.rest.now c.first_line.result.0.now c.first_line.result.1.now c.first_line.ensures.parts in
     let worked = c.take.ensures.worked in
     let so_far = c.lines.invariant.7 in omega arith

@@ -12,14 +12,14 @@ apply-requires g c =
       fits = refl;
     }
 
-pub returns-clause-holds : goal.returns-clause-holds
-returns-clause-holds g c =
-    moved_holds _ _ c.args.service.now c.args.held c.args.next.now c.as_slice.result.now _ (c.as_slice.ensures ∙ c.in_ok-moves.ensures) c.in_ok-set.ensures.moved
+pub returns-in-Ok-clause-holds : goal.returns-in-Ok-clause-holds
+returns-in-Ok-clause-holds g c =
+    moved_holds _ _ c.args.service.now c.args.held c.args.next.now c.as_slice.result.now _ (c.as_slice.ensures ∙ c.in_ok-moves.ensures) c.in-Ok.ensures.moved
+
+pub returns-in-Ok-clause-steps : goal.returns-in-Ok-clause-steps
+returns-in-Ok-clause-steps g c =
+    one_bound c.args.service.now c.args.held c.args.next.now c.as_slice.result.now _ _ (c.as_slice.ensures ∙ c.in_ok-moves.ensures) (c.apply.ensures.few refl)
 
 pub returns-clause-steps : goal.returns-clause-steps
 returns-clause-steps g c =
-    one_bound c.args.service.now c.args.held c.args.next.now c.as_slice.result.now _ _ (c.as_slice.ensures ∙ c.in_ok-moves.ensures) (c.apply.ensures.few refl)
-
-pub returns-in_err-set-clause-steps : goal.returns-in_err-set-clause-steps
-returns-in_err-set-clause-steps g c =
     one_bound c.args.service.now c.args.held c.args.next.now c.as_slice.result.now _ _ (c.as_slice.ensures ∙ c.in_ok-moves.ensures) (c.apply.ensures.few refl)

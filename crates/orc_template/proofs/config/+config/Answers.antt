@@ -14,7 +14,7 @@ use Rattle.orc_template.specs.inside.Machine.{scene}
 use Rattle.orc_template.specs.inside.Nodes.{member_at_name}
 use Rattle.orc_template.proofs.Handed.{wrote_more, stops_whole}
 use Rattle.orc_template.proofs.Entries.{keyed_fits, entry_fails, entry_goes_on}
-use Rattle.orc_template.proofs.Paths.{leaf_fits}
+use Rattle.orc_json.proofs.Found.{leaf_fits}
 use Rattle.orc_template.proofs.config.+config.Goals as goal
 
 pub do_entries-loop-item-preserved : goal.do_entries-loop-item-preserved

@@ -4,7 +4,7 @@ use Rattle.orc_path.specs.Items.{fits}
 use Rattle.orc_path.specs.Steps.{PathStep}
 use Rattle.orc_path.specs.declared.item.Item.TheVariants.{Entry}
 use Rattle.orc_json.specs.Findings.{below}
-use Rattle.orc_template.proofs.Paths.{entry_fits}
+use Rattle.orc_json.proofs.Found.{entry_fits}
 use Rattle.orc_template.proofs.config.do_entry_value.Goals as goal
 
 pub write-requires : goal.write-requires

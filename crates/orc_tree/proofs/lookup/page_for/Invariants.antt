@@ -1,18 +1,10 @@
-use Rattle.std.proofs.Common.{◌≡◌, ◌<◌, ◌≤◌, ◌-◌, length, take, drop, true}
-use Rattle.std.specs.FinMap.Entries.{below_all}
-use Rattle.orc_path.specs.Order.{path_cmp}
-use Rattle.orc_tree.specs.Pages.{rows_of}
-use Rattle.orc_tree.specs.inside.Places.{above_all}
+use Rattle.std.proofs.Common.{◌-◌}
+use Rattle.orc_tree.specs.Pages.{page_rows}
+use Rattle.orc_tree.proofs.Halved.{IsHalved}
 use Rattle.orc_tree.proofs.lookup.page_for.Given as goal
 
--- the rows of the pages below `low` come before the path, and those from `high` on behind it
 abbrev pub invariant-loop-low : goal.invariant-loop-low
-invariant-loop-low l = record {
-  order : l.low < l.high;
-  within : l.high ≤ length l.pages;
-  before : above_all l.steps (rows_of (take l.low l.pages)) ≡ true;
-  behind : below_all path_cmp l.steps (rows_of (drop l.high l.pages)) ≡ true;
-}
+invariant-loop-low l = IsHalved page_rows l.steps l.pages l.low l.high
 
 abbrev pub decreases-loop-low : goal.decreases-loop-low
 decreases-loop-low l = l.high - l.low

@@ -1,11 +1,8 @@
-use Rattle.std.proofs.Common.{◌∙◌, [], ◌∷◌, length, refl, sym, arith}
-use Rattle.std.proofs.lemmas.Bool.{and_from}
-use Rattle.std.proofs.lemmas.List.Folds.{list_all-append}
+use Rattle.std.proofs.Common.{length, refl, sym, arith}
 use Rattle.std.proofs.lemmas.Iterator.{YieldsList-from_chars}
 use Rattle.std.proofs.lemmas.Iterator.Consumers.{YieldsList-turn, YieldsList-end}
 use Rattle.std.proofs.lemmas.List.{length_push}
-use Rattle.orc_text.specs.Characters.{is_plain_character}
-use Rattle.orc_value.proofs.Counting.{chars_within, none_at, plain_all}
+use Rattle.orc_text.proofs.Characters.{chars_within, plain_more, not_plain_at, plain_all}
 use Rattle.orc_value.proofs.characters.is_plain.Goals as goal
 
 pub loop-character-init : goal.loop-character-init
@@ -17,9 +14,7 @@ loop-character-init g c = record {
 pub loop-character-preserved : goal.loop-character-preserved
 loop-character-preserved g c =
     let l = c.loop-character in record {
-      plain =
-          list_all-append is_plain_character l.yielded (c.in-Some.character ∷ [])
-          ∙ and_from _ _ l.invariant.plain (and_from _ _ (sym c.if-not-is_plain_character.ensures) refl);
+      plain = plain_more l.yielded c.in-Some.character l.invariant.plain c.if-not-is_plain_character.ensures;
       cost = (let more = length_push l.yielded c.in-Some.character in omega (arith, l.invariant.cost, c.tick.ensures, more));
     }
 
@@ -28,7 +23,7 @@ returns-then-not-is_plain_character-clause-value g c =
     let text = c.args.text.now in
     let l = c.loop-character in
     let turn = YieldsList-turn (YieldsList-from_chars text c.utf8.text cc) l.yielded _ l.yielded_by _ _ c.in-Some.character c.in-Some.is c.next.ensures.steps in
-    none_at text c.utf8.text (length l.yielded) c.in-Some.character turn.0 turn.1 (sym c.if-not-is_plain_character.ensures)
+    sym (not_plain_at text c.utf8.text (length l.yielded) c.in-Some.character turn.0 turn.1 (sym c.if-not-is_plain_character.ensures))
 
 pub returns-then-not-is_plain_character-clause-cost : goal.returns-then-not-is_plain_character-clause-cost
 returns-then-not-is_plain_character-clause-cost g c =
@@ -43,7 +38,7 @@ returns-clause-value g c =
     let text = c.args.text.now in
     let l = c.loop-character in
     let end = YieldsList-end (YieldsList-from_chars text c.utf8.text cc) l.yielded _ l.yielded_by _ _ c.in-None.is c.next.ensures.steps in
-    plain_all text c.utf8.text l.yielded end.0 l.invariant.plain
+    sym (plain_all text c.utf8.text l.yielded end.0 l.invariant.plain)
 
 pub returns-clause-cost : goal.returns-clause-cost
 returns-clause-cost g c =

@@ -1,5 +1,5 @@
 use Rattle.orc_path.proofs.PathOf.{path_of_none, text_of_path}
-use Rattle.orc_path.proofs.Counting.{chars_within}
+use Rattle.orc_text.proofs.Characters.{chars_within}
 use Rattle.orc_path.proofs.Texts.{path_text-injective}
 use Rattle.std.proofs.Common.{◌∙◌, sym, arith}
 use Rattle.orc_path.proofs.path.Path.parse_counted.Goals as goal

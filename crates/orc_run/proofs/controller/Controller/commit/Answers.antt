@@ -28,13 +28,12 @@ returns-in_err-lines g c es is =
 
 pub returns : goal.returns
 returns g c es is =
-    let begun = c.in_ok-t.ensures in
     let reached = c.append_commit-reached.result in
     let held : IsOpen g.D.Disk.disk c.args.self.now.journal c.args.decls.now.text es = record { holds = is.up.holds; running = is.up.running } in
     came g.D.Disk.disk g.met.D.Disk.only_now c.args.decls.now c.args.call.now es c.args.self.now is c.requires.call
-    c.in_ok-t.t c.args.devices c.in_ok-t.intent begun.intent begun.new c.requires.touched begun.positive begun.least
+    c.args.devices c.begin.new.past c.in_ok-t.t c.in_ok-t.intent c.in_ok-t.ensures.begun c.requires.touched
     reached.stage reached.outcome c.append_commit-reached.new.journal (c.append_commit-reached.ensures.appends c.args.decls.now.text es held)
-    c.begin.new.past begun.taken begun.others begun.only begun.filled begun.pending begun.state
+    c.in_ok-t.ensures.state
     (λ unstopped unfailed. c.append_commit-reached.ensures.open unstopped unfailed c.args.decls.now.text es held)
     c.line.result c.come-end.result c.come-end.new.self
     (c.line.ensures c.args.decls.now.names c.args.call.now (c.len-known.result + 1)

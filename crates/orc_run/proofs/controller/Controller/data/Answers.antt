@@ -1,18 +1,17 @@
-use Rattle.std.proofs.Common.{◌≡◌, codes, refl}
+use Rattle.std.proofs.Common.{◌≡◌, ℕ, List, codes, refl, ap, ◌∙◌}
 use Rattle.std.specs.Bool.{if◌then◌else◌}
-use Rattle.orc_state.specs.Legal.{state_of}
+use Rattle.orc_state.specs.States.{State}
 use Rattle.orc_print.specs.Printed.{data_text}
-use Rattle.orc_run.specs.inside.Controllers.{known_of}
 use Rattle.orc_script.specs.declared.step.ScriptStep.TheVariants.{Data}
 use Rattle.orc_run.proofs.Outcomes.{AreLaws, only_prints}
 use Rattle.orc_run.proofs.controller.Controller.data.Goals as goal
 
 pub returns : goal.returns
-returns g c sound =
+returns g c decls sound =
     let d = g.D.Disk.disk in
     let laws : AreLaws d =
     record { reads = g.met.D.Disk.reads_as_image; counts = g.met.D.Disk.counts_now; only_now = g.met.D.Disk.only_now; untold = g.met.D.Disk.untold_has_no_image } in
-    let decls = c.args.decls.now in
+    let line : State → List ℕ = λ s. if c.args.self.up then data_text s.data else codes "down\n" in
     only_prints d laws decls Data c.args.self c.data_text-text.result c.printing.result
-    (λ t. t ≡ (if c.args.self.up then data_text (state_of decls (known_of c.args.self)).data else codes "down\n"))
-    sound (λ t is. (is, refl)) c.data_text-text.ensures c.printing.ensures (λ is. cc)
+    (λ t. t ≡ line c.args.self.past.state)
+    sound (λ t is. (is ∙ ap line sound.1.behind.state, refl)) c.data_text-text.ensures c.printing.ensures (λ is. cc)

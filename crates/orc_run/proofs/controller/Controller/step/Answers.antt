@@ -43,7 +43,7 @@ returns-in-Meta g c sound =
 
 pub returns-in-Data : goal.returns-in-Data
 returns-in-Data g c sound =
-    subst (λ (s : ScriptStep). StepsTo g.D.Disk.disk c.args.decls.now (view_of c.args.self sound.0) s c.data.result) (sym c.in-Data.is) (c.data.ensures sound)
+    subst (λ (s : ScriptStep). StepsTo g.D.Disk.disk c.args.decls.now (view_of c.args.self sound.0) s c.data.result) (sym c.in-Data.is) (c.data.ensures c.args.decls.now sound)
 
 pub returns-in-Serve : goal.returns-in-Serve
 returns-in-Serve g c sound =
@@ -51,15 +51,15 @@ returns-in-Serve g c sound =
 
 pub returns-in-Settle : goal.returns-in-Settle
 returns-in-Settle g c sound =
-    subst (λ (s : ScriptStep). StepsTo g.D.Disk.disk c.args.decls.now (view_of c.args.self sound.0) s c.settled.result) (sym c.in-Settle.is) (c.settled.ensures sound)
+    subst (λ (s : ScriptStep). StepsTo g.D.Disk.disk c.args.decls.now (view_of c.args.self sound.0) s c.settled.result) (sym c.in-Settle.is) (c.settled.ensures c.args.decls.now sound)
 
 pub returns-in-Stop : goal.returns-in-Stop
 returns-in-Stop g c sound =
-    subst (λ (s : ScriptStep). StepsTo g.D.Disk.disk c.args.decls.now (view_of c.args.self sound.0) s c.stop.result) (sym c.in-Stop.is) (c.stop.ensures sound)
+    subst (λ (s : ScriptStep). StepsTo g.D.Disk.disk c.args.decls.now (view_of c.args.self sound.0) s c.stop.result) (sym c.in-Stop.is) (c.stop.ensures c.args.decls.now sound)
 
 pub returns-in-StopAt : goal.returns-in-StopAt
 returns-in-StopAt g c sound =
-    subst (λ (s : ScriptStep). StepsTo g.D.Disk.disk c.args.decls.now (view_of c.args.self sound.0) s c.stop_at.result) (sym c.in-StopAt.is) (c.stop_at.ensures sound)
+    subst (λ (s : ScriptStep). StepsTo g.D.Disk.disk c.args.decls.now (view_of c.args.self sound.0) s c.stop_at.result) (sym c.in-StopAt.is) (c.stop_at.ensures c.args.decls.now sound)
 
 pub returns-in-Recover : goal.returns-in-Recover
 returns-in-Recover g c sound =
@@ -67,4 +67,4 @@ returns-in-Recover g c sound =
 
 pub returns-in-History : goal.returns-in-History
 returns-in-History g c sound =
-    subst (λ (s : ScriptStep). StepsTo g.D.Disk.disk c.args.decls.now (view_of c.args.self sound.0) s c.history.result) (sym c.in-History.is) (c.history.ensures sound)
+    subst (λ (s : ScriptStep). StepsTo g.D.Disk.disk c.args.decls.now (view_of c.args.self sound.0) s c.history.result) (sym c.in-History.is) (c.history.ensures c.args.decls.now sound)

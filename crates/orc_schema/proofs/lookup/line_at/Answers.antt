@@ -3,8 +3,8 @@ use Rattle.std.proofs.lemmas.Fn.{always_returns_same}
 use Rattle.orc_schema.specs.Links.{names_cmp}
 use Rattle.orc_schema.specs.Schemas.{path_names}
 use Rattle.orc_schema.specs.declared.line.SchemaLine.{SchemaLine}
-use Rattle.orc_revalidate.proofs.Ordered.{searched}
-use Rattle.orc_revalidate.proofs.names.line_among.Goals as goal
+use Rattle.orc_schema.proofs.Ordered.{searched}
+use Rattle.orc_schema.proofs.lookup.line_at.Goals as goal
 
 pub returns-in-Ok : goal.returns-in-Ok
 returns-in-Ok c = ap (λ (line : SchemaLine). Some line) c.index-lines-place.is ∙ sym (searched (λ (line : SchemaLine). line.names) (path_names c.args.steps.now) c.args.lines.now (Ok c.in-Ok.place) c.requires

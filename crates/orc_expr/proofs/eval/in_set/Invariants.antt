@@ -1,5 +1,5 @@
 use Rattle.std.proofs.Common.{◌≡◌, ◌++◌, length}
-use Rattle.orc_expr.proofs.eval.in_row.Given as goal
+use Rattle.orc_expr.proofs.eval.in_set.Given as goal
 
 -- what stands in the row, with what is left, is all
 abbrev pub invariant-loop-read : goal.invariant-loop-read

@@ -1,13 +1,12 @@
-//! Why a line of a table isn't done.
-use orc_journal::AppendFault;
+//! Why a line isn't done.
 use orc_path::PathFault;
 use orc_text::Memory;
 use std::alloc::{AllocError, AllocFailed};
 use std::num::ParseIntError;
 
-/// The line is none of its table, or memory could not be had.
+/// The line is none of its table, what it asks for is refused, or memory could not be had.
 #[derive(Clone, Copy)]
-pub(crate) struct Undone;
+pub struct Undone;
 
 impl From<Memory> for Undone {
     fn from(_: Memory) -> Undone {
@@ -29,12 +28,6 @@ impl<T: Drop> From<AllocFailed<T>> for Undone {
 
 impl From<PathFault> for Undone {
     fn from(_: PathFault) -> Undone {
-        Undone
-    }
-}
-
-impl From<AppendFault> for Undone {
-    fn from(_: AppendFault) -> Undone {
         Undone
     }
 }
