@@ -1,5 +1,5 @@
 //! A text that begins as it has to, and doesn't go on so.
-use orc_schema_findings::push_quoted;
+use orc_schema_findings::{push_quoted, text_of};
 use orc_text::Memory;
 use std::alloc::Global;
 
@@ -11,14 +11,6 @@ pub(crate) fn front_of(text: &[u8], at: usize) -> &str {
 /// The text behind a place.
 pub(crate) fn rest_of(text: &[u8], at: usize) -> &str {
     text_of(text.get(at..).unwrap_or(&[]))
-}
-
-// These bytes as a text.
-fn text_of(bytes: &[u8]) -> &str {
-    match std::str::from_utf8(bytes) {
-        Ok(text) => text,
-        Err(_) => "",
-    }
 }
 
 /// Adds what is said of a text whose front begins one of this kind, which the rest can't go on.

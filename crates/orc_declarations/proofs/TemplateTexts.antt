@@ -2,14 +2,12 @@
 use Rattle.std.proofs.Common.{◌≡◌, ℕ, Bool, true, false, not, ◌&&◌, ◌||◌, cond, List, Option, Some, None, Result, Ok, Err, is_some, refl, ap, sym, subst, ◌∙◌}
 use Rattle.std.specs.Option.{is_none, option_map_or}
 use Rattle.std.specs.Str.{is_utf8}
-use Rattle.std.proofs.lemmas.Str.{IsUtf8-from_is_utf8}
 use Rattle.serde_json.specs.Data.{Data, null}
-use Rattle.serde_json.specs.Read.{read}
 use Rattle.orc_path.specs.Steps.{PathStep}
 use Rattle.orc_schema.specs.Schemas.{SchemaTable, shape_at}
-use Rattle.orc_json.specs.Readings.{IsJson, IsNoJson}
-use Rattle.orc_template.proofs.Texts.{value_is}
-use Rattle.orc_template.specs.Said.{json_value, template_json}
+use Rattle.orc_json.specs.Readings.{IsJson}
+use Rattle.orc_template.proofs.Texts.{value_is, value_is_none}
+use Rattle.orc_template.specs.Said.{template_json}
 use Rattle.orc_template.specs.Templates.{ReadsTemplate, Site, template_fault}
 use Rattle.orc_template.specs.TheReaders.{the_readers}
 use Rattle.orc_template.specs.declared.fault.TemplateFault.{TemplateFault}
@@ -27,15 +25,6 @@ use Rattle.orc_lines.proofs.Rules.{err, no_ok, passed, same_ok, so}
 use Rattle.orc_declarations.specs.Declarations.{is_listed_already, is_template_of, list_template, may_be_served, with_template}
 use Rattle.orc_declarations.specs.inside.Faults.{of_template}
 use Rattle.orc_declarations.specs.inside.Templates.{template_of}
-
--- the text of no JSON value
-
-json_is_none : (text : List ℕ) → IsNoJson text → json_value text ≡ None
-json_is_none text never = on (is_utf8 text) (read text) refl refl where
-  on : (b : Bool) (o : Option Data) → is_utf8 text ≡ b → read text ≡ o → cond b o None ≡ None
-  on false o u r = refl
-  on true None u r = refl
-  on true (Some d) u r = absurd (never d (record { utf8 = IsUtf8-from_is_utf8 text u; value = r }))
 
 module _ (s : SchemaTable) (list : List PathStep) (text : List ℕ) where
   abbrev place : Site
@@ -65,7 +54,7 @@ module _ (s : SchemaTable) (list : List PathStep) (text : List ℕ) where
   pub template_refused : (fault : TemplateFault) → ReadsTemplate place text (Err fault) → ReadsLine (template_of s list text) (Err (of_template fault))
   unfolding is_utf8 judged holds
   template_refused template.Memory h = tt
-  template_refused template.NotJson h = ap (λ (o : Option Data). judged (holds o)) (json_is_none text h)
+  template_refused template.NotJson h = ap (λ (o : Option Data). judged (holds o)) (value_is_none text h)
   template_refused (template.BadMember block) h = refused h.0 (template.BadMember block) h.1 h.2
   template_refused (template.BadExpr block) h = refused h.0 (template.BadExpr block) h.1 h.2
 

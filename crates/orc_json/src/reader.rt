@@ -44,8 +44,9 @@ pub fn read_entry(
     }
 }
 
-// The JSON value that bytes are the text of, where they are one.
-fn parse(alloc: Global, bytes: &[u8]) -> Result<Option<Value>, Memory>
+/// The JSON value that bytes are the text of (RFC 8259), where they are the text of one. The one error
+/// is want of memory.
+pub fn parse(alloc: Global, bytes: &[u8]) -> Result<Option<Value>, Memory>
     ensures { IfOk result (λ found. MatchOption found (IsNoJson bytes.now)
         (λ value. IsJson bytes.now (view value))) }
 {

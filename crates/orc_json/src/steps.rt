@@ -66,3 +66,13 @@ pub fn path_below(alloc: Global, at: &Path, name: &Name, keys: Row<Text>) -> Res
         },
     )
 }
+
+/// The keys of an entry that has one alone, as each entry of a leaf-list has its value (RFC 7950 section 7.7).
+/// The error is want of memory.
+pub fn one_key(alloc: Global, key: Text) -> Result<Row<Text>, Memory>
+    ensures { IfOk result (λ keys. keys ≡ key ∷ []) }
+{
+    let mut keys = Row::new(alloc);
+    keys.push(key)?;
+    Ok(keys)
+}

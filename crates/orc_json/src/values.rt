@@ -1,5 +1,5 @@
 //! Leaves, leaf-lists and keys.
-ghost use Rattle.std.specs.Prelude.{◌≡◌, ℕ, List, ◌∷◌, [], IfOk, OnOk, IsTrue};
+ghost use Rattle.std.specs.Prelude.{◌≡◌, ℕ, List, OnOk, IsTrue};
 ghost use Rattle.serde_json.specs.Find.{as_array};
 ghost use Rattle.serde_json.specs.View.{view, items_view};
 ghost use Rattle.orc_path.specs.Items.{fits};
@@ -11,10 +11,10 @@ ghost use Rattle.orc_json.specs.Readings.{find_all};
 
 use crate::fault::{KIND, MEMBER, VALUE};
 use crate::reading::Reading;
-use crate::steps::path_below;
+use crate::steps::{one_key, path_below};
 use orc_path::{Item, Name, Path};
 use orc_schema::LeafNode;
-use orc_text::{Memory, Row, Text};
+use orc_text::{Memory, Row};
 use orc_value::{KIND as OTHER_KIND, Kind, ValueFault, from_json};
 use serde_json::Value;
 use std::alloc::Global;
@@ -64,15 +64,6 @@ pub(crate) fn read_leaf(
         return Ok(());
     }
     read_leaf_value(alloc, &leaf.kind, path, value, reading)
-}
-
-// A row of one key.
-fn one_key(alloc: Global, key: Text) -> Result<Row<Text>, Memory>
-    ensures { IfOk result (λ keys. keys ≡ key ∷ []) }
-{
-    let mut keys = Row::new(alloc);
-    keys.push(key)?;
-    Ok(keys)
 }
 
 // A value of a leaf-list.

@@ -20,7 +20,7 @@ use Rattle.orc_refs.specs.declared.moves.Move.{Move}
 abbrev pub row_of : Put → List PathStep × Item
 row_of put = (put.path, put.item)
 
-put_at-rows : (puts : List Put) (p : List PathStep) → put_at puts p ≡ find path_cmp p (rows_in puts)
+pub put_at-rows : (puts : List Put) (p : List PathStep) → put_at puts p ≡ find path_cmp p (rows_in puts)
 put_at-rows [] p = refl
 put_at-rows (w ∷ ws) p = ap (cond (eq_by_cmp path_cmp p w.path) (Some w.item)) (put_at-rows ws p)
 

@@ -13,4 +13,5 @@ mod ClashLaws
 mod PlannedLaws
 mod EditLaws
 mod Halves
+pub mod ItemsLaws
 mod OneStore

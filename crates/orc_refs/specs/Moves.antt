@@ -3,7 +3,7 @@ use Rattle.std.specs.Prelude.{◌≡◌, ℕ, ◌+◌, Bool, true, false, List, 
 use Rattle.std.specs.declared.option.Option.TheVariants.{None, Some}
 use Rattle.std.specs.List.{list_any}
 use Rattle.std.specs.Ordering.{eq_by_cmp}
-use Rattle.std.specs.FinMap.{is_sorted}
+use Rattle.std.specs.FinMap.{entries, is_sorted}
 use Rattle.orc_path.specs.Steps.{PathStep}
 use Rattle.orc_path.specs.Order.{path_cmp}
 use Rattle.orc_path.specs.Items.{fits}
@@ -28,6 +28,10 @@ put_at (put ∷ puts) path = if eq_by_cmp path_cmp path put.path then Some put.i
 -- items as rows, each a path with its item
 abbrev pub rows_in : List Put → List (List PathStep × Item)
 rows_in puts = map (λ put. (put.path, put.item)) puts
+
+-- the items that a configuration has, in path order
+abbrev pub items_of : Config → List Put
+items_of config = map (λ row. record { path = row.0; item = row.1 }) (entries config)
 
 -- the items of a configuration: in path order, each path once; each fits its path, and the entries on its way are among
 -- them

@@ -8,6 +8,7 @@
 
 mod backs;
 mod base;
+mod items;
 mod laws;
 mod mark;
 mod moves;
@@ -21,6 +22,7 @@ mod settle;
 mod shelf;
 mod touched;
 
+pub use items::items_of;
 pub use laws::{moves_lead_to_one_store, store_is_overlay};
 pub use moves::{BaseEdit, Meta, Move, RefsFault};
 pub use refs::Refs;

@@ -12,6 +12,6 @@ mod statements;
 
 pub use modules::module_finding;
 pub use places::place_of;
-pub use quoted::push_quoted;
+pub use quoted::{push_quoted, text_of};
 pub use schemas::{SchemaFinding, schema_finding};
 pub use statements::StatementPlace;

@@ -1,7 +1,7 @@
 //! What is at fault in the text of a module.
 use crate::extent::extent_of;
 use crate::places::place_of;
-use crate::quoted::push_quoted;
+use crate::quoted::{push_quoted, text_of};
 use orc_text::{Memory, Text};
 use orc_yang::{Stmt, YangFault, parse};
 use std::alloc::Global;
@@ -175,14 +175,6 @@ fn front_of(bytes: &[u8]) -> &[u8] {
         }
     }
     bytes
-}
-
-// These bytes as a text.
-fn text_of(bytes: &[u8]) -> &str {
-    match std::str::from_utf8(bytes) {
-        Ok(text) => text,
-        Err(_) => "",
-    }
 }
 
 // What is said of statements that are no module.

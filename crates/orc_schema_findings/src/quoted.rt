@@ -1,5 +1,5 @@
 //! How a text of a bundle is shown.
-ghost use Rattle.std.specs.Prelude.{◌≡◌, ◌++◌, OnOk};
+ghost use Rattle.std.specs.Prelude.{◌≡◌, ◌++◌, [], OnOk, IsUtf8};
 ghost use Rattle.std.specs.String.{string_bytes};
 ghost use Rattle.orc_schema_findings.specs.Quoted.{is_visible, quoted, shown_character};
 
@@ -8,6 +8,17 @@ use std::alloc::Global;
 
 // The most characters of a text that are shown.
 const SHOWN: u64 = 100;
+
+/// The text that these bytes are in UTF-8 (RFC 3629), and the empty one where they are none.
+pub fn text_of(bytes: &[u8]) -> &str
+    ensures text { IsUtf8 bytes.now → result.now ≡ bytes.now }
+    ensures none { (IsUtf8 bytes.now → ⊥) → result.now ≡ [] }
+{
+    match std::str::from_utf8(bytes) {
+        Ok(text) => text,
+        Err(_) => "",
+    }
+}
 
 /// Adds a text as it is shown: its first 100 characters, each that isn't seen by its number.
 pub fn push_quoted(out: &mut String, alloc: Global, text: &str) -> Result<(), Memory>

@@ -1,11 +1,8 @@
 -- What the text of a body is read as.
-use Rattle.std.proofs.Common.{◌≡◌, ℕ, Bool, true, false, cond, List, Option, Some, None, Err, refl, ap, sym, subst, ◌∙◌}
+use Rattle.std.proofs.Common.{◌≡◌, ℕ, List, Some, None, Err, ap, sym, subst, ◌∙◌}
 use Rattle.std.specs.Option.{option_and_then, option_map}
 use Rattle.std.specs.Result.{result_ok}
-use Rattle.std.specs.Str.{is_utf8}
-use Rattle.std.proofs.lemmas.Str.{IsUtf8-from_is_utf8}
 use Rattle.serde_json.specs.Data.{Data}
-use Rattle.serde_json.specs.Read.{read}
 use Rattle.orc_path.specs.Configurations.{Config}
 use Rattle.orc_path.specs.Steps.{PathStep}
 use Rattle.orc_path.specs.declared.item.Item.{Item}
@@ -13,18 +10,8 @@ use Rattle.orc_schema.specs.Schemas.{SchemaTable}
 use Rattle.orc_json.specs.Readings.{IsJson, IsNoJson, JsonGives, outcome, reading, rows_below}
 use Rattle.orc_json.specs.declared.fault.JsonFault.{JsonFault}
 use Rattle.orc_json.specs.declared.fault.JsonFault.TheVariants.{Bad, Syntax}
-use Rattle.orc_template.proofs.Texts.{value_is}
-use Rattle.orc_template.specs.Said.{json_value}
+use Rattle.orc_template.proofs.Texts.{value_is, value_is_none}
 use Rattle.orc_script.specs.Bodies.{body_in, body_of, puts_of}
-
--- the text of no JSON value
-
-json_is_none : (text : List ℕ) → IsNoJson text → json_value text ≡ None
-json_is_none text never = on (is_utf8 text) (read text) refl refl where
-  on : (b : Bool) (o : Option Data) → is_utf8 text ≡ b → read text ≡ o → cond b o None ≡ None
-  on false o u r = refl
-  on true None u r = refl
-  on true (Some d) u r = absurd (never d (record { utf8 = IsUtf8-from_is_utf8 text u; value = r }))
 
 module _ (s : SchemaTable) (entry : List PathStep) (text : List ℕ) where
   of_outcome : (d : Data) → IsJson text d → body_of s entry text
@@ -44,7 +31,7 @@ module _ (s : SchemaTable) (entry : List PathStep) (text : List ℕ) where
 
   -- .. or it is no JSON
   pub no_body : IsNoJson text → None ≡ body_of s entry text
-  no_body h = sym (ap (option_and_then (body_in s entry)) (json_is_none text h))
+  no_body h = sym (ap (option_and_then (body_in s entry)) (value_is_none text h))
 
   -- what is known of an answer at fault, which says nothing of what would be answered else
   abbrev pub Fails : JsonFault → Type 0

@@ -5,8 +5,6 @@ use Rattle.std.specs.Option.{option_map_or}
 use Rattle.std.specs.Cmp.{first_so, second_so}
 use Rattle.std.specs.Cmp.Lexicographic.{bytes_decides}
 use Rattle.std.proofs.lemmas.Bool.{or_from, or_parts}
-use Rattle.orc_path.specs.Alphabet.{is_identifier}
-use Rattle.orc_path.specs.Limits.{is_long_name}
 use Rattle.orc_call.specs.declared.call.Action.{Action}
 use Rattle.orc_call.specs.declared.call.Action.TheVariants.{Literal}
 use Rattle.orc_call.specs.declared.call.TheConstants.{MOST_ACTIONS}
@@ -86,9 +84,6 @@ once_more (x ∷ xs) a once none =
 room_for : (n : ℕ) → nat_le MOST_ACTIONS n ≡ false → nat_le (n + 1) MOST_ACTIONS ≡ true
 room_for n h = grind arith
 
-pub room_left : (n : ℕ) → nat_le MOST_ACTIONS n ≡ false → nat_lt n MOST_ACTIONS ≡ true
-room_left n h = grind arith
-
 room_again : (n : ℕ) → nat_lt n MOST_ACTIONS ≡ true → nat_le MOST_ACTIONS n ≡ false
 room_again n h = grind arith
 
@@ -124,20 +119,6 @@ module _ (decls : Decls) (most : ℕ) (s : Script) (h : AreSteps decls most s) w
         } in
         subst (λ (xs : List Action). AreSteps decls most (record s { actions = xs })) (sym grown) all
 
-    pub literal_begins : (name : List ℕ) → is_call_full s ≡ false → is_lawful_name name ≡ true → is_service_among s.actions name ≡ false
-        → AreSteps decls most (record s { part = part.Literal; name = name; writes = [] })
-    literal_begins name room lawful new = record {
-      steps = h.steps;
-      call = both (has_caller s && are_begun decls s) (is_lawful_name name && true && (nat_lt (length s.actions) MOST_ACTIONS && not (is_service_among s.actions name))) so_far
-          (both (is_lawful_name name && true) (nat_lt (length s.actions) MOST_ACTIONS && not (is_service_among s.actions name)) (both (is_lawful_name name) true lawful refl)
-          (both (nat_lt (length s.actions) MOST_ACTIONS) (not (is_service_among s.actions name)) (room_left (length s.actions) room) (ap not new)));
-      few = omega arith;
-    }
-
-  -- what is known of the open call where it ends
-  pub call_known : s.part ≡ part.Call → (has_caller s && are_begun decls s) ≡ true
-  call_known here = subst (λ (p : Part). is_open decls s p ≡ true) here h.call
-
   pub closed : s.part ≡ part.Literal → most ≤ MOST_WRITES → AreSteps decls most (with_literal s)
   closed here small =
       let call : Bool = has_caller s && are_begun decls s in
@@ -168,7 +149,3 @@ module _ (decls : Decls) (most : ℕ) (s : Script) (h : AreSteps decls most s) w
         not_back : (b : Bool) → not b ≡ true → b ≡ false
         not_back false h = refl
         not_back true h = sym h
-
--- a name that is one and keeps its limit
-pub lawful_name : (n : List ℕ) → is_identifier n ≡ true → is_long_name n ≡ false → is_lawful_name n ≡ true
-lawful_name n is short = both (is_identifier n) (not (is_long_name n)) is (ap not short)

@@ -22,14 +22,14 @@ use Rattle.orc_change.specs.Differences.{has_item}
 use Rattle.orc_change.proofs.Exact.{has_item_is, has_itself}
 use Rattle.orc_refs.specs.Ids.{holds_id}
 use Rattle.orc_refs.specs.Stores.{Store, ids_at}
-use Rattle.orc_refs.specs.Moves.{are_distinct, is_moved, put_at, writes_after}
+use Rattle.orc_refs.specs.Moves.{are_distinct, is_moved, items_of, put_at, writes_after}
 use Rattle.orc_refs.specs.Clashes.{AreUnrivalled, ClashesAt, HasRival, are_unequal}
 use Rattle.orc_refs.specs.declared.moves.Move.{Move}
 use Rattle.orc_state.specs.States.{expansion, has_id, is_same_text, part}
 use Rattle.orc_state.specs.Actions.{live_after, name_each_once, new_services}
 use Rattle.orc_state.specs.Clashes.{clash_at, lesser_unequal, unequal_of, unequal_on}
 use Rattle.orc_state.specs.Clashes.{IsClash}
-use Rattle.orc_state.specs.inside.Turns.{held_by, items_of}
+use Rattle.orc_state.specs.inside.Turns.{held_by}
 use Rattle.orc_state.specs.inside.Keeping.{IsStoreFor, clash_on}
 use Rattle.orc_state.specs.declared.state.Service.{Service}
 use Rattle.orc_state.proofs.Agreement.{AreUnique, first_in, in_cases, later_in, none_in_nil, on_none}

@@ -1,5 +1,5 @@
 -- What an expansion writes is what its literal service holds.
-use Rattle.std.proofs.Common.{◌≡◌, ℕ, zero, suc, Bool, true, false, cond, List, [], ◌∷◌, ◌++◌, ◌⊎◌, inl, inr, map, length, Some, None, is_some, refl, sym, ap, subst, ◌∙◌, arith, append_assoc, append-nil}
+use Rattle.std.proofs.Common.{◌≡◌, ℕ, zero, suc, Bool, true, false, cond, List, [], ◌∷◌, ◌++◌, ◌⊎◌, inl, inr, map, length, Some, None, is_some, refl, sym, ap, ◌∙◌, arith, append_assoc, append-nil}
 use Rattle.std.specs.Prelude.{Option, slice_get}
 use Rattle.std.specs.List.{AllByRecursion, IsDistinct}
 use Rattle.std.specs.FinMap.{empty, entries, get, get-empty, get-entries}
@@ -18,13 +18,12 @@ use Rattle.orc_change.specs.inside.Held.{AreHeld}
 use Rattle.orc_change.proofs.Exact.{entries_are}
 use Rattle.orc_call.specs.declared.call.DevicePut.{DevicePut}
 use Rattle.orc_call.specs.declared.call.Put.{Put}
+use Rattle.orc_refs.specs.Moves.{items_of}
+use Rattle.orc_template.specs.Expansions.{row_put}
 use Rattle.orc_template.specs.Laws.{AreDeviceTrees, WrittenIsTyped}
 use Rattle.orc_services.specs.Expanded.{write_of, writes_of, writes_to}
 use Rattle.orc_state.specs.States.{expansion, is_same_text, put_all, puts_on}
-use Rattle.orc_state.specs.Declarations.{AreDecls}
 use Rattle.orc_state.specs.Laws.{LiteralIsExpansion}
-use Rattle.orc_state.specs.inside.Turns.{items_of, put_of}
-use Rattle.orc_state.specs.declared.declarations.Decls.{Decls}
 use Rattle.orc_state.specs.declared.declarations.Device.{Device}
 use Rattle.orc_state.proofs.Named.{is_text_itself, other_way}
 use Rattle.orc_state.proofs.Written.{own_schema}
@@ -48,18 +47,18 @@ module _ (m : Config) (whole : IsConfig m) where
       on (inr (inr same)) = same ∙ h
 
   all_stay : (held : List (List PathStep × Item)) (n : Config) (q : List PathStep) → AreHeld m held → get n q ≡ get m q
-      → get (put_all (map put_of held) n) q ≡ get m q
+      → get (put_all (map row_put held) n) q ≡ get m q
   all_stay [] n q are h = h
   all_stay (row ∷ held) n q are h = all_stay held (put_item n row.0 row.1) q are.1 (put_stays n row.0 row.1 q are.0 h)
 
   one_there : (held : List (List PathStep × Item)) (n : Config) (q : List PathStep) (item : Item) → AreHeld m held → rows.find path_cmp q held ≡ Some item
-      → get (put_all (map put_of held) n) q ≡ get m q
+      → get (put_all (map row_put held) n) q ≡ get m q
   one_there [] n q item are h = let not_so : None ≡ Some item = h in absurd cc
   one_there (row ∷ held) n q item are h = on (eq_by_cmp path_cmp q row.0) refl h (one_there held (put_item n row.0 row.1) q item are.1)
     where
       on : (t : Bool) → eq_by_cmp path_cmp q row.0 ≡ t → cond t (Some row.1) (rows.find path_cmp q held) ≡ Some item
-          → (rows.find path_cmp q held ≡ Some item → get (put_all (map put_of held) (put_item n row.0 row.1)) q ≡ get m q)
-          → get (put_all (map put_of held) (put_item n row.0 row.1)) q ≡ get m q
+          → (rows.find path_cmp q held ≡ Some item → get (put_all (map row_put held) (put_item n row.0 row.1)) q ≡ get m q)
+          → get (put_all (map row_put held) (put_item n row.0 row.1)) q ≡ get m q
       on true is e rest =
           let same : q ≡ row.0 = same_path q row.0 is in
           all_stay held (put_item n row.0 row.1) q are.1
@@ -87,16 +86,16 @@ puts-append name (x ∷ xs) ys = on (is_same_text x.device name) (puts-append na
     on true rest = ap (λ (l : List Put). put ∷ l) rest
     on false rest = rest
 
-own_rows : (name : List ℕ) (held : List (List PathStep × Item)) → puts_on name (map (write_of name) held) ≡ map put_of held
+own_rows : (name : List ℕ) (held : List (List PathStep × Item)) → puts_on name (map (write_of name) held) ≡ map row_put held
 own_rows name [] = refl
 own_rows name (row ∷ held) =
-    ap (λ t. cond t (put_of row ∷ puts_on name (map (write_of name) held)) (puts_on name (map (write_of name) held))) (is_text_itself name)
-    ∙ ap (λ (l : List Put). put_of row ∷ l) (own_rows name held)
+    ap (λ t. cond t (row_put row ∷ puts_on name (map (write_of name) held)) (puts_on name (map (write_of name) held))) (is_text_itself name)
+    ∙ ap (λ (l : List Put). row_put row ∷ l) (own_rows name held)
 
 other_rows : (own name : List ℕ) (held : List (List PathStep × Item)) → is_same_text own name ≡ false → puts_on name (map (write_of own) held) ≡ []
 other_rows own name [] h = refl
 other_rows own name (row ∷ held) h =
-    ap (λ t. cond t (put_of row ∷ puts_on name (map (write_of own) held)) (puts_on name (map (write_of own) held))) h ∙ other_rows own name held h
+    ap (λ t. cond t (row_put row ∷ puts_on name (map (write_of own) held)) (puts_on name (map (write_of own) held))) h ∙ other_rows own name held h
 
 none_on : (name : List ℕ) (names : List (List ℕ)) (trees : List Config) → AllByRecursion (λ other. is_same_text name other ≡ false) names
     → puts_on name (writes_of names trees) ≡ []

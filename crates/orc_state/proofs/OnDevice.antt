@@ -4,9 +4,7 @@ use Rattle.std.specs.declared.option.Option.{Option}
 use Rattle.std.specs.Option.{option_map_or}
 use Rattle.std.specs.List.{filter, find, flat_map, fold, list_all, list_any, Contains}
 use Rattle.std.specs.Cmp.Lexicographic.{bytes_decides}
-use Rattle.std.specs.FinMap.{get, empty, entries, get-entries, len-empty, len-entries}
-use Rattle.std.specs.FinMap as map
-use Rattle.std.specs.Ordering.{eq_by_cmp}
+use Rattle.std.specs.FinMap.{get, empty, entries, len-empty, len-entries}
 use Rattle.std.proofs.lemmas.List.{nil_from_length}
 use Rattle.std.proofs.lemmas.List.Elements.{All-contains, All-head, All-tail}
 use Rattle.std.proofs.lemmas.Bool.{and_from}
@@ -19,14 +17,15 @@ use Rattle.orc_call.specs.declared.call.Action.{Action}
 use Rattle.orc_call.specs.declared.call.Action.TheVariants.{Literal, Delete, BasePut, BaseRemove}
 use Rattle.orc_refs.specs.Live.{live_writes}
 use Rattle.orc_refs.specs.Stores.{Store, written_by}
-use Rattle.orc_refs.specs.Moves.{IsMoved, StartAt, are_distinct, edit_fits, edited, is_moved, put_at, writes_after}
+use Rattle.orc_refs.specs.Moves.{IsMoved, StartAt, are_distinct, edit_fits, edited, is_moved, items_of, put_at, writes_after}
 use Rattle.orc_refs.specs.declared.moves.Move.{Move}
 use Rattle.orc_refs.specs.declared.moves.BaseEdit.TheVariants as edit
+use Rattle.orc_refs.proofs.ItemsLaws.{put_at-items}
 use Rattle.orc_state.specs.States.{State, expansion, has_id, is_same_text, lives, name_of, part}
 use Rattle.orc_state.specs.Actions.{base_step, is_named_by, live_after, live_step, name_each_once, named, names, new_services}
 use Rattle.orc_state.specs.Touched.{is_held_by, is_touched_by, is_written_by}
 use Rattle.orc_services.specs.Fitting.{fits_action, FitActions}
-use Rattle.orc_state.specs.inside.Turns.{edits_of, held_by, items_of, move_of, put_of, turns_of}
+use Rattle.orc_state.specs.inside.Turns.{edits_of, held_by, move_of, turns_of}
 use Rattle.orc_state.specs.inside.Keeping.{IsBehind, IsStoreFor, StaysOn, on_device}
 use Rattle.orc_state.specs.declared.state.Service.{Service}
 use Rattle.orc_state.proofs.Agreement.{first_in, later_in}
@@ -113,17 +112,10 @@ lives_found (s ∷ ss) id h none = on (has_id id s) h none (lives_found ss id)
 
 -- the items of a configuration
 
-put_at_rows : (rows : List (List PathStep × Item)) (p : List PathStep) → put_at (map put_of rows) p ≡ map.find path_cmp p rows
-put_at_rows [] p = refl
-put_at_rows (row ∷ rows) p = ap (λ o. cond (eq_by_cmp path_cmp p row.0) (Some row.1) o) (put_at_rows rows p)
-
-pub put_at-items : (config : Config) (p : List PathStep) → put_at (items_of config) p ≡ get config p
-put_at-items config p = put_at_rows (entries config) p ∙ sym (get-entries config p)
-
 pub items_empty : (config : Config) → config ≡ empty → items_of config ≡ []
 items_empty config is =
     let nothing : Config = empty in
-    ap items_of is ∙ ap (map put_of) (nil_from_length (entries nothing) (sym (len-entries nothing) ∙ len-empty path_cmp Item))
+    ap items_of is ∙ ap (map (λ row. record { path = row.0; item = row.1 })) (nil_from_length (entries nothing) (sym (len-entries nothing) ∙ len-empty path_cmp Item))
 
 -- what an action makes of it
 

@@ -2,16 +2,16 @@
 ghost use Rattle.std.specs.Prelude.{◌≡◌, ◌++◌, IfOk, IsTrue, OnOk, slice_get};
 ghost use Rattle.std.specs.Option.{option_copied};
 ghost use Rattle.std.specs.List.{flat_map};
-ghost use Rattle.orc_refs.specs.Moves.{AreWhole, BringWhole};
+ghost use Rattle.orc_refs.specs.Moves.{AreWhole, BringWhole, items_of};
 ghost use Rattle.orc_state.specs.States.{part};
 ghost use Rattle.orc_services.specs.Fitting.{fits_action, FitActions};
-ghost use Rattle.orc_state.specs.inside.Turns.{edits_of, held_by, items_of, move_of, turns_of};
+ghost use Rattle.orc_state.specs.inside.Turns.{edits_of, held_by, move_of, turns_of};
 
 use crate::Service;
 use crate::expansion::expansion;
 use crate::living::Living;
 use orc_call::{Action, Put};
-use orc_refs::{BaseEdit, Move};
+use orc_refs::{BaseEdit, Move, items_of};
 use orc_text::{Memory, Row, Text};
 use orc_tree::Tree;
 use std::alloc::Global;
@@ -61,20 +61,6 @@ pub(crate) fn turns(alloc: Global, names: &[Text], actions: &[Action]) -> Result
         push_turn(alloc, &mut turns, names, action)?;
     }
     Ok(turns)
-}
-
-// The items of a tree, in path order.
-fn items_of(alloc: Global, tree: &Tree) -> Result<Row<Put>, Memory>
-    ensures items { IfOk result (λ items. items ≡ items_of tree.now) }
-    ensures whole { IfOk result AreWhole }
-{
-    let mut items = Row::new(alloc);
-    for row in tree.rows() {
-        let path = row.0.copy(alloc)?;
-        let item = row.1.copy(alloc)?;
-        items.push(Put { path, item })?;
-    }
-    Ok(items)
 }
 
 // The part of a device, where there is one.

@@ -1,54 +1,19 @@
 -- What a service holds is a configuration, and what a store knows of it.
-use Rattle.std.proofs.Common.{◌≡◌, ℕ, ◌+◌, ◌*◌, ◌≤◌, length, Bool, true, false, cond, T, List, [], ◌∷◌, map, Some, None, refl, sym, ap, subst, ◌∙◌, is_some, arith}
+use Rattle.std.proofs.Common.{◌≡◌, ℕ, ◌+◌, ◌*◌, ◌≤◌, length, true, cond, List, [], ◌∷◌, None, refl, sym, ap, subst, ◌∙◌, arith}
 use Rattle.std.specs.declared.option.Option.{Option}
 use Rattle.std.specs.Option.{option_map_or}
-use Rattle.std.specs.Ordering.{eq_by_cmp}
 use Rattle.std.specs.Cmp.Lexicographic.{nat_list_eq_equiv}
-use Rattle.std.specs.FinMap.{find, get, entries, entries_sorted, get-entries, get-empty, empty, is_sorted}
+use Rattle.std.specs.FinMap.{get, get-empty, empty}
 use Rattle.orc_path.specs.Steps.{PathStep}
 use Rattle.orc_path.specs.Order.{path_cmp}
-use Rattle.orc_path.specs.Configurations.{Config, IsConfig, is_entry}
-use Rattle.orc_path.specs.declared.item.Item.{Item}
-use Rattle.orc_path.specs.declared.item.Item.TheVariants.{Entry, Leaf}
+use Rattle.orc_path.specs.Configurations.{Config}
 use Rattle.orc_call.specs.declared.call.Put.{Put}
 use Rattle.orc_refs.specs.Stores.{Store, empty_store, written_by}
-use Rattle.orc_refs.specs.Moves.{AreWhole, BringWhole, IsMoved, StartAt, are_distinct, count_moved, put_at, rows_in}
+use Rattle.orc_refs.specs.Moves.{AreWhole, BringWhole, IsMoved, StartAt, are_distinct, count_moved, put_at}
 use Rattle.orc_refs.specs.Ids.{is_id, holds_id}
 use Rattle.orc_refs.specs.declared.moves.Move.{Move}
 use Rattle.orc_refs.specs.declared.moves.BaseEdit.{BaseEdit}
-use Rattle.orc_store_tables.specs.Holdings.{Writes, holding}
-
-abbrev put_in : List PathStep × Item → Put
-put_in row = record { path = row.0; item = row.1 }
-
-at_rows : (rows : List (List PathStep × Item)) (path : List PathStep) → put_at (map put_in rows) path ≡ find path_cmp path rows
-at_rows [] path = refl
-at_rows (row ∷ rows) path = ap (cond (eq_by_cmp path_cmp path row.0) (Some row.1)) (at_rows rows path)
-
-at_holding : (config : Config) (path : List PathStep) → put_at (holding config) path ≡ get config path
-at_holding config path = at_rows (entries config) path ∙ sym (get-entries config path)
-
-rows_back : (rows : List (List PathStep × Item)) → rows_in (map put_in rows) ≡ rows
-rows_back [] = refl
-rows_back (row ∷ rows) = ap (λ later. row ∷ later) (rows_back rows)
-
-is_so : (b : Bool) → T b → b ≡ true
-is_so true h = refl
-is_so false h = absurd h
-
-entry_there : (found : Option Item) → is_entry found ≡ true → found ≡ Some Entry
-entry_there None h = cc
-entry_there (Some Entry) h = refl
-entry_there (Some (Leaf text)) h = cc
-
--- the items of a configuration are whole
-pub holding_whole : (config : Config) (items : List Put) → IsConfig config → items ≡ holding config → AreWhole items
-holding_whole config items is same = subst AreWhole (sym same) (record {
-  sorted = ap (is_sorted path_cmp) (rows_back (entries config)) ∙ is_so _ (entries_sorted config);
-  fit = λ path item h. is.fit path item (sym (at_holding config path) ∙ h);
-  ways = λ path way some is_way.
-      at_holding config way ∙ entry_there (get config way) (is.ways path way (sym (ap is_some (at_holding config path)) ∙ some) is_way);
-})
+use Rattle.orc_store_tables.specs.Holdings.{Writes}
 
 -- where no service writes, each holds nothing
 pub nothing_held : (store : Store) (base : Config) (id : List ℕ) → store ≡ empty_store base → Writes store id []

@@ -1,12 +1,12 @@
 //! Configurations of few leaves, their items, and stores in which services write them.
 ghost use Rattle.std.specs.Prelude.{◌≡◌, ◌+◌, ◌*◌, ◌≤◌, [], ◌∷◌, IfOk, OnOk, length};
 ghost use Rattle.orc_refs.specs.Moves.{AreWhole};
-ghost use Rattle.orc_store_tables.specs.Holdings.{Writes, holding};
+ghost use Rattle.orc_store_tables.specs.Holdings.{Writes};
 
 use orc_call::Put;
 use orc_io::Steps;
 use orc_path::{Item, Path};
-use orc_refs::{Move, Refs};
+use orc_refs::{Move, Refs, items_of};
 use orc_table_programs::Undone;
 use orc_text::{Memory, Row, Text};
 use orc_tree::{ChangeSet, Tree};
@@ -36,26 +36,12 @@ pub(crate) fn tree_with(alloc: Global, path: &str, value: &str) -> Result<Tree, 
     Ok(tree)
 }
 
-// The items of a configuration.
-fn holding(alloc: Global, tree: &Tree) -> Result<Row<Put>, Memory>
-    ensures items { IfOk result (λ items. items ≡ holding tree.now) }
-    ensures whole { IfOk result AreWhole }
-{
-    let mut items = Row::new(alloc);
-    for row in tree.rows() {
-        let path = row.0.copy(alloc)?;
-        let item = row.1.copy(alloc)?;
-        items.push(Put { path, item })?;
-    }
-    Ok(items)
-}
-
 // The items of the configuration of one leaf and the entries on its way.
 pub(crate) fn holding_with(alloc: Global, path: &str, value: &str) -> Result<Row<Put>, Undone>
     ensures { IfOk result AreWhole }
 {
     let tree = tree_with(alloc, path, value)?;
-    Ok(holding(alloc, &tree)?)
+    Ok(items_of(alloc, &tree)?)
 }
 
 // The move of a service from the items that it holds to the next ones.

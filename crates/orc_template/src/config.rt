@@ -1,5 +1,5 @@
 //! The members of a block's `config`, by the schema of its device.
-ghost use Rattle.std.specs.Prelude.{◌≡◌, ℕ, List, ◌∷◌, [], IfOk, IsTrue};
+ghost use Rattle.std.specs.Prelude.{◌≡◌, ℕ, List, IsTrue};
 ghost use Rattle.serde_json.specs.Find.{as_array};
 ghost use Rattle.serde_json.specs.View.{view as json_view, items_view, members_view};
 ghost use Rattle.orc_path.specs.Items.{fits};
@@ -13,10 +13,10 @@ ghost use Rattle.orc_template.specs.inside.Nodes.{node_of_name, member_at_name};
 use crate::fault::{BAD_LEAF, Halt};
 use crate::values::{key_texts, value_text};
 use crate::writing::Writing;
-use orc_json::{name_behind, path_below};
+use orc_json::{name_behind, one_key, path_below};
 use orc_path::{DataView, Item, Name, Path};
 use orc_schema::{LeafNode, Node, Schema};
-use orc_text::{Memory, Row, Text};
+use orc_text::{Row, Text};
 use orc_value::Kind;
 use serde_json::{Map, Value};
 use std::alloc::Global;
@@ -64,15 +64,6 @@ fn do_leaf<V: DataView>(
         return Err(Halt::Rule(BAD_LEAF));
     }
     write_leaf(alloc, view, here, &leaf.kind, path, value, writing)
-}
-
-// A row of one key.
-fn one_key(alloc: Global, key: Text) -> Result<Row<Text>, Memory>
-    ensures { IfOk result (λ keys. keys ≡ key ∷ []) }
-{
-    let mut keys = Row::new(alloc);
-    keys.push(key)?;
-    Ok(keys)
 }
 
 // A value of a leaf-list.

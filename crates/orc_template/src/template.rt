@@ -1,8 +1,8 @@
 //! Templates.
-ghost use Rattle.std.specs.Prelude.{◌≡◌, List, IfOk, MatchOption, map};
+ghost use Rattle.std.specs.Prelude.{◌≡◌, List, IfOk, map};
 ghost use Rattle.std.specs.FinMap.{empty};
 ghost use Rattle.serde_json.specs.View.{view as json_view};
-ghost use Rattle.orc_json.specs.Readings.{IsJson, IsNoJson};
+ghost use Rattle.orc_json.specs.Readings.{IsJson};
 ghost use Rattle.orc_schema.specs.Schemas.{shape_at};
 ghost use Rattle.orc_expr.specs.Reads.{IsFixedByReads};
 ghost use Rattle.orc_template.specs.Readers.{Readers, AreReaders};
@@ -17,6 +17,7 @@ use crate::checking::template_fault;
 use crate::expanding::{Expanding, do_blocks};
 use crate::{Devices, ExpandFault, Expansion, TemplateFault, View};
 use orc_expr::ReadSet;
+use orc_json::parse;
 use orc_path::{DataView, Path};
 use orc_schema::Schema;
 use orc_text::{Memory, Row, Text};
@@ -42,21 +43,6 @@ impl Model for Template {
     ghost view = { λ template. template.text };
 
     ghost invariant = { λ template. json_value template.text ≡ Some (json_view template.json) };
-}
-
-// The JSON value that bytes are the text of, where they are one.
-fn parse(alloc: Global, bytes: &[u8]) -> Result<Option<Value>, Memory>
-    ensures { IfOk result (λ found. MatchOption found (IsNoJson bytes.now)
-        (λ value. IsJson bytes.now (json_view value))) }
-{
-    match Value::from_slice(alloc, bytes) {
-        Ok(value) => Ok(Some(value)),
-        Err(error) => if error.is_memory() {
-            Err(Memory)
-        } else {
-            Ok(None)
-        },
-    }
 }
 
 // The text that bytes are.

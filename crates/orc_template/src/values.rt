@@ -1,11 +1,11 @@
 //! The values of leaves and keys.
-ghost use Rattle.std.specs.Prelude.{◌≡◌, ◌<◌, length, IfOk, option_map, option_and_then, IsTrue};
+ghost use Rattle.std.specs.Prelude.{◌≡◌, ◌<◌, length, IfOk, IsTrue};
 ghost use Rattle.std.specs.List.{list_all};
 ghost use Rattle.serde_json.specs.View.{view as json_view};
 ghost use Rattle.serde_json.specs.Find.{get};
 ghost use Rattle.orc_path.specs.Alphabet.{is_key};
 ghost use Rattle.orc_value.specs.Json.{canon_of_json};
-ghost use Rattle.orc_schema.specs.Schemas.{path_names, kind_in};
+ghost use Rattle.orc_schema.specs.Schemas.{path_names};
 ghost use Rattle.orc_json.specs.Findings.{key_kind};
 ghost use Rattle.orc_template.specs.Values.{fitted, lexical, value_done, key_done, keys_done, Does, GivesValue};
 ghost use Rattle.orc_template.specs.inside.Machine.{scene};
@@ -15,7 +15,7 @@ use crate::fault::{BAD_LEAF, Halt};
 use crate::filling::fill;
 use orc_expr::ReadSet;
 use orc_path::{DataView, Path, Step, is_key, is_long_value};
-use orc_schema::{Node, Schema};
+use orc_schema::Schema;
 use orc_text::{Row, Text};
 use orc_value::{Kind, ValueFault, canon, from_json};
 use serde_json::Value;
@@ -78,19 +78,6 @@ pub(crate) fn value_text<V: DataView>(
     }
 }
 
-// The kind of the values of a node.
-fn kind_in(node: Option<&Node>) -> Option<&Kind>
-    ensures { option_map (λ kind. kind.now) result ≡ option_and_then kind_in (option_map (λ n. n.now) node.entry) }
-{
-    match node {
-        Some(Node::Leaf(leaf)) => Some(&leaf.kind),
-        Some(Node::LeafList(values)) => Some(&values.kind),
-        Some(Node::Container) => None,
-        Some(Node::List(_)) => None,
-        None => None,
-    }
-}
-
 // The text of a key of an entry.
 fn key_text<V: DataView>(
     alloc: Global,
@@ -106,7 +93,7 @@ fn key_text<V: DataView>(
         (json_view entry.now) key.now reads.old.reads) reads.new.reads result }
     ensures key { IfOk result (λ text. IsTrue (is_key text)) }
 {
-    let Some(kind) = kind_in(schema.node_below(list, key.as_str())) else {
+    let Some(kind) = schema.kind_below(list, key.as_str()) else {
         return Err(Halt::Rule(BAD_LEAF));
     };
     let Some(value) = entry.get(key.as_str()) else {

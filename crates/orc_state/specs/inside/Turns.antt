@@ -1,14 +1,11 @@
 -- What a call does to the services that it names, and what that asks of the store of one device.
-use Rattle.std.specs.Prelude.{◌≡◌, ℕ, false, List, [], ◌∷◌, ◌++◌, map, if◌then◌else◌}
+use Rattle.std.specs.Prelude.{◌≡◌, ℕ, false, List, [], ◌∷◌, ◌++◌, if◌then◌else◌}
 use Rattle.std.specs.List.{find, fold}
 use Rattle.std.specs.Option.{option_map_or}
-use Rattle.std.specs.FinMap.{entries}
-use Rattle.orc_path.specs.Steps.{PathStep}
-use Rattle.orc_path.specs.Configurations.{Config}
-use Rattle.orc_path.specs.declared.item.Item.{Item}
 use Rattle.orc_call.specs.declared.call.Put.{Put}
 use Rattle.orc_call.specs.declared.call.Action.{Action}
 use Rattle.orc_call.specs.declared.call.Action.TheVariants.{Literal, Delete, BasePut, BaseRemove}
+use Rattle.orc_refs.specs.Moves.{items_of}
 use Rattle.orc_refs.specs.declared.moves.Move.{Move}
 use Rattle.orc_refs.specs.declared.moves.BaseEdit.{BaseEdit}
 use Rattle.orc_refs.specs.declared.moves.BaseEdit.TheVariants as edit
@@ -22,13 +19,6 @@ abbrev pub turns_of : List (List ℕ) → Action → List Turn
 turns_of names (Literal id writes) = Comes (record { id = id; parts = expansion names writes }) ∷ []
 turns_of names (Delete id) = Goes id ∷ []
 turns_of names other = []
-
--- the items of a configuration, in path order
-abbrev pub put_of : List PathStep × Item → Put
-put_of row = record { path = row.0; item = row.1 }
-
-abbrev pub items_of : Config → List Put
-items_of config = map put_of (entries config)
 
 -- what the living service of a name holds on a device
 abbrev pub held_by : List Service → ℕ → List ℕ → List Put

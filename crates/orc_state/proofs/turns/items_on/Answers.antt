@@ -4,9 +4,8 @@ use Rattle.std.specs.declared.option.Option.{Option}
 use Rattle.std.specs.Option.{option_map_or}
 use Rattle.std.specs.FinMap.{empty}
 use Rattle.orc_path.specs.Configurations.{Config}
-use Rattle.orc_refs.specs.Moves.{AreWhole}
+use Rattle.orc_refs.specs.Moves.{AreWhole, items_of}
 use Rattle.orc_state.specs.States.{part}
-use Rattle.orc_state.specs.inside.Turns.{items_of}
 use Rattle.orc_state.proofs.OnDevice.{items_empty}
 use Rattle.orc_state.proofs.Wholes.{none-whole}
 use Rattle.orc_state.proofs.turns.items_on.Goals as goal

@@ -1,11 +1,10 @@
 use Rattle.std.proofs.Common.{◌≡◌, ℕ, ◌++◌, ◌∷◌, [], List, Some, Bor, sym, ap, ◌∙◌}
-use Rattle.std.specs.Option.{option_map, option_and_then}
+use Rattle.std.specs.Option.{option_and_then}
 use Rattle.serde_json.specs.View.{view}
 use Rattle.serde_json.specs.Find.{get}
 use Rattle.serde_json.specs.declared.value.Value.{Value}
 use Rattle.orc_value.specs.declared.kind.Kind.{Kind}
 use Rattle.orc_schema.specs.Schemas.{path_names, kind_in, node_at}
-use Rattle.orc_schema.specs.declared.line.Node.{Node}
 use Rattle.orc_json.specs.Findings.{key_kind}
 use Rattle.orc_template.specs.Values.{value_done, key_value, key_done}
 use Rattle.orc_template.specs.inside.Machine.{scene}
@@ -25,8 +24,7 @@ returns-clause-does g c =
     let value = view c.in-Some-get.value.now in
     let kind_is : key_kind s path key ≡ Some kind =
     ap (λ (k : List ℕ). option_and_then kind_in (node_at s (path ++ k ∷ []))) (sym c.as_str.ensures)
-    ∙ ap (option_and_then kind_in) (sym c.node_below.ensures)
-    ∙ mapped_some (λ (k : Bor Kind). k.now) c.kind_in.result (option_and_then kind_in (option_map (λ (n : Bor Node). n.now) c.node_below.result)) c.in-Some.kind c.kind_in.ensures c.in-Some.is in
+    ∙ mapped_some (λ (k : Bor Kind). k.now) c.kind_below.result (option_and_then kind_in (node_at s (path ++ c.as_str.result.now ∷ []))) c.in-Some.kind c.kind_below.ensures c.in-Some.is in
     let value_is : get key d ≡ Some value =
     ap (λ (k : List ℕ). get k d) (sym c.as_str-2.ensures)
     ∙ mapped_some (λ (v : Bor Value). view v.now) c.get.result (get c.as_str-2.result.now d) c.in-Some-get.value c.get.ensures c.in-Some-get.is in

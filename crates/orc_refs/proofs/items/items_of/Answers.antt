@@ -1,7 +1,7 @@
 use Rattle.std.proofs.Common.{◌≡◌, rules}
-use Rattle.orc_state.specs.inside.Turns.{items_of}
-use Rattle.orc_state.proofs.Wholes.{items-whole}
-use Rattle.orc_state.proofs.turns.items_of.Goals as goal
+use Rattle.orc_refs.specs.Moves.{items_of}
+use Rattle.orc_refs.proofs.ItemsLaws.{items-whole}
+use Rattle.orc_refs.proofs.items.items_of.Goals as goal
 
 pub returns-clause-whole : goal.returns-clause-whole
 returns-clause-whole c =
