@@ -14,7 +14,6 @@ use crate::bundle::Bundle;
 use orc_declarations::{nothing_declared, read_declarations};
 use orc_io::Steps;
 use orc_lines::{Declared, Names, first_line, is_large, lacks_header, line_text, read_text, seen};
-use orc_schema::Schema;
 use orc_script::read_steps;
 use orc_state::{BundleFault, Decls, Device, Rule};
 use orc_template::Devices;
@@ -53,24 +52,13 @@ fn places_of(alloc: Global, devices: &[Device]) -> Result<Row<u32>, Memory>
     Ok(places)
 }
 
-// Equal schemas.
-fn copies_of(alloc: Global, schemas: &[Schema]) -> Result<Row<Schema>, Memory>
-    ensures { IfOk result (λ copies. copies ≡ schemas.now) }
-{
-    let mut copies = Row::new(alloc);
-    for schema in schemas {
-        copies.push(schema.copy(alloc)?)?;
-    }
-    Ok(copies)
-}
-
 // The devices as expansions take them.
 fn table_of(alloc: Global, declared: &Declared) -> Result<Devices, Memory>
     requires { AreDeclared declared.now }
     ensures { IfOk result (λ table. table ≡ (decls_in declared.now).table) }
 {
     let names = row_of(alloc, &declared.names)?;
-    let schemas = copies_of(alloc, declared.schemas.as_slice())?;
+    let schemas = declared.schemas.copy(alloc)?;
     let places = places_of(alloc, declared.devices.as_slice())?;
     match Devices::of_parts(names, schemas, places) {
         Some(table) => Ok(table),

@@ -13,9 +13,10 @@ use Rattle.std.proofs.Math.Seq.{take-append_seam}
 use Rattle.std.proofs.lemmas.List.Elements.{All-nil, All-cons, All-head, All-tail, All-weaker}
 use Rattle.orc_path.specs.Steps.{PathStep, has_keys, ends_in_keys}
 use Rattle.orc_path.specs.Order.{path_cmp}
-use Rattle.orc_path.specs.Configurations.{Config, IsWay, IsConfig, is_entry}
+use Rattle.orc_path.specs.Configurations.{Config, IsWay, IsConfig}
 use Rattle.orc_path.specs.declared.item.Item.{Item}
 use Rattle.orc_path.specs.declared.item.Item.TheVariants as item
+use Rattle.orc_path.proofs.ConfigurationLaws.{is_entry-some}
 use Rattle.orc_path.proofs.PathOrder.{path_cmp_total, path_cmp_exact}
 use Rattle.orc_schema.specs.Schemas.{SchemaTable, path_names, kind_at_path}
 use Rattle.orc_typed.specs.Typed.{is_in_schema, kinds_at, are_canonical_keys, has_canonical_keys, are_canonical_steps, each_step, is_canonical_value}
@@ -61,11 +62,6 @@ found_row P (row ∷ rows) q x h e = on (path_cmp q row.0) refl (found_row P row
         let text : row.1 ≡ x = same_some row.1 x (sym (ap (λ o. cond (is_eq o) (Some row.1) (find path_cmp q rows)) is) ∙ e) in
         let at : q ≡ row.0 = path_cmp_exact q row.0 is in
         subst (λ (p : Path). P (p, x)) (sym at) (subst (λ (y : Item). P (row.0, y)) text (All-head P row rows h))
-
-entry_is : (o : Option Item) → is_entry o ≡ true → o ≡ Some item.Entry
-entry_is None h = absurd (false≢true h)
-entry_is (Some item.Entry) h = refl
-entry_is (Some (item.Leaf text)) h = absurd (false≢true h)
 
 -- ---- what a row breaks
 
@@ -152,7 +148,7 @@ module _ (s : SchemaTable) (c : Config) where
               let keyed : has_keys step ≡ true = ap (λ ks. nat_lt 0 (length ks)) some ∙ lt-ltb 0 (length (key ∷ keys)) (omega arith) in
               let way = is_way front step next later path e keyed in
               keys_kept (front ++ step ∷ [], item.Entry)
-              (found_keeps (front ++ step ∷ []) item.Entry (entry_is (get c (front ++ step ∷ [])) (is.ways path (front ++ step ∷ []) there way)))
+              (found_keeps (front ++ step ∷ []) item.Entry (is_entry-some (get c (front ++ step ∷ [])) (is.ways path (front ++ step ∷ []) there way)))
 
       steps_from : (above later : Path) → path ≡ above ++ later → each_step (has_canonical_keys s) (path_names above) later ≡ true
       steps_from above [] e = refl

@@ -9,12 +9,12 @@ use Rattle.std.specs.declared.cmp.Ordering.{Ordering}
 use Rattle.std.specs.declared.cmp.Ordering.TheVariants.{Less}
 use Rattle.std.proofs.lemmas.Bool.{cases_Bool, false≢true}
 use Rattle.std.proofs.lemmas.List.{take-append-drop}
-use Rattle.orc_path.specs.Configurations.{Config, IsConfig, IsWay, is_entry, put_item}
+use Rattle.orc_path.specs.Configurations.{Config, IsConfig, IsWay, put_item}
 use Rattle.orc_path.specs.Order.{path_cmp, is_prefix}
 use Rattle.orc_path.specs.Steps.{PathStep}
 use Rattle.orc_path.specs.declared.item.Item.{Item}
-use Rattle.orc_path.specs.declared.item.Item.TheVariants.{Entry, Leaf}
-use Rattle.orc_path.proofs.ConfigurationLaws.{same_config, same_path, path_ties, put_item_cases, get-put_item-here}
+use Rattle.orc_path.specs.declared.item.Item.TheVariants.{Entry}
+use Rattle.orc_path.proofs.ConfigurationLaws.{same_config, same_path, path_ties, put_item_cases, get-put_item-here, is_entry-some}
 use Rattle.orc_path.proofs.Bools.{first_of_both, second_of_both}
 use Rattle.orc_path.proofs.Extensions.{is_prefix-append, path_cmp-extension}
 use Rattle.orc_path.proofs.PathOrder.{path_cmp_total}
@@ -46,11 +46,6 @@ way_less q p way =
     subst (λ (x : Path). is_prefix x p ≡ true) (sym way.begins) (subst (λ (x : Path). is_prefix (take (length q) p) x ≡ true) whole (is_prefix-append (take (length q) p) (drop (length q) p))) in
     path_cmp-extension q p front (λ e. omega (arith, way.shorter, ap length e))
 
-entry_is : (o : Option Item) → is_entry o ≡ true → o ≡ Some Entry
-entry_is None h = cc
-entry_is (Some Entry) h = refl
-entry_is (Some (Leaf text)) h = cc
-
 no_some : {X : Type 0} (o : Option X) → is_some o ≡ true → o ≡ None → ⊥
 no_some None h e = false≢true h
 no_some (Some x) h e = false≢true (sym (ap is_some e) ∙ h)
@@ -75,7 +70,7 @@ module _ (c : Config) (config : IsConfig c) where
     skipped q other = ap (λ t. cond t (Some i) (find_in path_cmp q later)) other
 
     way_has : (q : Path) → IsWay q p → get c q ≡ Some Entry
-    way_has q way = entry_is (get c q) (config.ways p q (ap is_some has) way)
+    way_has q way = is_entry-some (get c q) (config.ways p q (ap is_some has) way)
 
     way_none : (q : Path) → IsWay q p → find_in path_cmp q later ≡ None
     way_none q way = none_below q later (below_more q p later (way_less q p way) above)

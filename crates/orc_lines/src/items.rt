@@ -4,7 +4,7 @@ ghost use Rattle.orc_path.specs.Alphabet.{is_value};
 ghost use Rattle.orc_path.specs.Reading.{path_of};
 ghost use Rattle.orc_path.specs.Texts.{path_text};
 ghost use Rattle.orc_path.specs.Values.{value_of};
-ghost use Rattle.orc_state.specs.Calls.{blank_item, is_data_path, is_forbid_rule, is_item_under, is_list_path, is_put, is_served};
+ghost use Rattle.orc_state.specs.Calls.{is_data_path, is_forbid_rule, is_item_under, is_list_path, is_put, is_served};
 ghost use Rattle.orc_lines.specs.Answers.{ReadsLine};
 ghost use Rattle.orc_lines.specs.Items.{is_past_path, is_past_value, is_long_item, is_barred, can_carry, canonical_put, after_mark, data_path_of, entry_of, forbidden_of, kept_path_of, leaf_in, leaf_of, list_path_of, put_of, stored_data_path, stored_list_path, names_service, is_service_at, service_path_of, stored_service_path};
 ghost use Rattle.orc_schema.specs.Schemas.{SchemaTable, path_names};
@@ -21,7 +21,7 @@ use orc_io::Steps;
 use orc_path::{Item, Path, PathFault, is_long_value, read_value_counted, values_are_read};
 use orc_schema::Schema;
 use orc_services::{ServiceList, is_listed};
-use orc_state::{Rule, is_kept, is_served};
+use orc_state::{Rule, blank_item, is_kept, is_served};
 use orc_text::{Memory, Text};
 use orc_typed::{
     canonical_is_typed, canonical_item_counted, canonical_keeps, canonical_path_counted,
@@ -260,16 +260,6 @@ pub fn read_put<L: Ledger>(
         Some(value) => read_leaf(alloc, lists, schema, is_long, word, value, work),
         None => breaks(Rule::Line),
     }
-}
-
-/// The item that the path can carry, but for a leaf's text.
-pub fn blank_item(alloc: Global, path: &Path) -> Item
-    ensures { result ≡ blank_item path.now }
-{
-    if path.ends_in_keys() {
-        return Item::Entry;
-    }
-    Item::Leaf(Text::new(alloc))
 }
 
 // A path of the data, in canonical form.

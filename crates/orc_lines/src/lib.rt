@@ -15,8 +15,8 @@ mod words;
 pub use declared::{Declared, Section};
 pub use fault::{LineFault, at_line, breaks};
 pub use items::{
-    blank_item, can_carry, is_long_item, is_past_path, read_data_path, read_forbidden,
-    read_kept_path, read_list_path, read_path, read_put, read_service_path,
+    can_carry, is_long_item, is_past_path, read_data_path, read_forbidden, read_kept_path,
+    read_list_path, read_path, read_put, read_service_path,
 };
 pub use keyword::{Keyword, keyword_of};
 pub use lines::{

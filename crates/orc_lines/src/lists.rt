@@ -5,11 +5,11 @@ ghost use Rattle.orc_state.specs.Calls.{has_entries, is_data_path, is_list_path}
 ghost use Rattle.orc_lines.specs.Items.{names_list};
 ghost use Rattle.orc_lines.specs.inside.Places.{keeps_place};
 
-use crate::items::{blank_item, can_carry};
+use crate::items::can_carry;
 use orc_io::Steps;
 use orc_path::Path;
 use orc_schema::{Node, Schema};
-use orc_state::is_kept;
+use orc_state::{blank_item, is_kept};
 use orc_typed::{are_canonical_steps_counted, stand_counted};
 use std::alloc::Global;
 use std::sync::ledger::Ledger;

@@ -167,7 +167,8 @@ is_entry-keyed q Entry f h = refl
 is_entry-keyed [] (Leaf text) f h = f
 is_entry-keyed (s ∷ ss) (Leaf text) f h = absurd (false≢true (sym (ap not h) ∙ f))
 
-is_entry-some : (o : Option Item) → is_entry o ≡ true → o ≡ Some Entry
+-- an entry, where one stands
+pub is_entry-some : (o : Option Item) → is_entry o ≡ true → o ≡ Some Entry
 is_entry-some None h = absurd (false≢true h)
 is_entry-some (Some Entry) h = refl
 is_entry-some (Some (Leaf text)) h = absurd (false≢true h)

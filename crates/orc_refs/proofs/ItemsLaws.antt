@@ -1,12 +1,11 @@
 -- The items of a configuration as a list.
-use Rattle.std.proofs.Common.{◌≡◌, true, List, [], ◌∷◌, map, None, Some, refl, sym, ap, subst, ◌∙◌, is_some}
-use Rattle.std.specs.declared.option.Option.{Option}
+use Rattle.std.proofs.Common.{◌≡◌, List, [], ◌∷◌, map, refl, sym, ap, subst, ◌∙◌, is_some}
 use Rattle.std.specs.FinMap.{entries, entries_sorted, find, get, get-entries, is_sorted}
 use Rattle.orc_path.specs.Steps.{PathStep}
 use Rattle.orc_path.specs.Order.{path_cmp}
-use Rattle.orc_path.specs.Configurations.{Config, IsConfig, is_entry}
+use Rattle.orc_path.specs.Configurations.{Config, IsConfig}
 use Rattle.orc_path.specs.declared.item.Item.{Item}
-use Rattle.orc_path.specs.declared.item.Item.TheVariants.{Entry, Leaf}
+use Rattle.orc_path.proofs.ConfigurationLaws.{is_entry-some}
 use Rattle.orc_call.specs.declared.call.Put.{Put}
 use Rattle.orc_tree.proofs.InOrder.{T_is_true}
 use Rattle.orc_refs.specs.Moves.{AreWhole, items_of, put_at, rows_in}
@@ -22,15 +21,10 @@ put_at-items config p =
     ∙ ap (find path_cmp p) (rows_back (entries config))
     ∙ sym (get-entries config p)
 
-entry_there : (o : Option Item) → is_entry o ≡ true → o ≡ Some Entry
-entry_there None h = cc
-entry_there (Some Entry) h = refl
-entry_there (Some (Leaf text)) h = cc
-
 pub items-whole : (config : Config) (items : List Put) → IsConfig config → items ≡ items_of config → AreWhole items
 items-whole config items is same = subst AreWhole (sym same) (record {
   sorted = ap (is_sorted path_cmp) (rows_back (entries config)) ∙ T_is_true _ (entries_sorted config);
   fit = λ path item h. is.fit path item (sym (put_at-items config path) ∙ h);
   ways = λ path way some is_way.
-      put_at-items config way ∙ entry_there (get config way) (is.ways path way (sym (ap is_some (put_at-items config path)) ∙ some) is_way);
+      put_at-items config way ∙ is_entry-some (get config way) (is.ways path way (sym (ap is_some (put_at-items config path)) ∙ some) is_way);
 })

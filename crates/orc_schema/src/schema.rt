@@ -3,7 +3,7 @@ ghost use Rattle.std.specs.Prelude.{◌≡◌, IfOk, false};
 ghost use Rattle.orc_schema.specs.Schemas.{Ascends, plain_table};
 
 use crate::line::SchemaLine;
-use orc_text::{Memory, Row};
+use orc_text::{Copied, Memory, Row};
 use std::alloc::Global;
 use std::marker::Model;
 
@@ -72,5 +72,11 @@ impl Schema {
             plain: self.plain,
             lines: self.lines.copy(alloc)?,
         })
+    }
+}
+
+impl Copied for Schema {
+    fn copied(&self, alloc: Global) -> Result<Schema, Memory> {
+        self.copy(alloc)
     }
 }

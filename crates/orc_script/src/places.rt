@@ -14,11 +14,11 @@ use crate::step::ScriptStep;
 use orc_call::DevicePut;
 use orc_io::Steps;
 use orc_lines::{
-    Declared, LineFault, blank_item, breaks, can_carry, cut, names_list, read_kept_path, read_put,
+    Declared, LineFault, breaks, can_carry, cut, names_list, read_kept_path, read_put,
 };
 use orc_path::{Path, is_identifier_counted, is_long_name};
 use orc_schema::Schema;
-use orc_state::Rule;
+use orc_state::{Rule, blank_item};
 use orc_text::Text;
 use orc_typed::{are_canonical_steps_counted, canonical_path_counted, stand_counted};
 use std::alloc::Global;

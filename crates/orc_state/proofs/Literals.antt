@@ -5,15 +5,14 @@ use Rattle.std.specs.List.{AllByRecursion, IsDistinct}
 use Rattle.std.specs.FinMap.{empty, entries, get, get-empty, get-entries}
 use Rattle.std.specs.FinMap as rows
 use Rattle.std.specs.Ordering.{eq_by_cmp}
-use Rattle.std.proofs.lemmas.Bool.{false≢true}
 use Rattle.std.proofs.lemmas.List.{length-map}
 use Rattle.std.proofs.lemmas.Map.Keys.{IsDistinct-head, IsDistinct-tail}
 use Rattle.orc_path.specs.Steps.{PathStep}
 use Rattle.orc_path.specs.Order.{path_cmp}
-use Rattle.orc_path.specs.Configurations.{Config, IsConfig, IsWay, is_entry, put_item}
+use Rattle.orc_path.specs.Configurations.{Config, IsConfig, IsWay, put_item}
 use Rattle.orc_path.specs.declared.item.Item.{Item}
-use Rattle.orc_path.specs.declared.item.Item.TheVariants.{Entry, Leaf}
-use Rattle.orc_path.proofs.ConfigurationLaws.{get-put_item-here, put_item_cases, same_config, same_path}
+use Rattle.orc_path.specs.declared.item.Item.TheVariants.{Entry}
+use Rattle.orc_path.proofs.ConfigurationLaws.{get-put_item-here, put_item_cases, same_config, same_path, is_entry-some}
 use Rattle.orc_change.specs.inside.Held.{AreHeld}
 use Rattle.orc_change.proofs.Exact.{entries_are}
 use Rattle.orc_call.specs.declared.call.DevicePut.{DevicePut}
@@ -30,11 +29,6 @@ use Rattle.orc_state.proofs.Written.{own_schema}
 
 -- a configuration is made again by putting its items, in path order, into none
 
-entry_is : (o : Option Item) → is_entry o ≡ true → o ≡ Some Entry
-entry_is None h = absurd (false≢true h)
-entry_is (Some Entry) h = refl
-entry_is (Some (Leaf text)) h = absurd (false≢true h)
-
 module _ (m : Config) (whole : IsConfig m) where
   put_stays : (n : Config) (p : List PathStep) (item : Item) (q : List PathStep) → get m p ≡ Some item → get n q ≡ get m q
       → get (put_item n p item) q ≡ get m q
@@ -43,7 +37,7 @@ module _ (m : Config) (whole : IsConfig m) where
       on : ((q ≡ p) × (get (put_item n p item) q ≡ Some item)) ⊎ ((IsWay q p × (get (put_item n p item) q ≡ Some Entry)) ⊎ (get (put_item n p item) q ≡ get n q))
           → get (put_item n p item) q ≡ get m q
       on (inl here) = here.1 ∙ sym (ap (λ (x : List PathStep). get m x) here.0 ∙ held)
-      on (inr (inl way)) = way.1 ∙ sym (entry_is (get m q) (whole.ways p q (ap is_some held) way.0))
+      on (inr (inl way)) = way.1 ∙ sym (is_entry-some (get m q) (whole.ways p q (ap is_some held) way.0))
       on (inr (inr same)) = same ∙ h
 
   all_stay : (held : List (List PathStep × Item)) (n : Config) (q : List PathStep) → AreHeld m held → get n q ≡ get m q

@@ -270,8 +270,9 @@ fn is_known(schema: &Schema, path: &Path, item: &Item) -> bool
         && (schema.is_plain() || are_canonical_steps(schema, path.steps.as_slice()))
 }
 
-// The item that the path can carry, but for a leaf's text.
-fn blank_item(alloc: Global, path: &Path) -> Item
+/// The item that the path can carry, but for a leaf's text: an entry where its last step has keys, and
+/// else a leaf with an empty text, which takes no memory.
+pub fn blank_item(alloc: Global, path: &Path) -> Item
     ensures { result ≡ blank_item path.now }
 {
     if path.ends_in_keys() {

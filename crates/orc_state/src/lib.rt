@@ -31,7 +31,8 @@ pub use data::opening_data;
 pub use declarations::{Decls, Device, MOST_DEVICES, device_name};
 pub use fault::BundleFault;
 pub use lawful::{
-    MOST_WRITES, is_call, is_data_path, is_item_at, is_kept, is_lawful_name, is_service_among,
+    MOST_WRITES, blank_item, is_call, is_data_path, is_item_at, is_kept, is_lawful_name,
+    is_service_among,
 };
 pub use laws::{literal_is_expansion, tree_is_configuration, tree_is_typed};
 pub use plan::Plan;

@@ -86,8 +86,8 @@ impl Devices {
     {
         Ok(Devices {
             names: self.names.copy(alloc)?,
-            schemas: copied_schemas(alloc, self.schemas.as_slice())?,
-            of: copied_places(alloc, self.of.as_slice())?,
+            schemas: self.schemas.copy(alloc)?,
+            of: self.of.copy(alloc)?,
         })
     }
 
@@ -141,26 +141,4 @@ fn number_in(names: &[Text], name: &str) -> Option<usize>
         number += 1;
     }
     None
-}
-
-// Copies of schemas.
-fn copied_schemas(alloc: Global, schemas: &[Schema]) -> Result<Row<Schema>, Memory>
-    ensures { IfOk result (λ copies. copies ≡ schemas.now) }
-{
-    let mut copies = Row::new(alloc);
-    for schema in schemas {
-        copies.push(schema.copy(alloc)?)?;
-    }
-    Ok(copies)
-}
-
-// Copies of places.
-fn copied_places(alloc: Global, places: &[u32]) -> Result<Row<u32>, Memory>
-    ensures { IfOk result (λ copies. copies ≡ places.now) }
-{
-    let mut copies = Row::new(alloc);
-    for place in places {
-        copies.push(*place)?;
-    }
-    Ok(copies)
 }

@@ -9,13 +9,13 @@ unreachable-requires c =
     let d = c.args.declared.now in
     not_none (decls_with [] d).table
     (sym c.in-None.is ∙ made d c.in_ok-names.names c.in_ok-schemas.schemas c.in_ok-places.places c.of_parts.result c.requires c.in_ok-names.ensures.distinct
-    c.in_ok-names.ensures.row (c.in_ok-schemas.ensures ∙ c.as_slice.ensures)
-    (c.in_ok-places.ensures ∙ ap (λ (devices : List Device). map (λ (device : Device). device.schema) devices) c.as_slice-2.ensures) c.of_parts.ensures)
+    c.in_ok-names.ensures.row c.in_ok-schemas.ensures
+    (c.in_ok-places.ensures ∙ ap (λ (devices : List Device). map (λ (device : Device). device.schema) devices) c.as_slice.ensures) c.of_parts.ensures)
 
 pub returns : goal.returns
 returns c =
     let d = c.args.declared.now in
     some_same c.in-Some.table (decls_with [] d).table
     (sym c.in-Some.is ∙ made d c.in_ok-names.names c.in_ok-schemas.schemas c.in_ok-places.places c.of_parts.result c.requires c.in_ok-names.ensures.distinct
-    c.in_ok-names.ensures.row (c.in_ok-schemas.ensures ∙ c.as_slice.ensures)
-    (c.in_ok-places.ensures ∙ ap (λ (devices : List Device). map (λ (device : Device). device.schema) devices) c.as_slice-2.ensures) c.of_parts.ensures)
+    c.in_ok-names.ensures.row c.in_ok-schemas.ensures
+    (c.in_ok-places.ensures ∙ ap (λ (devices : List Device). map (λ (device : Device). device.schema) devices) c.as_slice.ensures) c.of_parts.ensures)
