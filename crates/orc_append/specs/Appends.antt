@@ -29,7 +29,7 @@ known_behind (Full len) entries entry = entries
 known_behind Memory entries entry = entries
 
 -- whether the journal is fresh behind an append that came to this outcome: the disk was empty as it was opened, and no
--- entry was appended since
+-- append was done since; one that failed may have put its entry all the same
 abbrev pub fresh_behind : Appended → Bool → Bool
 fresh_behind Done fresh = false
 fresh_behind Stopped fresh = fresh

@@ -72,7 +72,8 @@ impl<D: Disk> StopJournal<D> {
         self.journal.stopped()
     }
 
-    /// Whether the disk was empty as the journal was opened and no entry was appended since.
+    /// Whether the disk was empty as the journal was opened and no append was done since. One that
+    /// failed may have put its entry all the same.
     pub fn fresh(&self) -> bool
         ensures { result ≡ self.now.fresh }
     {

@@ -179,8 +179,9 @@ pub fn read_bundle(alloc: Global, bytes: &[u8]) -> Result<Bundle, BundleFault>
 /// Not counted is what is done with a line in one pass each: whether it is UTF-8, where a space or a
 /// colon stands, which number or first word a word is, how many characters a value has, whether names
 /// of modules are too long or `orc`, and copies. Not counted either are look-ups of other names by
-/// their hashes, a look through the 64 actions at most of an open call for the service of a line, one
-/// look at the names of a block's statements for their lengths, and one copy of the declarations' bytes.
+/// their order, in the logarithm of how many there are, a look through the 64 actions at most of an
+/// open call for the service of a line, one look at the names of a block's statements for their lengths,
+/// and one copy of the declarations' bytes.
 ///
 /// What isn't bounded by the line is claimed nowhere: the looks through the lists that have templates,
 /// one by one, at each line of the data (`data`, `set`, `unset`), of a service of a list (`create`,

@@ -203,10 +203,6 @@ puts_fail i n bytes xs r e before is w h lt =
     listed_fails put_fields put_behind puts_fields (λ _. refl) (λ _ _ _. refl) some_put put_determined xs None i n bytes r e w (subst (λ b. ReadFails (any (put_fields b)) r e) (is ∙ last_is None xs) h) lt
 
 module _ {X : Type 0} (fields : X → List Field) (some : X) where
-  nothing_behind : (xs : List X) → after (alike fields some) (λ _ _. tt) (all_alike fields some) (λ _. refl) (λ _ _ _. refl) some tt xs ≡ tt
-  nothing_behind [] = refl
-  nothing_behind (x ∷ xs) = nothing_behind xs
-
   -- where the next value can't be read
   pub many_fail : Determined (any fields) → (i n : ℕ) (bytes : List ℕ) (xs : List X) (r : List ℕ) (e : Stuck) → IsWhole (many fields i) bytes xs r → ReadFails (any fields) r e → i < n → ReadFails (many fields n) bytes e
   many_fail d i n bytes xs r e w h lt =

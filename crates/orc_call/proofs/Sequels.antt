@@ -76,13 +76,6 @@ module _ {X Y Z : Type 0} (A : Grammar X) (B : X → Grammar Y) (C : Grammar Z) 
   long : (x : X) (y : Y) → (B x).has y → length (C.fields (make x y)) ≡ length (A.fields x) + length ((B x).fields y)
   long x y has = ap length (q.fields x y has) ∙ length-append (A.fields x) ((B x).fields y)
 
-  pub both_whole : (bytes : List ℕ) (x : X) (y : Y) (r s : List ℕ) → IsWhole A bytes x r → IsWhole (B x) r y s → IsWhole C bytes (make x y) s
-  both_whole bytes x y r s w v = record {
-    has = q.has x y w.has v.has;
-    lawful = subst AreLawful (sym (q.fields x y v.has)) (lawful-append (A.fields x) ((B x).fields y) w.lawful v.lawful);
-    parts = w.parts ∙ ap (λ t. spelled (A.fields x) ++ t) v.parts ∙ sym (spelled-append (A.fields x) ((B x).fields y) s) ∙ ap (λ gs. spelled gs ++ s) (sym (q.fields x y v.has));
-  }
-
   -- the two parts of a value that stands whole
   pub whole_parts : (bytes : List ℕ) (x : X) (y : Y) (s : List ℕ) → A.has x → (B x).has y → IsWhole C bytes (make x y) s
       → IsWhole A bytes x (spelled ((B x).fields y) ++ s) × IsWhole (B x) (spelled ((B x).fields y) ++ s) y s
@@ -218,13 +211,6 @@ pub record Renamed {X Z : Type 0} (A : Grammar X) (C : Grammar Z) (make : X → 
   pub fields : (x : X) → C.fields (make x) ≡ A.fields x
 
 module _ {X Z : Type 0} (A : Grammar X) (C : Grammar Z) (make : X → Z) (q : Renamed A C make) where
-  pub renamed_whole : (bytes : List ℕ) (x : X) (r : List ℕ) → IsWhole A bytes x r → IsWhole C bytes (make x) r
-  renamed_whole bytes x r w = record {
-    has = q.has x w.has;
-    lawful = subst AreLawful (sym (q.fields x)) w.lawful;
-    parts = w.parts ∙ ap (λ fs. spelled fs ++ r) (sym (q.fields x));
-  }
-
   original_whole : (bytes : List ℕ) (x : X) (r : List ℕ) → A.has x → IsWhole C bytes (make x) r → IsWhole A bytes x r
   original_whole bytes x r has w = record {
     has = has;

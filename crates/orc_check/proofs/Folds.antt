@@ -2,14 +2,8 @@
 use Rattle.std.proofs.Common.{◌≡◌, ℕ, Bool, true, false, List, [], ◌∷◌, ◌++◌, refl, sym, ap, ◌∙◌, append-nil}
 use Rattle.std.specs.Prelude.{Option, if◌then◌else◌}
 use Rattle.std.specs.List.{fold, list_any}
-use Rattle.std.proofs.lemmas.List.Sums.{fold-append}
 use Rattle.orc_path.specs.Steps.{PathStep}
 use Rattle.orc_check.specs.Validity.{Breach, breach_if, lesser_breach, last_keys}
-
--- the least over a first part, and then over a second one
-pub then_least : (best middle end : Option Breach) (first second : List Breach) → middle ≡ fold lesser_breach best first → end ≡ fold lesser_breach middle second
-    → end ≡ fold lesser_breach best (first ++ second)
-then_least best middle end first second p q = q ∙ ap (λ (o : Option Breach). fold lesser_breach o second) p ∙ sym (fold-append lesser_breach best first second)
 
 -- a breach at a path without further names
 pub bare : (best end : Option Breach) (broken is : Bool) (path : List PathStep) (rule : ℕ) → end ≡ fold lesser_breach best (breach_if broken (path ++ []) rule) → broken ≡ is

@@ -1,22 +1,18 @@
 -- The names behind those of a place, and the nodes that are reached by them.
 use Rattle.std.proofs.Common.{◌≡◌, ℕ, ◌+◌, ◌<◌, ◌≤◌, Bool, true, false, ◌&&◌, List, [], ◌∷◌, ◌++◌, length, take, drop, get_or, refl, sym, ap, ◌∙◌, arith}
-use Rattle.std.specs.Prelude.{Option, Some, None, option_map, option_and_then, if◌then◌else◌}
-use Rattle.std.specs.Option.{option_map_or}
+use Rattle.std.specs.Prelude.{Some, None, option_and_then, if◌then◌else◌}
 use Rattle.std.specs.Cmp.Lexicographic.{bytes_decides}
 use Rattle.std.proofs.lemmas.List.{drop_more, drop_all, take_more}
 use Rattle.orc_path.specs.Steps.{PathStep}
 use Rattle.orc_value.specs.Canon.{same_text}
 use Rattle.orc_schema.specs.Schemas.{SchemaTable, path_names, node_at}
-use Rattle.orc_check.specs.Validity.{is_container, behind, goes_down, plain_steps, reached}
+use Rattle.orc_check.specs.Validity.{is_container, behind, goes_down, reached}
 use Rattle.orc_check.specs.inside.Lent.{reached_names}
 
 abbrev Names : Type 0
 Names = List (List ℕ)
 
 module _ (s : SchemaTable) (names : Names) (above : ℕ) where
-  pub down_none : length names ≤ above → goes_down s (take above names) (drop above names) ≡ false
-  down_none l = ap (λ (ns : Names). goes_down s (take above names) ns) (drop_all above names l)
-
   pub down_last : above + 1 ≡ length names → goes_down s (take above names) (drop above names) ≡ true
   down_last e =
       let within : above < length names = omega arith in
@@ -63,26 +59,6 @@ is_behind (step ∷ steps) (name ∷ names) later h = on (same_text step.node na
         }
 
 module _ (s : SchemaTable) (place : List PathStep) (names : Names) where
-  -- what is reached, by the names behind the place's
-  pub reached_is : reached s place names ≡ option_map (λ later. place ++ plain_steps later) (reached_names s place names)
-  reached_is = on (behind place names)
-    where
-      by : (later : Names) (b : Bool) → (if b then Some (place ++ plain_steps later) else None) ≡ option_map (λ (l : Names). place ++ plain_steps l) (if b then Some later else None)
-      by later true = refl
-      by later false = refl
-
-      on : (o : Option Names) → option_and_then (λ later. if goes_down s (path_names place) later then Some (place ++ plain_steps later) else None) o
-          ≡ option_map (λ (l : Names). place ++ plain_steps l) (option_and_then (λ later. if goes_down s (path_names place) later then Some later else None) o)
-      on None = refl
-      on (Some later) = by later (goes_down s (path_names place) later)
-
-  pub reached_none : {X : Type 0} (f : List PathStep → X) (x : X) → None ≡ reached_names s place names → option_map_or f (reached s place names) x ≡ x
-  reached_none f x e = ap (λ o. option_map_or f o x) (reached_is ∙ ap (option_map (λ (l : Names). place ++ plain_steps l)) (sym e))
-
-  pub reached_some : {X : Type 0} (f : List PathStep → X) (x : X) (later : Names) → Some later ≡ reached_names s place names
-      → option_map_or f (reached s place names) x ≡ f (place ++ plain_steps later)
-  reached_some f x later e = ap (λ o. option_map_or f o x) (reached_is ∙ ap (option_map (λ (l : Names). place ++ plain_steps l)) (sym e))
-
   -- the test on all names, cut behind the place's
   pub down_behind : (later : Names) (down : Bool) → Some later ≡ behind place names → down ≡ goes_down s (take (length place) names) (drop (length place) names)
       → (if down then Some later else None) ≡ reached_names s place names

@@ -234,11 +234,6 @@ no_both (Some (ListOf m)) c l = false≢true c
 no_both (Some (Leaf m)) c l = false≢true c
 no_both (Some (LeafList m)) c l = false≢true c
 
-take_append : {X : Type 0} (n : ℕ) (xs ys : List X) → n ≤ length xs → take n (xs ++ ys) ≡ take n xs
-take_append zero xs ys l = refl
-take_append (suc n) [] ys l = absurd (omega arith)
-take_append (suc n) (x ∷ xs) ys l = ap (λ zs. x ∷ zs) (take_append n xs ys (omega arith))
-
 take_whole : {X : Type 0} (xs ys : List X) → take (length xs) (xs ++ ys) ≡ xs
 take_whole [] ys = refl
 take_whole (x ∷ xs) ys = ap (λ zs. x ∷ zs) (take_whole xs ys)
@@ -354,11 +349,6 @@ any_places s f (row ∷ rows) = on (is_place s row) (any_places s f rows)
         ≡ ((b && f row.0) || list_any (λ row. is_place s row && f row.0) rows)
     on true go = ap (λ b. f row.0 || b) go
     on false go = go
-
--- one step further up
-pub above_none : (s : SchemaTable) (c : Config) (target : Target) (path : List PathStep) (k : ℕ) → k ≡ 0
-    → place_lacks s c target path [] ≡ is_lacked_above s c target path k
-above_none s c target path k e = ap (is_lacked_above s c target path) (sym e)
 
 pub above_step : (s : SchemaTable) (c : Config) (target : Target) (path : List PathStep) (k j : ℕ) → k ≡ suc j
     → ((is_present s c (take k path) && place_lacks s c target path (take k path)) || is_lacked_above s c target path j) ≡ is_lacked_above s c target path k

@@ -12,7 +12,7 @@ use Rattle.orc_check.specs.Validity.{broken_of, entry_count}
 
 -- the list has at most so many entries
 abbrev pub keeps_max : Config → (List PathStep × ℕ) → Bool
-keeps_max c rule = not (nat_lt rule.1 (entry_count c rule.0))
+keeps_max config rule = not (nat_lt rule.1 (entry_count config rule.0))
 
 -- a leaf of this text stands there
 abbrev pub has_text : List ℕ → Option Item → Bool
@@ -21,8 +21,9 @@ has_text text (Some item.Entry) = false
 has_text text (Some (item.Leaf own)) = same_text own text
 
 abbrev pub keeps_forbid : Config → (List PathStep × List ℕ) → Bool
-keeps_forbid c rule = not (has_text rule.1 (get c rule.0))
+keeps_forbid config rule = not (has_text rule.1 (get config rule.0))
 
 -- nothing is broken under the schema, and each of the other rules is kept
 abbrev pub accepts : Accept → Config → Bool
-accepts a c = is_none (broken_of a.schema c) && (list_all (keeps_max c) a.max && list_all (keeps_forbid c) a.forbid)
+accepts accept config = is_none (broken_of accept.schema config)
+    && (list_all (keeps_max config) accept.max && list_all (keeps_forbid config) accept.forbid)

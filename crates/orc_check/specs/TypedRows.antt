@@ -15,22 +15,23 @@ is_type_rule rule = nat_eq rule KIND || nat_eq rule KEY
 
 -- a row breaks neither of the two
 abbrev pub KeepsTypes : SchemaTable → Config → (List PathStep × Item) → Type 0
-KeepsTypes s c row = All (λ breach. is_type_rule breach.rule ≡ false) (row_breaches s c row)
+KeepsTypes schema config row = All (λ breach. is_type_rule breach.rule ≡ false) (row_breaches schema config row)
 
 -- a row may stand in a configuration under the schema
 abbrev pub IsTypedRow : SchemaTable → (List PathStep × Item) → Type 0
-IsTypedRow s row = IsTrue (is_typed s row.0 row.1)
+IsTypedRow schema row = IsTrue (is_typed schema row.0 row.1)
 
 -- Where no row breaks the rule of kinds or that of keys, each row is typed, and the other way round; so is each item
 -- that is found. Where nothing is broken, no row breaks either.
-pub record TypesAreKept (s : SchemaTable) (c : Config) : Type 0 where
-  pub typed : All (KeepsTypes s c) (entries c) → All (IsTypedRow s) (entries c)
-  pub kept : All (IsTypedRow s) (entries c) → All (KeepsTypes s c) (entries c)
-  pub found : All (KeepsTypes s c) (entries c) → (path : List PathStep) (item : Item) → get c path ≡ Some item
-      → IsTrue (is_typed s path item)
-  pub valid : broken_of s c ≡ None → All (KeepsTypes s c) (entries c)
+pub record TypesAreKept (schema : SchemaTable) (config : Config) : Type 0 where
+  pub typed : All (KeepsTypes schema config) (entries config) → All (IsTypedRow schema) (entries config)
+  pub kept : All (IsTypedRow schema) (entries config) → All (KeepsTypes schema config) (entries config)
+  pub found : All (KeepsTypes schema config) (entries config) → (path : List PathStep) (item : Item)
+      → get config path ≡ Some item → IsTrue (is_typed schema path item)
+  pub valid : broken_of schema config ≡ None → All (KeepsTypes schema config) (entries config)
 
 -- That is so of each configuration under a schema of modules. A row shows the keys of its last step alone; the keys in
 -- front are those of entries on the way, which are rows of their own.
 abbrev pub ValidIsTyped : Type 0
-ValidIsTyped = (s : SchemaTable) (c : Config) → s.plain ≡ false → IsConfig c → TypesAreKept s c
+ValidIsTyped =
+    (schema : SchemaTable) (config : Config) → schema.plain ≡ false → IsConfig config → TypesAreKept schema config

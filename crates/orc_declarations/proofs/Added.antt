@@ -6,11 +6,9 @@ use Rattle.std.proofs.lemmas.Bool.{and_from, and_parts}
 use Rattle.std.proofs.lemmas.List.Elements.{All-push}
 use Rattle.orc_schema.specs.Schemas.{SchemaTable, plain_table}
 use Rattle.orc_schema.specs.Sound.{IsSound}
-use Rattle.orc_state.specs.States.{names_of}
 use Rattle.orc_state.specs.Calls.{is_device, is_lawful_name, schema_in, is_device_under}
 use Rattle.orc_state.specs.declared.declarations.Device.{Device}
-use Rattle.orc_state.specs.declared.declarations.TheConstants.{MOST_DEVICES}
-use Rattle.orc_declarations.specs.Declarations.{schema_place, with_device, with_type}
+use Rattle.orc_declarations.specs.Declarations.{schema_place, with_type}
 use Rattle.orc_lines.specs.Names.{is_among, place_of, with_name}
 use Rattle.orc_lines.specs.Words.{is_text}
 use Rattle.orc_lines.specs.declared.declared.Declared.{Declared}
@@ -27,37 +25,6 @@ kind_within d false (Some n) place size within h =
 pub placed_within : (d : Declared) (kind : List ℕ) (place : ℕ) → AreDeclared d → schema_place d kind ≡ Some place → place < length d.schemas
 placed_within d kind place known h =
     kind_within d (is_text kind (codes "plain")) (place_of d.types kind) place known.typed (place_within d.types kind) h
-
--- a device more
-
-all_last : {X : Type 0} (f : X → Bool) (xs : List X) (x : X) → list_all f xs ≡ true → f x ≡ true → list_all f (xs ++ x ∷ []) ≡ true
-all_last f [] x h e = and_from (f x) true e refl
-all_last f (y ∷ ys) x h e =
-    let parts = and_parts (f y) (list_all f ys) h in and_from (f y) (list_all f (ys ++ x ∷ [])) parts.0 (all_last f ys x parts.1 e)
-
-names_last : (ds : List Device) (d : Device) → names_of (ds ++ d ∷ []) ≡ names_of ds ++ d.name ∷ []
-names_last [] d = refl
-names_last (x ∷ xs) d = ap (λ (ns : List (List ℕ)). x.name ∷ ns) (names_last xs d)
-
-pub device_more : (d : Declared) (name : List ℕ) (place : ℕ) → AreDeclared d → is_lawful_name name ≡ true → place < length d.schemas
-    → length d.names < MOST_DEVICES → AreDeclared (with_device d name place)
-device_more d name place known lawful within few =
-    let new : Device = record { name = name; schema = place; base = []; max = []; forbid = [] } in
-    let size = length-append d.names (name ∷ []) in
-    record {
-      named = ap (λ (ns : List (List ℕ)). ns ++ name ∷ []) known.named ∙ sym (names_last d.devices new);
-      plain = known.plain;
-      typed = known.typed;
-      devices = all_last (is_device d.schemas) d.devices new known.devices
-          (and_from (is_lawful_name name && nat_lt place (length d.schemas)) true
-          (and_from (is_lawful_name name) (nat_lt place (length d.schemas)) lawful (lt-ltb place (length d.schemas) within)) refl);
-      few = omega arith;
-      items = known.items;
-      served = known.served;
-      services = known.services;
-      apart = known.apart;
-      sound = known.sound;
-    }
 
 -- a type more
 
@@ -109,16 +76,6 @@ type_more d name schema known sound =
 
 with_new : (names : List (List ℕ)) (name : List ℕ) → is_among names name ≡ false → with_name names name ≡ names ++ name ∷ []
 with_new names name new = ap (λ (b : Bool). cond b names (names ++ name ∷ [])) new
-
-pub device_added : (d : Declared) (name copy kind : List ℕ) (place : ℕ) (names : List (List ℕ)) (devices : List Device)
-    → AreDeclared d → is_lawful_name name ≡ true → schema_place d kind ≡ Some place
-    → length d.names < MOST_DEVICES → is_among d.names name ≡ false → copy ≡ name → names ≡ with_name d.names copy
-    → devices ≡ d.devices ++ (record { name = name; schema = place; base = []; max = []; forbid = [] }) ∷ [] → AreDeclared (record d { names = names; devices = devices })
-device_added d name copy kind place names devices known lawful placed few new copied named grown =
-    let all : names ≡ d.names ++ name ∷ [] = named ∙ ap (with_name d.names) copied ∙ with_new d.names name new in
-    subst (λ (ns : List (List ℕ)). AreDeclared (record d { names = ns; devices = devices })) (sym all)
-    (subst (λ (ds : List Device). AreDeclared (record d { names = d.names ++ name ∷ []; devices = ds })) (sym grown)
-    (device_more d name place known lawful (placed_within d kind place known placed) few))
 
 pub type_added : (d : Declared) (name copy : List ℕ) (schema : SchemaTable) (types : List (List ℕ)) (schemas : List SchemaTable)
     → AreDeclared d → IsSound schema → is_among d.types name ≡ false → copy ≡ name → types ≡ with_name d.types copy

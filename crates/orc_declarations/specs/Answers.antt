@@ -14,8 +14,8 @@ use Rattle.orc_lines.specs.declared.lines.TheConstants.{LARGEST_BUNDLE}
 
 -- what is left where the declarations end
 abbrev pub front_left : Declared → Behind → Front
-front_left d behind = record {
-  declared = d;
+front_left declared behind = record {
+  declared = declared;
   size = behind.size;
   at = behind.at;
   number = behind.number;
@@ -24,9 +24,10 @@ front_left d behind = record {
 
 -- what is answered where the declarations end in the line of this number
 abbrev pub IsOpened : {T : Type 0} → Declared → ℕ → Result T BundleFault → Type 0
-IsOpened d number (Ok _) = is_opening d ≡ true
-IsOpened d number (Err (bundle.At line broken)) = (is_opening d ≡ false) × (line ≡ number) × (broken ≡ rule.Opening)
-IsOpened d number (Err bundle.Memory) = Unit {0}
+IsOpened declared number (Ok _) = is_opening declared ≡ true
+IsOpened declared number (Err (bundle.At line broken)) =
+    (is_opening declared ≡ false) × (line ≡ number) × (broken ≡ rule.Opening)
+IsOpened declared number (Err bundle.Memory) = Unit {0}
 
 -- what the reader of all declarations answers
 abbrev pub Declares : Result Front (ℕ × Rule) → Declared → Result Behind BundleFault → Type 0

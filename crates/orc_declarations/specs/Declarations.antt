@@ -71,182 +71,189 @@ nothing_declared = record {
 
 -- `orc 1`
 unfoldable pub after_header : Declared → List ℕ → Result Declared Rule
-after_header d text =
-    checked ((not (is_text text (codes "orc 1")), rule.Header) ∷ []) (Ok (record d { section = section.Declarations }))
+after_header declared text =
+    checked ((not (is_text text (codes "orc 1")), rule.Header) ∷ [])
+    (Ok (record declared { section = section.Declarations }))
 
 -- the statement of a module that is declared or built in
 abbrev pub module_named : Declared → List ℕ → Option Stmt
-module_named d name =
+module_named declared name =
     if is_text name (codes "orc")
-    then Some orc_module else option_and_then (slice_get d.statements) (place_of d.modules name)
+    then Some orc_module else option_and_then (slice_get declared.statements) (place_of declared.modules name)
 
 abbrev pub is_declared : Declared → List ℕ → Bool
-is_declared d name = is_some (module_named d name)
+is_declared declared name = is_some (module_named declared name)
 
 -- the statements of the modules of these names
 abbrev pub modules_named : Declared → List (List ℕ) → List Stmt
-modules_named d names = flat_map (λ name. option_to_list (module_named d name)) names
+modules_named declared names = flat_map (λ name. option_to_list (module_named declared name)) names
 
 -- the schema of the modules of these names; all the words are names, and one of them may be taken
 abbrev pub schema_words : Declared → List (List ℕ) → List (List ℕ) → Bool → Result SchemaTable Rule
-schema_words d words names is_double =
+schema_words declared words names is_double =
     checked (
     (not (list_all is_identifier words), rule.Line)
     ∷ (list_any is_long_name words, rule.Size)
-    ∷ (not (list_all (is_declared d) names), rule.Unknown)
+    ∷ (not (list_all (is_declared declared) names), rule.Unknown)
     ∷ (is_double, rule.Duplicate)
     ∷ (repeats names, rule.Schema)
     ∷ [])
-    (schema_or_rule (modules_named d names))
+    (schema_or_rule (modules_named declared names))
 
 -- `datamodel M M ..`; the built-in module is always one of them. No item of the data and no template stands above this
 -- line, since a line may name no path of the built-in module.
 unfoldable pub after_datamodel : Declared → List ℕ → Result Declared Rule
-after_datamodel d rest =
-    on_ok (schema_words d (words_of rest) (with_name (words_of rest) (codes "orc")) d.has_data) (λ schema.
-    Ok (record d { has_data = true; data_schema = schema; «data» = []; templates = []; services = [] }))
+after_datamodel declared rest =
+    on_ok (schema_words declared (words_of rest) (with_name (words_of rest) (codes "orc")) declared.has_data) (λ schema.
+    Ok (record declared { has_data = true; data_schema = schema; «data» = []; templates = []; services = [] }))
 
 -- a type of devices, and its schema
 abbrev pub with_type : Declared → List ℕ → SchemaTable → Declared
-with_type d name schema = record d { types = d.types ++ name ∷ []; schemas = d.schemas ++ schema ∷ [] }
+with_type declared name schema = record declared {
+  types = declared.types ++ name ∷ [];
+  schemas = declared.schemas ++ schema ∷ [];
+}
 
 -- `devicetype T M M ..`
 abbrev pub type_words : Declared → List (List ℕ) → Result Declared Rule
-type_words d [] = Err rule.Line
-type_words d (name ∷ []) = Err rule.Line
-type_words d (name ∷ first ∷ later) =
-    on_ok (schema_words d (name ∷ first ∷ later) (first ∷ later) (is_among d.types name)) (λ schema.
-    Ok (with_type d name schema))
+type_words declared [] = Err rule.Line
+type_words declared (name ∷ []) = Err rule.Line
+type_words declared (name ∷ first ∷ later) =
+    on_ok (schema_words declared (name ∷ first ∷ later) (first ∷ later) (is_among declared.types name)) (λ schema.
+    Ok (with_type declared name schema))
 
 unfoldable pub after_devicetype : Declared → List ℕ → Result Declared Rule
-after_devicetype d rest = type_words d (words_of rest)
+after_devicetype declared rest = type_words declared (words_of rest)
 
 -- the place of the schema of devices of a kind: the plain one stands in front, and behind it those of the types
 abbrev pub schema_place : Declared → List ℕ → Option ℕ
-schema_place d kind = if is_text kind (codes "plain") then Some 0 else option_map suc (place_of d.types kind)
+schema_place declared kind =
+    if is_text kind (codes "plain") then Some 0 else option_map suc (place_of declared.types kind)
 
 -- a device that has no item yet
 abbrev pub with_device : Declared → List ℕ → ℕ → Declared
-with_device d name place = record d {
-  names = d.names ++ name ∷ [];
-  devices = d.devices ++ (record { name = name; schema = place; base = []; max = []; forbid = [] }) ∷ [];
+with_device declared name place = record declared {
+  names = declared.names ++ name ∷ [];
+  devices = declared.devices ++ (record { name = name; schema = place; base = []; max = []; forbid = [] }) ∷ [];
 }
 
 -- `device D plain` and `device D T`
 abbrev pub device_words : Declared → Option (List ℕ × List ℕ) → Result Declared Rule
-device_words d None = Err rule.Line
-device_words d (Some words) =
+device_words declared None = Err rule.Line
+device_words declared (Some words) =
     checked (
     (not (is_identifier words.0) || not (is_identifier words.1), rule.Line)
     ∷ (is_long_name words.0 || is_long_name words.1, rule.Size)
-    ∷ (not (is_among d.names words.0) && nat_le MOST_DEVICES (length d.names), rule.Size)
+    ∷ (not (is_among declared.names words.0) && nat_le MOST_DEVICES (length declared.names), rule.Size)
     ∷ [])
-    (or_rule (schema_place d words.1) rule.Unknown (λ place.
-    checked ((is_among d.names words.0, rule.Duplicate) ∷ [])
-    (Ok (with_device d words.0 place))))
+    (or_rule (schema_place declared words.1) rule.Unknown (λ place.
+    checked ((is_among declared.names words.0, rule.Duplicate) ∷ [])
+    (Ok (with_device declared words.0 place))))
 
 unfoldable pub after_device : Declared → List ℕ → Result Declared Rule
-after_device d rest = device_words d (cut_at 32 rest)
+after_device declared rest = device_words declared (cut_at 32 rest)
 
 -- the device of a number is changed
 abbrev pub changed_at : ℕ → (Device → Device) → List Device → List Device
-changed_at n change [] = []
+changed_at number change [] = []
 changed_at zero change (device ∷ devices) = change device ∷ devices
-changed_at (suc n) change (device ∷ devices) = device ∷ changed_at n change devices
+changed_at (suc number) change (device ∷ devices) = device ∷ changed_at number change devices
 
 -- its base has one item more
 abbrev pub with_base : ℕ → Put → List Device → List Device
-with_base n put = changed_at n (λ device. record device { base = device.base ++ put ∷ [] })
+with_base number put = changed_at number (λ device. record device { base = device.base ++ put ∷ [] })
 
 -- `base D ITEM`
 abbrev pub base_words : Declared → Option (List ℕ × List ℕ) → Result Declared Rule
-base_words d None = Err rule.Line
-base_words d (Some words) =
+base_words declared None = Err rule.Line
+base_words declared (Some words) =
     checked ((not (is_identifier words.0), rule.Line) ∷ [])
-    (on_ok (put_of None (schema_named d.schemas d.devices words.0) (is_long_name words.0) words.1) (λ put.
-    or_rule (place_of d.names words.0) rule.Unknown (λ n.
-    Ok (record d { devices = with_base n put d.devices }))))
+    (on_ok (put_of None (schema_named declared.schemas declared.devices words.0) (is_long_name words.0) words.1) (λ put.
+    or_rule (place_of declared.names words.0) rule.Unknown (λ number.
+    Ok (record declared { devices = with_base number put declared.devices }))))
 
 unfoldable pub after_base : Declared → List ℕ → Result Declared Rule
-after_base d rest = base_words d (cut_at 32 rest)
+after_base declared rest = base_words declared (cut_at 32 rest)
 
 -- it has one rule more: a list's path, and the most entries that it may have
 abbrev pub with_max : ℕ → List PathStep × ℕ → List Device → List Device
-with_max n limit = changed_at n (λ device. record device { max = device.max ++ limit ∷ [] })
+with_max number limit = changed_at number (λ device. record device { max = device.max ++ limit ∷ [] })
 
 -- or a leaf's path, and a text that it may not have
 abbrev pub with_forbid : ℕ → List PathStep × List ℕ → List Device → List Device
-with_forbid n leaf = changed_at n (λ device. record device { forbid = device.forbid ++ leaf ∷ [] })
+with_forbid number leaf = changed_at number (λ device. record device { forbid = device.forbid ++ leaf ∷ [] })
 
 -- `rule D max LISTPATH N`, behind the word `max`
 abbrev pub max_words : Declared → List ℕ → Option (List ℕ × List ℕ) → Result Declared Rule
-max_words d name None = Err rule.Line
-max_words d name (Some words) =
+max_words declared name None = Err rule.Line
+max_words declared name (Some words) =
     or_rule (number_in words.1) rule.Line (λ count.
-    on_ok (list_path_of (schema_named d.schemas d.devices name) (is_long_name name) words.0) (λ path.
-    or_rule (place_of d.names name) rule.Unknown (λ n.
-    Ok (record d { devices = with_max n (path, count) d.devices }))))
+    on_ok (list_path_of (schema_named declared.schemas declared.devices name) (is_long_name name) words.0) (λ path.
+    or_rule (place_of declared.names name) rule.Unknown (λ number.
+    Ok (record declared { devices = with_max number (path, count) declared.devices }))))
 
 unfoldable pub after_max : Declared → List ℕ → List ℕ → Result Declared Rule
-after_max d name rest = max_words d name (cut_at 32 rest)
+after_max declared name rest = max_words declared name (cut_at 32 rest)
 
 -- `rule D forbid PATH = VALUE`, behind the word `forbid`
 unfoldable pub after_forbid : Declared → List ℕ → List ℕ → Result Declared Rule
-after_forbid d name rest =
-    on_ok (forbidden_of (schema_named d.schemas d.devices name) (is_long_name name) rest) (λ leaf.
-    or_rule (place_of d.names name) rule.Unknown (λ n.
-    Ok (record d { devices = with_forbid n leaf d.devices })))
+after_forbid declared name rest =
+    on_ok (forbidden_of (schema_named declared.schemas declared.devices name) (is_long_name name) rest) (λ leaf.
+    or_rule (place_of declared.names name) rule.Unknown (λ number.
+    Ok (record declared { devices = with_forbid number leaf declared.devices })))
 
 -- a rule of the device of this name, by its kind
 abbrev pub rule_kind : Declared → List ℕ → Option (List ℕ × List ℕ) → Result Declared Rule
-rule_kind d name None = Err rule.Line
-rule_kind d name (Some words) =
-    if is_text words.0 (codes "max") then after_max d name words.1 else
-    if is_text words.0 (codes "forbid") then after_forbid d name words.1 else Err rule.Line
+rule_kind declared name None = Err rule.Line
+rule_kind declared name (Some words) =
+    if is_text words.0 (codes "max") then after_max declared name words.1 else
+    if is_text words.0 (codes "forbid") then after_forbid declared name words.1 else Err rule.Line
 
 abbrev pub rule_line : Declared → Option (List ℕ × List ℕ) → Result Declared Rule
-rule_line d None = Err rule.Line
-rule_line d (Some words) =
-    checked ((not (is_identifier words.0), rule.Line) ∷ []) (rule_kind d words.0 (cut_at 32 words.1))
+rule_line declared None = Err rule.Line
+rule_line declared (Some words) =
+    checked ((not (is_identifier words.0), rule.Line) ∷ []) (rule_kind declared words.0 (cut_at 32 words.1))
 
 -- `rule D max ..` and `rule D forbid ..`
 unfoldable pub after_rule : Declared → List ℕ → Result Declared Rule
-after_rule d rest = rule_line d (cut_at 32 rest)
+after_rule declared rest = rule_line declared (cut_at 32 rest)
 
 -- `data ITEM`
 unfoldable pub after_data : Declared → List ℕ → Result Declared Rule
-after_data d rest =
-    on_ok (put_of (Some d.services) d.data_schema false rest) (λ put. Ok (record d { «data» = d.data ++ put ∷ [] }))
+after_data declared rest =
+    on_ok (put_of (Some declared.services) declared.data_schema false rest) (λ put.
+    Ok (record declared { «data» = declared.data ++ put ∷ [] }))
 
 -- a module of this name can't be declared: it is, or is built in
 abbrev pub is_taken : Declared → List ℕ → Bool
-is_taken d name = is_text name (codes "orc") || is_among d.modules name
+is_taken declared name = is_text name (codes "orc") || is_among declared.modules name
 
 -- a module, with so many lines
 abbrev pub with_module : Declared → ℕ → Module → Declared
-with_module d n m = record d {
-  modules = d.modules ++ m.name ∷ [];
-  statements = d.statements ++ m.statement ∷ [];
-  skip = n;
+with_module declared count yang_module = record declared {
+  modules = declared.modules ++ yang_module.name ∷ [];
+  statements = declared.statements ++ yang_module.statement ∷ [];
+  skip = count;
 }
 
 -- `yang N`, with the lines behind it
 unfoldable pub after_yang : Declared → List ℕ → List (List ℕ) → Result Declared Rule
-after_yang d rest later =
-    or_rule (number_in rest) rule.Line (λ n.
-    or_rule (block_of n later) rule.Line (λ text.
-    on_ok (module_of text) (λ m.
-    checked ((is_taken d m.name, rule.Duplicate) ∷ [])
-    (Ok (with_module d n m)))))
+after_yang declared rest later =
+    or_rule (number_in rest) rule.Line (λ count.
+    or_rule (block_of count later) rule.Line (λ text.
+    on_ok (module_of text) (λ yang_module.
+    checked ((is_taken declared yang_module.name, rule.Duplicate) ∷ [])
+    (Ok (with_module declared count yang_module)))))
 
 -- The path is that of a list whose entries may be services: one of the data schema that is reached through containers
 -- alone, at or under which no item of the data is declared.
 abbrev pub may_be_served : Declared → List PathStep → Bool
-may_be_served d list = is_service_list d.data_schema list && not (list_any (λ put. meets list put.path) d.data)
+may_be_served declared list =
+    is_service_list declared.data_schema list && not (list_any (λ put. meets list put.path) declared.data)
 
 -- the list has a template
 abbrev pub is_listed_already : Declared → List PathStep → Bool
-is_listed_already d list = list_any (λ it. eq_by_cmp path_cmp list it.list) d.services
+is_listed_already declared list = list_any (λ it. eq_by_cmp path_cmp list it.list) declared.services
 
 -- the text of a block is a template of a list
 abbrev pub is_template_of : SchemaTable → List PathStep → List ℕ → Bool
@@ -255,47 +262,47 @@ is_template_of schema list text =
 
 -- a template, with so many lines
 abbrev pub with_template : Declared → ℕ → List ℕ → ServiceList → Declared
-with_template d n name it = record d {
-  templates = d.templates ++ name ∷ [];
-  services = d.services ++ it ∷ [];
-  skip = n;
+with_template declared count name it = record declared {
+  templates = declared.templates ++ name ∷ [];
+  services = declared.services ++ it ∷ [];
+  skip = count;
 }
 
 -- the list of a `template` line gets the template that the text of its block is
 abbrev pub list_template : Declared → List ℕ → ℕ → List PathStep → List ℕ → Result Declared Rule
-list_template d name n list text =
+list_template declared name count list text =
     checked (
-    (not (may_be_served d list), rule.Path)
-    ∷ (is_among d.templates name || is_listed_already d list, rule.Duplicate)
-    ∷ (not (is_template_of d.data_schema list text), rule.Template)
+    (not (may_be_served declared list), rule.Path)
+    ∷ (is_among declared.templates name || is_listed_already declared list, rule.Duplicate)
+    ∷ (not (is_template_of declared.data_schema list text), rule.Template)
     ∷ [])
-    (Ok (with_template d n name (record { list = list; template = text })))
+    (Ok (with_template declared count name (record { list = list; template = text })))
 
 -- Such a line behind its name, with the lines behind it. The limits of what it says go before the lines that may be
 -- missing.
 abbrev pub template_block : Declared → List ℕ → ℕ → List ℕ → List (List ℕ) → Result Declared Rule
-template_block d name n word later =
+template_block declared name count word later =
     checked (
     (nat_eq (length word) 0, rule.Line)
     ∷ (is_long_name name || is_past_path (path_of word), rule.Size)
     ∷ [])
-    (or_rule (block_of n later) rule.Line (λ text.
+    (or_rule (block_of count later) rule.Line (λ text.
     or_rule (path_of word) rule.Path (λ list.
-    list_template d name n list text)))
+    list_template declared name count list text)))
 
 -- `template T LISTPATH N` behind its name
 abbrev pub template_line : Declared → List ℕ → List (List ℕ) → Option (List ℕ × List ℕ) → Result Declared Rule
-template_line d name later None = Err rule.Line
-template_line d name later (Some words) =
-    or_rule (number_in words.1) rule.Line (λ n. template_block d name n words.0 later)
+template_line declared name later None = Err rule.Line
+template_line declared name later (Some words) =
+    or_rule (number_in words.1) rule.Line (λ count. template_block declared name count words.0 later)
 
 abbrev pub template_words : Declared → List (List ℕ) → Option (List ℕ × List ℕ) → Result Declared Rule
-template_words d later None = Err rule.Line
-template_words d later (Some words) =
-    checked ((not (is_identifier words.0), rule.Line) ∷ []) (template_line d words.0 later (cut_at 32 words.1))
+template_words declared later None = Err rule.Line
+template_words declared later (Some words) =
+    checked ((not (is_identifier words.0), rule.Line) ∷ []) (template_line declared words.0 later (cut_at 32 words.1))
 
 unfoldable pub after_template : Declared → List ℕ → List (List ℕ) → Result Declared Rule
-after_template d rest later = template_words d later (cut_at 32 rest)
+after_template declared rest later = template_words declared later (cut_at 32 rest)
 
 -- the number at the end of such a line
 abbrev pub count_in : Option (List ℕ × List ℕ) → Option ℕ
@@ -307,7 +314,7 @@ template_count rest = count_in (option_and_then (λ words. cut_at 32 words.1) (c
 
 -- how many lines a line takes for its block: `yang N` and `template T LISTPATH N` take N, any other none
 abbrev pub block_size : Option ℕ → ℕ
-block_size number = option_map_or (λ n. n) number 0
+block_size number = option_map_or (λ count. count) number 0
 
 unfoldable pub taken_by : Keyword → List ℕ → ℕ
 taken_by keyword.Yang rest = block_size (number_in rest)
@@ -323,30 +330,30 @@ lines_taken text = words_take (cut_at 32 text)
 
 -- `script`
 unfoldable pub after_script : Declared → Result Declared Rule
-after_script d = Ok (record d { section = section.Script })
+after_script declared = Ok (record declared { section = section.Script })
 
 -- which forms stand where
 
 -- of more than one word
 unfoldable pub declaration : Keyword → Declared → List ℕ → List (List ℕ) → Result Declared Rule
-declaration keyword.Device d rest later = after_device d rest
-declaration keyword.Datamodel d rest later = after_datamodel d rest
-declaration keyword.Devicetype d rest later = after_devicetype d rest
-declaration keyword.Rule d rest later = after_rule d rest
-declaration keyword.Base d rest later = after_base d rest
-declaration keyword.Data d rest later = after_data d rest
-declaration keyword.Yang d rest later = after_yang d rest later
-declaration keyword.Template d rest later = after_template d rest later
-declaration _ d rest later = Err rule.Line
+declaration keyword.Device declared rest later = after_device declared rest
+declaration keyword.Datamodel declared rest later = after_datamodel declared rest
+declaration keyword.Devicetype declared rest later = after_devicetype declared rest
+declaration keyword.Rule declared rest later = after_rule declared rest
+declaration keyword.Base declared rest later = after_base declared rest
+declaration keyword.Data declared rest later = after_data declared rest
+declaration keyword.Yang declared rest later = after_yang declared rest later
+declaration keyword.Template declared rest later = after_template declared rest later
+declaration _ declared rest later = Err rule.Line
 
 -- of one word
 unfoldable pub bare_declaration : Keyword → Declared → Result Declared Rule
-bare_declaration keyword.Script d = after_script d
-bare_declaration _ d = Err rule.Line
+bare_declaration keyword.Script declared = after_script declared
+bare_declaration _ declared = Err rule.Line
 
 abbrev pub declaration_words : Declared → List ℕ → List (List ℕ) → Option (List ℕ × List ℕ) → Result Declared Rule
-declaration_words d text later None = bare_declaration (keyword_of text) d
-declaration_words d text later (Some words) = declaration (keyword_of words.0) d words.1 later
+declaration_words declared text later None = bare_declaration (keyword_of text) declared
+declaration_words declared text later (Some words) = declaration (keyword_of words.0) declared words.1 later
 
 abbrev pub is_header : Section → Bool
 is_header section.Header = true
@@ -354,25 +361,28 @@ is_header _ = false
 
 -- a line that is not skipped
 unfoldable pub after_text : Declared → List ℕ → List (List ℕ) → Result Declared Rule
-after_text d text later =
-    if is_header d.section then after_header d text else declaration_words d text later (cut_at 32 text)
+after_text declared text later =
+    if is_header declared.section
+    then after_header declared text else declaration_words declared text later (cut_at 32 text)
 
 -- a line of a block is passed over
 abbrev pub in_open_block : Declared → Result Declared Rule → Result Declared Rule
-in_open_block d other = if nat_lt 0 d.skip then Ok (record d { skip = d.skip - 1 }) else other
+in_open_block declared other =
+    if nat_lt 0 declared.skip then Ok (record declared { skip = declared.skip - 1 }) else other
 
 -- a line with the lines behind it; so many bytes stand in front of it
 unfoldable pub declared_at : Declared → ℕ → List ℕ → List (List ℕ) → Result Declared Rule
-declared_at d at line later =
+declared_at declared at line later =
     checked ((is_large at line, rule.Size) ∷ [])
-    (in_open_block d (
+    (in_open_block declared (
     checked ((not (is_utf8 (text_of line)), rule.Utf8) ∷ [])
-    (if is_skipped (text_of line) then Ok d else after_text d (text_of line) later)))
+    (if is_skipped (text_of line) then Ok declared else after_text declared (text_of line) later)))
 
 -- where the declarations end: the opening data is valid, and each device accepts its base
 abbrev pub is_opening : Declared → Bool
-is_opening d =
-    is_none (broken_of d.data_schema (opening_data d.names d.data)) && list_all (accepts_base d.schemas) d.devices
+is_opening declared =
+    is_none (broken_of declared.data_schema (opening_data declared.names declared.data))
+    && list_all (accepts_base declared.schemas) declared.devices
 
 -- What was declared: the bytes in front of the line `script`, or all where there is none; the bytes and the lines in
 -- front of the script, and its lines.
@@ -390,13 +400,15 @@ is_script _ = false
 
 -- The declarations end in the line of this number, or behind the last one.
 abbrev pub opened : ℕ → Front → Result Front (ℕ × Rule)
-opened n front = if is_opening front.declared then Ok front else Err (n, rule.Opening)
+opened number front = if is_opening front.declared then Ok front else Err (number, rule.Opening)
 
 -- the declarations in lines, in front of which stand so many bytes and so many lines
 abbrev pub declarations_of : Declared → ℕ → ℕ → List (List ℕ) → Result Front (ℕ × Rule)
-declarations_of d at n [] = opened (n + 1) (record { declared = d; size = at; at = at; number = n; later = [] })
-declarations_of d at n (line ∷ later) =
-    on_line (n + 1) (declared_at d at line later) (λ e.
-    if is_script e.section
-    then opened (n + 1) (record { declared = e; size = at; at = at + length line; number = n + 1; later = later })
-    else declarations_of e (at + length line) (n + 1) later)
+declarations_of declared at number [] =
+    opened (number + 1) (record { declared = declared; size = at; at = at; number = number; later = [] })
+declarations_of declared at number (line ∷ later) =
+    on_line (number + 1) (declared_at declared at line later) (λ new.
+    if is_script new.section
+    then opened (number + 1)
+    (record { declared = new; size = at; at = at + length line; number = number + 1; later = later })
+    else declarations_of new (at + length line) (number + 1) later)

@@ -48,7 +48,7 @@ is_long_head keyword argument =
     is_long_word keyword || (takes_name keyword && option_map_or is_long_word argument false)
 
 abbrev pub long_step : Stmt-F Bool → Bool
-long_step s = is_long_head s.keyword s.argument || list_any (λ is_long. is_long) s.subs
+long_step level = is_long_head level.keyword level.argument || list_any (λ is_long. is_long) level.subs
 
 -- so has the statement or one below it
 abbrev pub has_long_name : Stmt → Bool
@@ -62,16 +62,18 @@ identifier_of None = None
 identifier_of (Some argument) = if is_identifier argument then Some argument else None
 
 abbrev pub module_name : Stmt → Option (List ℕ)
-module_name s = if is_text (out-Stmt s).keyword (codes "module") then identifier_of (out-Stmt s).argument else None
+module_name the_statement = if is_text (out-Stmt the_statement).keyword (codes "module")
+    then identifier_of (out-Stmt the_statement).argument else None
 
 abbrev pub module_of_statement : Stmt → Option Module
-module_of_statement s = option_map (λ name. record { name = name; statement = s }) (module_name s)
+module_of_statement the_statement =
+    option_map (λ name. record { name = name; statement = the_statement }) (module_name the_statement)
 
 -- statements that are one such statement
 abbrev pub only_module : List Stmt → Option Module
 only_module [] = None
-only_module (s ∷ []) = module_of_statement s
-only_module (s ∷ next ∷ rest) = None
+only_module (the_statement ∷ []) = module_of_statement the_statement
+only_module (the_statement ∷ next ∷ rest) = None
 
 abbrev pub module_of_statements : Result (List Stmt) YangFault → Result Module Rule
 module_of_statements (Err fault) = Err rule.Yang

@@ -1,8 +1,6 @@
 -- How a row of operations of a disk goes on, and what a crash at each of its moments leaves.
-use Rattle.std.specs.Prelude.{◌≡◌, ℕ, List, Option, Some, unwrap_or}
-use Rattle.std.proofs.Common.{inl, inr, ⊎_elim, sym, ap, ◌∙◌, arith}
-use Rattle.orc_disk.specs.Torn.{Torn}
-use Rattle.orc_disk.specs.Crashes.{TearsAt, LeavesAsRead}
+use Rattle.std.specs.Prelude.{ℕ, List}
+use Rattle.std.proofs.Common.{inl, inr, ⊎_elim, arith}
 use Rattle.orc_disk.specs.Meanings.{DiskMeaning}
 use Rattle.orc_disk.specs.Moments.{Elapses, LeavesOnly}
 
@@ -35,14 +33,3 @@ module _ {D : Type 0} (disk : DiskMeaning D) where
     each = λ c left. more c (run.each c left);
     earlier_rows = λ t c le left. ⊎_elim (λ past. inl past) (λ holds. inr (more c holds)) (run.earlier_rows t c le left);
   }
-
--- a crash after a write, where a crash before it left what a read gives, leaves the file that was read, torn by the write
-pub torn_of_read : (content : Option (List ℕ)) (at n : ℕ) (old new : List ℕ → Type 0) → LeavesAsRead content old → TearsAt at n old new
-    → (c : List ℕ) → new c → (file : List ℕ) × (content ≡ Some file) × Torn at n file c
-torn_of_read content at n old new as_read tears c left =
-    let from = tears c left in
-    (from.0, as_read from.0 from.1, from.2)
-
--- two readings of one content agree
-pub Some-same : (a b : List ℕ) (content : Option (List ℕ)) → content ≡ Some a → content ≡ Some b → a ≡ b
-Some-same a b content p q = ap (λ o. unwrap_or o a) (sym p ∙ q)

@@ -36,14 +36,6 @@ module _ {D : Type 0} (disk : DiskMeaning D) where
   Hears failed gave old new =
       (operations : ℕ) × disk.leads (record { operations = operations; failed = failed; gave = gave }) old new
 
-  -- the same, whatever their reads gave
-  abbrev pub Reaches : Bool → D → D → Type 0
-  Reaches failed old new = (gave : List (ℕ × List ℕ)) × Hears failed gave old new
-
-  -- Operations led there, at most so many of them writes and syncs, one of them failed, and no read gave anything.
-  abbrev pub FailsWithin : ℕ → D → D → Type 0
-  FailsWithin most old new = (operations : ℕ) × (operations ≤ most) × disk.leads (row operations true) old new
-
   -- So many writes and syncs were done and no operation failed; up to the next write or sync, it included, one failed.
   -- No read gave anything.
   abbrev pub FailsBehind : ℕ → D → D → Type 0

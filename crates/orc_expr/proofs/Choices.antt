@@ -1,5 +1,5 @@
 -- Predicates that are looked at one by one.
-use Rattle.std.proofs.Common.{◌≡◌, ℕ, List, [], ◌∷◌, ◌++◌, Option, Some, None, refl, sym, ap, ap₂, ◌∙◌, append_assoc, append-nil}
+use Rattle.std.proofs.Common.{◌≡◌, ℕ, List, [], ◌∷◌, ◌++◌, Option, Some, None, refl, sym, ap, ap₂, ◌∙◌, append_assoc}
 use Rattle.orc_expr.specs.Looks.{key_then, choose, chosen}
 use Rattle.orc_expr.specs.inside.Chosen.{with_keys, chosen_behind}
 use Rattle.orc_expr.specs.inside.Lists.{only_of}
@@ -17,9 +17,6 @@ chosen_first later = ap (λ c. record { choice = c; reads = later.reads }) (by l
     by (choice.Keys keys) = refl
     by choice.Nothing = refl
     by choice.Many = refl
-
-pub chosen_last : (keys : List (List ℕ)) (reads : List Read) → chosen_behind keys reads (chosen []) ≡ record { choice = choice.Keys keys; reads = reads }
-chosen_last keys reads = ap₂ (λ k r. record { choice = choice.Keys k; reads = r }) (append-nil keys) (append-nil reads)
 
 module _ (keys : List (List ℕ)) (reads : List Read) (a : Asked) (later : List Asked) where
   -- one text
@@ -41,25 +38,3 @@ module _ (keys : List (List ℕ)) (reads : List Read) (a : Asked) (later : List 
           ap (λ u. chosen_behind keys reads (choose (Some (u ∷ [])) a.given.reads (chosen later))) same
           ∙ ap₂ (λ c r. record { choice = c; reads = r }) (pushed (chosen later).choice) (sym (append_assoc reads a.given.reads (chosen later).reads))
       by (Some (t ∷ u ∷ more)) h = let never : ⊥ = cc in absurd never
-
-  pub chosen_nothing : only_of a.given.found ≡ only.Nothing
-      → chosen_behind keys reads (chosen (a ∷ later)) ≡ record { choice = choice.Nothing; reads = reads ++ a.given.reads }
-  chosen_nothing h = by a.given.found h
-    where
-      by : (f : Option (List (List ℕ))) → only_of f ≡ only.Nothing
-          → chosen_behind keys reads (choose f a.given.reads (chosen later)) ≡ record { choice = choice.Nothing; reads = reads ++ a.given.reads }
-      by None h = let never : ⊥ = cc in absurd never
-      by (Some []) h = refl
-      by (Some (t ∷ [])) h = let never : ⊥ = cc in absurd never
-      by (Some (t ∷ u ∷ more)) h = let never : ⊥ = cc in absurd never
-
-  pub chosen_many : only_of a.given.found ≡ only.Many
-      → chosen_behind keys reads (chosen (a ∷ later)) ≡ record { choice = choice.Many; reads = reads ++ a.given.reads }
-  chosen_many h = by a.given.found h
-    where
-      by : (f : Option (List (List ℕ))) → only_of f ≡ only.Many
-          → chosen_behind keys reads (choose f a.given.reads (chosen later)) ≡ record { choice = choice.Many; reads = reads ++ a.given.reads }
-      by None h = refl
-      by (Some []) h = let never : ⊥ = cc in absurd never
-      by (Some (t ∷ [])) h = let never : ⊥ = cc in absurd never
-      by (Some (t ∷ u ∷ more)) h = refl

@@ -19,7 +19,7 @@ use Rattle.orc_path.proofs.Equality.{step_eq_decides}
 use Rattle.orc_path.proofs.Extensions.{is_prefix_rest}
 use Rattle.orc_expr.specs.Touches.{IsInside, Covers}
 use Rattle.orc_expr.specs.inside.Covering.{is_inside, is_entry_step, has_entry_on, is_list_under, has_entry_inside}
-use Rattle.orc_expr.specs.declared.read.Read.TheVariants.{Item, Keys, Service}
+use Rattle.orc_expr.specs.declared.read.Read.TheVariants.{Item, Keys}
 use Rattle.orc_expr.specs.declared.read.Target.{Target}
 use Rattle.orc_expr.specs.declared.read.Target.TheVariants.{One, Under}
 
@@ -309,9 +309,6 @@ covers_keys target list t is = (
   λ h. let found = (has_entry_decides target list).0 (sym is ∙ h) in (found.path, (found.inside, found.entry)),
   λ c. is ∙ (has_entry_decides target list).1 (record { path = c.0; inside = c.1.0; entry = c.1.1 }),
 )
-
-pub covers_service : (target : Target) (id : List ℕ) → IsTrue false ↔ Covers target (Service id)
-covers_service target id = (λ h. absurd (false≢true h), λ c. c.1.1)
 
 -- a list's last step apart
 pub has_entry_on-split : (front : List PathStep) (last : PathStep) (path : List PathStep)

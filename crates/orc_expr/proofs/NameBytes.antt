@@ -1,7 +1,7 @@
 -- Names and the bytes that stand around them.
 use Rattle.std.proofs.Common.{◌≡◌, ℕ, ◌==◌, Bool, true, false, cond, not, ◌&&◌, ◌||◌, List, [], ◌∷◌, ◌++◌, refl, sym, ap, ◌∙◌}
 use Rattle.std.specs.List.{list_all}
-use Rattle.std.proofs.lemmas.Bool.{and_parts, and_from, and_right, or_left, or_right, false≢true, eqb-true}
+use Rattle.std.proofs.lemmas.Bool.{and_parts, and_from, and_right, false≢true, eqb-true}
 use Rattle.orc_path.specs.Alphabet.{is_name_start, is_name_byte, is_identifier, is_qualified, is_qualified_rest, is_node_name}
 
 -- a byte at which a test fails is none at which it holds
@@ -11,10 +11,6 @@ other_byte test k fails b holds = at (b == k) refl
     at : (t : Bool) → (b == k) ≡ t → (b == k) ≡ false
     at false e = e
     at true e = absurd (false≢true (sym fails ∙ ap test (sym (eqb-true b k e)) ∙ holds))
-
--- the first byte of a name is one of a name
-pub start_is_byte : (b : ℕ) → is_name_start b ≡ true → is_name_byte b ≡ true
-start_is_byte b h = or_left _ _ (or_left _ _ (or_left _ _ h))
 
 pub identifier_first : (b : ℕ) → is_name_start b ≡ true → is_identifier (b ∷ []) ≡ true
 identifier_first b h = and_from _ _ h refl
@@ -56,12 +52,6 @@ rest_colon (c ∷ n) b h k =
 pub qualified_colon : (n : List ℕ) (b : ℕ) → is_identifier n ≡ true → is_name_start b ≡ true → is_qualified ((n ++ 58 ∷ []) ++ b ∷ []) ≡ true
 qualified_colon [] b h k = absurd (false≢true h)
 qualified_colon (c ∷ n) b h k = let parts = and_parts _ _ h in and_from _ _ parts.0 (rest_colon n b parts.1 k)
-
-pub identifier_is_name : (n : List ℕ) → is_identifier n ≡ true → is_node_name n ≡ true
-identifier_is_name n h = or_left _ _ h
-
-pub qualified_is_name : (n : List ℕ) → is_qualified n ≡ true → is_node_name n ≡ true
-qualified_is_name n h = or_right _ _ h
 
 -- an identifier has no colon
 bytes_not_qualified : (n : List ℕ) → list_all is_name_byte n ≡ true → is_qualified_rest n ≡ false

@@ -1,5 +1,5 @@
 -- A reader in the middle of a text, and at its end.
-use Rattle.std.proofs.Common.{◌≡◌, ℕ, zero, suc, ◌+◌, ◌<◌, Bool, true, List, [], ◌∷◌, ◌++◌, Option, Some, None, length, take, refl, sym, ap, subst, ◌∙◌, arith, append_assoc, append-nil, length-append}
+use Rattle.std.proofs.Common.{◌≡◌, ℕ, zero, suc, ◌+◌, ◌<◌, Bool, true, List, [], ◌∷◌, ◌++◌, Some, None, length, take, refl, sym, ap, subst, ◌∙◌, arith, append_assoc, append-nil, length-append}
 use Rattle.std.specs.Option.{option_and_then}
 use Rattle.std.proofs.lemmas.List.{nil_from_length}
 use Rattle.orc_path.specs.Texts.{CanBegin, IsBadAt}
@@ -28,16 +28,6 @@ stands_first conditional text r is =
 
 some_same : (a b : Reading) → Some a ≡ Some b → a ≡ b
 some_same a b h = cc
-
--- a reading that begins with these bytes goes through them
-prefix_runs : (r s : Reading) (xs ys : List ℕ) → feed_all r (xs ++ ys) ≡ Some s → (t : Reading) × (feed_all r xs ≡ Some t)
-prefix_runs r s [] ys h = (r, refl)
-prefix_runs r s (x ∷ xs) ys h = on (feed r x) (λ next. prefix_runs next s xs ys) h
-  where
-    on : (o : Option Reading) → ((next : Reading) → feed_all next (xs ++ ys) ≡ Some s → (t : Reading) × (feed_all next xs ≡ Some t))
-        → option_and_then (λ next. feed_all next (xs ++ ys)) o ≡ Some s → (t : Reading) × (option_and_then (λ next. feed_all next xs) o ≡ Some t)
-    on None more h = let never : ⊥ = cc in absurd never
-    on (Some next) more h = more next h
 
 module _ (conditional : Bool) (text : List ℕ) (at : ℕ) (rest : List ℕ) (r : Reading) (here : Stands conditional text at rest r) where
   text_is : reading_text r ≡ here.front

@@ -6,12 +6,12 @@ use Rattle.orc_expr.specs.declared.expr.Test.{Test}
 use Rattle.orc_expr.specs.declared.expr.Test.TheVariants.{Any, Equals, Differs}
 
 -- An expression, or a term of a predicate.
---     Here             the context
---     FromRoot n       the top node of this name, which has its module
---     FromContext k n  the node of this name below the node k steps above the context
---     Below e n        the node of this name below those of e
---     Where e k t      those entries among the nodes of e whose key k has the text of the term t
---     Quoted t         a text, as a term alone
+--     Here                  the context
+--     FromRoot name         the top node of this name, which has its module
+--     FromContext ups name  the node of this name below the node `ups` steps above the context
+--     Below front name      the node of this name below those of `front`
+--     Where front key term  those entries among the nodes of `front` whose key `key` has the text of the term
+--     Quoted text           a text, as a term alone
 pub data Expression : Type 0 where
   Here : Expression
   FromRoot : List ℕ → Expression

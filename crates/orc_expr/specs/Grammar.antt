@@ -7,11 +7,13 @@ use Rattle.orc_expr.specs.declared.expr.ExprFault.TheVariants.{Bad, Memory}
 
 -- the bytes are the text of some expression
 abbrev pub IsExpressionText : List ℕ → Type 0
-IsExpressionText bytes = (e : Expression) × (IsTrue (is_expression e) × (expression_text e ≡ bytes))
+IsExpressionText bytes =
+    (expression : Expression) × (IsTrue (is_expression expression) × (expression_text expression ≡ bytes))
 
 -- the bytes are the text of some condition
 abbrev pub IsConditionText : List ℕ → Type 0
-IsConditionText bytes = (c : Condition) × (IsTrue (is_condition c) × (condition_text c ≡ bytes))
+IsConditionText bytes =
+    (condition : Condition) × (IsTrue (is_condition condition) × (condition_text condition ≡ bytes))
 
 -- the text is none of the kind, and the fault has the length of its longest prefix with which one begins; want of
 -- memory is free

@@ -15,20 +15,20 @@ use Rattle.orc_expr.specs.Looks.{texts_of, nodes_of, judged}
 -- Two views of equal shapes that share what was read give the same texts, and the same faults and reads.
 abbrev pub TextsAreFixedByReads : Type 0
 TextsAreFixedByReads =
-    (e : Expression) (here : List PathStep) (view : Viewed)
-    → IsFixedByReads (texts_of e here) (λ look. look.reads) view
+    (expression : Expression) (here : List PathStep) (view : Viewed)
+    → IsFixedByReads (texts_of expression here) (λ look. look.reads) view
 
 -- The same of nodes.
 abbrev pub NodesAreFixedByReads : Type 0
 NodesAreFixedByReads =
-    (e : Expression) (here : List PathStep) (view : Viewed)
-    → IsFixedByReads (nodes_of e here) (λ look. look.reads) view
+    (expression : Expression) (here : List PathStep) (view : Viewed)
+    → IsFixedByReads (nodes_of expression here) (λ look. look.reads) view
 
 -- The same of conditions.
 abbrev pub ConditionsAreFixedByReads : Type 0
 ConditionsAreFixedByReads =
-    (c : Condition) (here : List PathStep) (view : Viewed)
-    → IsFixedByReads (judged c here) (λ made. made.reads) view
+    (condition : Condition) (here : List PathStep) (view : Viewed)
+    → IsFixedByReads (judged condition here) (λ made. made.reads) view
 
 -- Where no path at which two configurations differ touches what was read, they share it under one schema.
 abbrev pub UntouchedIsShared : Type 0

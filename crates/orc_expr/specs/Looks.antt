@@ -136,7 +136,7 @@ entries_look items step = look_on step.before
 
 -- the predicates name each key once, in the order of the keys
 abbrev pub asks_each_key : List (List ℕ) → List Asked → Bool
-asks_each_key keys asked = pointwise (pointwise nat_eq) (map (λ a. a.key) asked) keys
+asks_each_key keys asked = pointwise (pointwise nat_eq) (map (λ predicate. predicate.key) asked) keys
 
 -- the entries of a list: all without a predicate, and else one, whose keys the predicates give
 abbrev pub list_look_by : Config → LastStep → List (List ℕ) → List Asked → Looked (List PathStep)

@@ -4,7 +4,7 @@ use Rattle.std.specs.Int.{w32, w64, to_be_bytes}
 use Rattle.std.proofs.lemmas.List.{take_at, drop_at}
 use Rattle.orc_call.proofs.Singles.{same_4}
 use Rattle.orc_journal.specs.Entries.{entry_kind, payload}
-use Rattle.orc_journal.specs.inside.Fronts.{HasEntry, HasNoEntry, HasFrame, HasNoFrame, HasNumber, IsNoNumber, Says, SaysNothing}
+use Rattle.orc_journal.specs.inside.Fronts.{HasEntry, HasFrame, HasNumber, Says}
 use Rattle.orc_journal.specs.declared.entry.Entry.{Entry}
 use Rattle.orc_journal.specs.declared.entry.Entry.TheVariants.{Intent, Decide, Abort, Settled}
 use Rattle.orc_journal.proofs.Intents.{one_number, one_intent}
@@ -34,21 +34,6 @@ entry_found bytes kind says rest entry f s = record {
   writable = record { fields = s.fields; length = rw (← s.parts) f.short };
   parts = f.parts ∙ ap (λ t. kind ∷ to_be_bytes w32 (length t) ++ (t ++ rest)) s.parts ∙ ap (λ k. k ∷ to_be_bytes w32 (length (payload entry)) ++ (payload entry ++ rest)) s.of_kind;
 }
-
-pub no_frame : (bytes : List ℕ) → HasNoFrame bytes → HasNoEntry bytes
-no_frame bytes none entry rest has = none (entry_kind entry) (payload entry) rest (entry_frame bytes entry rest has)
-
-pub nothing_said : (bytes : List ℕ) (kind : ℕ) (says rest : List ℕ) → HasFrame bytes kind says rest → SaysNothing kind says → HasNoEntry bytes
-nothing_said bytes kind says rest f none entry more has =
-    let o = one_frame bytes kind says rest (entry_kind entry) (payload entry) more f (entry_frame bytes entry more has) in
-    none entry (record { of_kind = o.same_kind; fields = has.writable.fields; parts = o.same_says })
-
--- an entry of another kind than an intent says its number
-pub mark_number : (kind : ℕ) (says : List ℕ) → (kind ≡ 1 → ⊥) → IsNoNumber says → SaysNothing kind says
-mark_number kind says other none (Intent t call devices) h = other h.of_kind
-mark_number kind says other none (Decide t) h = none t (record { fits = h.fields; parts = h.parts })
-mark_number kind says other none (Abort t) h = none t (record { fits = h.fields; parts = h.parts })
-mark_number kind says other none (Settled t) h = none t (record { fits = h.fields; parts = h.parts })
 
 said_number : (says : List ℕ) (t u : ℕ) → t < 2 ^ 64 → u < 2 ^ 64 → says ≡ to_be_bytes w64 t → says ≡ to_be_bytes w64 u → t ≡ u
 said_number says t u h k a b =

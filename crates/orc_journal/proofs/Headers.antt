@@ -1,25 +1,14 @@
 -- The header of a journal, read from the front.
 use Rattle.std.proofs.Common.{◌≡◌, ℕ, ◌<◌, ◌≤◌, ◌^◌, List, [], ◌∷◌, ◌++◌, length, take, drop, refl, sym, ap, ◌∙◌, append_assoc}
 use Rattle.std.specs.Int.{w32, to_be_bytes, from_be_bytes}
-use Rattle.std.proofs.lemmas.List.{take_at, drop_at, take-append-drop, append_cancel_left, drop_all}
+use Rattle.std.proofs.lemmas.List.{take_at, drop_at, drop_all}
 use Rattle.orc_call.proofs.Singles.{same_4}
-use Rattle.orc_journal.specs.Journals.{magic, header, common, IsNotJournal, IsForeign}
+use Rattle.orc_journal.specs.Journals.{magic, header, common, IsForeign}
 use Rattle.orc_journal.specs.inside.Fronts.{BeginsOtherwise}
 
 -- a front that isn't there
 pub otherwise_more : (bytes front more : List ℕ) → BeginsOtherwise bytes front → BeginsOtherwise bytes (front ++ more)
 otherwise_more bytes front more other rest e = other (more ++ rest) (e ∙ append_assoc front more rest)
-
--- a second part that isn't there behind the first
-pub otherwise_behind : (bytes front rest more : List ℕ) → bytes ≡ front ++ rest → BeginsOtherwise rest more → BeginsOtherwise bytes (front ++ more)
-otherwise_behind bytes front rest more e other after f =
-    other after (append_cancel_left front rest (more ++ after) (sym e ∙ f ∙ append_assoc front more after))
-
-pub not_journal : (file : List ℕ) → 0 < length file → BeginsOtherwise file magic → IsNotJournal file
-not_journal file some other = record {
-  some = some;
-  other = λ e. other (drop 8 file) (sym (take-append-drop 8 file) ∙ ap (λ t. t ++ drop 8 file) e);
-}
 
 pub foreign : (file rest decls : List ℕ) (at : ℕ) → file ≡ magic ++ rest → BeginsOtherwise rest (to_be_bytes w32 (length decls) ++ decls)
     → at ≡ common (take (from_be_bytes w32 (take 4 rest)) (drop 4 rest)) decls → IsForeign file decls at

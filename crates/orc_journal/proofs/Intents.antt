@@ -1,5 +1,5 @@
 -- What an intent says: a number, a call and devices.
-use Rattle.std.proofs.Common.{◌≡◌, ℕ, ◌-◌, ◌<◌, List, ◌++◌, length, take, drop, refl, sym, ap, ◌∙◌, arith}
+use Rattle.std.proofs.Common.{◌≡◌, ℕ, ◌-◌, List, ◌++◌, length, take, drop, refl, sym, ap, ◌∙◌, arith}
 use Rattle.std.specs.Int.{w64, to_be_bytes}
 use Rattle.std.proofs.lemmas.List.{append_cancel_left, take-append-drop, take_rest}
 use Rattle.orc_call.specs.declared.call.Call.{Call}
@@ -8,7 +8,7 @@ use Rattle.orc_call.specs.inside.Reading.{IsWhole, any}
 use Rattle.orc_call.proofs.Singles.{same_8}
 use Rattle.orc_call.proofs.ActionKinds.{call_determined}
 use Rattle.orc_journal.specs.Entries.{devices_bytes, AreDevices}
-use Rattle.orc_journal.specs.inside.Fronts.{HasNumber, HasCall, HasNoCall, HasDevices, HasNoDevices, Says, SaysNothing}
+use Rattle.orc_journal.specs.inside.Fronts.{HasNumber, HasCall, HasNoCall, HasNoDevices, Says, SaysNothing}
 use Rattle.orc_journal.specs.declared.entry.Entry.{Entry}
 use Rattle.orc_journal.specs.declared.entry.Entry.TheVariants.{Intent, Decide, Abort, Settled}
 use Rattle.orc_journal.proofs.Devices.{same_devices}
@@ -56,18 +56,6 @@ intended says (Intent t call devices) h = record {
 intended says (Decide t) h = absurd (omega (arith, h.of_kind))
 intended says (Abort t) h = absurd (omega (arith, h.of_kind))
 intended says (Settled t) h = absurd (omega (arith, h.of_kind))
-
-pub intent_found : (says : List ℕ) (t : ℕ) (r : List ℕ) (call : Call) (s : List ℕ) (devices : List ℕ) → HasNumber says t r → HasCall r call s → HasDevices s devices → Says 1 says (Intent t call devices)
-intent_found says t r call s devices a b c = record {
-  of_kind = refl;
-  fields = (a.fits, b.lawful, c.lawful);
-  parts = a.parts ∙ ap (λ x. to_be_bytes w64 t ++ x) (b.parts ∙ ap (λ x. call_bytes call ++ x) c.parts);
-}
-
-pub no_number : (says : List ℕ) → length says < 8 → SaysNothing 1 says
-no_number says short entry h =
-    let i = intended says entry h in
-    omega (arith, ap length i.number.parts)
 
 pub no_call : (says : List ℕ) (t : ℕ) (r : List ℕ) → HasNumber says t r → HasNoCall r → SaysNothing 1 says
 no_call says t r a none entry h =

@@ -1,8 +1,8 @@
 -- A journal that is read entry by entry.
-use Rattle.std.proofs.Common.{◌≡◌, ℕ, ◌-◌, ◌<◌, true, false, List, [], ◌∷◌, ◌++◌, length, All, IsTrue, sym, ap, subst, ◌∙◌, append_assoc, length-append, arith}
+use Rattle.std.proofs.Common.{◌≡◌, ℕ, ◌-◌, true, false, List, [], ◌∷◌, ◌++◌, length, All, IsTrue, sym, ap, subst, ◌∙◌, append_assoc, length-append, arith}
 use Rattle.std.proofs.lemmas.List.{flat_map_more}
 use Rattle.std.proofs.lemmas.List.Elements.{All-push}
-use Rattle.orc_journal.specs.Entries.{entry_bytes, IsWritable}
+use Rattle.orc_journal.specs.Entries.{IsWritable}
 use Rattle.orc_journal.specs.Orders.{follows, is_ordered}
 use Rattle.orc_journal.specs.Journals.{header, gated, journal_bytes, IsDamaged}
 use Rattle.orc_journal.specs.inside.Stages.{AreStages}
@@ -44,11 +44,6 @@ read_more file decls entries rest behind stages more after later r gate next =
       ordered = subst (λ es. IsTrue (is_ordered es)) (sym next.read) (is_ordered-push entries entry r.ordered next.may_follow);
       known = next.counted;
     }
-
--- what is left is less
-pub read_less : (entries : List Entry) (rest behind : List ℕ) (more : List Entry) (after : List ℕ) (later : Stages) → rest ≡ 1 ∷ behind → HasNext entries behind more after later → length after < length rest
-read_less entries rest behind more after later gate next =
-    omega (arith, ap length gate, ap length next.there.parts, length-append (entry_bytes next.entry) after)
 
 pub damaged : (file decls : List ℕ) (entries : List Entry) (rest behind : List ℕ) (stages : Stages) → IsRead file decls entries rest stages → rest ≡ 1 ∷ behind → HasNoNext entries behind → IsDamaged file decls (length file - length behind)
 damaged file decls entries rest behind stages r gate none =

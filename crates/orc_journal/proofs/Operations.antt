@@ -1,5 +1,5 @@
 -- Writes and syncs one behind the other, up to a fault.
-use Rattle.std.specs.Prelude.{◌≡◌, ℕ, ◌+◌, ◌≤◌, true, false, [], ◌∷◌, ◌++◌}
+use Rattle.std.specs.Prelude.{ℕ, ◌+◌, ◌≤◌, true, false, [], ◌∷◌, ◌++◌}
 use Rattle.std.proofs.Common.{arith, inl, inr}
 use Rattle.orc_disk.specs.Rows.{Course, joined, row}
 use Rattle.orc_disk.specs.Meanings.{DiskMeaning}
@@ -8,7 +8,6 @@ use Rattle.orc_disk.proofs.Courses.{Hears-trans}
 use Rattle.orc_journal.specs.Operations.{LedBy, FailsBefore}
 use Rattle.orc_journal.specs.Hearing.{IsSynced, syncs}
 use Rattle.orc_journal.specs.declared.fault.OpenFault.{OpenFault}
-use Rattle.orc_journal.specs.declared.fault.OpenFault.TheVariants.{DiskFault}
 use Rattle.orc_journal.specs.inside.Steps.{EndsReading}
 
 module _ {D : Type 0} (disk : DiskMeaning D) where
@@ -42,11 +41,6 @@ module _ {D : Type 0} (disk : DiskMeaning D) where
     read = λ none. absurd (omega (arith, none));
     failed = fails.failed.2;
   }
-
-  -- a read failed
-  pub ends_reading : (a b : D) (fault : OpenFault) → fault ≡ DiskFault → disk.leads (row 0 false) a a → disk.leads (row 0 true) a b
-      → EndsReading disk a b fault
-  ends_reading a b fault is stays led = record { other = λ other. absurd (other is); failed = λ _. fails_now 0 a b (omega arith) stays led }
 
   module _ (goes_on : (first second : Course) (a b c : D) → disk.leads first a b → disk.leads second b c → disk.leads (joined first second) a c) where
     pub does_more : (m n : ℕ) (a b c : D) → LedBy disk m a b → LedBy disk n b c → LedBy disk (m + n) a c

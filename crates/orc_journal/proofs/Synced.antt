@@ -10,7 +10,6 @@ use Rattle.orc_disk.specs.Moments.{Unchanged, LeavesOnly}
 use Rattle.orc_disk.proofs.Courses.{Hears-trans}
 use Rattle.orc_disk.proofs.Moments.{joined as put_behind, weaker}
 use Rattle.orc_journal.specs.Hearing.{Heard, IsSynced}
-use Rattle.orc_journal.specs.Faults.{OfHeard}
 use Rattle.orc_journal.specs.Opening.{IsOpening, MayBecome, LeavesOpening}
 use Rattle.orc_journal.proofs.Changes.{Unchanged-refl, Unchanged-trans, Unchanged-leaves}
 use Rattle.orc_journal.proofs.Endings.{opening_nothing, opening_same}
@@ -27,17 +26,6 @@ module _ {D : Type 0} (disk : DiskMeaning D) where
   pub IsSynced-unchanged : (old synced new : D) → IsSynced disk old synced new → Unchanged disk old synced
   IsSynced-unchanged old synced new = ⊎_elim
       (λ was. subst (λ (d : D). Unchanged disk old d) (sym was.at_once) (Unchanged-refl disk old)) (λ was. was.unchanged)
-
-  -- so the bytes that were heard are those that the disk held as it was handed in
-  pub told_at_entry : (old synced new : D) (file : List ℕ) → IsSynced disk old synced new → Heard disk synced new file
-      → IfSome (disk.content old) (λ held. file ≡ held)
-  told_at_entry old synced new file looked heard =
-      subst (λ (o : Option (List ℕ)). IfSome o (λ held. file ≡ held)) (IsSynced-same old synced new looked) heard.told
-
-  -- and what is so of the bytes that were heard is so of what it held
-  pub OfHeard-told : (old synced new : D) (P : List ℕ → Type 0) → IsSynced disk old synced new → OfHeard disk synced new P → IfSome (disk.content old) P
-  OfHeard-told old synced new P looked heard =
-      IfSome_then (disk.content old) (told_at_entry old synced new heard.0 looked heard.1) (λ file is. subst P is heard.2)
 
   pub kept_whole : ((at : D) (since : ℕ) (file : List ℕ) → since ≤ disk.moment at → disk.may_leave at file → disk.left_since at since file)
       → (old synced new : D) → IsSynced disk old synced new → Unchanged disk synced new → Unchanged disk old new

@@ -43,6 +43,3 @@ one_text_of_declarations file d e a b short short' h k =
 -- a journal with its ending gate is a journal
 pub gated_is_journal : (file decls : List ℕ) (entries : List Entry) → IsGated file decls entries → IsJournal file decls entries
 gated_is_journal file decls entries h = record { rest = h.gate ∷ h.rest; bytes = h.bytes; ending = h.closed; writable = h.writable }
-
-pub one_gated : (file decls : List ℕ) (a b : List Entry) → IsGated file decls a → IsGated file decls b → a ≡ b
-one_gated file decls a b h k = one_journal file decls a b (gated_is_journal file decls a h) (gated_is_journal file decls b k)

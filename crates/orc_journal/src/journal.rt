@@ -82,7 +82,8 @@ impl<D: Disk> Journal<D> {
         }
     }
 
-    /// Whether the disk was empty as the journal was opened and no entry was appended since.
+    /// Whether the disk was empty as the journal was opened and no append answered Ok since. One that
+    /// failed may have put its entry all the same.
     pub fn fresh(&self) -> bool
         ensures { result ≡ self.now.fresh }
     {

@@ -1,9 +1,6 @@
 -- The keys of an entry, put among its members one after another; and the values of a leaf-list.
-use Rattle.std.proofs.Common.{◌≡◌, ◌≤◌, ℕ, ◌+◌, zero, suc, true, false, List, [], ◌∷◌, ◌++◌, length, drop, drop-cons, drop_of_length-le, Some, None, Ok, refl, sym, ap, subst, ◌∙◌, add-one, arith}
-use Rattle.std.specs.Prelude.{IsTrue, ◌&&◌, slice_get}
-use Rattle.std.specs.Option.{option_map_or}
-use Rattle.std.proofs.lemmas.Bool.{and_parts, false≢true}
-use Rattle.std.proofs.lemmas.Option.{slice_get_within, get_or_from_slice_get}
+use Rattle.std.proofs.Common.{◌≡◌, ℕ, ◌+◌, zero, suc, true, List, [], ◌∷◌, ◌++◌, length, drop, drop_of_length-le, None, Ok, refl, sym, ap, subst, ◌∙◌, arith}
+use Rattle.std.specs.Prelude.{IsTrue, slice_get}
 use Rattle.serde_json.specs.Data.{Items, no_items, item, Members}
 use Rattle.serde_json.specs.View.{view, items_view}
 use Rattle.serde_json.specs.declared.value.Value.{Value}
@@ -12,18 +9,14 @@ use Rattle.orc_value.specs.Canon.{canon_of, is_canonical, gives_text}
 use Rattle.orc_value.specs.Json.{json_of}
 use Rattle.orc_value.specs.declared.kind.Kind.{Kind}
 use Rattle.orc_schema.specs.Schemas.{SchemaTable}
-use Rattle.orc_json.specs.Findings.{below, key_kind}
+use Rattle.orc_json.specs.Findings.{below}
 use Rattle.orc_json.specs.inside.Fronts.{Row, first_path}
-use Rattle.orc_json.specs.Written.{Rows, AreValues, are_keys, with_key_member, with_key_members}
+use Rattle.orc_json.specs.Written.{Rows, AreValues, are_keys, with_key_members}
 use Rattle.orc_json.specs.Written.AreValues.{no_value, value}
 use Rattle.orc_json.proofs.WrittenRead.{same_itself}
 use Rattle.orc_json.proofs.Made.{items_behind, one_item, items_behind-none}
 
 -- One element further -------------------------------------------------------------------------------------------------
-
-drop_some : (xs : List (List ℕ)) (i : ℕ) (x : List ℕ) → slice_get xs i ≡ Some x → drop i xs ≡ x ∷ drop (i + 1) xs
-drop_some xs i x h =
-    drop-cons xs i [] (slice_get_within xs i x h) ∙ ap (λ y. y ∷ drop (suc i) xs) (get_or_from_slice_get xs i x [] h) ∙ ap (λ n. x ∷ drop n xs) (sym (add-one i))
 
 none_past : (xs : List (List ℕ)) (i : ℕ) → slice_get xs i ≡ None → drop i xs ≡ []
 none_past [] i h = drop_of_length-le [] (omega arith)
@@ -37,41 +30,6 @@ abbrev pub KeysGoOn : SchemaTable → List (List ℕ) → List (List ℕ) → Li
 KeysGoOn s names keys texts place old made = IsTrue (are_keys s names keys texts)
     → IsTrue (are_keys s names (drop place keys) (drop place texts))
     × (with_key_members s names (drop place keys) (drop place texts) made ≡ with_key_members s names keys texts old)
-
-pub no_key_put : (s : SchemaTable) (names keys texts : List (List ℕ)) (old : Members) → KeysGoOn s names keys texts 0 old old
-no_key_put s names keys texts old h = (h, refl)
-
-pub key_put : (s : SchemaTable) (names keys texts : List (List ℕ)) (place : ℕ) (old made new : Members) (key text : List ℕ)
-    → slice_get keys place ≡ Some key → slice_get texts place ≡ Some text
-    → (IsTrue (option_map_or (λ kind. is_canonical kind text) (key_kind s names key) false) → new ≡ with_key_member (key_kind s names key) key text made)
-    → KeysGoOn s names keys texts place old made → KeysGoOn s names keys texts (place + 1) old new
-key_put s names keys texts place old made new key text k t puts so_far h =
-    let left = so_far h in
-    let keys_are = drop_some keys place key k in
-    let texts_are = drop_some texts place text t in
-    let own : (option_map_or (λ kind. is_canonical kind text) (key_kind s names key) false && are_keys s names (drop (place + 1) keys) (drop (place + 1) texts)) ≡ true =
-    sym (ap (λ x. are_keys s names x (drop place texts)) keys_are ∙ ap (are_keys s names (key ∷ drop (place + 1) keys)) texts_are) ∙ left.0 in
-    let parts = and_parts (option_map_or (λ kind. is_canonical kind text) (key_kind s names key) false) (are_keys s names (drop (place + 1) keys) (drop (place + 1) texts)) own in
-    let whole : with_key_members s names (drop (place + 1) keys) (drop (place + 1) texts) new ≡ with_key_members s names keys texts old =
-    ap (with_key_members s names (drop (place + 1) keys) (drop (place + 1) texts)) (puts parts.0)
-    ∙ sym (ap (λ x. with_key_members s names x (drop place texts) made) keys_are ∙ ap (λ x. with_key_members s names (key ∷ drop (place + 1) keys) x made) texts_are)
-    ∙ left.1 in
-    (parts.1, whole)
-
-pub key_missing : (s : SchemaTable) (names keys texts : List (List ℕ)) (place : ℕ) (old made : Members) (key : List ℕ)
-    → slice_get keys place ≡ Some key → slice_get texts place ≡ None
-    → KeysGoOn s names keys texts place old made → KeysGoOn s names keys texts (place + 1) old made
-key_missing s names keys texts place old made key k t so_far h =
-    let left = so_far h in
-    let none : are_keys s names (drop place keys) (drop place texts) ≡ false =
-    ap (λ x. are_keys s names x (drop place texts)) (drop_some keys place key k) ∙ ap (are_keys s names (key ∷ drop (place + 1) keys)) (none_past texts place t) in
-    absurd (false≢true (sym none ∙ left.0))
-
-pub keys_put : (s : SchemaTable) (names keys texts : List (List ℕ)) (place : ℕ) (old made : Members) → length keys ≤ place
-    → KeysGoOn s names keys texts place old made → IsTrue (are_keys s names keys texts) → made ≡ with_key_members s names keys texts old
-keys_put s names keys texts place old made past so_far h =
-    let left = so_far h in
-    sym (ap (λ x. with_key_members s names x (drop place texts) made) (drop_of_length-le keys past)) ∙ left.1
 
 -- Values --------------------------------------------------------------------------------------------------------------
 
@@ -87,9 +45,6 @@ pub record ValuesLeft (kind : Kind) (at : List PathStep) (name : List ℕ) (rest
 abbrev pub ValuesGoOn : Kind → ℕ → Rows → Rows → Items → Type 0
 ValuesGoOn kind depth rows rest made = (at : List PathStep) (name : List ℕ) (ds : Items) → length at ≡ depth → AreValues kind at name rows ds
     → ValuesLeft kind at name rest made ds
-
-pub no_value_made : (kind : Kind) (depth : ℕ) (rows : Rows) (made : Items) → made ≡ no_items → ValuesGoOn kind depth rows rows made
-no_value_made kind depth rows made none at name ds deep values = record { more = ds; values = values; whole = ap (λ x. items_behind x ds) none }
 
 record FirstValue (kind : Kind) (at : List PathStep) (name : List ℕ) (path : List PathStep) (later : Rows) (whole : Items) : Type 0 where
   text : List ℕ

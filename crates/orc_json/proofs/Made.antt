@@ -120,15 +120,6 @@ abbrev pub EntriesGoOn : SchemaTable → ℕ → List PathStep → List (List �
 EntriesGoOn s left at keys rows rest made = (bound : ℕ) → AreLaid bound rows → bound ≤ length at + 1 + left → (name : List ℕ) (ds : Items)
     → AreEntries s keys at name rows ds → EntriesLeft s bound keys at name rest made ds
 
-pub no_entry_made : (s : SchemaTable) (left : ℕ) (at : List PathStep) (keys : List (List ℕ)) (rows : Rows) (made : Items) → made ≡ no_items
-    → EntriesGoOn s left at keys rows rows made
-no_entry_made s left at keys rows made none bound laid short name ds entries = record {
-  more = ds;
-  laid = laid;
-  entries = entries;
-  whole = ap (λ x. items_behind x ds) none;
-}
-
 one_entry_made : (s : SchemaTable) (bound left : ℕ) (keys : List (List ℕ)) (at : List PathStep) (name : List ℕ) (rest : Rows) (vs : List Value) (v : Value) (ds : Items)
     → bound ≤ length at + 1 + left → MakesEntry s left at keys (take (front (same_step (length at)) rest) rest) (view v)
     → (l : EntriesLeft s bound keys at name rest (items_view vs) ds) → FirstEntry s keys at name rest l.more

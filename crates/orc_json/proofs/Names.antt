@@ -1,10 +1,10 @@
 -- Names behind the steps of a path.
-use Rattle.std.proofs.Common.{◌≡◌, ℕ, ◌==◌, true, false, cond, List, [], ◌∷◌, refl, sym, ap, ◌∙◌, arith}
-use Rattle.std.specs.Prelude.{◌&&◌, ◌||◌}
+use Rattle.std.proofs.Common.{◌≡◌, ℕ, ◌==◌, true, false, cond, List, [], ◌∷◌, refl, ap, ◌∙◌, arith}
+use Rattle.std.specs.Prelude.{◌&&◌}
 use Rattle.std.specs.List.{list_all}
 use Rattle.std.proofs.lemmas.Bool.{and_parts}
 use Rattle.std.proofs.lemmas.Bool.Decides.{nat_tests}
-use Rattle.orc_path.specs.Alphabet.{is_name_byte, is_name_start, is_identifier, is_qualified, is_qualified_rest, is_node_name}
+use Rattle.orc_path.specs.Alphabet.{is_name_byte, is_name_start, is_identifier, is_qualified, is_qualified_rest}
 
 no_colon : (b : ℕ) → is_name_byte b ≡ true → (b == 58) ≡ false
 no_colon b h = grind (arith, nat_tests)
@@ -22,10 +22,3 @@ not_qualified [] h = refl
 not_qualified (b ∷ bs) h =
     let parts = and_parts (is_name_start b) (list_all is_name_byte bs) h in
     ap (λ t. t && is_qualified_rest bs) parts.0 ∙ rest_has_no_colon bs parts.1
-
--- so a node's name that is no identifier has one
-pub is_first : (text : List ℕ) → is_identifier text ≡ false → is_node_name text ≡ is_qualified text
-is_first text h = ap (λ t. t || is_qualified text) h
-
-pub is_later : (text : List ℕ) → is_identifier text ≡ true → is_node_name text ≡ is_identifier text
-is_later text h = ap (λ t. t || is_qualified text) h ∙ sym h

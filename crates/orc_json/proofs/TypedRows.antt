@@ -55,9 +55,6 @@ filled x xs e = omega (arith, ap length e)
 
 -- Orders
 
-lt_from : (o : Ordering) → o ≡ Less → T (is_lt o)
-lt_from o e = subst (λ (r : Ordering). T (is_lt r)) (sym e) tt
-
 pub unlike : (o r : Ordering) → o ≡ r → is_lt o ≡ true → is_lt r ≡ false → ⊥
 unlike o r e h n = false≢true (sym n ∙ ap is_lt (sym e) ∙ h)
 

@@ -28,7 +28,7 @@ below at name keys = at ++ record { node = name; keys = keys } ∷ []
 
 -- the node of a name below a path
 abbrev pub node_below : SchemaTable → List PathStep → List ℕ → Option Node
-node_below s at name = node_at s (path_names at ++ name ∷ [])
+node_below schema at name = node_at schema (path_names at ++ name ∷ [])
 
 -- Values: RFC 7951 section 6 ------------------------------------------------------------------------------------------
 
@@ -48,33 +48,33 @@ entry_value at name (Err rule) = breaks (below at name []) (value_rule rule) ∷
 
 abbrev pub values : Kind → List PathStep → List ℕ → Items → List Finding
 values kind at name no_items = []
-values kind at name (item d ds) = entry_value at name (canon_of_json kind d) ++ values kind at name ds
+values kind at name (item json later) = entry_value at name (canon_of_json kind json) ++ values kind at name later
 
 -- an array of values
 abbrev pub leaf_list : Kind → List PathStep → List ℕ → Option Items → List Finding
-leaf_list kind at name (Some ds) = values kind at name ds
+leaf_list kind at name (Some items) = values kind at name items
 leaf_list kind at name None = breaks (below at name []) KIND ∷ []
 
 -- Keys of an entry: section 5.4 ---------------------------------------------------------------------------------------
 
 -- the kind of a key of the list of these names
 abbrev pub key_kind : SchemaTable → List (List ℕ) → List ℕ → Option Kind
-key_kind s names key = option_and_then kind_in (node_at s (names ++ key ∷ []))
+key_kind schema names key = option_and_then kind_in (node_at schema (names ++ key ∷ []))
 
 -- the canonical text of one key of an entry, where the entry has a value of the key's type
 abbrev pub entry_key : SchemaTable → List (List ℕ) → Data → List ℕ → Option (List ℕ)
-entry_key s names d key = option_and_then
-    (λ kind. option_and_then (λ value. result_ok (canon_of_json kind value)) (get key d)) (key_kind s names key)
+entry_key schema names json key = option_and_then
+    (λ kind. option_and_then (λ value. result_ok (canon_of_json kind value)) (get key json)) (key_kind schema names key)
 
 abbrev pub key_texts : SchemaTable → List (List ℕ) → Data → List (List ℕ) → Option (List (List ℕ))
-key_texts s names d [] = Some []
-key_texts s names d (key ∷ later) = option_and_then
-    (λ text. option_map (λ texts. text ∷ texts) (key_texts s names d later)) (entry_key s names d key)
+key_texts schema names json [] = Some []
+key_texts schema names json (key ∷ later) = option_and_then
+    (λ text. option_map (λ texts. text ∷ texts) (key_texts schema names json later)) (entry_key schema names json key)
 
 -- all keys of an entry, of which there is one at least
 abbrev pub entry_keys : SchemaTable → List (List ℕ) → Data → List (List ℕ) → Option (List (List ℕ))
-entry_keys s names d [] = None
-entry_keys s names d (key ∷ later) = key_texts s names d (key ∷ later)
+entry_keys schema names json [] = None
+entry_keys schema names json (key ∷ later) = key_texts schema names json (key ∷ later)
 
 -- An entry of a list: it stands where its keys say, with what is inside. One without its keys breaks KEY at the list.
 abbrev pub entry_object : List PathStep → List ℕ → Option (List (List ℕ)) → (List PathStep → List Finding)
@@ -86,7 +86,8 @@ entry_object at name None inside = breaks (below at name []) KEY ∷ []
 
 -- A leaf that is a key belongs to an entry of its list, and stands nowhere else.
 abbrev pub leaf_found : LeafNode → List PathStep → Data → List Finding
-leaf_found l path d = if is_some l.key then breaks path MEMBER ∷ [] else leaf_value path (canon_of_json l.kind d)
+leaf_found leaf path json =
+    if is_some leaf.key then breaks path MEMBER ∷ [] else leaf_value path (canon_of_json leaf.kind json)
 
 -- one of the names
 abbrev pub is_key_name : List (List ℕ) → List ℕ → Bool
@@ -100,64 +101,70 @@ strange_name at = breaks at MEMBER ∷ []
 -- with these keys.
 abbrev pub node_found : List PathStep → List ℕ → Data → List Finding → (List (List ℕ) → List Finding) → Option Node
     → List Finding
-node_found at name d inside entries None = breaks (below at name []) MEMBER ∷ []
-node_found at name d inside entries (Some node.Container) = inside
-node_found at name d inside entries (Some (node.List l)) = entries l.keys
-node_found at name d inside entries (Some (node.Leaf l)) = leaf_found l (below at name []) d
-node_found at name d inside entries (Some (node.LeafList l)) = leaf_list l.kind at name (as_array d)
+node_found at name json inside entries None = breaks (below at name []) MEMBER ∷ []
+node_found at name json inside entries (Some node.Container) = inside
+node_found at name json inside entries (Some (node.List list)) = entries list.keys
+node_found at name json inside entries (Some (node.Leaf leaf)) = leaf_found leaf (below at name []) json
+node_found at name json inside entries (Some (node.LeafList leaf_list_node)) =
+    leaf_list leaf_list_node.kind at name (as_array json)
 
 -- A member. That of a key states nothing more.
 abbrev pub member_found : SchemaTable → List (List ℕ) → List PathStep → List ℕ → Data → List Finding
     → (List (List ℕ) → List Finding) → List Finding
-member_found s keys at name d inside entries = if is_key_name keys name then [] else
-    if is_name_behind at name then node_found at name d inside entries (node_below s at name) else strange_name at
+member_found schema keys at name json inside entries = if is_key_name keys name then [] else
+    if is_name_behind at name then node_found at name json inside entries (node_below schema at name)
+    else strange_name at
 
 abbrev mutual
   -- The JSON object of the root, of a container or of an entry at a path. `keys` are the names of the keys that an
   -- entry of a list has in it, of which its path tells; no others have any.
   pub object_at : SchemaTable → List (List ℕ) → List PathStep → Data → List Finding
-  object_at s keys at null = breaks at KIND ∷ []
-  object_at s keys at (boolean b) = breaks at KIND ∷ []
-  object_at s keys at (number n) = breaks at KIND ∷ []
-  object_at s keys at (string t) = breaks at KIND ∷ []
-  object_at s keys at (array ds) = breaks at KIND ∷ []
-  object_at s keys at (object ms) = members_at s keys at ms
+  object_at schema keys at null = breaks at KIND ∷ []
+  object_at schema keys at (boolean truth) = breaks at KIND ∷ []
+  object_at schema keys at (number amount) = breaks at KIND ∷ []
+  object_at schema keys at (string text) = breaks at KIND ∷ []
+  object_at schema keys at (array items) = breaks at KIND ∷ []
+  object_at schema keys at (object pairs) = members_at schema keys at pairs
 
   pub members_at : SchemaTable → List (List ℕ) → List PathStep → Members → List Finding
-  members_at s keys at no_members = []
-  members_at s keys at (member name d ms) =
-      member_found s keys at name d (object_at s [] (below at name []) d) (λ names. list_at s names at name d)
-      ++ members_at s keys at ms
+  members_at schema keys at no_members = []
+  members_at schema keys at (member name json later) =
+      member_found schema keys at name json (object_at schema [] (below at name []) json)
+      (λ names. list_at schema names at name json)
+      ++ members_at schema keys at later
 
   -- the JSON array of a list whose keys have these names
   pub list_at : SchemaTable → List (List ℕ) → List PathStep → List ℕ → Data → List Finding
-  list_at s keys at name null = breaks (below at name []) KIND ∷ []
-  list_at s keys at name (boolean b) = breaks (below at name []) KIND ∷ []
-  list_at s keys at name (number n) = breaks (below at name []) KIND ∷ []
-  list_at s keys at name (string t) = breaks (below at name []) KIND ∷ []
-  list_at s keys at name (array ds) = entries_at s keys at name ds
-  list_at s keys at name (object ms) = breaks (below at name []) KIND ∷ []
+  list_at schema keys at name null = breaks (below at name []) KIND ∷ []
+  list_at schema keys at name (boolean truth) = breaks (below at name []) KIND ∷ []
+  list_at schema keys at name (number amount) = breaks (below at name []) KIND ∷ []
+  list_at schema keys at name (string text) = breaks (below at name []) KIND ∷ []
+  list_at schema keys at name (array items) = entries_at schema keys at name items
+  list_at schema keys at name (object pairs) = breaks (below at name []) KIND ∷ []
 
   pub entries_at : SchemaTable → List (List ℕ) → List PathStep → List ℕ → Items → List Finding
-  entries_at s keys at name no_items = []
-  entries_at s keys at name (item d ds) = entry_at s keys at name d ++ entries_at s keys at name ds
+  entries_at schema keys at name no_items = []
+  entries_at schema keys at name (item json later) =
+      entry_at schema keys at name json ++ entries_at schema keys at name later
 
   -- an object among them
   pub entry_at : SchemaTable → List (List ℕ) → List PathStep → List ℕ → Data → List Finding
-  entry_at s keys at name null = breaks (below at name []) KIND ∷ []
-  entry_at s keys at name (boolean b) = breaks (below at name []) KIND ∷ []
-  entry_at s keys at name (number n) = breaks (below at name []) KIND ∷ []
-  entry_at s keys at name (string t) = breaks (below at name []) KIND ∷ []
-  entry_at s keys at name (array ds) = breaks (below at name []) KIND ∷ []
-  entry_at s keys at name (object ms) = entry_object at name
-      (entry_keys s (path_names at ++ name ∷ []) (object ms) keys) (λ entry. members_at s keys entry ms)
+  entry_at schema keys at name null = breaks (below at name []) KIND ∷ []
+  entry_at schema keys at name (boolean truth) = breaks (below at name []) KIND ∷ []
+  entry_at schema keys at name (number amount) = breaks (below at name []) KIND ∷ []
+  entry_at schema keys at name (string text) = breaks (below at name []) KIND ∷ []
+  entry_at schema keys at name (array items) = breaks (below at name []) KIND ∷ []
+  entry_at schema keys at name (object pairs) = entry_object at name
+      (entry_keys schema (path_names at ++ name ∷ []) (object pairs) keys)
+      (λ entry. members_at schema keys entry pairs)
 
 -- a node, and a member, with its JSON
 abbrev pub node_of_name : SchemaTable → List PathStep → List ℕ → Data → List Finding
-node_of_name s at name d =
-    node_found at name d (object_at s [] (below at name []) d) (λ names. list_at s names at name d)
-    (node_below s at name)
+node_of_name schema at name json =
+    node_found at name json (object_at schema [] (below at name []) json) (λ names. list_at schema names at name json)
+    (node_below schema at name)
 
 abbrev pub member_at : SchemaTable → List (List ℕ) → List PathStep → List ℕ → Data → List Finding
-member_at s keys at name d =
-    member_found s keys at name d (object_at s [] (below at name []) d) (λ names. list_at s names at name d)
+member_at schema keys at name json =
+    member_found schema keys at name json (object_at schema [] (below at name []) json)
+    (λ names. list_at schema names at name json)

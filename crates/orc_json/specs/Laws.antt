@@ -10,5 +10,5 @@ use Rattle.orc_json.specs.Written.{AreMembers}
 -- The JSON value of a configuration is read as that configuration.
 abbrev pub JsonIsRead : Type 0
 JsonIsRead =
-    (s : SchemaTable) (config : Config) (ms : Members) → IsConfig config → AreMembers s [] [] (entries config) ms
-    → outcome (reading s [] (object ms)) ≡ Ok config
+    (schema : SchemaTable) (config : Config) (pairs : Members) → IsConfig config
+    → AreMembers schema [] [] (entries config) pairs → outcome (reading schema [] (object pairs)) ≡ Ok config

@@ -30,50 +30,50 @@ lesser_fault one (Some other) = if is_lt (fault_cmp one other) then one else oth
 
 -- a rule is broken at a path
 abbrev pub with_fault : List PathStep → ℕ → Reading → Reading
-with_fault path rule r = record {
-  tree = r.tree;
-  breach = Some (lesser_fault (record { path = path; rule = rule }) r.breach);
+with_fault path rule reading = record {
+  tree = reading.tree;
+  breach = Some (lesser_fault (record { path = path; rule = rule }) reading.breach);
 }
 
 -- One thing more is found. Where something stands at the path of an item, its second statement breaks DUPLICATE.
 abbrev pub find : Finding → Reading → Reading
-find (states path item) r = record {
-  tree = put_item r.tree path item;
-  breach = if is_some (get r.tree path) then (with_fault path DUPLICATE r).breach else r.breach;
+find (states path item) reading = record {
+  tree = put_item reading.tree path item;
+  breach = if is_some (get reading.tree path) then (with_fault path DUPLICATE reading).breach else reading.breach;
 }
-find (breaks path rule) r = with_fault path rule r
+find (breaks path rule) reading = with_fault path rule reading
 
 abbrev pub find_all : List Finding → Reading → Reading
-find_all [] r = r
-find_all (finding ∷ later) r = find_all later (find finding r)
+find_all [] reading = reading
+find_all (finding ∷ later) reading = find_all later (find finding reading)
 
 abbrev pub nothing_read : Reading
 nothing_read = record { tree = empty; breach = None }
 
 -- the object of the JSON at a path
 abbrev pub reading : SchemaTable → List PathStep → Data → Reading
-reading s at d = find_all (object_at s [] at d) nothing_read
+reading schema at json = find_all (object_at schema [] at json) nothing_read
 
 -- A configuration where no rule is broken, and else the least of the faults.
 abbrev pub outcome : Reading → Result Config Breach
-outcome r = option_map_or Err r.breach (Ok r.tree)
+outcome reading = option_map_or Err reading.breach (Ok reading.tree)
 
 -- Bytes ---------------------------------------------------------------------------------------------------------------
 
 -- the bytes are the JSON text of a value
-pub record IsJson (bytes : List ℕ) (d : Data) : Type 0 where
+pub record IsJson (bytes : List ℕ) (json : Data) : Type 0 where
   pub utf8 : IsUtf8 bytes
-  pub value : read bytes ≡ Some d
+  pub value : read bytes ≡ Some json
 
 -- the bytes are no JSON text
 abbrev pub IsNoJson : List ℕ → Type 0
-IsNoJson bytes = (d : Data) → IsJson bytes d → ⊥
+IsNoJson bytes = (json : Data) → IsJson bytes json → ⊥
 
 -- the bytes are read as the configuration
-pub record IsReadAs (s : SchemaTable) (bytes : List ℕ) (config : Config) : Type 0 where
+pub record IsReadAs (schema : SchemaTable) (bytes : List ℕ) (config : Config) : Type 0 where
   pub json : Data
   pub text : IsJson bytes json
-  pub gives : outcome (reading s [] json) ≡ Ok config
+  pub gives : outcome (reading schema [] json) ≡ Ok config
 
 -- what stands below a path
 abbrev pub rows_below : List PathStep → Config → List (List PathStep × Item)
@@ -83,12 +83,13 @@ rows_below at config = filter (λ row. is_prefix at row.0 && nat_lt (length at) 
 -- memory is free.
 abbrev pub JsonGives : {X : Type 0} → (Config → X → Type 0) → SchemaTable → List PathStep → List ℕ
     → Result X JsonFault → Type 0
-JsonGives Is s at bytes (Ok x) =
-    (d : Data) × (config : Config) × IsJson bytes d × (outcome (reading s at d) ≡ Ok config) × Is config x
-JsonGives Is s at bytes (Err Syntax) = IsNoJson bytes
-JsonGives Is s at bytes (Err (Bad path rule)) =
-    (d : Data) × IsJson bytes d × (outcome (reading s at d) ≡ Err (record { path = path; rule = rule }))
-JsonGives Is s at bytes (Err Memory) = Unit {0}
+JsonGives Is schema at bytes (Ok answer) =
+    (json : Data) × (config : Config) × IsJson bytes json × (outcome (reading schema at json) ≡ Ok config)
+    × Is config answer
+JsonGives Is schema at bytes (Err Syntax) = IsNoJson bytes
+JsonGives Is schema at bytes (Err (Bad path rule)) =
+    (json : Data) × IsJson bytes json × (outcome (reading schema at json) ≡ Err (record { path = path; rule = rule }))
+JsonGives Is schema at bytes (Err Memory) = Unit {0}
 
 -- An answer for a value: its configuration, or its least fault.
 abbrev pub IsOutcome : Result Config Breach → Result Config JsonFault → Type 0

@@ -11,11 +11,12 @@ use Rattle.orc_json.specs.Written.{HasJson}
 
 -- A configuration under a schema: each item is one of the schema, with each key and the text of their types and
 -- canonical, and each entry on the way to an item is present.
-pub record IsTypedConfig (s : SchemaTable) (config : Config) : Type 0 where
+pub record IsTypedConfig (schema : SchemaTable) (config : Config) : Type 0 where
   pub whole : IsConfig config
-  pub typed : (path : List PathStep) (it : Item) → get config path ≡ Some it → IsTrue (is_typed s path it)
+  pub typed : (path : List PathStep) (item : Item) → get config path ≡ Some item → IsTrue (is_typed schema path item)
 
 -- Under a schema of modules each such configuration has a JSON value.
 abbrev pub TypedHasJson : Type 0
 TypedHasJson =
-    (s : SchemaTable) (config : Config) → IsSound s → s.plain ≡ false → IsTypedConfig s config → HasJson s config
+    (schema : SchemaTable) (config : Config) → IsSound schema → schema.plain ≡ false → IsTypedConfig schema config
+    → HasJson schema config

@@ -44,8 +44,8 @@ pub fn read_entry(
     }
 }
 
-/// The JSON value that bytes are the text of (RFC 8259), where they are the text of one. The one error
-/// is want of memory.
+/// The JSON value that bytes are the text of (RFC 8259), where they are the text of one that is no more
+/// than 127 deep and has no number past the range of a double. The one error is want of memory.
 pub fn parse(alloc: Global, bytes: &[u8]) -> Result<Option<Value>, Memory>
     ensures { IfOk result (λ found. MatchOption found (IsNoJson bytes.now)
         (λ value. IsJson bytes.now (view value))) }
@@ -110,8 +110,7 @@ fn rows_below(alloc: Global, at: &Path, tree: &Tree) -> Result<Vec<(Path, Item)>
     ensures { IfOk result (λ rows. rows.items ≡ rows_below at.now tree.now) }
 {
     let mut kept = Vec::new(alloc);
-    let rows = tree.walk(alloc)?;
-    for row in rows.as_slice() {
+    for row in tree.rows() {
         if is_below(at, &row.0) {
             kept.push((row.0.copy(alloc)?, row.1.copy(alloc)?))?;
         }

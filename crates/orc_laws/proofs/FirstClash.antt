@@ -32,15 +32,6 @@ use Rattle.orc_state.proofs.LeastClash.{less_not_greater, some_is, none_some, at
 less_not_itself : (p : List PathStep) → path_cmp p p ≡ Less → ⊥
 less_not_itself p h = less_not_greater (sym h ∙ path_cmp_total.antisymm p p ∙ ap ordering_reverse h)
 
--- what comes neither before another nor at it comes behind it
-behind_other : (p q : List PathStep) → (path_cmp p q ≡ Less → ⊥) → (p ≡ q → ⊥) → path_cmp q p ≡ Less
-behind_other p q nl ne = on (path_cmp p q) refl
-  where
-    on : (o : Ordering) → path_cmp p q ≡ o → path_cmp q p ≡ Less
-    on Less is = absurd (nl is)
-    on Equal is = absurd (ne (path_cmp_exact p q is))
-    on Greater is = path_cmp_total.antisymm q p ∙ ap ordering_reverse is
-
 is_less : (o : Ordering) → is_lt o ≡ true → o ≡ Less
 is_less Less h = refl
 is_less Equal h = cc

@@ -216,9 +216,6 @@ puts_keep : (puts : List Put) (m : Config) (path : List PathStep) → is_some (g
 puts_keep [] m path h = h
 puts_keep (put ∷ puts) m path h = puts_keep puts (put_item m put.path put.item) path (put_keeps m put.path put.item path h)
 
-same_found : (x y : List PathStep) → Some x ≡ Some y → x ≡ y
-same_found x y h = cc
-
 module _ (decls : Decls) (is : AreDecls decls) (id : List ℕ) (path : List PathStep) (own : path_of id ≡ Some path)
     (listed : is_some (list_with decls.services path) ≡ true) where
   lone : is_lone path ≡ true

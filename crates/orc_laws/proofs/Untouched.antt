@@ -79,17 +79,9 @@ module _ (d : ℕ) where
         (All-weaker (IsQuiet live) (IsQuiet (live_step devices live action)) still actions (All-tail (IsQuiet live) action actions h))
         ∙ laid-kept (λ a. names action a.id) live made base now.0 now.1
 
-no_answer : (t : Bool) (answer : Answer) → (if t then Some answer else None) ≡ None → t ≡ false
-no_answer true answer h = cc
-no_answer false answer h = refl
-
 pub none_first : (a b : Option Answer) → option_or a b ≡ None → a ≡ None
 none_first (Some x) b e = cc
 none_first None b e = refl
-
-pub none_later : (a b : Option Answer) → option_or a b ≡ None → b ≡ None
-none_later (Some x) b e = cc
-none_later None b e = e
 
 module _ (decls : Decls) (state : State) (d : ℕ) where
   -- a service of this name holds nothing there

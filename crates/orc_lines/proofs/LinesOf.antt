@@ -1,5 +1,5 @@
 -- Lines, and where they are cut.
-use Rattle.std.proofs.Common.{◌≡◌, ℕ, zero, suc, ◌<◌, ◌+◌, ◌-◌, true, false, Bool, not, ◌==◌, List, [], ◌∷◌, ◌++◌, length, take, drop, get_or, length-append, refl, ap, ap₂, sym, ◌∙◌, arith, None, append_assoc}
+use Rattle.std.proofs.Common.{◌≡◌, ℕ, zero, suc, ◌<◌, ◌+◌, ◌-◌, true, false, Bool, not, ◌==◌, List, [], ◌∷◌, ◌++◌, length, take, drop, get_or, length-append, refl, ap, ap₂, sym, ◌∙◌, arith, append_assoc}
 use Rattle.std.specs.Option.{option_map}
 use Rattle.std.proofs.Math.Seq.{take-length, drop-length}
 use Rattle.std.proofs.lemmas.List.{take_more, take-append-drop}
@@ -40,11 +40,6 @@ first_found bs at within h feed =
 pub only_line : (bs : List ℕ) → 0 < length bs → lacks 10 bs ≡ true → lines_of bs ≡ take (length bs) bs ∷ lines_of (drop (length bs) bs)
 only_line bs some h =
     line_alone bs some h ∙ ap₂ (λ (l r : List ℕ). l ∷ lines_of r) (sym (take-length bs)) (sym (drop-length bs))
-
--- a block is taken line by line
-pub block_missing : (n : ℕ) → 0 < n → block_of n [] ≡ None
-block_missing zero some = absurd (omega arith)
-block_missing (suc n) some = refl
 
 pub block_step : (n : ℕ) (line : List ℕ) (later : List (List ℕ)) → 0 < n
     → block_of n (line ∷ later) ≡ option_map (λ (block : List ℕ). as_line (text_of line) ++ block) (block_of (n - 1) later)

@@ -10,7 +10,7 @@ use Rattle.orc_lines.specs.declared.fault.LineFault.TheVariants.{Breaks, Memory}
 
 -- the answer, a value or a line at fault with its rule; want of memory may come in its place
 abbrev pub Gives : {X : Type 0} → Result X (ℕ × Rule) → Result X BundleFault → Type 0
-Gives answer (Ok x) = answer ≡ Ok x
+Gives answer (Ok value) = answer ≡ Ok value
 Gives answer (Err (At line rule)) = answer ≡ Err (line, rule)
 Gives answer (Err Memory) = Unit {0}
 
@@ -22,7 +22,7 @@ Takes answer new (Err Memory) = Unit {0}
 
 -- the same of a reader of a value
 abbrev pub ReadsLine : {X : Type 0} → Result X Rule → Result X LineFault → Type 0
-ReadsLine answer (Ok x) = answer ≡ Ok x
+ReadsLine answer (Ok value) = answer ≡ Ok value
 ReadsLine answer (Err (Breaks rule)) = answer ≡ Err rule
 ReadsLine answer (Err Memory) = Unit {0}
 

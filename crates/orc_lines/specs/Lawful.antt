@@ -15,30 +15,34 @@ use Rattle.orc_state.specs.declared.declarations.TheConstants.{MOST_DEVICES}
 
 -- what was declared, with its text
 abbrev pub decls_with : List ℕ → Declared → Decls
-decls_with text d = record {
+decls_with text declared = record {
   text = text;
-  names = d.names;
-  schemas = d.schemas;
-  devices = d.devices;
-  data_schema = d.data_schema;
-  «data» = d.data;
-  services = d.services;
-  table = record { names = d.names; schemas = d.schemas; of = map (λ device. device.schema) d.devices };
+  names = declared.names;
+  schemas = declared.schemas;
+  devices = declared.devices;
+  data_schema = declared.data_schema;
+  «data» = declared.data;
+  services = declared.services;
+  table = record {
+    names = declared.names;
+    schemas = declared.schemas;
+    of = map (λ device. device.schema) declared.devices;
+  };
 }
 
 -- what was declared so far
-pub record AreDeclared (d : Declared) : Type 0 where
-  pub named : d.names ≡ names_of d.devices
-  pub plain : slice_get d.schemas 0 ≡ Some plain_table
-  pub typed : length d.schemas ≡ suc (length d.types)
-  pub devices : IsTrue (list_all (is_device d.schemas) d.devices)
-  pub few : length d.names ≤ MOST_DEVICES
-  pub items : IsTrue (list_all (is_data_item d.data_schema) d.data)
-  pub served : IsTrue (list_all (λ put. not (is_served d.services put.path)) d.data)
-  pub services : IsTrue (list_all (is_list_of_services d.data_schema) d.services)
-  pub apart : IsDistinct (eq_by_cmp path_cmp) (map (λ it. it.list) d.services)
-  pub sound : All IsSound d.schemas
+pub record AreDeclared (declared : Declared) : Type 0 where
+  pub named : declared.names ≡ names_of declared.devices
+  pub plain : slice_get declared.schemas 0 ≡ Some plain_table
+  pub typed : length declared.schemas ≡ suc (length declared.types)
+  pub devices : IsTrue (list_all (is_device declared.schemas) declared.devices)
+  pub few : length declared.names ≤ MOST_DEVICES
+  pub items : IsTrue (list_all (is_data_item declared.data_schema) declared.data)
+  pub served : IsTrue (list_all (λ put. not (is_served declared.services put.path)) declared.data)
+  pub services : IsTrue (list_all (is_list_of_services declared.data_schema) declared.services)
+  pub apart : IsDistinct (eq_by_cmp path_cmp) (map (λ it. it.list) declared.services)
+  pub sound : All IsSound declared.schemas
 
 -- the declarations, without their text
 abbrev pub decls_in : Declared → Decls
-decls_in d = decls_with [] d
+decls_in declared = decls_with [] declared

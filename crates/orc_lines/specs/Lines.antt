@@ -11,8 +11,8 @@ seen bytes = take (LARGEST_BUNDLE + 1) bytes
 
 -- a byte in front of the first line
 abbrev pub led_by : ℕ → List (List ℕ) → List (List ℕ)
-led_by b [] = (b ∷ []) ∷ []
-led_by b (l ∷ ls) = (b ∷ l) ∷ ls
+led_by byte [] = (byte ∷ []) ∷ []
+led_by byte (line ∷ lines) = (byte ∷ line) ∷ lines
 
 -- each line ends with its line feed, which the last may lack
 abbrev pub lines_of : List ℕ → List (List ℕ)
@@ -50,8 +50,8 @@ as_line text = text ++ 10 ∷ []
 -- the texts of the first lines, each ended by a line feed, where there are so many lines
 abbrev pub block_of : ℕ → List (List ℕ) → Option (List ℕ)
 block_of zero later = Some []
-block_of (suc n) [] = None
-block_of (suc n) (line ∷ later) = option_map (λ block. as_line (text_of line) ++ block) (block_of n later)
+block_of (suc count) [] = None
+block_of (suc count) (line ∷ later) = option_map (λ block. as_line (text_of line) ++ block) (block_of count later)
 
 -- the line is `end`
 abbrev pub is_end : List ℕ → Bool

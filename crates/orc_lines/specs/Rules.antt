@@ -12,20 +12,20 @@ checked (rule ∷ rules) answer = if rule.0 then Err rule.1 else checked rules a
 -- what follows, where there is a value; else the rule is broken
 abbrev pub or_rule : {X Y : Type 0} → Option X → Rule → (X → Result Y Rule) → Result Y Rule
 or_rule None rule next = Err rule
-or_rule (Some x) rule next = next x
+or_rule (Some value) rule next = next value
 
 -- a value, or else the rule is broken
 abbrev pub of_option : {X : Type 0} → Option X → Rule → Result X Rule
-of_option found rule = or_rule found rule (λ x. Ok x)
+of_option found rule = or_rule found rule (λ value. Ok value)
 
 -- what follows, where nothing is at fault so far
 abbrev pub on_ok : {X Y E : Type 0} → Result X E → (X → Result Y E) → Result Y E
-on_ok (Ok x) next = next x
+on_ok (Ok value) next = next value
 on_ok (Err fault) next = Err fault
 
 -- reading line by line
 
 -- what goes on behind the line of this number, unless it breaks a rule
 abbrev pub on_line : {P X : Type 0} → ℕ → Result P Rule → (P → Result X (ℕ × Rule)) → Result X (ℕ × Rule)
-on_line n (Ok p) next = next p
-on_line n (Err rule) next = Err (n, rule)
+on_line number (Ok value) next = next value
+on_line number (Err rule) next = Err (number, rule)

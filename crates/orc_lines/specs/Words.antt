@@ -9,8 +9,9 @@ use Rattle.std.specs.Cmp.Lexicographic.{pointwise}
 
 -- the text in front of the first such byte, and the text behind it; words are parted by one space, the byte 32
 abbrev pub cut_at : ℕ → List ℕ → Option (List ℕ × List ℕ)
-cut_at c [] = None
-cut_at c (b ∷ bs) = if b == c then Some ([], bs) else option_map (λ parts. (b ∷ parts.0, parts.1)) (cut_at c bs)
+cut_at byte [] = None
+cut_at byte (b ∷ bs) =
+    if b == byte then Some ([], bs) else option_map (λ parts. (b ∷ parts.0, parts.1)) (cut_at byte bs)
 
 -- the first word of a text
 abbrev pub word_before : List ℕ → Option (List ℕ × List ℕ) → List ℕ
@@ -31,7 +32,7 @@ is_text = pointwise nat_eq
 -- a sign or a needless zero stands in front
 abbrev pub is_padded : List ℕ → Bool
 is_padded [] = false
-is_padded (d ∷ ds) = (d == 43) || ((d == 48) && nat_lt 0 (length ds))
+is_padded (first ∷ rest) = (first == 43) || ((first == 48) && nat_lt 0 (length rest))
 
 -- decimal digits without a leading zero, of 64 bits
 abbrev pub is_number : List ℕ → Bool

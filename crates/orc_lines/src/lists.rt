@@ -22,7 +22,8 @@ fn has_entries(node: Option<&Node>) -> bool
 }
 
 /// Whether the path is that of a list or a leaf-list, whatever its texts: the steps above it stand in
-/// the schema with their keys, and its own has none. It takes no memory.
+/// the schema with their keys, and its own has none. A plain schema has one at each path that doesn't
+/// end in keys. It takes no memory.
 pub fn names_list<L: Ledger>(schema: &Schema, path: &Path, work: &mut Steps<L>) -> bool
     ensures value { result ≡ names_list schema.now path.now }
     ensures worked { work.new ≤ work.old + length (path_text path.now) }

@@ -1,6 +1,6 @@
 -- Groupings of a block that are known to bring nothing.
 use Rattle.std.proofs.Common.{◌≡◌, refl, sym, ◌∙◌, ap, subst, ℕ, suc, ◌≤◌, Bool, true, false, List, [], ◌∷◌, if◌then◌else◌}
-use Rattle.std.specs.Prelude.{◌&&◌, ◌||◌, not, Option, Some, None, IfSome, Result, Ok, Err, OnOk, is_some, codes, cond, nat_le, option_map, option_and_then}
+use Rattle.std.specs.Prelude.{◌&&◌, ◌||◌, not, Option, Some, None, Result, Ok, Err, OnOk, is_some, codes, cond, nat_le, option_map, option_and_then}
 use Rattle.std.specs.List.{list_any, list_all, find, position, before_first, after_first}
 use Rattle.std.specs.Option.{option_map_or, option_or}
 use Rattle.std.specs.Cmp.Lexicographic.{bytes_decides}
@@ -16,7 +16,7 @@ use Rattle.orc_modules.specs.Bare.{brings_in, brings_at, may_bring}
 use Rattle.orc_modules.specs.Children.{block_part, grouping}
 use Rattle.orc_modules.specs.Scopes.{Found, in_block_of, in_scope, behind_prefix, imported, is_own, outermost, module_around, meaning, plain_name}
 use Rattle.orc_modules.specs.Statements.{defines, sub_text}
-use Rattle.orc_modules.specs.inside.Beside.{beside, beside_brings, is_near, is_local}
+use Rattle.orc_modules.specs.inside.Beside.{beside, beside_brings, is_near}
 use Rattle.orc_modules.specs.inside.Shallow.{AreShallow, is_at_most, is_shallow_use, is_shallow_part}
 use Rattle.orc_modules.proofs.Barren.{first_of_and, rest_of_and, deep_too}
 
@@ -52,13 +52,6 @@ names-beside modules above here g t h near own is = on (is_some (position is_col
         else option_and_then (λ other. in_block_of (codes "grouping") (after_first is_colon (argument t)) other []) (imported modules (before_first is_colon (argument t)) (outermost here above))) near
         ∙ scoped (after_first is_colon (argument t)) own is
     on false near own is = scoped (argument t) own is
-
--- the same of whatever block is around
-pub names-neighbour : (modules above : List Stmt) (here t h : Stmt) → is_local above (argument t) ≡ true
-    → find (defines (codes "grouping") (plain_name (argument t))) (subs here) ≡ None → beside above (plain_name (argument t)) ≡ Some h
-    → grouping modules (here ∷ above) t ≡ Some (record { above = above; here = h })
-names-neighbour modules [] here t h near own is = absurd (none-some h is)
-names-neighbour modules (s ∷ above) here t h near own is = names-beside modules above s here t h near own is
 
 module _ (here : Stmt) (depths : List ℕ → Option ℕ) (known : AreShallow here depths) (g : Stmt) (own : List ℕ → Option Stmt)
     (owns : (q : List ℕ) → own q ≡ find (defines (codes "grouping") q) (subs g)) (n : ℕ) (modules : List Stmt) where
@@ -182,12 +175,3 @@ beside-deeper modules above name d n le = on (beside above name)
 pub bare-named : (n : ℕ) (modules above : List Stmt) (s : Stmt) (g : Found) → grouping modules above s ≡ Some g → may_bring n modules (g.here ∷ g.above) g.here ≡ false
     → option_map_or (brings_in (may_bring n modules)) (grouping modules above s) false ≡ false
 bare-named n modules above s g names bare = ap (λ o. option_map_or (brings_in (may_bring n modules)) o false) names ∙ bare
-
--- what follows of a clause on what is found
-pub on_some : {X : Type 0} (P Q : X → Type 0) → ((x : X) → P x → Q x) → (o : Option X) → IfSome o P → IfSome o Q
-on_some P Q follows None h = h
-on_some P Q follows (Some x) h = follows x h
-
-pub if_known : {X : Type 0} (P : X → Type 0) (o p : Option X) → o ≡ p → ((x : X) → p ≡ Some x → P x) → IfSome o P
-if_known P None p is all = tt
-if_known P (Some x) p is all = all x (sym is)

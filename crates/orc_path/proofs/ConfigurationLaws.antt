@@ -173,9 +173,6 @@ is_entry-some None h = absurd (false≢true h)
 is_entry-some (Some Entry) h = refl
 is_entry-some (Some (Leaf text)) h = absurd (false≢true h)
 
-is_some-entry : (o : Option Item) → is_entry o ≡ true → is_some o ≡ true
-is_some-entry o h = ap is_some (is_entry-some o h)
-
 -- whatever is present at a path that ends in keys is an entry
 pub entry_at_keys : (m : Config) (w : List PathStep) → IsConfig m → ends_in_keys w ≡ true → is_some (get m w) ≡ true → get m w ≡ Some Entry
 entry_at_keys m w c k h = found (get m w) refl h

@@ -7,8 +7,6 @@ use Rattle.std.specs.Cmp.Lexicographic.{pointwise_decides, bytes_decides}
 use Rattle.orc_path.specs.Steps.{PathStep}
 use Rattle.orc_path.specs.declared.item.Item.{Item}
 use Rattle.orc_path.specs.declared.item.Item.TheVariants.{Entry, Leaf}
-use Rattle.orc_path.specs.declared.item.Write.{Write}
-use Rattle.orc_path.specs.declared.item.Write.TheVariants.{At, Service}
 use Rattle.orc_path.specs.contracts.item.ItemPartialEq.TheImpl as item
 use Rattle.orc_path.specs.contracts.item.WritePartialEq.TheImpl as write
 use Rattle.orc_path.specs.contracts.path.StepPartialEq.TheImpl as step
@@ -31,10 +29,3 @@ item_eq_decides Entry Entry = (λ h. refl, λ h. refl)
 item_eq_decides Entry (Leaf t) = (λ h. cc, λ h. cc)
 item_eq_decides (Leaf s) Entry = (λ h. cc, λ h. cc)
 item_eq_decides (Leaf s) (Leaf t) = (λ h. ap Leaf ((bytes_decides s t).0 h), λ h. let e : s ≡ t = cc in (bytes_decides s t).1 e)
-
--- `==` of writes
-pub write_eq_decides : (a b : Write) → Decides (write.ghosts.eq a b) (a ≡ b)
-write_eq_decides (At p) (At q) = (λ h. ap At ((path_eq_decides p q).0 h), λ h. let e : p ≡ q = cc in (path_eq_decides p q).1 e)
-write_eq_decides (At p) (Service t) = (λ h. cc, λ h. cc)
-write_eq_decides (Service s) (At q) = (λ h. cc, λ h. cc)
-write_eq_decides (Service s) (Service t) = (λ h. ap Service ((bytes_decides s t).0 h), λ h. let e : s ≡ t = cc in (bytes_decides s t).1 e)

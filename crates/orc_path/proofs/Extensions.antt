@@ -3,7 +3,6 @@ use Rattle.std.proofs.Common.{◌≡◌, ◌≢◌, true, List, [], ◌∷◌, �
 use Rattle.std.proofs.lemmas.Bool.{and_from}
 use Rattle.std.specs.declared.cmp.Ordering.TheVariants.{Less}
 use Rattle.std.specs.Ordering.{ordering_then}
-use Rattle.std.specs.Bool.{Decides}
 use Rattle.std.specs.Cmp.{first_so, second_so}
 use Rattle.std.proofs.lemmas.Cmp.{tied_itself}
 use Rattle.orc_path.specs.Steps.{PathStep}
@@ -24,10 +23,6 @@ is_prefix_rest (s ∷ p) (t ∷ q) h =
 pub is_prefix-append : (p rest : List PathStep) → is_prefix p (p ++ rest) ≡ true
 is_prefix-append [] rest = refl
 is_prefix-append (s ∷ p) rest = and_from _ _ ((step_eq_decides s s).1 refl) (is_prefix-append p rest)
-
--- the test of prefixes decides whether q is p and something more
-pub is_prefix_decides : (p q : List PathStep) → Decides (is_prefix p q) ((rest : List PathStep) × (q ≡ p ++ rest))
-is_prefix_decides p q = (is_prefix_rest p q, λ more. ap (is_prefix p) more.1 ∙ is_prefix-append p more.0)
 
 -- a path comes before its extensions
 pub path_cmp-extension : (p q : List PathStep) → is_prefix p q ≡ true → p ≢ q → path_cmp p q ≡ Less

@@ -1,11 +1,10 @@
 -- The modes that a reader goes through, whatever it read.
-use Rattle.std.proofs.Common.{◌≡◌, ℕ, ◌+◌, ◌<◌, ◌≤◌, ◌==◌, Bool, true, false, cond, List, [], ◌∷◌, ◌++◌, Some, None, Option, length, encode_utf8, IsUtf8, refl, sym, ap, subst, ◌∙◌}
-use Rattle.std.specs.Option.{option_map, option_map_or, option_and_then}
-use Rattle.std.proofs.lemmas.Str.{encode_ascii}
+use Rattle.std.proofs.Common.{◌≡◌, ℕ, ◌+◌, ◌≤◌, true, false, cond, List, [], ◌++◌, Some, None, Option, length, encode_utf8, IsUtf8, refl, sym, ap, subst, ◌∙◌}
+use Rattle.std.specs.Option.{option_map, option_and_then}
 use Rattle.orc_text.specs.Characters.{is_plain_character}
 use Rattle.orc_path.specs.Steps.{PathStep}
 use Rattle.orc_path.specs.Texts.{IsPathText, IsBadAt}
-use Rattle.orc_path.specs.inside.Reading.{unescape, is_raw, name_mode, feed_mark, feed_end, feed_key, feed_all, feed_character, at_start, whole_at, end_mode, key_mode, mark_mode, next_mode, is_path_end, begun_in, Moves}
+use Rattle.orc_path.specs.inside.Reading.{feed_all, feed_character, at_start, whole_at, is_path_end, begun_in, Moves}
 use Rattle.orc_path.specs.declared.mode.Mode.{Mode}
 use Rattle.orc_path.specs.declared.mode.Mode.TheVariants.{Start, Slash, Module, Colon, Inside, Next, Key, Escape, Closed}
 use Rattle.orc_path.specs.declared.reader.Reader.{Reader}
@@ -18,39 +17,6 @@ use Rattle.orc_path.proofs.Standing.{IsStanding, stands_first, stands_next, stan
 abbrev mode_of : Option Reader → Option Mode
 mode_of o = option_map (λ s. s.mode) o
 
-map_cond : (t : Bool) (s : Reader) (o : Option Reader) → mode_of (cond t (Some s) o) ≡ cond t (Some s.mode) (mode_of o)
-map_cond true s o = refl
-map_cond false s o = refl
-
-end_moves : (r : Reader) (b : ℕ) → mode_of (feed_end r b) ≡ end_mode b
-end_moves r b = map_cond (b == 91) _ _ ∙ ap (cond (b == 91) (Some Key)) (map_cond (b == 47) _ None)
-
-key_moves : (r : Reader) (b : ℕ) → r.mode ≡ Key → mode_of (feed_key r b) ≡ key_mode b
-key_moves r b key =
-    map_cond (b == 93) _ _ ∙ ap (cond (b == 93) (Some Closed)) (
-    map_cond (b == 92) _ _ ∙ ap (cond (b == 92) (Some Escape)) (
-    map_cond (is_raw b) _ None ∙ ap (λ m. cond (is_raw b) (Some m) None) key))
-
-escape_moves : (r : Reader) (o : Option ℕ) → mode_of (option_map (λ c. record r { mode = Key; key = r.key ++ c ∷ [] }) o) ≡ option_map (λ _. Key) o
-escape_moves r None = refl
-escape_moves r (Some c) = refl
-
-mark_moves : (m : Mode) (r : Reader) (b : ℕ) → r.mode ≡ m → mode_of (feed_mark m r b) ≡ mark_mode m b
-mark_moves Start r b is = map_cond (b == 47) _ None
-mark_moves Inside r b is = end_moves r b
-mark_moves Closed r b is = end_moves r b
-mark_moves Key r b is = key_moves r b is
-mark_moves Escape r b is = escape_moves r (unescape b)
-mark_moves Slash r b is = refl
-mark_moves Module r b is = refl
-mark_moves Colon r b is = refl
-mark_moves Next r b is = refl
-
-feed_moves : (o : Option Mode) (r : Reader) (b : ℕ)
-    → mode_of (option_map_or (λ next. Some (record r { mode = next; node = r.node ++ b ∷ [] })) o (feed_mark r.mode r b)) ≡ option_map_or (λ next. Some next) o (mark_mode r.mode b)
-feed_moves None r b = mark_moves r.mode r b refl
-feed_moves (Some mode) r b = refl
-
 one_step : (o : Option Reader) → option_and_then (λ s. Some s) o ≡ o
 one_step None = refl
 one_step (Some s) = refl
@@ -61,11 +27,6 @@ module _ (r : Reader) (m : Mode) (c : ℕ) (is : r.mode ≡ m) where
 
   goes : is_plain_character c ≡ true → mode_of (feed_character r c) ≡ mode_of (feed_all r (encode_utf8 c))
   goes plain = ap (λ t. mode_of (cond t (feed_all r (encode_utf8 c)) None)) plain
-
-  pub moves_low : is_plain_character c ≡ true → c < 128 → mode_of (feed_character r c) ≡ next_mode m c
-  moves_low plain low =
-      goes plain ∙ ap (λ bs. mode_of (feed_all r bs)) (encode_ascii c low) ∙ ap mode_of (one_step _)
-      ∙ feed_moves (name_mode r.mode c) r c ∙ ap (λ k. next_mode k c) is
 
   pub moves_wide : is_plain_character c ≡ true → 128 ≤ c → m ≡ Key → mode_of (feed_character r c) ≡ Some Key
   moves_wide plain high key =

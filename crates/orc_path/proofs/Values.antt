@@ -1,5 +1,5 @@
 -- A text is read as a value exactly where it is the text of that value.
-use Rattle.std.proofs.Common.{◌≡◌, ℕ, ◌<◌, ◌≤◌, Bool, true, false, ◌==◌, ◌||◌, ◌&&◌, nat_eq, cond, List, [], ◌∷◌, ◌++◌, Some, None, Option, is_some, IsSome, encode_utf8, encode_utf8_all, chars, refl, sym, ap, ap₂, subst, ◌∙◌, arith, append_assoc}
+use Rattle.std.proofs.Common.{◌≡◌, ℕ, ◌<◌, ◌≤◌, Bool, true, false, ◌==◌, ◌||◌, ◌&&◌, nat_eq, cond, List, [], ◌∷◌, ◌++◌, Some, None, Option, is_some, encode_utf8, encode_utf8_all, chars, refl, sym, ap, ap₂, subst, ◌∙◌, arith, append_assoc}
 use Rattle.std.proofs.Math.Dec.{ltb}
 use Rattle.std.specs.List.{flat_map, list_all}
 use Rattle.std.specs.Str.{all_scalars}
@@ -306,10 +306,6 @@ value_of-not_plain text h = value_of-read_as text ∙ ap (λ t. cond t (unescape
 
 pub value_of-plain : (text : List ℕ) → is_plain_text text ≡ true → value_of text ≡ unescaped text
 value_of-plain text h = value_of-read_as text ∙ ap (λ t. cond t (unescaped text) None) h
-
--- a plain text is that of a value exactly where its escapes can be read
-pub value_of-escaped : (text : List ℕ) → is_plain_text text ≡ true → is_some (unescaped text) ≡ true → IsSome (value_of text)
-value_of-escaped text plain some = ap is_some (value_of-plain text plain) ∙ some
 
 pub value_of-unescaped : (text : List ℕ) → is_plain_text text ≡ true → is_some (unescaped text) ≡ false → value_of text ≡ None
 value_of-unescaped text plain none = value_of-plain text plain ∙ nothing (unescaped text) none

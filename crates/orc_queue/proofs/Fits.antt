@@ -14,12 +14,6 @@ seen {targets} {targets'} {reads} {reads'} b same same' tells =
     (subst (λ (rs : List Read). IsTrue b ↔ All (CoversNone rs) targets') same' tells)
 
 module _ (one other : Held) where
-  pub share_a_device : share_no_device one.devices other.devices ≡ false → IsTrue false ↔ FitTogether one other
-  share_a_device h = (λ never. absurd (false≢true never), λ fit. absurd (false≢true (sym h ∙ fit.devices)))
-
-  pub share_a_service : share_no_service one.services other.services ≡ false → IsTrue false ↔ FitTogether one other
-  share_a_service h = (λ never. absurd (false≢true never), λ fit. absurd (false≢true (sym h ∙ fit.services)))
-
   pub covers_a_read : (b : Bool) → IsTrue b ↔ All (CoversNone other.reads.reads) one.targets → b ≡ false → IsTrue false ↔ FitTogether one other
   covers_a_read b tells h = (λ never. absurd (false≢true never), λ fit. absurd (false≢true (sym h ∙ tells.1 fit.reads_kept)))
 

@@ -1,5 +1,5 @@
 -- Parts that have rows (shelves, racks), cut at one of them.
-use Rattle.std.proofs.Common.{◌≡◌, ℕ, zero, suc, ◌+◌, ◌<◌, ◌≤◌, true, false, List, [], ◌∷◌, ◌++◌, length, map, take, drop, get_or, insert, refl, sym, ap, subst, ◌∙◌, arith, eqb-true, ◌==◌}
+use Rattle.std.proofs.Common.{◌≡◌, ℕ, zero, suc, ◌+◌, ◌<◌, ◌≤◌, true, false, List, [], ◌∷◌, ◌++◌, length, map, take, drop, get_or, refl, sym, ap, subst, ◌∙◌, arith, eqb-true, ◌==◌}
 use Rattle.std.specs.Arc.{arc_value}
 use Rattle.std.specs.declared.alloc.Global.{Global}
 use Rattle.std.specs.declared.sync.Arc.{Arc}
@@ -15,7 +15,7 @@ use Rattle.std.proofs.lemmas.Bool.{false≢true, and_parts, and_from}
 use Rattle.std.proofs.lemmas.List.{append_assoc, append_cancel_left, take-append-drop, drop_more, get_or-map, length-map, nil_from_length}
 use Rattle.std.proofs.lemmas.List.Concat.{flat_map-append}
 use Rattle.std.proofs.lemmas.List.Folds.{flat_map-map}
-use Rattle.std.proofs.lemmas.List.Elements.{All-append, All-drop, All-map, All-push, All-take}
+use Rattle.std.proofs.lemmas.List.Elements.{All-map}
 use Rattle.orc_path.specs.Steps.{PathStep}
 use Rattle.orc_path.specs.Order.{path_cmp}
 use Rattle.orc_path.proofs.PathOrder.{path_cmp_total, path_cmp_exact}
@@ -95,26 +95,6 @@ ids-no_part {X} f q ps e =
 
 -- Parts put among others
 
-pub insert-cut : {X : Type 0} (ps : List X) (i : ℕ) (p : X) → i ≤ length ps → insert ps i p ≡ take i ps ++ (p ∷ drop i ps)
-insert-cut ps zero p l = refl
-insert-cut [] (suc i) p l = absurd (omega arith)
-insert-cut {X} (q ∷ ps) (suc i) p l = ap (λ (r : List X). q ∷ r) (insert-cut ps i p (omega arith))
-
-pub insert-parts : {X : Type 0} (f : X → BackRows) (ps : List X) (i : ℕ) (p : X) → i ≤ length ps
-    → flat_map f (insert ps i p) ≡ flat_map f (take i ps) ++ (f p ++ flat_map f (drop i ps))
-insert-parts f ps i p l = ap (flat_map f) (insert-cut ps i p l) ∙ flat_map-append f (take i ps) (p ∷ drop i ps)
-
-pub All-insert : {X : Type 0} (P : X → Type 0) (ps : List X) (i : ℕ) (p : X) → i ≤ length ps → All P ps → P p → All P (insert ps i p)
-All-insert {X} P ps i p l all is =
-    subst (All P) (sym (insert-cut ps i p l ∙ sym (append_assoc (take i ps) (p ∷ []) (drop i ps))))
-    (All-append P (take i ps ++ p ∷ []) (drop i ps) (All-push P (take i ps) p (All-take P i ps all) is) (All-drop P i ps all))
-
-pub insert-front : {X : Type 0} (ps : List X) (i : ℕ) (p : X) → i ≤ length ps → take i (insert ps i p) ≡ take i ps
-insert-front [] zero p l = refl
-insert-front (q ∷ ps) zero p l = refl
-insert-front [] (suc i) p l = absurd (omega arith)
-insert-front {X} (q ∷ ps) (suc i) p l = ap (λ (r : List X). q ∷ r) (insert-front ps i p (omega arith))
-
 -- one part put at a place, and then another one there
 pub inserted_twice : {X : Type 0} (f : X → BackRows) (old new : List X) (i : ℕ) (front behind rows : BackRows) → take i new ≡ take i old
     → flat_map f new ≡ flat_map f (take i old) ++ (behind ++ flat_map f (drop i old)) → front ++ behind ≡ rows
@@ -147,12 +127,6 @@ pub remove-behind : {X : Type 0} (ps : List X) (i : ℕ) → i < length ps → d
 remove-behind [] i l = absurd (omega arith)
 remove-behind (q ∷ ps) zero l = refl
 remove-behind (q ∷ ps) (suc i) l = remove-behind ps i (omega arith)
-
-pub All-remove : {X : Type 0} (P : X → Type 0) (ps : List X) (i : ℕ) → i < length ps → All P ps → All P (remove_at ps i)
-All-remove {X} P ps i l all =
-    subst (All P) (take-append-drop i (remove_at ps i))
-    (All-append P (take i (remove_at ps i)) (drop i (remove_at ps i))
-    (subst (All P) (sym (remove-front ps i l)) (All-take P i ps all)) (subst (All P) (sym (remove-behind ps i l)) (All-drop P (suc i) ps all)))
 
 -- Parts behind other owners
 

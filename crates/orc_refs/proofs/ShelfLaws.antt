@@ -93,12 +93,6 @@ set_row-on_part {X} f q ids ps i p for is =
 
 -- Rows of one shelf, as they are kept
 
-map-take : {X Y : Type 0} (f : X → Y) (xs : List X) (i : ℕ) → map f (take i xs) ≡ take i (map f xs)
-map-take f [] zero = refl
-map-take f [] (suc i) = refl
-map-take f (x ∷ xs) zero = refl
-map-take f (x ∷ xs) (suc i) = ap (λ l. f x ∷ l) (map-take f xs i)
-
 map-insert : {X Y : Type 0} (f : X → Y) (xs : List X) (i : ℕ) (x : X) → map f (insert xs i x) ≡ insert (map f xs) i (f x)
 map-insert f xs zero x = refl
 map-insert f [] (suc i) x = refl

@@ -93,7 +93,3 @@ module _ (least_is : LeastBreachIsLeast) (s : SchemaTable) (ascends : Ascends s.
       (all_seen s ascends old new config unbroken (takes_none s old new targets changed none) (covers_none s old new targets changed none)
       (change_breaches s old new targets) (target_looks s old new targets changed))
       ∙ sym (broken_is modules new)
-
--- under a plain schema nothing is broken
-pub plain_unbroken : (s : SchemaTable) (c : Config) → s.plain ≡ true → broken_of s c ≡ None
-plain_unbroken s c plain = ap (λ b. if b then None else least_breach (breaches s c)) plain

@@ -18,10 +18,6 @@ use Rattle.orc_run.specs.declared.stop.Stop.{Stop}
 pub front_again : (n : ℕ) (calls : List Call) → n ≤ length calls → take n (take n calls) ≡ take n calls
 front_again n calls fits = take_all n (take n calls) (omega (arith, length-take-le n calls fits))
 
--- it stays up unless the disk is stopped
-pub still_up : (outcome : Appended) (up : Bool) → up_behind outcome up ≡ true → outcome ≡ appended.Stopped → ⊥
-still_up outcome up is stops = let e : false ≡ true = sym (ap (λ (o : Appended). up_behind o up) stops) ∙ is in absurd cc
-
 pub is_stopped : (outcome : Appended) (up : Bool) → up ≡ true → up_behind outcome up ≡ false → outcome ≡ appended.Stopped
 is_stopped appended.Done up is down = let e : true ≡ false = sym is ∙ down in absurd cc
 is_stopped appended.Stopped up is down = refl

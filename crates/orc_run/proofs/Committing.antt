@@ -193,9 +193,6 @@ module _ {D : Type 0} (meaning : DiskMeaning D) (only_now : (d : D) (c : List �
   known_old : take old.known old.past.history ≡ old.past.history
   known_old = subst (λ (n : ℕ). take n old.past.history ≡ old.past.history) (sym is.up.all) (take-length old.past.history)
 
-  pending_old : drop old.known old.past.history ≡ []
-  pending_old = subst (λ (n : ℕ). drop n old.past.history ≡ []) (sym is.up.all) (drop-length old.past.history)
-
   have_old : HaveHistory decls es old.past.history
   have_old = record { ordered = is.up.ordered; decided = is.up.decided; legal = is.legal }
 

@@ -29,28 +29,29 @@ use Rattle.orc_run.specs.declared.stop.Stop.TheVariants as ending
 
 -- one of these entries has this number
 abbrev pub is_named : ℕ → List Entry → Bool
-is_named t entries = list_any (λ entry. number_of entry == t) entries
+is_named transaction entries = list_any (λ entry. number_of entry == transaction) entries
 
 -- the entries that are known where the append of a commit at this stage came to this outcome
 abbrev pub known_by : Stage → Appended → List Entry → Entry → ℕ → List Entry
-known_by Intent outcome entries intent t = known_behind outcome entries intent
-known_by Decide outcome entries intent t = known_behind outcome (entries ++ intent ∷ []) (entry.Decide t)
-known_by Settled outcome entries intent t =
-    known_behind outcome ((entries ++ intent ∷ []) ++ entry.Decide t ∷ []) (entry.Settled t)
+known_by Intent outcome entries intent transaction = known_behind outcome entries intent
+known_by Decide outcome entries intent transaction =
+    known_behind outcome (entries ++ intent ∷ []) (entry.Decide transaction)
+known_by Settled outcome entries intent transaction =
+    known_behind outcome ((entries ++ intent ∷ []) ++ entry.Decide transaction ∷ []) (entry.Settled transaction)
 
 module _ {D : Type 0} (meaning : DiskMeaning D) where
   -- A commit appends the intent, the decision and the end, one behind the other, each as `Appends` of orc_append
   -- says. It came to this stage, whose append came to this outcome; those before it were done.
   abbrev pub AppendsUpTo : List ℕ → Stage → JournalView D → Entry → ℕ → Appended → JournalView D → Type 0
-  AppendsUpTo decls Intent old intent t outcome new =
+  AppendsUpTo decls Intent old intent transaction outcome new =
       (outcome ≢ appended.Done) × AppendsEntry meaning decls old intent outcome new
-  AppendsUpTo decls Decide old intent t outcome new = (outcome ≢ appended.Done) × ((begun : JournalView D)
+  AppendsUpTo decls Decide old intent transaction outcome new = (outcome ≢ appended.Done) × ((begun : JournalView D)
       × AppendsEntry meaning decls old intent appended.Done begun
-      × AppendsEntry meaning decls begun (entry.Decide t) outcome new)
-  AppendsUpTo decls Settled old intent t outcome new = (begun decided : JournalView D)
+      × AppendsEntry meaning decls begun (entry.Decide transaction) outcome new)
+  AppendsUpTo decls Settled old intent transaction outcome new = (begun decided : JournalView D)
       × AppendsEntry meaning decls old intent appended.Done begun
-      × AppendsEntry meaning decls begun (entry.Decide t) appended.Done decided
-      × AppendsEntry meaning decls decided (entry.Settled t) outcome new
+      × AppendsEntry meaning decls begun (entry.Decide transaction) appended.Done decided
+      × AppendsEntry meaning decls decided (entry.Settled transaction) outcome new
 
   -- what can be told of the journal of a view
   abbrev pub journal_at : View D → JournalView D
@@ -64,18 +65,18 @@ module _ {D : Type 0} (meaning : DiskMeaning D) where
 
   -- The number is the least one from 1 on that no entry of the journal has. These entries commit what is known, and
   -- are what the disk holds, where it tells that.
-  pub record IsNext (decls : Decls) (view : View D) (t : ℕ) : Type 0 where
+  pub record IsNext (decls : Decls) (view : View D) (transaction : ℕ) : Type 0 where
     pub journal : IfSome (meaning.content view.disk) (λ file. IsGated file decls.text view.entries)
     pub ordered : IsTrue (is_ordered view.entries)
     pub decided : history_of view.entries ≡ view.known
-    pub positive : 1 ≤ t
-    pub free : is_named t view.entries ≡ false
-    pub least : (u : ℕ) → 1 ≤ u → u < t → is_named u view.entries ≡ true
+    pub positive : 1 ≤ transaction
+    pub free : is_named transaction view.entries ≡ false
+    pub least : (lower : ℕ) → 1 ≤ lower → lower < transaction → is_named lower view.entries ≡ true
 
 -- the intent of a call with this number: it names the devices that the call touches
 abbrev pub intent_of : {D : Type 0} → Decls → View D → Call → ℕ → Entry
-intent_of decls view call t =
-    entry.Intent t call (touched_devices decls (state_of decls view.known) call)
+intent_of decls view call transaction =
+    entry.Intent transaction call (touched_devices decls (state_of decls view.known) call)
 
 -- What is known behind a commit that came to this stage, and what is pending: the journal may have a call as its next
 -- entry only from the append of its decision on.

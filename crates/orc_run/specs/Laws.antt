@@ -41,7 +41,7 @@ pub record HasTheseNumbers : Type 0 where
   pub open_gate : is_closed 1 ≡ false
   pub closed_gate : is_closed 0 ≡ true
   pub written_gate : closing_gate ≡ 0
-  pub intent : (t : ℕ) (call : Call) (devices : List ℕ) → entry_kind (Intent t call devices) ≡ 1
-  pub decide : (t : ℕ) → entry_kind (Decide t) ≡ 2
-  pub abort : (t : ℕ) → entry_kind (Abort t) ≡ 3
-  pub settled : (t : ℕ) → entry_kind (Settled t) ≡ 4
+  pub intent : (transaction : ℕ) (call : Call) (devices : List ℕ) → entry_kind (Intent transaction call devices) ≡ 1
+  pub decide : (transaction : ℕ) → entry_kind (Decide transaction) ≡ 2
+  pub abort : (transaction : ℕ) → entry_kind (Abort transaction) ≡ 3
+  pub settled : (transaction : ℕ) → entry_kind (Settled transaction) ≡ 4

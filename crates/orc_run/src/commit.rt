@@ -11,7 +11,7 @@ use orc_disk::Disk;
 use orc_journal::Entry;
 use std::alloc::Global;
 
-/// The entry of a commit that was the last to be appended.
+/// The entry of a commit whose append was the last to be tried.
 #[derive(Clone, Copy)]
 pub enum Stage {
     Intent,

@@ -28,7 +28,7 @@ pub struct LastStep<D: Disk> {
 }
 
 impl<D: Disk> Controller<D> {
-    /// The calls that it knows as committed.
+    /// The calls that the controller knows as committed.
     pub(crate) fn known_calls(&self) -> &[Call]
         requires within { self.now.known ≤ length self.now.past.history }
         ensures { result.now ≡ known_of self.now }
@@ -36,7 +36,7 @@ impl<D: Disk> Controller<D> {
         &self.past.history.as_slice()[..self.known]
     }
 
-    /// The disk.
+    /// Ends the controller, and gives back the disk of its journal.
     pub(crate) fn into_disk(self) -> D
         ensures { result ≡ self.journal.disk.inner }
     {

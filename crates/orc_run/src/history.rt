@@ -45,7 +45,7 @@ fn stands(calls: &[Call], place: usize, call: &Call) -> bool
 }
 
 impl History {
-    /// No call.
+    /// A history without a call.
     pub fn new(alloc: Global) -> History
         ensures { result ≡ [] }
     {

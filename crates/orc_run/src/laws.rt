@@ -31,7 +31,8 @@ pub fn file_tells_one_history()
     ensures { FileTellsOneHistory }
 {}
 
-/// The limits and the bytes of the journal's format are the numbers that `docs/FORMATS.md` gives.
+/// These limits, the journal's first bytes, its gates and the kinds of its entries are the numbers
+/// that `docs/FORMATS.md` gives.
 pub fn has_these_numbers()
     ensures { HasTheseNumbers }
 {}

@@ -15,7 +15,7 @@ pub struct Numbers {
 }
 
 impl Numbers {
-    /// No number is taken.
+    /// The numbers of no transaction: none is taken.
     pub fn new(alloc: Global) -> Numbers
         ensures none { (t : ℕ) → is_taken result t ≡ false }
         ensures filled { IsFilled result }

@@ -90,7 +90,7 @@ impl Past {
         }
     }
 
-    /// The calls behind so many are none of the history.
+    /// Takes the calls behind the first so many out of the history.
     pub(crate) fn forget(&mut self, count: usize)
         ensures { self.new ≡ record self.old { history = take count self.old.history } }
     {

@@ -15,7 +15,7 @@ use orc_print::{answer, recovered, stopped};
 use orc_text::{Memory, Row, Text};
 use std::alloc::Global;
 
-/// A call that is answered at once.
+/// What comes of a call that is answered at once.
 pub(crate) fn answered(
     alloc: Global,
     names: &[Text],
@@ -55,7 +55,7 @@ fn stopped_behind(alloc: Global, line: Row<u8>) -> Result<Row<u8>, Memory>
     Ok(Row::from_vec(text))
 }
 
-// The number of the entry behind so many. Were there no number left, no memory would hold them.
+// The number of the entry behind so many others. Were there no number left, no memory would hold them.
 fn next_entry(known: usize) -> Result<u64, Memory>
     ensures { IfOk result (λ entry. entry ≡ known + 1) }
 {
@@ -98,16 +98,16 @@ fn short_texts(alloc: Global, names: &[Text], call: &Call) -> Result<(Row<u8>, R
 pub(crate) struct CommitLines {
     /// The answer of the decided call.
     pub settled: Row<u8>,
-    /// The same, and behind it that the armed stop came.
+    /// The answer of the decided call, and behind it that the armed stop came.
     pub settled_stopped: Row<u8>,
-    /// The answer where the disk failed before that.
+    /// The answer where the disk failed before the call was decided.
     pub failed: Row<u8>,
-    /// That the armed stop came.
+    /// That the armed stop came before the call was decided.
     pub stopped: Row<u8>,
 }
 
 impl CommitLines {
-    /// The lines of a call that is to become the next entry behind so many.
+    /// The lines of a call that is to become the next entry behind so many others.
     pub(crate) fn new(
         alloc: Global,
         names: &[Text],
@@ -127,7 +127,7 @@ impl CommitLines {
         })
     }
 
-    /// The line of a commit that came so far.
+    /// The lines to print of a commit, by how far it came.
     pub(crate) fn line(self, alloc: Global, reached: Reached) -> Row<u8>
         ensures { (names : List (List ℕ)) (call : Call) (entry : ℕ) → AreLinesOf names call entry self
             → result ≡ commit_text names call reached.stage reached.outcome entry }

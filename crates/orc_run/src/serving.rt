@@ -87,7 +87,7 @@ impl<D: Disk> Controller<D> {
     }
 
     // The controller behind a commit, by how far that came, and why the run ends there, if it does.
-    // It knows a decided call, and forgets one whose intent was not appended.
+    // The controller knows a decided call, and forgets one whose intent was not appended.
     fn come(&mut self, alloc: Global, decls: &Decls, reached: Reached) -> Option<Stop>
         requires decls { AreDecls decls.now }
         requires running { self.old.up ≡ true }
@@ -105,7 +105,8 @@ impl<D: Disk> Controller<D> {
         }
     }
 
-    // The decided call is known.
+    // The controller behind a decided call, which it knows as committed, and why the run ends there, if
+    // it does.
     fn settle(&mut self, outcome: Appended) -> Option<Stop>
         ensures end { result ≡ commit_end outcome }
         ensures state { self.new

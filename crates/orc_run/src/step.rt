@@ -59,6 +59,7 @@ impl<D: Disk> Controller<D> {
         self.printing(alloc, text)
     }
 
+    // The group of the tree of a device.
     fn tree_text(&self, alloc: Global, decls: &Decls, device: u32) -> Result<Row<u8>, Memory>
         requires sound { IsSound D.disk decls.now self.now }
         requires device { device < length decls.now.names }
@@ -83,7 +84,7 @@ impl<D: Disk> Controller<D> {
         self.printing(alloc, text)
     }
 
-    // The line of that tree.
+    // The line of the tree of a device with a type, as JSON.
     fn json_text(&self, alloc: Global, decls: &Decls, device: u32) -> Result<Row<u8>, Memory>
         requires decls { AreDecls decls.now }
         requires schemas { All schema.IsSound decls.now.schemas }
@@ -111,7 +112,7 @@ impl<D: Disk> Controller<D> {
         self.printing(alloc, text)
     }
 
-    // The group of the path, or that the controller is down.
+    // The group of a path of a device, or that the controller is down.
     fn meta_text(
         &self,
         alloc: Global,
@@ -160,6 +161,7 @@ impl<D: Disk> Controller<D> {
         self.printing(alloc, text)
     }
 
+    // The group of the history, or that the controller is down.
     fn history_text(&self, alloc: Global) -> Result<Row<u8>, Memory>
         requires within { self.now.known ≤ length self.now.past.history }
         ensures { IfOk result (λ text. text ≡ (if self.now.up then history_text
@@ -184,7 +186,7 @@ impl<D: Disk> Controller<D> {
         }
     }
 
-    // Nothing is in flight.
+    // Does nothing: no call is in flight between two steps.
     fn settled(self, alloc: Global) -> StepResult<D>
         ensures { (decls : Decls) → StepsFrom D.disk decls self ScriptStep.Settle result }
     {

@@ -18,7 +18,7 @@ pub struct Ended<D: Disk> {
 }
 
 impl<D: Disk> Ended<D> {
-    // It ended before it was done.
+    // The end of a run that ended before it was done.
     pub(crate) fn at(disk: D, stop: Stop) -> Ended<D>
         ensures { result ≡ record { disk = disk; status = Err stop } }
     {
@@ -32,11 +32,11 @@ impl<D: Disk> Ended<D> {
 /// Why a run ended before it was done.
 #[derive(Debug, Drop, Error)]
 pub enum Stop {
-    /// The bytes read are no bundle: its first line at fault, and the first rule that the line
+    /// The bytes read are no bundle: the first line at fault, and the first rule that the line
     /// breaks.
     #[error("Bundle {line} {rule}")]
     Bundle { line: u64, rule: Rule },
-    /// The command words are none.
+    /// The words ask for no command.
     #[error("Usage")]
     Usage,
     /// A call of the source failed.
@@ -67,7 +67,7 @@ pub enum Stop {
 }
 
 impl Stop {
-    /// The status with which the program ends after it.
+    /// The status with which the program ends where the run ended so.
     pub fn status(&self) -> u8
         ensures { result ≡ stop_status self.now }
     {

@@ -188,9 +188,6 @@ position_in p xs d h =
 pub same_text-is : (a b : List ℕ) → same_text a b ≡ true → a ≡ b
 same_text-is a b h = (bytes_eq-Decides a b).0 h
 
-pub same_text-itself : (a : List ℕ) → same_text a a ≡ true
-same_text-itself a = (bytes_eq-Decides a a).1 refl
-
 pub same_names-is : (a b : List (List ℕ)) → same_names a b ≡ true → a ≡ b
 same_names-is a b h = (slice_eq-Decides (λ (x y : List ℕ). bytes_eq-Decides x y) a b (same_names a b) refl).0 h
 

@@ -39,95 +39,103 @@ pub record Where : Type 0 where
 -- a node's names: the first has its module
 abbrev pub name_behind : List ℕ → List (List ℕ) → List ℕ → List ℕ
 name_behind owner [] name = owner ++ (58 ∷ name)
-name_behind owner (n ∷ ns) name = name
+name_behind owner (first ∷ later) name = name
 
 abbrev pub names_at : Where → Stmt → List (List ℕ)
-names_at w s = w.names ++ name_behind w.owner w.names (argument s) ∷ []
+names_at at statement = at.names ++ name_behind at.owner at.names (argument statement) ∷ []
 
 -- how many entries there are at least and at most
 abbrev pub least_count : Stmt → ℕ
-least_count s = unwrap_or (count_of (sub_text (codes "min-elements") s)) 0
+least_count statement = unwrap_or (count_of (sub_text (codes "min-elements") statement)) 0
 
 abbrev pub most_count : Stmt → Option ℕ
-most_count s = count_of (sub_text (codes "max-elements") s)
+most_count statement = count_of (sub_text (codes "max-elements") statement)
 
 -- a leafref's path stands in the module `home`
 abbrev pub draft_kind : Option Kind → DraftType
-draft_kind k = Own (unwrap_or k kind.Empty)
+draft_kind of_kind = Own (unwrap_or of_kind kind.Empty)
 
 abbrev pub draft_of : Modules → List ℕ → LeafType → DraftType
-draft_of ms home (Leafref path) = To (reference_of ms.all (module_called ms.all home) path)
-draft_of ms home t = draft_kind (kind_of t)
+draft_of modules home (Leafref path) = To (reference_of modules.all (module_called modules.all home) path)
+draft_of modules home leaf_type = draft_kind (kind_of leaf_type)
 
 abbrev pub draft_type : Modules → Option Typed → DraftType
-draft_type ms None = draft_kind None
-draft_type ms (Some t) = draft_of ms t.home t.of_type
+draft_type modules None = draft_kind None
+draft_type modules (Some known) = draft_of modules known.home known.of_type
 
 -- a default's canonical text
 abbrev pub canonical : Option Typed → List ℕ → Option (List ℕ)
 canonical None text = None
-canonical (Some t) text = option_and_then (λ k. types.default_of k text) (kind_of t.of_type)
+canonical (Some known) text = option_and_then (λ of_kind. types.default_of of_kind text) (kind_of known.of_type)
 
 abbrev pub inherited : Option Typed → Option (List ℕ)
 inherited None = None
-inherited (Some t) = t.default
+inherited (Some known) = known.default
 
 -- its own default, or else that of its typedefs, where it is neither a key nor mandatory
 abbrev pub default_text : Option Typed → Stmt → Option (List ℕ)
-default_text t s = option_or (argument_below (codes "default") s) (inherited t)
+default_text known statement = option_or (argument_below (codes "default") statement) (inherited known)
 
 abbrev pub leaf_default : Option Typed → Stmt → Option ℕ → Option (List ℕ)
-leaf_default t s (Some place) = None
-leaf_default t s None = if is_mandatory s then None else option_and_then (canonical t) (default_text t s)
+leaf_default known statement (Some place) = None
+leaf_default known statement None =
+    if is_mandatory statement then None else option_and_then (canonical known) (default_text known statement)
 
 abbrev pub leaf_node : Modules → Option Typed → Stmt → Option ℕ → DraftNode
-leaf_node ms t s key = Leaf (record {
-  of_type = draft_type ms t;
-  default = leaf_default t s key;
-  mandatory = is_mandatory s && not (is_some key);
+leaf_node modules known statement key = Leaf (record {
+  of_type = draft_type modules known;
+  default = leaf_default known statement key;
+  mandatory = is_mandatory statement && not (is_some key);
   key = key;
 })
 
 abbrev pub draft_node : Modules → Where → Stmt → Word → DraftNode
-draft_node ms w s words_of.List = ListOf (record { keys = keys_of s; least = least_count s; most = most_count s })
-draft_node ms w s words_of.Leaf = leaf_node ms (typed ms w.above s) s (position (same_text (argument s)) w.keys)
-draft_node ms w s words_of.LeafList = LeafList (record {
-  of_type = draft_type ms (typed ms w.above s);
-  least = least_count s;
-  most = most_count s;
+draft_node modules at statement words_of.List =
+    ListOf (record { keys = keys_of statement; least = least_count statement; most = most_count statement })
+draft_node modules at statement words_of.Leaf = leaf_node modules (typed modules at.above statement) statement
+    (position (same_text (argument statement)) at.keys)
+draft_node modules at statement words_of.LeafList = LeafList (record {
+  of_type = draft_type modules (typed modules at.above statement);
+  least = least_count statement;
+  most = most_count statement;
 })
-draft_node ms w s _ = Container
+draft_node modules at statement _ = Container
 
 abbrev pub draft : Modules → Where → Stmt → Draft
-draft ms w s = record { names = names_at w s; node = draft_node ms w s (word s) }
+draft modules at statement =
+    record { names = names_at at statement; node = draft_node modules at statement (word statement) }
 
 -- where what stands in a node comes to stand
 abbrev pub inside_node : Where → Stmt → Where
-inside_node w s = record { above = s ∷ w.above; owner = w.owner; names = names_at w s; keys = keys_of s }
+inside_node at statement =
+    record { above = statement ∷ at.above; owner = at.owner; names = names_at at statement; keys = keys_of statement }
 
 -- the same place, for what a grouping defines
 abbrev pub in_grouping : Where → Found → Where
-in_grouping w g = record { above = g.here ∷ g.above; owner = w.owner; names = w.names; keys = w.keys }
+in_grouping at found = record { above = found.here ∷ found.above; owner = at.owner; names = at.names; keys = at.keys }
 
 -- what one statement of a block defines, by what the statements below another define
 abbrev pub drafts_at : Modules → (Where → Stmt → List Draft) → Where → Stmt → Part → List Draft
-drafts_at ms below w s parts_of.Node = draft ms w s ∷ below (inside_node w s) s
-drafts_at ms below w s parts_of.Uses = option_map_or (λ g. below (in_grouping w g) g.here)
-    (grouping ms.all w.above s) []
-drafts_at ms below w s parts_of.Nothing = []
+drafts_at modules below at statement parts_of.Node =
+    draft modules at statement ∷ below (inside_node at statement) statement
+drafts_at modules below at statement parts_of.Uses = option_map_or (λ found. below (in_grouping at found) found.here)
+    (grouping modules.all at.above statement) []
+drafts_at modules below at statement parts_of.Nothing = []
 
 abbrev pub drafts_in : Modules → (Where → Stmt → List Draft) → Where → List Stmt → List Draft
-drafts_in ms below w [] = []
-drafts_in ms below w (s ∷ ss) = drafts_at ms below w s (block_part s) ++ drafts_in ms below w ss
+drafts_in modules below at [] = []
+drafts_in modules below at (statement ∷ later) =
+    drafts_at modules below at statement (block_part statement) ++ drafts_in modules below at later
 
--- What the statements below one define, where nodes and groupings stand in one another at most n deep.
+-- What the statements below one define, where nodes and groupings stand in one another at most `depth` deep.
 abbrev pub drafts_below : ℕ → Modules → Where → Stmt → List Draft
-drafts_below zero ms w s = []
-drafts_below (suc n) ms w s = drafts_in ms (drafts_below n ms) w (subs s)
+drafts_below zero modules at statement = []
+drafts_below (suc depth) modules at statement = drafts_in modules (drafts_below depth modules) at (subs statement)
 
 abbrev pub inside_module : Stmt → Where
-inside_module m = record { above = m ∷ []; owner = argument m; names = []; keys = [] }
+inside_module the_module = record { above = the_module ∷ []; owner = argument the_module; names = []; keys = [] }
 
 abbrev pub drafts_of : Modules → List Stmt → List Draft
-drafts_of ms [] = []
-drafts_of ms (m ∷ rest) = drafts_below ms.most ms (inside_module m) m ++ drafts_of ms rest
+drafts_of modules [] = []
+drafts_of modules (the_module ∷ rest) =
+    drafts_below modules.most modules (inside_module the_module) the_module ++ drafts_of modules rest

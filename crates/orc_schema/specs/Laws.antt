@@ -18,70 +18,75 @@ use Rattle.orc_schema.specs.Schemas.{SchemaTable, Ascends, IsTableOf}
 -- no statement of the list is at fault
 abbrev pub AreFaultless : List Stmt → List Place → Type 0
 AreFaultless all [] = Unit {0}
-AreFaultless all (p ∷ ps) = (fault_here (the_modules all) p ≡ None) × AreFaultless all ps
+AreFaultless all (place ∷ places) = (fault_here (the_modules all) place ≡ None) × AreFaultless all places
 
--- f is the fault of a statement, and no statement before it in the text is at fault
-pub record IsFirstFault (all : List Stmt) (f : SchemaFault) : Type 0 where
+-- the fault is that of a statement, and no statement before it in the text is at fault
+pub record IsFirstFault (all : List Stmt) (the_fault : SchemaFault) : Type 0 where
   pub front : List Place
   pub place : Place
   pub back : List Place
   pub places : module_places [] all ≡ front ++ place ∷ back
   pub before : AreFaultless all front
-  pub fault : fault_here (the_modules all) place ≡ Some f
+  pub fault : fault_here (the_modules all) place ≡ Some the_fault
 
 -- The fault of modules is that of their first faulty statement in the order of the text.
 abbrev pub FirstFaultIsLeast : Type 0
-FirstFaultIsLeast = (all : List Stmt) (f : SchemaFault) → module_fault all ≡ Some f → IsFirstFault all f
+FirstFaultIsLeast = (all : List Stmt) (fault : SchemaFault) → module_fault all ≡ Some fault → IsFirstFault all fault
 
--- f is the fault of a leafref, and no leafref among the nodes before it is at fault
-pub record IsFirstLinkFault (ds : List Draft) (f : SchemaFault) : Type 0 where
+-- the fault is that of a leafref, and no leafref among the nodes before it is at fault
+pub record IsFirstLinkFault (all : List Draft) (the_fault : SchemaFault) : Type 0 where
   pub front : List Draft
   pub node : Draft
   pub back : List Draft
-  pub nodes : ds ≡ front ++ node ∷ back
-  pub before : All (λ d. link_fault chain (node_in ds) d ≡ None) front
-  pub fault : link_fault chain (node_in ds) node ≡ Some f
+  pub nodes : all ≡ front ++ node ∷ back
+  pub before : All (λ earlier. link_fault chain (node_in all) earlier ≡ None) front
+  pub fault : link_fault chain (node_in all) node ≡ Some the_fault
 
 -- The fault of leafrefs is that of the first faulty one, in the order of the nodes (in `drafts` that of the text, with
 -- each `uses` replaced by what its grouping defines).
 abbrev pub FirstLinkFaultIsLeast : Type 0
-FirstLinkFaultIsLeast = (ds : List Draft) (f : SchemaFault) → first_link_fault ds ≡ Some f → IsFirstLinkFault ds f
+FirstLinkFaultIsLeast = (all : List Draft) (fault : SchemaFault) → first_link_fault all ≡ Some fault
+    → IsFirstLinkFault all fault
 
--- s stands in the modules, with these statements around it, the innermost first: it is one of the modules, or stands in
--- the block of the first of these, which itself stands in the modules with the others around it
+-- the statement stands in the modules, with these statements around it, the innermost first: it is one of the modules,
+-- or stands in the block of the first of these, which itself stands in the modules with the others around it
 abbrev pub StandsIn : List Stmt → List Stmt → Stmt → Type 0
-StandsIn modules [] s = Contains modules s
-StandsIn modules (t ∷ above) s = Contains (subs t) s × StandsIn modules above t
+StandsIn modules [] statement = Contains modules statement
+StandsIn modules (innermost ∷ above) statement =
+    Contains (subs innermost) statement × StandsIn modules above innermost
 
 -- a node is what one statement for a node, which stands in the modules, makes of it where it comes to stand
-pub record StandsFor (ms : Modules) (d : Draft) : Type 0 where
+pub record StandsFor (modules : Modules) (node : Draft) : Type 0 where
   pub at : Where
   pub statement : Stmt
-  pub stands : StandsIn ms.all at.above statement
+  pub stands : StandsIn modules.all at.above statement
   pub is_node : block_part statement ≡ Node
-  pub made : d ≡ draft ms at statement
+  pub made : node ≡ draft modules at statement
 
 -- Each node of modules stands for one of their statements.
 abbrev pub NodesStandForStatements : Type 0
-NodesStandForStatements = (ms : Modules) → All (StandsFor ms) (drafts_of ms ms.all)
+NodesStandForStatements = (modules : Modules) → All (StandsFor modules) (drafts_of modules modules.all)
 
--- Where nodes and groupings stand in one another no deeper than n, a greater depth finds nothing more.
+-- Where nodes and groupings stand in one another no deeper than `depth`, a greater depth finds nothing more.
 abbrev pub DepthIsNoLimit : Type 0
-DepthIsNoLimit = (n : ℕ) (ms : Modules) (w : Where) (s : Stmt) → is_deeper n ms.all w.above s ≡ false
-    → drafts_below (suc n) ms w s ≡ drafts_below n ms w s
+DepthIsNoLimit = (depth : ℕ) (modules : Modules) (at : Where) (statement : Stmt)
+    → is_deeper depth modules.all at.above statement ≡ false
+    → drafts_below (suc depth) modules at statement ≡ drafts_below depth modules at statement
 
 -- No two lines of a schema have the same names.
 abbrev pub NamesDiffer : Type 0
-NamesDiffer = (s : SchemaTable) → Ascends s.lines → IsDistinct same_names (map (λ l. l.names) s.lines)
+NamesDiffer = (schema : SchemaTable) → Ascends schema.lines
+    → IsDistinct same_names (map (λ line. line.names) schema.lines)
 
 -- The order of a block's statements is free, with what names mean held fast: where two of them that stand beside one
--- another change places, while each name is looked up in the statements around (`w.above`) and in the modules as they
+-- another change places, while each name is looked up in the statements around (`at.above`) and in the modules as they
 -- were, the same nodes come of the block.
 abbrev pub OrderIsFree : Type 0
-OrderIsFree = (n : ℕ) (ms : Modules) (w : Where) (front : List Stmt) (s t : Stmt) (back : List Stmt)
-    → IsPermutation (drafts_in ms (drafts_below n ms) w (front ++ s ∷ t ∷ back))
-    (drafts_in ms (drafts_below n ms) w (front ++ t ∷ s ∷ back))
+OrderIsFree = (depth : ℕ) (modules : Modules) (at : Where) (front : List Stmt) (one other : Stmt) (back : List Stmt)
+    → IsPermutation (drafts_in modules (drafts_below depth modules) at (front ++ one ∷ other ∷ back))
+    (drafts_in modules (drafts_below depth modules) at (front ++ other ∷ one ∷ back))
 
 -- The order in which nodes come makes no other schema.
 abbrev pub NodesMakeOneTable : Type 0
-NodesMakeOneTable = (ds es : List Draft) (s : SchemaTable) → IsPermutation ds es → IsTableOf ds s → IsTableOf es s
+NodesMakeOneTable = (nodes others : List Draft) (schema : SchemaTable) → IsPermutation nodes others
+    → IsTableOf nodes schema → IsTableOf others schema

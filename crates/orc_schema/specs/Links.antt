@@ -39,79 +39,81 @@ module_in (first ∷ later) = before_first (is_mark Colon) first
 
 -- one name further down from these; a name without a prefix is of the module `owner`
 abbrev pub down : List ℕ → List (List ℕ) → StepName → Option (List (List ℕ))
-down owner [] s = Some ((unwrap_or s.owner owner ++ (58 ∷ s.name)) ∷ [])
-down owner (first ∷ later) s = if same_text (unwrap_or s.owner owner) (before_first (is_mark Colon) first)
-    then Some ((first ∷ later) ++ s.name ∷ []) else None
+down owner [] step = Some ((unwrap_or step.owner owner ++ (58 ∷ step.name)) ∷ [])
+down owner (first ∷ later) step = if same_text (unwrap_or step.owner owner) (before_first (is_mark Colon) first)
+    then Some ((first ∷ later) ++ step.name ∷ []) else None
 
 abbrev pub walk : List ℕ → List (List ℕ) → List StepName → Option (List (List ℕ))
 walk owner at [] = Some at
-walk owner at (s ∷ ss) = option_and_then (λ next. walk owner next ss) (down owner at s)
+walk owner at (step ∷ steps) = option_and_then (λ next. walk owner next steps) (down owner at step)
 
 -- how many names of the node stay where a path begins: none where it is absolute or goes up to the top
 abbrev pub kept_names : Draft → Reference → ℕ
-kept_names d r = if r.absolute then 0 else length d.names - r.ups
+kept_names draft reference = if reference.absolute then 0 else length draft.names - reference.ups
 
 -- a path goes up past the top
 abbrev pub goes_past : Draft → Reference → Bool
-goes_past d r = not r.absolute && nat_lt (length d.names) r.ups
+goes_past draft reference = not reference.absolute && nat_lt (length draft.names) reference.ups
 
 abbrev pub target_names : Draft → Reference → Option (List (List ℕ))
-target_names d r = if goes_past d r then None else walk (module_in d.names) (take (kept_names d r) d.names) r.names
+target_names draft reference = if goes_past draft reference then None
+    else walk (module_in draft.names) (take (kept_names draft reference) draft.names) reference.names
 
 abbrev pub has_names : List (List ℕ) → Draft → Bool
-has_names names d = same_names d.names names
+has_names names draft = same_names draft.names names
 
 -- A look-up finds the node of its names, where there is one.
 abbrev pub Lookup : Type 0
 Lookup = List (List ℕ) → Option Draft
 
 abbrev pub node_in : List Draft → Lookup
-node_in ds names = find (has_names names) ds
+node_in drafts names = find (has_names names) drafts
 
 -- the type of a leaf or a leaf-list
 abbrev pub value_type : DraftNode → Option DraftType
 value_type Container = None
-value_type (ListOf l) = None
-value_type (Leaf l) = Some l.of_type
-value_type (LeafList l) = Some l.of_type
+value_type (ListOf list) = None
+value_type (Leaf leaf) = Some leaf.of_type
+value_type (LeafList leaf_list) = Some leaf_list.of_type
 
 abbrev pub reference_in : DraftType → Option Reference
-reference_in (Own k) = None
-reference_in (To r) = Some r
+reference_in (Own of_kind) = None
+reference_in (To reference) = Some reference
 
 -- the leafref that a node is
 abbrev pub reference_at : Draft → Option Reference
-reference_at d = option_and_then reference_in (value_type d.node)
+reference_at draft = option_and_then reference_in (value_type draft.node)
 
 abbrev pub if_typed : Draft → Option Draft
-if_typed d = option_map (λ t. d) (value_type d.node)
+if_typed draft = option_map (λ of_type. draft) (value_type draft.node)
 
 -- the leaf or leaf-list to which a leafref leads
 abbrev pub led_to : Lookup → Draft → Reference → Option Draft
-led_to look d r = option_and_then if_typed (option_and_then look (target_names d r))
+led_to look draft reference = option_and_then if_typed (option_and_then look (target_names draft reference))
 
 abbrev pub next : Lookup → Draft → Option Draft
-next look d = option_and_then (led_to look d) (reference_at d)
+next look draft = option_and_then (led_to look draft) (reference_at draft)
 
--- at most n leafrefs on from d, a leafref leads to the node of these names
+-- at most so many leafrefs on from a node, a leafref leads to the node of these names
 abbrev pub leads_to : ℕ → Lookup → List (List ℕ) → Draft → Bool
-leads_to zero look names d = false
-leads_to (suc n) look names d = option_map_or (λ e. has_names names e || leads_to n look names e)
-    (next look d) false
+leads_to zero look names draft = false
+leads_to (suc most) look names draft = option_map_or
+    (λ target. has_names names target || leads_to most look names target) (next look draft) false
 
--- the kind at the end of at most n leafrefs
+-- the kind at the end of at most so many leafrefs
 abbrev pub own_kind : Option DraftType → Option Kind
 own_kind None = None
-own_kind (Some (Own k)) = Some k
-own_kind (Some (To r)) = None
+own_kind (Some (Own of_kind)) = Some of_kind
+own_kind (Some (To reference)) = None
 
 abbrev pub end_kind : ℕ → Lookup → Draft → Option Kind
-end_kind zero look d = None
-end_kind (suc n) look d = option_map_or (λ r. option_and_then (end_kind n look) (led_to look d r)) (reference_at d)
-    (own_kind (value_type d.node))
+end_kind zero look draft = None
+end_kind (suc most) look draft = option_map_or
+    (λ reference. option_and_then (end_kind most look) (led_to look draft reference)) (reference_at draft)
+    (own_kind (value_type draft.node))
 
 abbrev pub is_key_node : DraftNode → Bool
-is_key_node (Leaf l) = is_some l.key
+is_key_node (Leaf leaf) = is_some leaf.key
 is_key_node _ = false
 
 abbrev pub is_empty : Option Kind → Bool
@@ -120,23 +122,25 @@ is_empty _ = false
 
 -- a node's own name, without its module
 abbrev pub own_name : Draft → List ℕ
-own_name d = plain_name (unwrap_or (slice_get d.names (length d.names - 1)) [])
+own_name draft = plain_name (unwrap_or (slice_get draft.names (length draft.names - 1)) [])
 
 -- 2: the path ends at no leaf or leaf-list; 4: a key of type empty; 6: it leads back to itself
 abbrev pub lost : Lookup → Draft → Reference → Option SchemaFault
-lost look d r = fault_if (not (is_some (led_to look d r))) (Unknown r.text)
+lost look draft reference = fault_if (not (is_some (led_to look draft reference))) (Unknown reference.text)
 
 abbrev pub empty_key : ℕ → Lookup → Draft → Option SchemaFault
-empty_key n look d = fault_if (is_key_node d.node && is_empty (end_kind n look d)) (BadArgument (codes "key"))
+empty_key most look draft =
+    fault_if (is_key_node draft.node && is_empty (end_kind most look draft)) (BadArgument (codes "key"))
 
 abbrev pub leads_back : ℕ → Lookup → Draft → Option SchemaFault
-leads_back n look d = fault_if (leads_to n look d.names d) (Loop (own_name d))
+leads_back most look draft = fault_if (leads_to most look draft.names draft) (Loop (own_name draft))
 
 abbrev pub reference_fault : ℕ → Lookup → Draft → Reference → Option SchemaFault
-reference_fault n look d r = option_or (lost look d r) (option_or (empty_key n look d) (leads_back n look d))
+reference_fault most look draft reference = option_or (lost look draft reference)
+    (option_or (empty_key most look draft) (leads_back most look draft))
 
 abbrev pub link_fault : ℕ → Lookup → Draft → Option SchemaFault
-link_fault n look d = option_and_then (reference_fault n look d) (reference_at d)
+link_fault most look draft = option_and_then (reference_fault most look draft) (reference_at draft)
 
 -- so many leafrefs may lead on to one another
 unfoldable pub chain : ℕ
@@ -144,14 +148,15 @@ chain = MAX_CHAIN
 
 -- the first fault of the leafrefs, in the order of the schema
 abbrev pub first_link_fault : List Draft → Option SchemaFault
-first_link_fault ds = first_some (link_fault chain (node_in ds)) ds
+first_link_fault drafts = first_some (link_fault chain (node_in drafts)) drafts
 
 -- Where a leafref leads: the names of its target, and how many of them are the node's own entries.
 abbrev pub target_of : Draft → Reference → Target
-target_of d r = record { names = unwrap_or (target_names d r) []; shared = kept_names d r }
+target_of draft reference =
+    record { names = unwrap_or (target_names draft reference) []; shared = kept_names draft reference }
 
 abbrev pub target_at : Draft → Option Target
-target_at d = option_map (target_of d) (reference_at d)
+target_at draft = option_map (target_of draft) (reference_at draft)
 
 abbrev pub kind_at : ℕ → Lookup → Draft → Kind
-kind_at n look d = unwrap_or (end_kind n look d) kind.Empty
+kind_at most look draft = unwrap_or (end_kind most look draft) kind.Empty

@@ -33,37 +33,38 @@ abbrev pub drafts : List Stmt → List Draft
 drafts modules = drafts_of (the_modules modules) modules
 
 abbrev pub node_of : ℕ → Lookup → Draft → DraftNode → Node
-node_of n look d draft.Container = Container
-node_of n look d (draft.List l) = ListOf l
-node_of n look d (draft.Leaf l) = Leaf (record {
-  kind = kind_at n look d;
-  target = target_at d;
-  default = l.default;
-  mandatory = l.mandatory;
-  key = l.key;
+node_of most look drafted draft.Container = Container
+node_of most look drafted (draft.List list) = ListOf list
+node_of most look drafted (draft.Leaf leaf) = Leaf (record {
+  kind = kind_at most look drafted;
+  target = target_at drafted;
+  default = leaf.default;
+  mandatory = leaf.mandatory;
+  key = leaf.key;
 })
-node_of n look d (draft.LeafList l) = LeafList (record {
-  kind = kind_at n look d;
-  target = target_at d;
-  least = l.least;
-  most = l.most;
+node_of most look drafted (draft.LeafList leaf_list) = LeafList (record {
+  kind = kind_at most look drafted;
+  target = target_at drafted;
+  least = leaf_list.least;
+  most = leaf_list.most;
 })
 
 abbrev pub schema_line : ℕ → Lookup → Draft → SchemaLine
-schema_line n look d = record { names = d.names; node = node_of n look d d.node }
+schema_line most look drafted = record { names = drafted.names; node = node_of most look drafted drafted.node }
 
 -- the lines of nodes, in the order of the text
 abbrev pub schema_lines : List Draft → List SchemaLine
-schema_lines ds = map (schema_line chain (node_in ds)) ds
+schema_lines nodes = map (schema_line chain (node_in nodes)) nodes
 
 -- the same in the order of their names
 abbrev pub put_in : SchemaLine → List SchemaLine → List SchemaLine
 put_in line [] = line ∷ []
-put_in line (l ∷ ls) = if is_lt (names_cmp l.names line.names) then l ∷ put_in line ls else line ∷ l ∷ ls
+put_in line (first ∷ later) = if is_lt (names_cmp first.names line.names)
+    then first ∷ put_in line later else line ∷ first ∷ later
 
 abbrev pub in_order : List SchemaLine → List SchemaLine
 in_order [] = []
-in_order (l ∷ ls) = put_in l (in_order ls)
+in_order (line ∷ lines) = put_in line (in_order lines)
 
 abbrev pub plain_table : SchemaTable
 plain_table = record { plain = true; lines = [] }
@@ -74,23 +75,23 @@ fault_of modules = option_or (module_fault modules) (first_link_fault (drafts mo
 
 -- each line's names are less than those of the lines behind it
 abbrev pub Ascends : List SchemaLine → Type 0
-Ascends lines = IsStrictlySortedBy names_cmp (map (λ l. l.names) lines)
+Ascends lines = IsStrictlySortedBy names_cmp (map (λ line. line.names) lines)
 
 -- the lines of these nodes, each once, in the order of their names
-pub record IsTableOf (ds : List Draft) (s : SchemaTable) : Type 0 where
-  pub typed : s.plain ≡ false
-  pub lines : IsPermutation (schema_lines ds) s.lines
-  pub order : Ascends s.lines
+pub record IsTableOf (nodes : List Draft) (schema : SchemaTable) : Type 0 where
+  pub typed : schema.plain ≡ false
+  pub lines : IsPermutation (schema_lines nodes) schema.lines
+  pub order : Ascends schema.lines
 
 -- the one such schema, where there is one
 abbrev pub table_of : List Draft → SchemaTable
-table_of ds = record { plain = false; lines = in_order (schema_lines ds) }
+table_of nodes = record { plain = false; lines = in_order (schema_lines nodes) }
 
 -- Ok where no fault is due, with the schema of these nodes; else that fault; or want of memory
 abbrev pub GivesTable : Option SchemaFault → List Draft → Result SchemaTable SchemaFault → Type 0
-GivesTable due ds (Ok s) = (due ≡ None) × IsTableOf ds s
-GivesTable due ds (Err Memory) = Unit {0}
-GivesTable due ds (Err f) = due ≡ Some f
+GivesTable due nodes (Ok schema) = (due ≡ None) × IsTableOf nodes schema
+GivesTable due nodes (Err Memory) = Unit {0}
+GivesTable due nodes (Err fault) = due ≡ Some fault
 
 -- Modules have either a first fault or a schema.
 abbrev pub Builds : List Stmt → Result SchemaTable SchemaFault → Type 0
@@ -102,19 +103,19 @@ schema_of modules = option_map_or Err (fault_of modules) (Ok (table_of (drafts m
 
 -- that, or want of memory
 abbrev pub GivesSchema : Result SchemaTable SchemaFault → Result SchemaTable SchemaFault → Type 0
-GivesSchema due (Ok s) = due ≡ Ok s
+GivesSchema due (Ok schema) = due ≡ Ok schema
 GivesSchema due (Err Memory) = Unit {0}
-GivesSchema due (Err f) = due ≡ Err f
+GivesSchema due (Err fault) = due ≡ Err fault
 
 -- Nothing was cut off ------------------------------------------------------------------------------------------------
 
 -- nodes and groupings below a module stand in one another deeper than is looked at
 abbrev pub is_deep_module : Modules → Stmt → Bool
-is_deep_module ms m = is_deeper ms.most ms.all (m ∷ []) m
+is_deep_module modules the_module = is_deeper modules.most modules.all (the_module ∷ []) the_module
 
 -- the kind of a leaf or a leaf-list stands behind more leafrefs than are followed
 abbrev pub is_cut : ℕ → Lookup → Draft → Bool
-is_cut n look d = is_some (value_type d.node) && not (is_some (end_kind n look d))
+is_cut most look drafted = is_some (value_type drafted.node) && not (is_some (end_kind most look drafted))
 
 -- each node of the modules is found, and the kind of each
 pub record IsWhole (modules : List Stmt) : Type 0 where
@@ -125,33 +126,33 @@ pub record IsWhole (modules : List Stmt) : Type 0 where
 
 -- the names of a path, whatever its keys
 abbrev pub path_names : List PathStep → List (List ℕ)
-path_names steps = map (λ s. s.node) steps
+path_names steps = map (λ step. step.node) steps
 
 abbrev pub is_line_at : List (List ℕ) → SchemaLine → Bool
 is_line_at names line = same_names line.names names
 
 -- the node of these names
 abbrev pub node_in_lines : List SchemaLine → List (List ℕ) → Option Node
-node_in_lines lines names = option_map (λ l. l.node) (find (is_line_at names) lines)
+node_in_lines lines names = option_map (λ line. line.node) (find (is_line_at names) lines)
 
 abbrev pub node_at : SchemaTable → List (List ℕ) → Option Node
-node_at s names = node_in_lines s.lines names
+node_at schema names = node_in_lines schema.lines names
 
 abbrev pub shape_of : Node → Shape
 shape_of Container = shape.Container
-shape_of (ListOf l) = shape.List l.keys
-shape_of (LeafList l) = shape.LeafList
-shape_of (Leaf l) = option_map_or shape.Key l.key (shape.Leaf l.default)
+shape_of (ListOf list) = shape.List list.keys
+shape_of (LeafList leaf_list) = shape.LeafList
+shape_of (Leaf leaf) = option_map_or shape.Key leaf.key (shape.Leaf leaf.default)
 
 -- the shape at a name below a path
 abbrev pub shape_at : SchemaTable → List PathStep → List ℕ → Shape
-shape_at s parent name = option_map_or shape_of (node_at s (path_names parent ++ name ∷ [])) shape.Absent
+shape_at schema parent name = option_map_or shape_of (node_at schema (path_names parent ++ name ∷ [])) shape.Absent
 
 abbrev pub kind_in : Node → Option Kind
-kind_in (Leaf l) = Some l.kind
-kind_in (LeafList l) = Some l.kind
+kind_in (Leaf leaf) = Some leaf.kind
+kind_in (LeafList leaf_list) = Some leaf_list.kind
 kind_in _ = None
 
 -- the kind of the values at a path, where a leafref has its target's
 abbrev pub kind_at_path : SchemaTable → List PathStep → Option Kind
-kind_at_path s path = option_and_then kind_in (node_at s (path_names path))
+kind_at_path schema path = option_and_then kind_in (node_at schema (path_names path))

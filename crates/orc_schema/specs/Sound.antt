@@ -18,39 +18,41 @@ are_node_names (first ∷ later) = is_qualified first && list_all is_identifier 
 -- a container or a list
 abbrev pub holds_nodes : Option Node → Bool
 holds_nodes (Some Container) = true
-holds_nodes (Some (ListOf l)) = true
+holds_nodes (Some (ListOf list)) = true
 holds_nodes _ = false
 
 -- a leaf that is a key
 abbrev pub is_list_key : Option Node → Bool
-is_list_key (Some (Leaf l)) = is_some l.key
+is_list_key (Some (Leaf leaf)) = is_some leaf.key
 is_list_key _ = false
 
 -- The list of these names has a key, its keys differ, and each is a leaf that stands in the list and is a key.
-pub record HasItsKeys (s : SchemaTable) (names : List (List ℕ)) (l : ListNode) : Type 0 where
-  pub any : l.keys ≢ []
-  pub differ : IsDistinct same_text l.keys
-  pub leaves : (key : List ℕ) → Contains l.keys key → IsTrue (is_list_key (node_at s (names ++ key ∷ [])))
+pub record HasItsKeys (schema : SchemaTable) (names : List (List ℕ)) (list : ListNode) : Type 0 where
+  pub any : list.keys ≢ []
+  pub differ : IsDistinct same_text list.keys
+  pub leaves : (key : List ℕ) → Contains list.keys key → IsTrue (is_list_key (node_at schema (names ++ key ∷ [])))
 
 -- the node of these names is a list that has a key of this name
-pub record IsKeyedBy (s : SchemaTable) (names : List (List ℕ)) (name : List ℕ) : Type 0 where
+pub record IsKeyedBy (schema : SchemaTable) (names : List (List ℕ)) (name : List ℕ) : Type 0 where
   pub keyed : ListNode
-  pub here : node_at s names ≡ Some (ListOf keyed)
+  pub here : node_at schema names ≡ Some (ListOf keyed)
   pub key : Contains keyed.keys name
 
 -- Nodes have names that a path can have; what stands below another node stands in a container or a list; a list has
 -- its keys, and no other leaf is a key.
-pub record IsSound (s : SchemaTable) : Type 0 where
-  pub named : (names : List (List ℕ)) (node : Node) → node_at s names ≡ Some node → IsTrue (are_node_names names)
+pub record IsSound (schema : SchemaTable) : Type 0 where
+  pub named : (names : List (List ℕ)) (node : Node) → node_at schema names ≡ Some node → IsTrue (are_node_names names)
   pub parents : (names : List (List ℕ)) (name : List ℕ) (node : Node) → names ≢ []
-      → node_at s (names ++ name ∷ []) ≡ Some node → IsTrue (holds_nodes (node_at s names))
-  pub keys : (names : List (List ℕ)) (l : ListNode) → node_at s names ≡ Some (ListOf l) → HasItsKeys s names l
-  pub no_other_key : (names : List (List ℕ)) (name : List ℕ) → IsTrue (is_list_key (node_at s (names ++ name ∷ [])))
-      → IsKeyedBy s names name
+      → node_at schema (names ++ name ∷ []) ≡ Some node → IsTrue (holds_nodes (node_at schema names))
+  pub keys : (names : List (List ℕ)) (list : ListNode) → node_at schema names ≡ Some (ListOf list)
+      → HasItsKeys schema names list
+  pub no_other_key : (names : List (List ℕ)) (name : List ℕ)
+      → IsTrue (is_list_key (node_at schema (names ++ name ∷ []))) → IsKeyedBy schema names name
 
 -- Modules of which nothing was cut off make a sound schema.
 abbrev pub SchemasAreSound : Type 0
-SchemasAreSound = (modules : List Stmt) (s : SchemaTable) → Builds modules (Ok s) → IsWhole modules → IsSound s
+SchemasAreSound = (modules : List Stmt) (schema : SchemaTable) → Builds modules (Ok schema) → IsWhole modules
+    → IsSound schema
 
 -- A plain schema is sound, since it has no node.
 abbrev pub PlainIsSound : Type 0

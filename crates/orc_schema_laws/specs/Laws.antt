@@ -13,12 +13,12 @@ abbrev pub singles : List (List ℕ)
 singles = codes "prefix" ∷ codes "type" ∷ codes "default" ∷ codes "mandatory" ∷ codes "key" ∷ codes "min-elements"
     ∷ codes "max-elements" ∷ []
 
--- nothing that is looked for in their block finds both s and t: they define no one name by one keyword, are no imports
--- under one prefix, and aren't both one of the statements of which a block has one at most
-pub record AreApart (s t : Stmt) : Type 0 where
-  pub definitions : (keyword name : List ℕ) → (defines keyword name s && defines keyword name t) ≡ false
-  pub imports : (prefix : List ℕ) → (imports_as prefix s && imports_as prefix t) ≡ false
-  pub firsts : AllByRecursion (λ keyword. (is_a keyword s && is_a keyword t) ≡ false) singles
+-- nothing that is looked for in their block finds both statements: they define no one name by one keyword, are no
+-- imports under one prefix, and aren't both one of the statements of which a block has one at most
+pub record AreApart (one other : Stmt) : Type 0 where
+  pub definitions : (keyword name : List ℕ) → (defines keyword name one && defines keyword name other) ≡ false
+  pub imports : (prefix : List ℕ) → (imports_as prefix one && imports_as prefix other) ≡ false
+  pub firsts : AllByRecursion (λ keyword. (is_a keyword one && is_a keyword other) ≡ false) singles
 
 -- The second statement is the first, with two statements of its block that stand beside one another the other way
 -- round. What stands in a `type` isn't spoken of.
@@ -47,15 +47,15 @@ pub record HasTurned (Turns : Stmt → Stmt → Type 0) (one other : Stmt) : Typ
   pub after : subs other ≡ front ++ t ∷ back
   pub turns : Turns s t
 
--- the second statement is the first, with two neighbours of a block n blocks further in the other way round
+-- the second statement is the first, with two neighbours of a block `depth` blocks further in the other way round
 abbrev pub TurnsIn : ℕ → Stmt → Stmt → Type 0
 TurnsIn zero one other = IsTurned one other
-TurnsIn (suc n) one other = HasTurned (TurnsIn n) one other
+TurnsIn (suc depth) one other = HasTurned (TurnsIn depth) one other
 
 -- The statements of a block may stand in any order (RFC 7950 section 14): where two that stand beside one another, in a
 -- module's own block or in one at whatever depth below it, change places in the text, the modules define the same
 -- nodes, each as often. Names are looked up in the text as it then stands, in this module and from those that import
 -- it.
 abbrev pub StatementsMayTurn : Type 0
-StatementsMayTurn = (n : ℕ) (front : List Stmt) (one other : Stmt) (back : List Stmt) → TurnsIn n one other
+StatementsMayTurn = (depth : ℕ) (front : List Stmt) (one other : Stmt) (back : List Stmt) → TurnsIn depth one other
     → IsPermutation (drafts (front ++ one ∷ back)) (drafts (front ++ other ∷ back))

@@ -1,5 +1,5 @@
 -- The path of a service, and its id.
-use Rattle.std.proofs.Common.{◌≡◌, ◌||◌, Bool, true, false, ℕ, List, Option, refl, ap, subst, ◌∙◌}
+use Rattle.std.proofs.Common.{◌≡◌, true, false, ℕ, List, Option, ap, subst, ◌∙◌}
 use Rattle.std.specs.Option.{option_map_or}
 use Rattle.orc_path.specs.Reading.{path_of}
 use Rattle.orc_path.specs.Steps.{PathStep, is_path}
@@ -10,10 +10,6 @@ use Rattle.orc_call.specs.declared.call.Put.{Put}
 use Rattle.orc_state.specs.Calls.{has_body, is_body, is_service, is_service_path}
 use Rattle.orc_state.specs.declared.declarations.Decls.{Decls}
 use Rattle.orc_lines.specs.Items.{is_service_at}
-
-pub or_this : (a b : Bool) → b ≡ true → (a || b) ≡ true
-or_this true b h = refl
-or_this false b h = h
 
 -- the text of a service's path is its id; that the path is one is in what its place says
 pub service_known : (decls : Decls) (lists : List ServiceList) (path : List PathStep) (id : List ℕ) → is_path path ≡ true → lists ≡ decls.services

@@ -21,15 +21,15 @@ use Rattle.orc_lines.specs.declared.declared.Declared.{Declared}
 
 -- `D ITEM`, an item of a declared device
 abbrev pub device_item_words : Declared → Option (List ℕ × List ℕ) → Result DevicePut Rule
-device_item_words d None = Err rule.Line
-device_item_words d (Some words) =
+device_item_words declared None = Err rule.Line
+device_item_words declared (Some words) =
     checked ((not (is_identifier words.0), rule.Line) ∷ [])
-    (on_ok (put_of None (schema_named d.schemas d.devices words.0) (is_long_name words.0) words.1) (λ put.
-    checked ((not (is_among d.names words.0), rule.Unknown) ∷ [])
+    (on_ok (put_of None (schema_named declared.schemas declared.devices words.0) (is_long_name words.0) words.1) (λ put.
+    checked ((not (is_among declared.names words.0), rule.Unknown) ∷ [])
     (Ok (record { device = words.0; path = put.path; item = put.item }))))
 
 unfoldable pub device_item_of : Declared → List ℕ → Result DevicePut Rule
-device_item_of d text = device_item_words d (cut_at 32 text)
+device_item_of declared text = device_item_words declared (cut_at 32 text)
 
 -- paths that can carry an item
 
@@ -53,15 +53,15 @@ base_path_of schema is_long word =
 
 -- `D PATH`, such a path of a declared device
 abbrev pub device_path_words : Declared → Option (List ℕ × List ℕ) → Result (List ℕ × List PathStep) Rule
-device_path_words d None = Err rule.Line
-device_path_words d (Some words) =
+device_path_words declared None = Err rule.Line
+device_path_words declared (Some words) =
     checked ((not (is_identifier words.0), rule.Line) ∷ [])
-    (on_ok (base_path_of (schema_named d.schemas d.devices words.0) (is_long_name words.0) words.1) (λ path.
-    checked ((not (is_among d.names words.0), rule.Unknown) ∷ [])
+    (on_ok (base_path_of (schema_named declared.schemas declared.devices words.0) (is_long_name words.0) words.1)
+    (λ path. checked ((not (is_among declared.names words.0), rule.Unknown) ∷ [])
     (Ok (words.0, path))))
 
 unfoldable pub device_path_of : Declared → List ℕ → Result (List ℕ × List PathStep) Rule
-device_path_of d text = device_path_words d (cut_at 32 text)
+device_path_of declared text = device_path_words declared (cut_at 32 text)
 
 -- paths of nodes
 
@@ -90,11 +90,12 @@ node_path_of schema is_long word =
 
 -- `D PATH`, any one of a declared device, which is told by its number; there may be no room for a step more
 abbrev pub device_node_words : Declared → Bool → Option (List ℕ × List ℕ) → Result (ℕ × List PathStep) Rule
-device_node_words d is_full None = Err rule.Line
-device_node_words d is_full (Some words) =
+device_node_words declared is_full None = Err rule.Line
+device_node_words declared is_full (Some words) =
     checked ((not (is_identifier words.0), rule.Line) ∷ [])
-    (on_ok (node_path_of (schema_named d.schemas d.devices words.0) (is_long_name words.0 || is_full) words.1) (λ path.
-    or_rule (place_of d.names words.0) rule.Unknown (λ n. Ok (n, path))))
+    (on_ok
+    (node_path_of (schema_named declared.schemas declared.devices words.0) (is_long_name words.0 || is_full) words.1)
+    (λ path. or_rule (place_of declared.names words.0) rule.Unknown (λ device. Ok (device, path))))
 
 unfoldable pub device_node_of : Declared → Bool → List ℕ → Result (ℕ × List PathStep) Rule
-device_node_of d is_full text = device_node_words d is_full (cut_at 32 text)
+device_node_of declared is_full text = device_node_words declared is_full (cut_at 32 text)

@@ -53,54 +53,54 @@ no_steps = record {
 
 -- no step more can stand
 abbrev pub is_full : Script → Bool
-is_full s = nat_le MOST_STEPS (length s.steps)
+is_full script = nat_le MOST_STEPS (length script.steps)
 
 abbrev pub with_step : Script → ScriptStep → Script
-with_step s step = record s { steps = s.steps ++ step ∷ [] }
+with_step script step = record script { steps = script.steps ++ step ∷ [] }
 
 -- a step of one word
 abbrev pub after_bare : Script → ScriptStep → Result Script Rule
-after_bare s step = checked ((is_full s, rule.Size) ∷ []) (Ok (with_step s step))
+after_bare script step = checked ((is_full script, rule.Size) ∷ []) (Ok (with_step script step))
 
 -- `D`, the name of a device, in a step more
 abbrev pub step_name_of : Script → List ℕ → Result (List ℕ) Rule
-step_name_of s rest =
-    checked ((not (is_identifier rest), rule.Line) ∷ (is_long_name rest || is_full s, rule.Size) ∷ []) (Ok rest)
+step_name_of script rest =
+    checked ((not (is_identifier rest), rule.Line) ∷ (is_long_name rest || is_full script, rule.Size) ∷ []) (Ok rest)
 
 -- `show D`, behind these declarations
 unfoldable pub after_show : Declared → Script → List ℕ → Result Script Rule
-after_show d s rest =
-    on_ok (step_name_of s rest) (λ name.
-    or_rule (place_of d.names name) rule.Unknown (λ n. Ok (with_step s (step.Show n))))
+after_show declared script rest =
+    on_ok (step_name_of script rest) (λ name.
+    or_rule (place_of declared.names name) rule.Unknown (λ device. Ok (with_step script (step.Show device))))
 
 -- `json D`, of a device with a type
 unfoldable pub after_json : Declared → Script → List ℕ → Result Script Rule
-after_json d s rest =
-    on_ok (step_name_of s rest) (λ name.
-    checked (((schema_named d.schemas d.devices name).plain, rule.Unknown) ∷ [])
-    (or_rule (place_of d.names name) rule.Unknown (λ n. Ok (with_step s (step.Json n)))))
+after_json declared script rest =
+    on_ok (step_name_of script rest) (λ name.
+    checked (((schema_named declared.schemas declared.devices name).plain, rule.Unknown) ∷ [])
+    (or_rule (place_of declared.names name) rule.Unknown (λ device. Ok (with_step script (step.Json device)))))
 
 -- `meta D PATH`
 unfoldable pub after_meta : Declared → Script → List ℕ → Result Script Rule
-after_meta d s rest =
-    on_ok (device_node_of d (is_full s) rest) (λ node. Ok (with_step s (step.Meta node.0 node.1)))
+after_meta declared script rest =
+    on_ok (device_node_of declared (is_full script) rest) (λ node. Ok (with_step script (step.Meta node.0 node.1)))
 
 -- `stop K B`
 abbrev pub stop_words : Script → Option (List ℕ × List ℕ) → Result Script Rule
-stop_words s None = Err rule.Line
-stop_words s (Some words) =
+stop_words script None = Err rule.Line
+stop_words script (Some words) =
     or_rule (number_in words.0) rule.Line (λ count.
     or_rule (number_in words.1) rule.Line (λ bytes.
-    after_bare s (step.StopAt count bytes)))
+    after_bare script (step.StopAt count bytes)))
 
 unfoldable pub after_stop : Script → List ℕ → Result Script Rule
-after_stop s rest = stop_words s (cut_at 32 rest)
+after_stop script rest = stop_words script (cut_at 32 rest)
 
 -- calls
 
 -- a caller more than can be
 abbrev pub is_caller_more : Script → List ℕ → Bool
-is_caller_more s name = not (is_among s.callers name) && nat_le MOST_CALLERS (length s.callers)
+is_caller_more script name = not (is_among script.callers name) && nat_le MOST_CALLERS (length script.callers)
 
 -- What the line with this first word wants of the lines behind it: `call`, that one is `end`; `end`, that the next one
 -- is `settle`; any other, nothing.
@@ -111,61 +111,62 @@ is_followed _ later = true
 
 -- `call C N`, followed or not
 abbrev pub call_words : Script → Bool → Option (List ℕ × List ℕ) → Result Script Rule
-call_words s followed None = Err rule.Line
-call_words s followed (Some words) =
+call_words script followed None = Err rule.Line
+call_words script followed (Some words) =
     or_rule (number_in words.1) rule.Line (λ number.
     checked (
     (not (is_identifier words.0), rule.Line)
-    ∷ (is_long_name words.0 || is_full s || is_caller_more s words.0, rule.Size)
+    ∷ (is_long_name words.0 || is_full script || is_caller_more script words.0, rule.Size)
     ∷ (not followed, rule.Line)
     ∷ [])
-    (Ok (record s {
+    (Ok (record script {
       part = part.Call;
-      callers = with_name s.callers words.0;
+      callers = with_name script.callers words.0;
       caller = words.0;
       number = number;
       actions = [];
     })))
 
 unfoldable pub after_call : Script → List ℕ → Bool → Result Script Rule
-after_call s rest followed = call_words s followed (cut_at 32 rest)
+after_call script rest followed = call_words script followed (cut_at 32 rest)
 
 -- no action more can stand in the open call
 abbrev pub is_call_full : Script → Bool
-is_call_full s = nat_le MOST_ACTIONS (length s.actions)
+is_call_full script = nat_le MOST_ACTIONS (length script.actions)
 
 -- what follows for the id of a service, which no other action of the call names
 abbrev pub on_service : {X : Type 0} → Script → List ℕ → Result X Rule → Result X Rule
-on_service s id answer = checked ((is_service_among s.actions id, rule.Duplicate) ∷ []) answer
+on_service script id answer = checked ((is_service_among script.actions id, rule.Duplicate) ∷ []) answer
 
 -- `NAME`, the id of a service, in an action more: the call has room, and names it once
 abbrev pub new_name_of : Script → List ℕ → Result (List ℕ) Rule
-new_name_of s name =
-    checked ((not (is_identifier name) || is_call_full s, rule.Line) ∷ (is_long_name name, rule.Size) ∷ [])
-    (on_service s name (Ok name))
+new_name_of script name =
+    checked ((not (is_identifier name) || is_call_full script, rule.Line) ∷ (is_long_name name, rule.Size) ∷ [])
+    (on_service script name (Ok name))
 
 -- a literal whose writes are to come
 abbrev pub with_literal_open : Script → List ℕ → Script
-with_literal_open s name = record s { part = part.Literal; name = name; writes = [] }
+with_literal_open script name = record script { part = part.Literal; name = name; writes = [] }
 
 -- `literal NAME`
 unfoldable pub after_literal : Script → List ℕ → Result Script Rule
-after_literal s rest = on_ok (new_name_of s rest) (λ name. Ok (with_literal_open s name))
+after_literal script rest = on_ok (new_name_of script rest) (λ name. Ok (with_literal_open script name))
 
 -- an action more
 abbrev pub with_action : Script → Action → Script
-with_action s action = record s { actions = s.actions ++ action ∷ [] }
+with_action script action = record script { actions = script.actions ++ action ∷ [] }
 
 -- `PATH`, the entry of a service: its id is the path's text
 abbrev pub service_id_of : Declared → Script → List ℕ → Result (List ℕ) Rule
-service_id_of d s rest =
-    checked ((is_call_full s || is_some (cut_at 32 rest), rule.Line) ∷ [])
-    (on_ok (service_path_of d.services d.data_schema rest) (λ path.
-    on_service s (path_text path) (Ok (path_text path))))
+service_id_of declared script rest =
+    checked ((is_call_full script || is_some (cut_at 32 rest), rule.Line) ∷ [])
+    (on_ok (service_path_of declared.services declared.data_schema rest) (λ path.
+    on_service script (path_text path) (Ok (path_text path))))
 
 -- `redeploy PATH`
 unfoldable pub after_redeploy : Declared → Script → List ℕ → Result Script Rule
-after_redeploy d s rest = on_ok (service_id_of d s rest) (λ id. Ok (with_action s (action.Redeploy id)))
+after_redeploy declared script rest =
+    on_ok (service_id_of declared script rest) (λ id. Ok (with_action script (action.Redeploy id)))
 
 -- the text begins as that of a path does, and a name doesn't
 abbrev pub begins_as_path : List ℕ → Bool
@@ -174,163 +175,173 @@ begins_as_path (b ∷ bs) = b == 47
 
 -- `NAME` and `PATH`, the id of any service
 abbrev pub named_or_listed : Declared → Script → List ℕ → Result (List ℕ) Rule
-named_or_listed d s rest = if begins_as_path rest then service_id_of d s rest else new_name_of s rest
+named_or_listed declared script rest =
+    if begins_as_path rest then service_id_of declared script rest else new_name_of script rest
 
 -- `delete NAME` and `delete PATH`
 unfoldable pub after_delete : Declared → Script → List ℕ → Result Script Rule
-after_delete d s rest = on_ok (named_or_listed d s rest) (λ id. Ok (with_action s (action.Delete id)))
+after_delete declared script rest =
+    on_ok (named_or_listed declared script rest) (λ id. Ok (with_action script (action.Delete id)))
 
 -- `PATH JSON`, the entry of a service and its body. A limit goes before a service that is named twice; a body that is
 -- none passes no limit.
 abbrev pub body_words : Declared → Script → Option (List ℕ × List ℕ) → Result (List ℕ × List Put) Rule
-body_words d s None = Err rule.Line
-body_words d s (Some words) =
+body_words declared script None = Err rule.Line
+body_words declared script (Some words) =
     checked ((nat_eq (length words.1) 0, rule.Line) ∷ [])
-    (on_ok (service_path_of d.services d.data_schema words.0) (λ path.
-    checked ((option_map_or is_long_body (body_of d.data_schema path words.1) false, rule.Size) ∷ [])
-    (on_service s (path_text path)
-    (on_ok (kept_body d.data_schema path (body_of d.data_schema path words.1)) (λ body. Ok (path_text path, body))))))
+    (on_ok (service_path_of declared.services declared.data_schema words.0) (λ path.
+    checked ((option_map_or is_long_body (body_of declared.data_schema path words.1) false, rule.Size) ∷ [])
+    (on_service script (path_text path)
+    (on_ok (kept_body declared.data_schema path (body_of declared.data_schema path words.1)) (λ body.
+    Ok (path_text path, body))))))
 
 abbrev pub service_body_of : Declared → Script → List ℕ → Result (List ℕ × List Put) Rule
-service_body_of d s rest = checked ((is_call_full s, rule.Line) ∷ []) (body_words d s (cut_at 32 rest))
+service_body_of declared script rest =
+    checked ((is_call_full script, rule.Line) ∷ []) (body_words declared script (cut_at 32 rest))
 
 -- `create PATH JSON`
 unfoldable pub after_create : Declared → Script → List ℕ → Result Script Rule
-after_create d s rest = on_ok (service_body_of d s rest) (λ made. Ok (with_action s (action.Create made.0 made.1)))
+after_create declared script rest =
+    on_ok (service_body_of declared script rest) (λ made. Ok (with_action script (action.Create made.0 made.1)))
 
 -- `modify PATH JSON`
 unfoldable pub after_modify : Declared → Script → List ℕ → Result Script Rule
-after_modify d s rest = on_ok (service_body_of d s rest) (λ made. Ok (with_action s (action.Modify made.0 made.1)))
+after_modify declared script rest =
+    on_ok (service_body_of declared script rest) (λ made. Ok (with_action script (action.Modify made.0 made.1)))
 
 -- `set ITEM`
 unfoldable pub after_set : Declared → Script → List ℕ → Result Script Rule
-after_set d s rest =
-    checked ((is_call_full s, rule.Line) ∷ [])
-    (on_ok (put_of (Some d.services) d.data_schema false rest) (λ put. Ok (with_action s (action.Set put))))
+after_set declared script rest =
+    checked ((is_call_full script, rule.Line) ∷ [])
+    (on_ok (put_of (Some declared.services) declared.data_schema false rest) (λ put.
+    Ok (with_action script (action.Set put))))
 
 -- `unset PATH`
 unfoldable pub after_unset : Declared → Script → List ℕ → Result Script Rule
-after_unset d s rest =
-    checked ((is_call_full s || is_some (cut_at 32 rest), rule.Line) ∷ [])
-    (on_ok (data_path_of d.services d.data_schema rest) (λ path. Ok (with_action s (action.Unset path))))
+after_unset declared script rest =
+    checked ((is_call_full script || is_some (cut_at 32 rest), rule.Line) ∷ [])
+    (on_ok (data_path_of declared.services declared.data_schema rest) (λ path.
+    Ok (with_action script (action.Unset path))))
 
 -- `base D ITEM`
 unfoldable pub after_base_put : Declared → Script → List ℕ → Result Script Rule
-after_base_put d s rest =
-    checked ((is_call_full s, rule.Line) ∷ [])
-    (on_ok (device_item_of d rest) (λ put. Ok (with_action s (action.BasePut put))))
+after_base_put declared script rest =
+    checked ((is_call_full script, rule.Line) ∷ [])
+    (on_ok (device_item_of declared rest) (λ put. Ok (with_action script (action.BasePut put))))
 
 -- `unbase D PATH`
 unfoldable pub after_base_remove : Declared → Script → List ℕ → Result Script Rule
-after_base_remove d s rest =
-    checked ((is_call_full s, rule.Line) ∷ [])
-    (on_ok (device_path_of d rest) (λ named. Ok (with_action s (action.BaseRemove named.0 named.1))))
+after_base_remove declared script rest =
+    checked ((is_call_full script, rule.Line) ∷ [])
+    (on_ok (device_path_of declared rest) (λ named. Ok (with_action script (action.BaseRemove named.0 named.1))))
 
 -- the open literal gets its writes: the call has it as an action
 abbrev pub with_literal : Script → Script
-with_literal s = record s {
+with_literal script = record script {
   part = part.Call;
-  actions = s.actions ++ action.Literal s.name s.writes ∷ [];
+  actions = script.actions ++ action.Literal script.name script.writes ∷ [];
   name = [];
   writes = [];
 }
 
 -- a write more of the open literal
 abbrev pub with_write : Script → DevicePut → Script
-with_write s write = record s { writes = s.writes ++ write ∷ [] }
+with_write script write = record script { writes = script.writes ++ write ∷ [] }
 
 -- `write D ITEM`
 unfoldable pub after_write : Declared → Script → List ℕ → Result Script Rule
-after_write d s rest = on_ok (device_item_of d rest) (λ write. Ok (with_write s write))
+after_write declared script rest = on_ok (device_item_of declared rest) (λ write. Ok (with_write script write))
 
 -- the call with its actions is a step
 abbrev pub with_call : Script → Script
-with_call s = record s {
+with_call script = record script {
   part = part.Steps;
-  steps = s.steps ++ step.Serve (record { caller = s.caller; number = s.number; actions = s.actions }) ∷ [];
+  steps = script.steps
+      ++ step.Serve (record { caller = script.caller; number = script.number; actions = script.actions }) ∷ [];
   caller = [];
   actions = [];
 }
 
 -- `end`, behind an action at least, followed or not
 unfoldable pub after_end : Script → Bool → Result Script Rule
-after_end s followed =
-    checked ((nat_eq (length s.actions) 0, rule.Line) ∷ (not followed, rule.Line) ∷ []) (Ok (with_call s))
+after_end script followed =
+    checked ((nat_eq (length script.actions) 0, rule.Line) ∷ (not followed, rule.Line) ∷ []) (Ok (with_call script))
 
 -- which forms stand where
 
 -- of more than one word, where no call is open
 unfoldable pub a_step : Keyword → Declared → Script → List ℕ → Bool → Result Script Rule
-a_step keyword.Show d s rest followed = after_show d s rest
-a_step keyword.Json d s rest followed = after_json d s rest
-a_step keyword.Meta d s rest followed = after_meta d s rest
-a_step keyword.Stop d s rest followed = after_stop s rest
-a_step keyword.Call d s rest followed = after_call s rest followed
-a_step _ d s rest followed = Err rule.Line
+a_step keyword.Show declared script rest followed = after_show declared script rest
+a_step keyword.Json declared script rest followed = after_json declared script rest
+a_step keyword.Meta declared script rest followed = after_meta declared script rest
+a_step keyword.Stop declared script rest followed = after_stop script rest
+a_step keyword.Call declared script rest followed = after_call script rest followed
+a_step _ declared script rest followed = Err rule.Line
 
 -- of one word
 unfoldable pub bare_step : Keyword → Script → Result Script Rule
-bare_step keyword.Settle s = after_bare s step.Settle
-bare_step keyword.Stop s = after_bare s step.Stop
-bare_step keyword.Recover s = after_bare s step.Recover
-bare_step keyword.History s = after_bare s step.History
-bare_step keyword.Data s = after_bare s step.Data
-bare_step _ s = Err rule.Line
+bare_step keyword.Settle script = after_bare script step.Settle
+bare_step keyword.Stop script = after_bare script step.Stop
+bare_step keyword.Recover script = after_bare script step.Recover
+bare_step keyword.History script = after_bare script step.History
+bare_step keyword.Data script = after_bare script step.Data
+bare_step _ script = Err rule.Line
 
 -- an action of the open call
 unfoldable pub an_action : Keyword → Declared → Script → List ℕ → Result Script Rule
-an_action keyword.Create d s rest = after_create d s rest
-an_action keyword.Modify d s rest = after_modify d s rest
-an_action keyword.Redeploy d s rest = after_redeploy d s rest
-an_action keyword.Literal d s rest = after_literal s rest
-an_action keyword.Delete d s rest = after_delete d s rest
-an_action keyword.Set d s rest = after_set d s rest
-an_action keyword.Unset d s rest = after_unset d s rest
-an_action keyword.Base d s rest = after_base_put d s rest
-an_action keyword.Unbase d s rest = after_base_remove d s rest
-an_action _ d s rest = Err rule.Line
+an_action keyword.Create declared script rest = after_create declared script rest
+an_action keyword.Modify declared script rest = after_modify declared script rest
+an_action keyword.Redeploy declared script rest = after_redeploy declared script rest
+an_action keyword.Literal declared script rest = after_literal script rest
+an_action keyword.Delete declared script rest = after_delete declared script rest
+an_action keyword.Set declared script rest = after_set declared script rest
+an_action keyword.Unset declared script rest = after_unset declared script rest
+an_action keyword.Base declared script rest = after_base_put declared script rest
+an_action keyword.Unbase declared script rest = after_base_remove declared script rest
+an_action _ declared script rest = Err rule.Line
 
 -- a line of a literal, or the action behind it
 unfoldable pub behind_literal : Keyword → Declared → Script → List ℕ → Result Script Rule
-behind_literal keyword.Write d s rest = after_write d s rest
-behind_literal word d s rest = an_action word d (with_literal s) rest
+behind_literal keyword.Write declared script rest = after_write declared script rest
+behind_literal word declared script rest = an_action word declared (with_literal script) rest
 
 -- the line that ends the open call
 unfoldable pub call_end : Keyword → Script → Bool → Result Script Rule
-call_end keyword.End s followed = after_end s followed
-call_end _ s followed = Err rule.Line
+call_end keyword.End script followed = after_end script followed
+call_end _ script followed = Err rule.Line
 
 -- a line of more than one word
 unfoldable pub words_at : Part → Keyword → Declared → Script → List ℕ → Bool → Result Script Rule
-words_at part.Steps word d s rest followed = a_step word d s rest followed
-words_at part.Call word d s rest followed = an_action word d s rest
-words_at part.Literal word d s rest followed = behind_literal word d s rest
+words_at part.Steps word declared script rest followed = a_step word declared script rest followed
+words_at part.Call word declared script rest followed = an_action word declared script rest
+words_at part.Literal word declared script rest followed = behind_literal word declared script rest
 
 -- a line of one word
 unfoldable pub word_at : Part → Keyword → Script → Bool → Result Script Rule
-word_at part.Steps word s followed = bare_step word s
-word_at part.Call word s followed = call_end word s followed
-word_at part.Literal word s followed = call_end word (with_literal s) followed
+word_at part.Steps word script followed = bare_step word script
+word_at part.Call word script followed = call_end word script followed
+word_at part.Literal word script followed = call_end word (with_literal script) followed
 
 -- a line with this first word
 abbrev pub step_words : Declared → Script → Keyword → Bool → Option (List ℕ × List ℕ) → Result Script Rule
-step_words d s word followed None = word_at s.part word s followed
-step_words d s word followed (Some words) = words_at s.part word d s words.1 followed
+step_words declared script word followed None = word_at script.part word script followed
+step_words declared script word followed (Some words) = words_at script.part word declared script words.1 followed
 
 -- a line that is not skipped, with the lines behind it
 unfoldable pub after_step : Declared → Script → List ℕ → List (List ℕ) → Result Script Rule
-after_step d s text later =
-    step_words d s (keyword_of (first_word text)) (is_followed (keyword_of (first_word text)) later)
+after_step declared script text later =
+    step_words declared script (keyword_of (first_word text)) (is_followed (keyword_of (first_word text)) later)
     (cut_at 32 text)
 
 -- a line with the lines behind it; so many bytes stand in front of it
 unfoldable pub scripted_at : Declared → Script → ℕ → List ℕ → List (List ℕ) → Result Script Rule
-scripted_at d s at line later =
+scripted_at declared script at line later =
     checked ((is_large at line, rule.Size) ∷ (not (is_utf8 (text_of line)), rule.Utf8) ∷ [])
-    (if is_skipped (text_of line) then Ok s else after_step d s (text_of line) later)
+    (if is_skipped (text_of line) then Ok script else after_step declared script (text_of line) later)
 
 -- the steps in lines, behind these declarations
 abbrev pub script_steps : Declared → Script → ℕ → ℕ → List (List ℕ) → Result (List ScriptStep) (ℕ × Rule)
-script_steps d s at n [] = Ok s.steps
-script_steps d s at n (line ∷ later) =
-    on_line (n + 1) (scripted_at d s at line later) (λ t. script_steps d t (at + length line) (n + 1) later)
+script_steps declared script at number [] = Ok script.steps
+script_steps declared script at number (line ∷ later) =
+    on_line (number + 1) (scripted_at declared script at line later) (λ new.
+    script_steps declared new (at + length line) (number + 1) later)

@@ -1,7 +1,7 @@
 -- Actions that are expanded one after another.
 use Rattle.std.proofs.Common.{◌≡◌, ℕ, List, [], ◌∷◌, ◌++◌, refl, sym, ap, subst, ◌∙◌, append_assoc, append-nil}
 use Rattle.std.specs.declared.option.Option.{Option}
-use Rattle.std.specs.declared.option.Option.TheVariants.{None, Some}
+use Rattle.std.specs.declared.option.Option.TheVariants.{Some}
 use Rattle.std.specs.declared.result.Result.{Result}
 use Rattle.std.specs.declared.result.Result.TheVariants.{Ok, Err}
 use Rattle.std.specs.Option.{option_map}
@@ -9,16 +9,9 @@ use Rattle.orc_call.specs.declared.answer.Answer.{Answer}
 use Rattle.orc_call.specs.declared.call.Action.{Action}
 use Rattle.orc_expr.specs.declared.read.Read.{Read}
 use Rattle.orc_path.specs.Steps.{PathStep}
-use Rattle.orc_template.specs.Expansions.{Expanding, Failed}
 use Rattle.orc_template.specs.Said.{template_json}
 use Rattle.orc_services.specs.Services.{Serving, expansion_at}
-use Rattle.orc_path.specs.Configurations.{Config}
-use Rattle.orc_call.specs.declared.answer.Answer.TheVariants.{Expand}
-use Rattle.orc_call.specs.declared.call.Action.TheVariants.{Literal}
-use Rattle.orc_call.specs.declared.call.DevicePut.{DevicePut}
-use Rattle.orc_services.specs.declared.actions.Expanded.TheVariants.{Written, Fault}
-use Rattle.orc_services.specs.inside.Answering.{Expands}
-use Rattle.orc_services.specs.Expanded.{ExpandedTo, as_literal, expanded_actions, expanded_by, expanded_action, with_expanded, writes_of, ExpandsTo}
+use Rattle.orc_services.specs.Expanded.{ExpandedTo, as_literal, expanded_actions, expanded_by, expanded_action, with_expanded, ExpandsTo}
 use Rattle.orc_services.specs.declared.list.ServiceList.{ServiceList}
 
 -- some that are expanded, in front of what later ones come to
@@ -88,28 +81,6 @@ pub of_list : (s : Serving) (names : List (List ℕ)) (id : List ℕ) (path : Li
 of_list s names id path found it old new outcome is gives =
     subst (λ (o : Option ServiceList). ExpandsTo (as_literal names id (option_map (expansion_at s) (option_map (λ (it : ServiceList). record { path = path; template = template_json it.template }) o))) old new outcome)
     (sym is) gives
-
--- that of an expansion that was made, and of one that met a fault
-pub literal_written : (names : List (List ℕ)) (id own : List ℕ) (trees : List Config) (writes : List DevicePut) (due : Result Expanding Failed)
-    (old new : List Read) → own ≡ id → writes ≡ writes_of names trees → Expands due old new (Written trees)
-    → ExpandsTo (as_literal names id (Some due)) old new (Ok (Literal own writes))
-literal_written names id own trees writes due old new same made h =
-    subst (λ (d : Result Expanding Failed). ExpandsTo (as_literal names id (Some d)) old new (Ok (Literal own writes))) (sym h.1)
-    (ap (λ (i : List ℕ). Ok (Literal i writes)) same ∙ ap (λ (w : List DevicePut). Ok (Literal id w)) (made ∙ ap (writes_of names) h.2), h.3)
-
-pub literal_fails : (names : List (List ℕ)) (id own : List ℕ) (block rule : ℕ) (due : Result Expanding Failed)
-    (old new : List Read) → own ≡ id → Expands due old new (Fault block rule)
-    → ExpandsTo (as_literal names id (Some due)) old new (Err (Expand own block rule))
-literal_fails names id own block rule due old new same h =
-    subst (λ (d : Result Expanding Failed). ExpandsTo (as_literal names id (Some d)) old new (Err (Expand own block rule))) (sym h.1)
-    (ap (λ (i : List ℕ). Err (Expand i block rule)) same, h.2)
-
--- one that no list has reads and writes nothing
-pub of_none : (names : List (List ℕ)) (id own : List ℕ) (o : Option (Result Expanding Failed)) (writes : List DevicePut) (reads : List Read) → o ≡ None → own ≡ id
-    → writes ≡ [] → ExpandsTo (as_literal names id o) reads reads (Ok (Literal own writes))
-of_none names id own o writes reads is same none =
-    subst (λ (x : Option (Result Expanding Failed)). ExpandsTo (as_literal names id x) reads reads (Ok (Literal own writes))) (sym is)
-    (ap (λ (i : List ℕ). Ok (Literal i writes)) same ∙ ap (λ (w : List DevicePut). Ok (Literal id w)) none, sym (append-nil reads))
 
 -- what was read apart, behind what was read before
 pub added_to : (old new read fresh due : List Read) → new ≡ old ++ read → read ≡ fresh ++ due → fresh ≡ [] → new ≡ old ++ due

@@ -1,5 +1,5 @@
 -- What each call keeps of a state.
-use Rattle.std.proofs.Common.{◌≡◌, ℕ, ◌<◌, ◌^◌, List, [], ◌∷◌, inl, inr, length, map, All, IsTrue, None, Some, refl, sym, ap, subst, ◌∙◌, arith}
+use Rattle.std.proofs.Common.{◌≡◌, ℕ, ◌<◌, ◌^◌, List, [], ◌∷◌, inl, inr, length, All, IsTrue, None, Some, refl, sym, ap, subst, ◌∙◌, arith}
 use Rattle.std.specs.declared.option.Option.{Option}
 use Rattle.std.specs.declared.result.Result.{Result}
 use Rattle.std.specs.declared.result.Result.TheVariants.{Ok, Err}
@@ -13,7 +13,7 @@ use Rattle.orc_path.specs.Configurations.{Config}
 use Rattle.orc_call.specs.declared.answer.Answer.{Answer}
 use Rattle.orc_call.specs.declared.call.Call.{Call}
 use Rattle.orc_call.specs.declared.call.Action.{Action}
-use Rattle.orc_state.specs.States.{declared_base, names_of, opening, put_all, puts_on}
+use Rattle.orc_state.specs.States.{names_of, opening, put_all, puts_on}
 use Rattle.orc_state.specs.Actions.{bases_after, live_after, new_services}
 use Rattle.orc_state.specs.Next.{IsStateOf, after, refusal, expanded_call, expanded_to}
 use Rattle.orc_state.specs.Calls.{is_lawful_name}
@@ -40,13 +40,6 @@ decls-count decls are = sym (length-map decls.devices (λ (device : Device). dev
 
 pub decls-few : (decls : Decls) → AreDecls decls → length decls.names < 2 ^ 32
 decls-few decls are = omega (arith, are.few, decls-count decls are)
-
-pub opening-kept : (decls : Decls) → AreDecls decls → IsStateOf decls (opening decls)
-opening-kept decls are = record {
-  bases = length-map decls.devices declared_base ∙ decls-count decls are;
-  complete = All-nil (λ (service : Service). length service.parts ≡ length (map declared_base decls.devices));
-  valid = are.valid;
-}
 
 -- a call
 

@@ -1,5 +1,5 @@
 -- Filters and tests of lists.
-use Rattle.std.proofs.Common.{◌≡◌, Bool, true, false, cond, not, ◌&&◌, ◌||◌, List, [], ◌∷◌, All, refl, sym, ap, ◌∙◌, arith}
+use Rattle.std.proofs.Common.{◌≡◌, Bool, true, false, cond, not, ◌||◌, List, [], ◌∷◌, All, refl, sym, ap, ◌∙◌, arith}
 use Rattle.std.specs.List.{filter, fold, list_any, Contains}
 use Rattle.std.proofs.lemmas.List.Elements.{All-nil, All-cons, All-tail, All-contains, All-contains_itself, All-filter}
 
@@ -21,18 +21,6 @@ not_true false e = refl
 
 pub true_not_false : true ≡ false → ⊥
 true_not_false e = cc
-
--- of what passes one test, what passes another
-pub filter_both : {X : Type 0} (p q : X → Bool) (xs : List X) → filter p (filter q xs) ≡ filter (λ x. p x && q x) xs
-filter_both p q [] = refl
-filter_both p q (x ∷ xs) = on (filter_both p q xs) (p x) (q x) refl
-  where
-    on : filter p (filter q xs) ≡ filter (λ y. p y && q y) xs → (s t : Bool) → p x ≡ s
-        → filter p (cond t (x ∷ filter q xs) (filter q xs)) ≡ cond (s && t) (x ∷ filter (λ y. p y && q y) xs) (filter (λ y. p y && q y) xs)
-    on rest true true e = ap (λ b. cond b (x ∷ filter p (filter q xs)) (filter p (filter q xs))) e ∙ ap (λ l. x ∷ l) rest
-    on rest true false e = rest
-    on rest false true e = ap (λ b. cond b (x ∷ filter p (filter q xs)) (filter p (filter q xs))) e ∙ rest
-    on rest false false e = rest
 
 -- of what fails one test, what fails another
 pub filter_neither : {X : Type 0} (p q : X → Bool) (xs : List X)

@@ -1,21 +1,19 @@
 -- The services that actions name, delete and make.
-use Rattle.std.proofs.Common.{◌≡◌, ℕ, Bool, true, false, cond, not, ◌||◌, List, [], ◌∷◌, ◌++◌, All, None, Some, refl, sym, ap, ◌∙◌, arith, append_assoc, append-nil}
+use Rattle.std.proofs.Common.{◌≡◌, ℕ, Bool, true, false, cond, not, List, [], ◌∷◌, ◌++◌, All, None, Some, refl, sym, ap, ◌∙◌, append_assoc, append-nil}
 use Rattle.std.specs.declared.option.Option.{Option}
-use Rattle.std.specs.Option.{option_map_or, option_or}
+use Rattle.std.specs.Option.{option_map_or}
 use Rattle.std.specs.List.{filter, flat_map, Contains}
 use Rattle.std.specs.Cmp.{first_so, second_so}
 use Rattle.std.specs.Cmp.Lexicographic.{bytes_decides}
-use Rattle.std.proofs.lemmas.List.Elements.{filter-append, All-nil, All-cons, All-append, All-weaker, All-contains, All-contains_itself, All-tail}
-use Rattle.orc_call.specs.declared.answer.Answer.{Answer}
+use Rattle.std.proofs.lemmas.List.Elements.{filter-append, All-nil, All-cons, All-append, All-weaker, All-contains, All-contains_itself}
 use Rattle.orc_call.specs.declared.answer.Answer.TheVariants.{Exists}
 use Rattle.orc_call.specs.declared.call.Action.{Action}
-use Rattle.orc_call.specs.declared.call.Action.TheVariants.{Literal, Delete}
+use Rattle.orc_call.specs.declared.call.Action.TheVariants.{Literal}
 use Rattle.orc_state.specs.States.{expansion, has_id, is_same_text, lives}
 use Rattle.orc_state.specs.Actions.{is_named_by, live_after, new_services, name_each_once, named, names, touched}
 use Rattle.orc_state.specs.Next.{existence, existence_of}
-use Rattle.orc_state.specs.inside.Deleted.{deletes, is_deleted_by}
 use Rattle.orc_state.specs.declared.state.Service.{Service}
-use Rattle.orc_state.proofs.Lists.{or_first, or_second, not_true, filter_neither, filter_agree, filter_all, filter_none, filter_passes, any_none}
+use Rattle.orc_state.proofs.Lists.{or_first, or_second, not_true, filter_neither, filter_all, filter_none, filter_passes}
 
 -- texts
 
@@ -153,60 +151,7 @@ touched-once devices actions live h =
     (All-weaker (λ (s : Service). not (is_named_by actions s.id) ≡ true) (λ s. is_named_by actions s.id ≡ false)
     (λ s e. not_true (is_named_by actions s.id) e) (unnamed actions live) (filter_passes (λ (s : Service). not (is_named_by actions s.id)) live)) h
 
--- what actions delete
-
--- an action names what it deletes
-deleted_named : (action : Action) (id : List ℕ) → names action id ≡ false → deletes action id ≡ false
-deleted_named (Delete own) id h = h
-deleted_named other id h = refl
-
-all_deleted_named : (actions : List Action) (id : List ℕ) → is_named_by actions id ≡ false → is_deleted_by actions id ≡ false
-all_deleted_named [] id h = refl
-all_deleted_named (action ∷ actions) id h =
-    ap (λ t. t || is_deleted_by actions id) (deleted_named action id (or_first (names action id) (is_named_by actions id) h))
-    ∙ all_deleted_named actions id (or_second (names action id) (is_named_by actions id) h)
-
--- an action that makes a service deletes none
-made_kept : (devices : List (List ℕ)) (action : Action) → All (λ s. deletes action s.id ≡ false) (new_services devices action)
-made_kept devices (Literal id writes) =
-    let made : Service = record { id = id; parts = expansion devices writes } in
-    All-cons (λ (s : Service). deletes (Literal id writes) s.id ≡ false) made [] refl (All-nil (λ (s : Service). deletes (Literal id writes) s.id ≡ false))
-made_kept devices other = All-nil (λ (s : Service). deletes other s.id ≡ false)
-
-all_or : {X : Type 0} (p q : X → Bool) (xs : List X) → All (λ x. p x ≡ false) xs → All (λ x. q x ≡ false) xs → All (λ x. (p x || q x) ≡ false) xs
-all_or p q [] h k = All-nil (λ x. (p x || q x) ≡ false)
-all_or p q (x ∷ xs) h k =
-    All-cons (λ y. (p y || q y) ≡ false) x xs
-    (ap (λ t. t || q x) (h 0 x (omega arith)) ∙ k 0 x (omega arith))
-    (all_or p q xs (All-tail (λ y. p y ≡ false) x xs h) (All-tail (λ y. q y ≡ false) x xs k))
-
--- what actions make they don't delete
-all_made_kept : (devices : List (List ℕ)) (actions : List Action) → name_each_once actions ≡ true
-    → All (λ s. is_deleted_by actions s.id ≡ false) (flat_map (new_services devices) actions)
-all_made_kept devices [] h = All-nil (λ (s : Service). is_deleted_by [] s.id ≡ false)
-all_made_kept devices (action ∷ actions) h =
-    let made = new_services devices action in
-    let later = flat_map (new_services devices) actions in
-    let mine : Service → Bool = λ s. deletes action s.id in
-    let theirs : Service → Bool = λ s. is_deleted_by actions s.id in
-    All-append (λ (s : Service). (mine s || theirs s) ≡ false) made later
-    (all_or mine theirs made (made_kept devices action)
-    (All-weaker (λ (s : Service). is_named_by actions s.id ≡ false) (λ (s : Service). theirs s ≡ false) (λ s e. all_deleted_named actions s.id e) made
-    (made_unnamed devices action actions (once_first action actions h))))
-    (all_or mine theirs later
-    (All-weaker (λ (s : Service). names action s.id ≡ false) (λ (s : Service). mine s ≡ false) (λ s e. deleted_named action s.id e) later
-    (later_unnamed devices (named action) actions (once_first action actions h)))
-    (all_made_kept devices actions (once_later action actions h)))
-
 -- where no action is at fault
-
-or_none_first : (a b : Option Answer) → option_or a b ≡ None → a ≡ None
-or_none_first None b h = refl
-or_none_first (Some x) b h = cc
-
-or_none_second : (a b : Option Answer) → option_or a b ≡ None → b ≡ None
-or_none_second None b h = h
-or_none_second (Some x) b h = cc
 
 -- what is created doesn't live
 pub created_is_new : (live : List Service) (id : List ℕ) (writes : _) → existence_of live (Literal id writes) ≡ None → lives live id ≡ false

@@ -1,4 +1,4 @@
--- A number in decimal digits can be a key, and the paths of what is known are paths.
+-- A number in decimal digits can be a key, and the path of what is known of a device is a path.
 use Rattle.std.proofs.Common.{◌≡◌, ℕ, ◌+◌, ◌%◌, ◌<◌, ◌≤◌, ◌^◌, true, ◌&&◌, List, [], ◌∷◌, ap, arith}
 use Rattle.std.proofs.lemmas.Bool.{and_from}
 use Rattle.std.specs.Fmt.{decimal}
@@ -8,7 +8,7 @@ use Rattle.orc_path.specs.Alphabet.{is_key}
 use Rattle.orc_path.specs.Steps.{is_path}
 use Rattle.orc_path.specs.inside.Reading.{is_key_byte}
 use Rattle.orc_path.proofs.Plain.{is_plain_text-byte}
-use Rattle.orc_state.specs.Snapshots.{device_row, service_entry}
+use Rattle.orc_state.specs.Snapshots.{device_row}
 
 digit_byte : (b : ℕ) → 48 ≤ b → b < 58 → is_key_byte b ≡ true
 digit_byte b low high = grind arith
@@ -20,9 +20,6 @@ pub decimal_key : (n : ℕ) → n < 2 ^ 64 → is_key (decimal n) ≡ true
 decimal_key =
     decimal_by_steps (λ m ds. is_key ds ≡ true) (λ m l. digit_key m l)
     (λ m ds l h. is_plain_text-append ds ((48 + m % 10) ∷ []) h (digit_key (m % 10) (omega arith)))
-
-pub entry_path : (id : List ℕ) → is_key id ≡ true → is_path (service_entry id) ≡ true
-entry_path id h = ap (λ t. (t && true) && true) h
 
 pub row_path : (id : List ℕ) (device : ℕ) → is_key id ≡ true → device < 2 ^ 32 → is_path (device_row id device) ≡ true
 row_path id device h small =

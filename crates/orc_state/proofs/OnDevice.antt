@@ -101,15 +101,6 @@ found_in q (x ∷ xs) s h = on (q x) refl h (found_in q xs s)
         (subst (Contains (x ∷ xs)) same (first_in x xs), ap q (sym same) ∙ is)
     on false is e rest = let later = rest e in (later_in x s xs later.0, later.1)
 
-lives_found : (live : List Service) (id : List ℕ) → lives live id ≡ true → find (has_id id) live ≡ None → ⊥
-lives_found [] id h none = cc
-lives_found (s ∷ ss) id h none = on (has_id id s) h none (lives_found ss id)
-  where
-    on : (t : Bool) → (t || lives ss id) ≡ true → cond t (Some s) (find (has_id id) ss) ≡ None
-        → (lives ss id ≡ true → find (has_id id) ss ≡ None → ⊥) → ⊥
-    on true e f rest = cc
-    on false e f rest = rest e f
-
 -- the items of a configuration
 
 pub items_empty : (config : Config) → config ≡ empty → items_of config ≡ []

@@ -1,16 +1,15 @@
 -- Services in slots: which one is found by a name, and what one that is added or taken away makes of them.
-use Rattle.std.proofs.Common.{◌≡◌, ℕ, zero, suc, ◌<◌, ◌+◌, ◌==◌, Bool, true, false, cond, not, ◌||◌, List, [], ◌∷◌, ◌++◌, ◌⊎◌, inl, inr, map, length, get_or, take, remove, slice_index_or, slice_set, Bor, is_some, None, Some, refl, sym, ap, subst, ◌∙◌, arith, append-nil}
+use Rattle.std.proofs.Common.{◌≡◌, ℕ, zero, suc, ◌<◌, ◌+◌, Bool, true, false, cond, not, ◌||◌, List, [], ◌∷◌, ◌++◌, ◌⊎◌, inl, inr, map, length, get_or, take, slice_index_or, slice_set, is_some, None, Some, refl, sym, ap, subst, ◌∙◌, arith}
 use Rattle.std.specs.Prelude.{Option, slice_get, if◌then◌else◌}
-use Rattle.std.specs.Option.{option_and_then, option_copied, option_map_or}
+use Rattle.std.specs.Option.{option_and_then, option_map_or}
 use Rattle.std.specs.BTreeMap.{BTreeMap}
 use Rattle.std.specs.List.{find, list_any, AllByRecursion, IsDistinct}
 use Rattle.orc_state.specs.States.{has_id, is_same_text, lives, others}
 use Rattle.orc_state.specs.inside.Placed.{AreNamedOnce, AreNoted, HasNames, IsPlaced, KeepsNames, KeepsNoted, filled, is_at, noted, place_among}
-use Rattle.orc_state.specs.inside.Turns.{AreFresh, left_by}
+use Rattle.orc_state.specs.inside.Turns.{left_by}
 use Rattle.orc_state.specs.declared.state.Service.{Service}
-use Rattle.std.proofs.lemmas.Bool.{eqb-true, or_right, false_from_ne_true}
-use Rattle.std.proofs.lemmas.List.{nil_from_length}
-use Rattle.std.proofs.lemmas.List.Elements.{All-head, All-more, All-tail, All-weaker}
+use Rattle.std.proofs.lemmas.Bool.{or_right, false_from_ne_true}
+use Rattle.std.proofs.lemmas.List.Elements.{All-more, All-tail, All-weaker}
 use Rattle.orc_state.proofs.Lists.{true_not_false}
 use Rattle.orc_state.proofs.Named.{is_text_itself, other_way}
 use Rattle.std.specs.Ordering.{is_eq, nat_cmp}
@@ -129,15 +128,6 @@ placed_within slots places is id place at = at_within slots id place (is.there i
 
 -- a service more behind the others
 
-at_more : (slots : List (Option Service)) (s : Service) (id : List ℕ) (i : ℕ) → is_at slots id i ≡ true → is_at (slots ++ Some s ∷ []) id i ≡ true
-at_more [] s id i h = absurd (true_not_false (sym h))
-at_more (x ∷ slots) s id zero h = h
-at_more (x ∷ slots) s id (suc i) h = at_more slots s id i h
-
-at_last : (slots : List (Option Service)) (s : Service) (id : List ℕ) → is_at (slots ++ Some s ∷ []) id (length slots) ≡ has_id id s
-at_last [] s id = refl
-at_last (x ∷ slots) s id = at_last slots s id
-
 at_cases : (slots : List (Option Service)) (s : Service) (id : List ℕ) (i : ℕ) → is_at (slots ++ Some s ∷ []) id i ≡ true
     → (is_at slots id i ≡ true) ⊎ ((i ≡ length slots) × (has_id id s ≡ true))
 at_cases [] s id zero h = inr (refl, h)
@@ -155,20 +145,18 @@ lives_at (None ∷ slots) id (suc i) h = lives_at slots id i h
 lives_at (Some x ∷ slots) id zero h = ap (λ t. t || lives (filled slots) id) h
 lives_at (Some x ∷ slots) id (suc i) h = or_right (has_id id x) (lives (filled slots) id) (lives_at slots id i h)
 
-pub noted_more : (slots : List (Option Service)) (old new : BTreeMap (List ℕ) ℕ) (s : Service) (id : List ℕ) (place : ℕ)
-    → AreNoted slots old → id ≡ s.id → place ≡ length slots → lives (filled slots) s.id ≡ false
-    → ((q : List ℕ) → noted new q ≡ cond (is_same_text id q) (Some place) (noted old q)) → AreNoted (slots ++ Some s ∷ []) new
-noted_more slots old new s id place is named last fresh says = record { place = λ q i h. on q i (at_cases slots s q i h) }
+pub noted_more : (slots : List (Option Service)) (old new : BTreeMap (List ℕ) ℕ) (s : Service) (place : ℕ)
+    → AreNoted slots old → place ≡ length slots → lives (filled slots) s.id ≡ false
+    → ((q : List ℕ) → noted new q ≡ cond (is_same_text s.id q) (Some place) (noted old q)) → AreNoted (slots ++ Some s ∷ []) new
+noted_more slots old new s place is last fresh says = record { place = λ q i h. on q i (at_cases slots s q i h) }
   where
     on : (q : List ℕ) (i : ℕ) → (is_at slots q i ≡ true) ⊎ ((i ≡ length slots) × (has_id q s ≡ true)) → noted new q ≡ Some i
     on q i (inl h) =
-        let another : is_same_text id q ≡ false = false_from_ne_true (is_same_text id q) (λ e.
-        let same : q ≡ s.id = sym ((bytes_decides id q).0 e) ∙ named in
+        let another : is_same_text s.id q ≡ false = false_from_ne_true (is_same_text s.id q) (λ e.
+        let same : q ≡ s.id = sym ((bytes_decides s.id q).0 e) in
         true_not_false (sym (lives_at slots q i h) ∙ ap (lives (filled slots)) same ∙ fresh)) in
         says q ∙ ap (λ t. cond t (Some place) (noted old q)) another ∙ is.place q i h
-    on q i (inr h) =
-        let own : is_same_text id q ≡ true = ap (λ (n : List ℕ). is_same_text n q) named ∙ h.1 in
-        says q ∙ ap (λ t. cond t (Some place) (noted old q)) own ∙ ap Some (last ∙ sym h.0)
+    on q i (inr h) = says q ∙ ap (λ t. cond t (Some place) (noted old q)) h.1 ∙ ap Some (last ∙ sym h.0)
 
 pub filled-more : (slots : List (Option Service)) (s : Service) → filled (slots ++ Some s ∷ []) ≡ filled slots ++ s ∷ []
 filled-more [] s = refl
@@ -243,45 +231,10 @@ got [] place slot within is = absurd (omega (arith, within))
 got (x ∷ slots) zero slot within is = ap Some (sym is)
 got (x ∷ slots) (suc place) slot within is = got slots place slot (omega (arith, within)) is
 
-pub some_copied : (o : Option (Bor Service)) → is_some o ≡ is_some (option_copied o)
-some_copied None = refl
-some_copied (Some x) = refl
-
 -- of names that were taken away one more
 pub left_more : (live : List Service) (ids : List (List ℕ)) (id : List ℕ) → left_by live (ids ++ id ∷ []) ≡ others (left_by live ids) id
 left_more live [] id = refl
 left_more live (x ∷ ids) id = left_more (others live x) ids id
-
-pub not_zero : (n : ℕ) → (n == 0) ≡ false → 0 < n
-not_zero zero h = absurd (true_not_false h)
-not_zero (suc n) h = omega arith
-
--- none comes
-pub none_come : (live services : List Service) → (length services == 0) ≡ true → live ≡ live ++ services
-none_come live services h = sym (ap (λ (l : List Service). live ++ l) (nil_from_length services (eqb-true _ _ h)) ∙ append-nil live)
-
--- the first of services that come, with its name, and the others
-
-pub record IsCut (live : List Service) (names : List (List ℕ)) (services rest : List Service) (name : List ℕ) (s : Service) : Type 0 where
-  pub whole : services ≡ s ∷ rest
-  pub named : name ≡ s.id
-  pub others : names ≡ map (λ (x : Service). x.id) rest
-  pub fresh : lives live s.id ≡ false
-  pub later : AreFresh (live ++ s ∷ []) rest
-
-pub cut_first : (live : List Service) (names names' : List (List ℕ)) (services rest : List Service) (name : List ℕ) (s : Service)
-    → names ≡ map (λ (x : Service). x.id) services → AreFresh live services → 0 < length services
-    → name ≡ slice_index_or names 0 name → names' ≡ remove names 0 → s ≡ slice_index_or services 0 s → rest ≡ remove services 0
-    → IsCut live names' services rest name s
-cut_first live names names' [] rest name s is fresh some n ns v vs = absurd (omega (arith, some))
-cut_first live names names' (x ∷ xs) rest name s is fresh some n ns v vs = record {
-  whole = ap (λ (y : Service). y ∷ xs) (sym v) ∙ ap (λ (l : List Service). s ∷ l) (sym vs);
-  named = n ∙ ap (λ (l : List (List ℕ)). slice_index_or l 0 name) is ∙ ap (λ (y : Service). y.id) (sym v);
-  others = ns ∙ ap (λ (l : List (List ℕ)). remove l 0) is ∙ ap (map (λ (y : Service). y.id)) (sym vs);
-  fresh = ap (λ (y : Service). lives live y.id) v ∙ fresh.0;
-  later = subst (λ (l : List Service). AreFresh (live ++ s ∷ []) l) (sym vs)
-      (subst (λ (y : Service). AreFresh (live ++ y ∷ []) xs) (sym v) fresh.1);
-}
 
 -- what is noted after a name's place is
 
@@ -298,15 +251,7 @@ noted_new old new id place none put q i h =
     another = false_from_ne_true (is_same_text id q) (λ e.
         let not_so : None ≡ Some i = sym none ∙ ap (noted old) ((bytes_decides id q).0 e) ∙ h in cc)
 
--- of a name of which something is noted
-pub names_put : (old new : BTreeMap (List ℕ) ℕ) (id : List ℕ) (place : ℕ)
-    → ((q : List ℕ) → noted new q ≡ cond (is_same_text id q) (Some place) (noted old q)) → KeepsNames old new
-names_put old new id place put q h = on (is_same_text id q) (put q)
-  where
-    on : (t : Bool) → noted new q ≡ cond t (Some place) (noted old q) → is_some (noted new q) ≡ true
-    on true e = ap is_some e
-    on false e = ap is_some e ∙ h
-
+-- of names of which something is noted
 pub names_kept : (old new : BTreeMap (List ℕ) ℕ) → KeepsNoted old new → KeepsNames old new
 names_kept old new kept q h = on (noted old q) refl h
   where
@@ -314,16 +259,10 @@ names_kept old new kept q h = on (noted old q) refl h
     on None e k = absurd (true_not_false (sym k))
     on (Some i) e k = ap is_some (kept q i e)
 
-pub names_first : (places : BTreeMap (List ℕ) ℕ) (services rest : List Service) (s : Service) → services ≡ s ∷ rest → HasNames places services
-    → is_some (noted places s.id) ≡ true
-names_first places services rest s is has =
-    All-head (λ (x : Service). is_some (noted places x.id) ≡ true) s rest (subst (HasNames places) is has)
-
-pub names_later : (old new : BTreeMap (List ℕ) ℕ) (services rest : List Service) (s : Service) → services ≡ s ∷ rest → KeepsNames old new → HasNames old services
-    → HasNames new rest
-names_later old new services rest s is kept has =
-    All-weaker (λ (x : Service). is_some (noted old x.id) ≡ true) (λ (x : Service). is_some (noted new x.id) ≡ true) (λ x h. kept x.id h) rest
-    (All-tail (λ (x : Service). is_some (noted old x.id) ≡ true) s rest (subst (HasNames old) is has))
+pub names_later : (old new : BTreeMap (List ℕ) ℕ) (s : Service) (later : List Service) → KeepsNames old new → HasNames old (s ∷ later) → HasNames new later
+names_later old new s later kept has =
+    All-weaker (λ (x : Service). is_some (noted old x.id) ≡ true) (λ (x : Service). is_some (noted new x.id) ≡ true) (λ x h. kept x.id h) later
+    (All-tail (λ (x : Service). is_some (noted old x.id) ≡ true) s later has)
 
 -- of the names so far, and of one more
 pub names_more : (old new : BTreeMap (List ℕ) ℕ) (services : List Service) (i : ℕ) (s : Service) → i < length services → get_or services i s ≡ s

@@ -2,7 +2,7 @@
 use Rattle.std.proofs.Common.{◌≡◌, ℕ, zero, suc, ◌+◌, ◌<◌, Bool, true, false, cond, not, ◌&&◌, ◌||◌, List, [], ◌∷◌, ◌++◌, ◌⊎◌, inl, inr, map, length, All, None, Some, get_or, slice_get, slice_set, refl, sym, ap, subst, ◌∙◌, arith, append-nil}
 use Rattle.std.specs.declared.option.Option.{Option}
 use Rattle.std.specs.declared.result.Result.TheVariants.{Ok}
-use Rattle.std.specs.Option.{option_map_or, option_or}
+use Rattle.std.specs.Option.{option_or}
 use Rattle.std.specs.Cmp.Lexicographic.{bytes_decides}
 use Rattle.std.specs.List.{filter, flat_map, fold, list_any, AllByRecursion, Contains}
 use Rattle.std.proofs.lemmas.Bool.{cases_lt}
@@ -290,15 +290,6 @@ others_unnamed (s ∷ ss) own q = on (has_id own s) (q s) refl (others_unnamed s
     on false true is rest = ap (λ t. cond t (s ∷ filter q (others ss own)) (filter q (others ss own))) is ∙ ap (λ l. s ∷ l) rest
     on false false is rest = ap (λ t. cond t (s ∷ filter q (others ss own)) (filter q (others ss own))) is ∙ rest
 
-same_way : (a b : List ℕ) → is_same_text a b ≡ is_same_text b a
-same_way a b = on (is_same_text a b) refl (is_same_text b a) refl
-  where
-    on : (t : Bool) → is_same_text a b ≡ t → (u : Bool) → is_same_text b a ≡ u → t ≡ u
-    on true h true k = refl
-    on false h false k = refl
-    on true h false k = absurd (true_not_false (sym ((bytes_decides b a).1 (sym ((bytes_decides a b).0 h))) ∙ k))
-    on false h true k = absurd (true_not_false (sym ((bytes_decides a b).1 (sym ((bytes_decides b a).0 k))) ∙ h))
-
 not_twice : (b : Bool) → not (not b) ≡ b
 not_twice true = refl
 not_twice false = refl
@@ -371,31 +362,29 @@ tree-of law state config stores slice live d store view kept once same lt is =
     (tree-kept law (record { «data» = config; bases = map (λ (s : Store). s.base) stores; live = live }) stores d store kept once refl
     (placed_at state config stores slice live d store view same lt is))
 
--- a change of the last of some stores put in its place
+-- changes put in their places, one after another
 
-placed_nil : (stores : List Store) → placed stores [] ≡ stores
-placed_nil [] = refl
-placed_nil (s ∷ stores) = refl
+-- the stores with the changes of those from a place on
+abbrev pub placed_from : ℕ → List Store → List (Option Store) → List Store
+placed_from zero stores changes = placed stores changes
+placed_from (suc n) [] changes = []
+placed_from (suc n) (s ∷ stores) changes = s ∷ placed_from n stores changes
 
-pub placed-none : (stores : List Store) → stores ≡ placed stores []
-placed-none stores = sym (placed_nil stores)
+pub placed-none : (n : ℕ) (stores : List Store) → placed_from n stores [] ≡ stores
+placed-none zero [] = refl
+placed-none zero (s ∷ stores) = refl
+placed-none (suc n) [] = refl
+placed-none (suc n) (s ∷ stores) = ap (λ l. s ∷ l) (placed-none n stores)
 
-placed_same : (stores : List Store) (front : List (Option Store)) → placed stores (front ++ None ∷ []) ≡ placed stores front
-placed_same [] front = refl
-placed_same (s ∷ stores) [] = ap (λ l. s ∷ l) (placed_nil stores)
-placed_same (s ∷ stores) (c ∷ front) = ap (λ l. picked s c ∷ l) (placed_same stores front)
+pub placed-same : (n : ℕ) (stores : List Store) (later : List (Option Store)) → placed_from (suc n) stores later ≡ placed_from n stores (None ∷ later)
+placed-same zero [] later = refl
+placed-same zero (s ∷ stores) later = refl
+placed-same (suc n) [] later = refl
+placed-same (suc n) (s ∷ stores) later = ap (λ l. s ∷ l) (placed-same n stores later)
 
-placed_set : (stores : List Store) (front : List (Option Store)) (store : Store) → length front < length stores
-    → placed (slice_set stores (length front) store) front ≡ placed stores (front ++ Some store ∷ [])
-placed_set [] front store lt = absurd (omega (arith, lt))
-placed_set (s ∷ stores) [] store lt = ap (λ l. store ∷ l) (sym (placed_nil stores))
-placed_set (s ∷ stores) (c ∷ front) store lt = ap (λ l. picked s c ∷ l) (placed_set stores front store (omega (arith, lt)))
-
-pub placed-last : (stores : List Store) (changes front : List (Option Store)) (change : Option Store) (n : ℕ) (new result : List Store)
-    → changes ≡ front ++ change ∷ [] → n ≡ length front → n < length stores
-    → new ≡ option_map_or (λ store. slice_set stores n store) change stores → result ≡ placed new front → result ≡ placed stores changes
-placed-last stores changes front None n new result cs is lt ns rs =
-    rs ∙ ap (λ (l : List Store). placed l front) ns ∙ sym (placed_same stores front) ∙ sym (ap (placed stores) cs)
-placed-last stores changes front (Some store) n new result cs is lt ns rs =
-    rs ∙ ap (λ (l : List Store). placed l front) ns ∙ ap (λ m. placed (slice_set stores m store) front) is
-    ∙ placed_set stores front store (omega (arith, lt, is)) ∙ sym (ap (placed stores) cs)
+pub placed-set : (n : ℕ) (stores : List Store) (store : Store) (later : List (Option Store))
+    → placed_from (suc n) (slice_set stores n store) later ≡ placed_from n stores (Some store ∷ later)
+placed-set zero [] store later = refl
+placed-set zero (s ∷ stores) store later = refl
+placed-set (suc n) [] store later = refl
+placed-set (suc n) (s ∷ stores) store later = ap (λ l. s ∷ l) (placed-set n stores store later)

@@ -208,10 +208,3 @@ pub differs_inside : (decls : Decls) (actions : List Action) (config : Config) �
     → DiffersInside (call_targets actions) config (data_after actions config)
 differs_inside decls actions config lawful = λ path differs.
     changes_are_targets decls actions config path lawful (λ same. differs (sym same))
-
-pub differs_so : (actions given : List Action) (old first config : Config) → given ≡ actions → first ≡ old → config ≡ data_after given first
-    → DiffersInside (call_targets actions) old (data_after actions old) → DiffersInside (call_targets given) first config
-differs_so actions given old first config same is at h =
-    subst (DiffersInside (call_targets given) first) (sym at)
-    (subst (λ (c : Config). DiffersInside (call_targets given) c (data_after given c)) (sym is)
-    (subst (λ (l : List Action). DiffersInside (call_targets l) old (data_after l old)) (sym same) h))

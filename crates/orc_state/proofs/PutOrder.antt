@@ -242,15 +242,6 @@ sorted-keeps_referred xs ys stable q =
     ∙ ap referred (filter_alike _ _ alike ys ∙ stable here ∙ sym (filter_alike _ _ alike xs))
     ∙ sym (filter-referred (is_at q) xs)
 
--- order kept in one part and the other is kept in both
-pub KeepsOrder-behind : (front xs ys : List Put) → KeepsOrder xs ys → KeepsOrder (front ++ xs) (front ++ ys)
-KeepsOrder-behind front xs ys same q =
-    filter-append (is_at q) front ys ∙ ap (λ zs. filter (is_at q) front ++ zs) (same q) ∙ sym (filter-append (is_at q) front xs)
-
-pub KeepsOrder-before : (xs ys rest : List Put) → KeepsOrder xs ys → KeepsOrder (xs ++ rest) (ys ++ rest)
-KeepsOrder-before xs ys rest same q =
-    filter-append (is_at q) ys rest ∙ ap (λ zs. zs ++ filter (is_at q) rest) (same q) ∙ sym (filter-append (is_at q) xs rest)
-
 pub KeepsOrder-then : (xs ys zs : List Put) → KeepsOrder xs ys → KeepsOrder ys zs → KeepsOrder xs zs
 KeepsOrder-then xs ys zs one other q = other q ∙ one q
 

@@ -274,6 +274,6 @@ module _ (law : LiteralIsExpansion) (decls : Decls) (are : AreDecls decls) (stat
       valid_on none None valid = planned_there call.actions (data_after call.actions snapshot.data) refl none refl valid
 
       on : (o : Option Answer) → first_service_fault (knows_service snapshot.known) call.actions ≡ o
-          → unless_fault o (unless_fault (invalid decls.data_schema (data_after call.actions snapshot.data)) (planned_known decls snapshot.known snapshot.front call.actions (data_after call.actions snapshot.data))) ≡ planned decls state snapshot.front call
+          → unless_fault (option_or o (invalid decls.data_schema (data_after call.actions snapshot.data))) (planned_known decls snapshot.known snapshot.front call.actions (data_after call.actions snapshot.data)) ≡ planned decls state snapshot.front call
       on (Some answer) found = planned_fault call.actions answer refl (sym found)
       on None none = valid_on none (invalid decls.data_schema (data_after call.actions snapshot.data)) refl

@@ -25,10 +25,10 @@ use Rattle.orc_state.specs.Metas.{AreNamesOf, IsMeta, writers}
 use Rattle.orc_state.specs.inside.Keeping.{AreKept, IsStoreFor}
 use Rattle.orc_state.specs.inside.Placed.{AreNamedOnce}
 use Rattle.orc_state.specs.declared.state.Service.{Service}
-use Rattle.orc_state.proofs.Agreement.{AreUnique, first_in, in_cases, in_filter, later_in, none_in_nil}
+use Rattle.orc_state.proofs.Agreement.{AreUnique, first_in, in_filter, later_in}
 use Rattle.orc_state.proofs.Clashing.{own_writes, writer_of}
 use Rattle.orc_state.proofs.LeastClash.{any_of}
-use Rattle.orc_state.proofs.Lists.{filter_from, or_first, or_second, passes, true_not_false}
+use Rattle.orc_state.proofs.Lists.{filter_from, passes, true_not_false}
 use Rattle.orc_state.proofs.Named.{is_text_itself, other_way}
 use Rattle.orc_state.proofs.OnDevice.{written}
 use Rattle.orc_state.proofs.Placing.{based, named_unique, placed_at}

@@ -1,5 +1,4 @@
 pub mod Behind
-pub mod Deleted
 pub mod Orders
 pub mod Placed
 pub mod Touching

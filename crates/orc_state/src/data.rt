@@ -1,5 +1,6 @@
-//! The data: what it is at the opening, what actions make of it, and what is broken in it.
-ghost use Rattle.std.specs.Prelude.{◌≡◌, None, All, codes, IfOk, OnOk, IsTrue};
+//! The data: what it is at the opening, what actions make of it, and why they are refused before their
+//! services are expanded.
+ghost use Rattle.std.specs.Prelude.{◌≡◌, None, All, IfOk, OnOk, IsTrue};
 ghost use Rattle.orc_check.specs.Validity.{broken_of};
 ghost use Rattle.orc_path.specs.Reading.{path_of};
 ghost use Rattle.orc_services.specs.Fitting.{fits_action, is_entry_id, FitActions};
@@ -7,45 +8,34 @@ ghost use Rattle.orc_state.specs.States.{device_entry, fits_puts, opening_data, 
 ghost use Rattle.orc_state.specs.Actions.{data_after, data_step, enter_service, leave_service};
 ghost use Rattle.orc_state.specs.Calls.{is_lawful_name};
 ghost use Rattle.orc_revalidate.specs.Changes.{DiffersInside};
-ghost use Rattle.orc_state.specs.Next.{invalid};
+ghost use Rattle.orc_state.specs.Next.{first_service_fault, invalid};
 ghost use Rattle.orc_state.specs.Plans.{call_targets};
 ghost use Rattle.std.specs.List.{list_any};
-ghost use Rattle.orc_state.specs.inside.Behind.{begins_as_path, is_on_data};
+ghost use Rattle.orc_state.specs.inside.Behind.{IsDataUnless, begins_as_path, is_on_data};
+ghost use Rattle.orc_state.specs.inside.Sights.{knows_service, service_key};
 
 use crate::base::tree_of;
+use crate::services::existence;
+use crate::steps::{path_of_step, step_of};
 use crate::targets::targets;
 use orc_call::{Action, Answer, Put};
 use orc_check::CheckFault;
 use orc_expr::Target;
-use orc_path::{Item, Name, Path, Step};
+use orc_path::{Item, Path};
 use orc_revalidate::revalidate;
 use orc_schema::Schema;
 use orc_services::path_of_id;
-use orc_text::{Memory, Row, Text};
+use orc_text::{Memory, Text};
 use orc_tree::Tree;
 use std::alloc::Global;
-
-// The name of the list of the devices.
-fn device_node(alloc: Global) -> Result<Name, Memory>
-    ensures { IfOk result (λ name. name ≡ codes "orc:device") }
-{
-    match Name::new(alloc, "orc:device") {
-        Ok(name) => Ok(name),
-        Err(_) => Err(Memory),
-    }
-}
 
 // The entry of the device of a name.
 fn device_entry(alloc: Global, name: &Text) -> Result<Path, Memory>
     requires { IsTrue (is_lawful_name name.now) }
     ensures { IfOk result (λ path. path ≡ device_entry name.now) }
 {
-    let node = device_node(alloc)?;
-    let mut keys = Row::new(alloc);
-    keys.push(name.copy(alloc)?)?;
-    let mut steps = Row::new(alloc);
-    steps.push(Step { node, keys })?;
-    Ok(Path { steps })
+    let step = step_of(alloc, "orc:device", name.copy(alloc)?)?;
+    path_of_step(alloc, step)
 }
 
 /// The data at the opening: these items, and an entry `/orc:device[D]` for each of the devices of
@@ -128,24 +118,21 @@ fn begins_as_path(text: &str) -> bool
 }
 
 // Whether an action may change the data.
-fn changes_data(action: &Action) -> bool
+fn is_on_data(action: &Action) -> bool
     ensures { result ≡ is_on_data action.now }
 {
     match action {
-        Action::Create(_, _) => true,
-        Action::Modify(_, _) => true,
+        Action::Create(_, _) | Action::Modify(_, _) | Action::Set(_) | Action::Unset(_) => true,
         Action::Delete(id) => begins_as_path(id.as_str()),
-        Action::Set(_) => true,
-        Action::Unset(_) => true,
         _ => false,
     }
 }
 
-// Whether one of the actions may.
-fn is_on_data(actions: &[Action]) -> bool
+// Whether one of the actions may change the data.
+fn any_on_data(actions: &[Action]) -> bool
     ensures { result ≡ list_any is_on_data actions.now }
 {
-    actions.iter().any(|action| changes_data(action))
+    actions.iter().any(|action| is_on_data(action))
 }
 
 /// The data behind actions, done in their order.
@@ -160,10 +147,36 @@ pub(crate) fn data_after(alloc: Global, data: &Tree, actions: &[Action]) -> Resu
     Ok(tree)
 }
 
-/// What is broken in the data behind actions, if anything is. Literal services, redeploys and edits of
-/// bases leave the data, which was valid: behind these alone it isn't looked at again. Else it is looked
-/// at where the actions may have changed it.
-pub(crate) fn invalid_behind(
+/// The data behind actions, or why they are refused before their services are expanded: the first
+/// action that creates a service that lives or names one that doesn't, else what is broken in the data.
+pub(crate) fn data_behind(
+    alloc: Global,
+    schema: &Schema,
+    known: &Tree,
+    old: &Tree,
+    actions: &[Action],
+) -> Result<Result<Tree, Answer>, Memory>
+    requires fit { FitActions actions.now }
+    requires keys { All (λ action. IsTrue (service_key action)) actions.now }
+    requires valid { broken_of schema.now old.now ≡ None }
+    requires changed { DiffersInside (call_targets actions.now) old.now (data_after actions.now old.now) }
+    ensures { IfOk result (IsDataUnless (first_service_fault (knows_service known.now) actions.now) schema.now
+        (data_after actions.now old.now)) }
+{
+    if let Some(found) = existence(alloc, known, actions)? {
+        return Ok(Err(found));
+    }
+    let data = data_after(alloc, old, actions)?;
+    match invalid_behind(alloc, schema, actions, old, &data)? {
+        Some(found) => Ok(Err(found)),
+        None => Ok(Ok(data)),
+    }
+}
+
+// What is broken in the data behind actions, if anything is. Literal services, redeploys and edits of
+// bases leave the data, which was valid: behind these alone it isn't looked at again. Else it is looked
+// at where the actions may have changed it.
+fn invalid_behind(
     alloc: Global,
     schema: &Schema,
     actions: &[Action],
@@ -175,7 +188,7 @@ pub(crate) fn invalid_behind(
     requires changed { DiffersInside (call_targets actions.now) old.now «data».now }
     ensures { IfOk result (λ found. found ≡ invalid schema.now «data».now) }
 {
-    if !is_on_data(actions) {
+    if !any_on_data(actions) {
         return Ok(None);
     }
     let targets = targets(alloc, actions)?;

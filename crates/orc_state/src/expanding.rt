@@ -41,7 +41,7 @@ pub(crate) fn expanded_reading(
     )
 }
 
-/// The same where what was read isn't asked.
+/// What actions come to on the data behind them, where what was read isn't asked.
 pub(crate) fn expanded(
     alloc: Global,
     decls: &Decls,

@@ -42,7 +42,7 @@ fn touches_device(
     }
 }
 
-// Whether one of the actions does.
+// Whether one of the expanded actions touches the device of this name and number.
 fn is_touched(
     alloc: Global,
     known: &Tree,
@@ -82,7 +82,7 @@ fn touched_known(
     Ok(devices)
 }
 
-// With a read of each of these services.
+// The reads that are handed in, and behind them one of each of these services.
 fn with_services(alloc: Global, reads: ReadSet, services: &[Text]) -> Result<ReadSet, Memory>
     ensures { IfOk result (λ all. all.reads ≡ reads.reads ++ map read.Service services.now) }
 {
@@ -93,7 +93,8 @@ fn with_services(alloc: Global, reads: ReadSet, services: &[Text]) -> Result<Rea
     Ok(all)
 }
 
-/// What actions hold that come to these, where the expansions read this.
+/// What a call holds while it is under way, by its actions, by those made of them as they are expanded,
+/// and by what the expansions read.
 pub(crate) fn held(
     alloc: Global,
     decls: &Decls,

@@ -1,40 +1,19 @@
 //! What lives, and on which devices: an entry for each living service, and one below it for each device
 //! on which the service has an item.
-ghost use Rattle.std.specs.Prelude.{◌≡◌, ◌==◌, ◌∷◌, [], ◌^◌, ◌<◌, All, codes, IfOk, IsTrue, OnOk, length};
+ghost use Rattle.std.specs.Prelude.{◌≡◌, ◌==◌, ◌^◌, ◌<◌, All, IfOk, IsTrue, OnOk, length};
 ghost use Rattle.std.specs.Fmt.{decimal};
 ghost use Rattle.std.specs.FinMap.{len};
 ghost use Rattle.std.specs.List.{fold};
-ghost use Rattle.orc_path.specs.Alphabet.{is_key, is_node_name};
-ghost use Rattle.orc_path.specs.Steps.{PathStep};
+ghost use Rattle.orc_path.specs.Alphabet.{is_key};
 ghost use Rattle.orc_state.specs.Snapshots.{device_row, device_step, service_entry, service_step};
 ghost use Rattle.orc_state.specs.inside.Sights.{enter_living, enter_parts, known_behind, knows_device, knows_service, leave_living};
 
 use crate::Service;
-use orc_path::{Item, Name, Path, Step};
+use crate::steps::{path_of_step, step_of};
+use orc_path::{Item, Path, Step};
 use orc_text::{Memory, Row, Text};
 use orc_tree::Tree;
 use std::alloc::Global;
-
-// A node's name.
-fn name_of(alloc: Global, text: &str) -> Result<Name, Memory>
-    ensures { IfOk result (λ name. name ≡ text.now) }
-{
-    match Name::new(alloc, text) {
-        Ok(name) => Ok(name),
-        Err(_) => Err(Memory),
-    }
-}
-
-// A step with one key.
-fn step_of(alloc: Global, node: &str, key: Text) -> Result<Step, Memory>
-    requires { IsTrue (is_key key) }
-    ensures { IfOk result (λ step. step ≡ record { node = node.now; keys = key ∷ [] }) }
-{
-    let node = name_of(alloc, node)?;
-    let mut keys = Row::new(alloc);
-    keys.push(key)?;
-    Ok(Step { node, keys })
-}
 
 // The step of the service of a name.
 fn service_step(alloc: Global, id: &Text) -> Result<Step, Memory>
@@ -65,12 +44,11 @@ fn service_entry(alloc: Global, id: &Text) -> Result<Path, Memory>
     requires { IsTrue (is_key id.now) }
     ensures { IfOk result (λ path. path ≡ service_entry id.now) }
 {
-    let mut steps = Row::new(alloc);
-    steps.push(service_step(alloc, id)?)?;
-    Ok(Path { steps })
+    let step = service_step(alloc, id)?;
+    path_of_step(alloc, step)
 }
 
-// The entry below it of the device of a number.
+// The entry of the device of a number below that of the service of a name.
 fn device_row(alloc: Global, id: &Text, device: u32) -> Result<Path, Memory>
     requires { IsTrue (is_key id.now) }
     ensures { IfOk result (λ path. path ≡ device_row id.now device) }
@@ -90,7 +68,7 @@ pub(crate) fn knows_service(alloc: Global, known: &Tree, id: &Text) -> Result<bo
     Ok(known.get(&path).is_some())
 }
 
-/// Whether it has an item on the device.
+/// Whether the living service of this name has an item on the device.
 pub(crate) fn knows_device(
     alloc: Global,
     known: &Tree,
@@ -111,7 +89,7 @@ fn is_blank(tree: &Tree) -> bool
     tree.is_empty()
 }
 
-// Enters each device on which one of these parts has an item.
+// Enters each device on which one of these parts of the service of a name has an item.
 fn enter_parts(known: &mut Tree, alloc: Global, id: &Text, parts: &[Tree]) -> Result<(), Memory>
     requires key { IsTrue (is_key id.now) }
     requires few { length parts.now < 2 ^ 32 }
@@ -125,7 +103,7 @@ fn enter_parts(known: &mut Tree, alloc: Global, id: &Text, parts: &[Tree]) -> Re
     Ok(())
 }
 
-// Enters a service.
+// Enters a service, and the devices on which it has an item.
 fn enter(known: &mut Tree, alloc: Global, service: &Service) -> Result<(), Memory>
     requires key { IsTrue (is_key service.now.id) }
     requires few { length service.now.parts < 2 ^ 32 }
@@ -146,7 +124,7 @@ fn leave_all(known: &mut Tree, alloc: Global, ids: &[Text]) -> Result<(), Memory
     Ok(())
 }
 
-// Enters services.
+// Enters services, and the devices on which each has an item.
 fn enter_all(known: &mut Tree, alloc: Global, services: &[Service]) -> Result<(), Memory>
     requires keys { All (λ service. IsTrue (is_key service.id)) services.now }
     requires few { All (λ service. length service.parts < 2 ^ 32) services.now }

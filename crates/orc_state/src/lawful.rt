@@ -87,11 +87,8 @@ pub(crate) fn service_of(action: &Action) -> Option<&Text>
     ensures { option_copied result ≡ service_of action.now }
 {
     match action {
-        Action::Create(id, _) => Some(id),
-        Action::Modify(id, _) => Some(id),
-        Action::Redeploy(id) => Some(id),
-        Action::Literal(id, _) => Some(id),
-        Action::Delete(id) => Some(id),
+        Action::Create(id, _) | Action::Modify(id, _) | Action::Literal(id, _) => Some(id),
+        Action::Redeploy(id) | Action::Delete(id) => Some(id),
         _ => None,
     }
 }
@@ -111,8 +108,9 @@ fn is_action(alloc: Global, decls: &Decls, action: &Action) -> Result<bool, Memo
     ensures { IfOk result (λ lawful. lawful ≡ is_action decls.now action.now) }
 {
     match action {
-        Action::Create(id, body) => is_bodied(alloc, decls, id, body.as_slice()),
-        Action::Modify(id, body) => is_bodied(alloc, decls, id, body.as_slice()),
+        Action::Create(id, body) | Action::Modify(id, body) => {
+            is_bodied(alloc, decls, id, body.as_slice())
+        }
         Action::Redeploy(id) => is_service(alloc, decls, id),
         Action::Literal(id, writes) => Ok(is_literal(decls, id, writes.as_slice())),
         Action::Delete(id) => {
@@ -162,7 +160,7 @@ fn is_removable(alloc: Global, decls: &Decls, path: &Path) -> bool
     is_data_path(alloc, &decls.data_schema, path) && !is_served(decls.services.as_slice(), path)
 }
 
-// Whether the schema has the item there.
+// Whether the schema has the item at its path.
 pub(crate) fn is_put(schema: &Schema, put: &Put) -> bool
     ensures { result ≡ is_put schema.now put.now }
 {
@@ -193,7 +191,7 @@ pub fn is_kept(path: &Path) -> bool
     }
 }
 
-// Whether it can give the writes.
+// Whether a call block can give the writes.
 fn are_writes(decls: &Decls, writes: &[DevicePut]) -> bool
     ensures { result ≡ list_all (is_write decls.now) writes.now }
 {
@@ -227,7 +225,7 @@ fn is_base_path(alloc: Global, decls: &Decls, device: &Text, path: &Path) -> boo
     }
 }
 
-// Whether the schema of a place has the item there, with its keys in canonical form.
+// Whether the schema of a place has the item at the path, whose keys are in canonical form.
 fn is_known_in(schemas: &[Schema], place: u32, path: &Path, item: &Item) -> bool
     ensures { result ≡ is_known (schema_in schemas.now place) path.now item.now }
 {
@@ -237,7 +235,7 @@ fn is_known_in(schemas: &[Schema], place: u32, path: &Path, item: &Item) -> bool
     }
 }
 
-// The first device of this name.
+// The first declared device of this name.
 fn device_named<'a>(devices: &'a [Device], name: &Text) -> Option<&'a Device>
     ensures { option_map (λ device. device.now) result ≡ device_named devices.now name.now }
 {
@@ -254,7 +252,7 @@ fn is_typed_in(schemas: &[Schema], place: u32, write: &DevicePut) -> bool
     }
 }
 
-// Whether the path can carry an item, and the schema has it there, with its keys in canonical form.
+// Whether the path can carry an item that the schema has at it, and its keys are in canonical form.
 fn is_path_under(alloc: Global, schema: &Schema, path: &Path) -> bool
     ensures { result ≡ is_path_under schema.now path.now }
 {
@@ -262,7 +260,7 @@ fn is_path_under(alloc: Global, schema: &Schema, path: &Path) -> bool
     is_item_at(path, &item) && is_known(schema, path, &item)
 }
 
-// Whether the schema has the item there, with its keys in canonical form.
+// Whether the schema has the item at the path, whose keys are in canonical form.
 fn is_known(schema: &Schema, path: &Path, item: &Item) -> bool
     ensures { result ≡ is_known schema.now path.now item.now }
 {
@@ -308,7 +306,7 @@ pub fn is_item_at(path: &Path, item: &Item) -> bool
     item.fits(path)
 }
 
-// Whether a leaf can hold it.
+// Whether the item is an entry, or a text that a leaf can hold.
 fn is_lawful_item(item: &Item) -> bool
     ensures { result ≡ is_lawful_item item.now }
 {

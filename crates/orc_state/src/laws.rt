@@ -11,7 +11,7 @@ pub fn tree_is_configuration()
     written_is_typed();
 }
 
-/// Each item of it may stand there under the device's schema.
+/// Each item of the tree of each device may stand at its path under the device's schema.
 pub fn tree_is_typed()
     ensures { TreeIsTyped }
 {

@@ -4,7 +4,6 @@
 #![tactic(auto)]
 
 mod base;
-mod commit;
 mod data;
 mod declarations;
 mod expanding;
@@ -21,6 +20,7 @@ mod served;
 mod services;
 mod snapshot;
 mod state;
+mod steps;
 mod stores;
 mod targets;
 mod touched;

@@ -1,5 +1,5 @@
 //! The living services, found by their names and kept in the order in which they were made.
-ghost use Rattle.std.specs.Prelude.{◌≡◌, ℕ, ◌+◌, ◌<◌, ◌≤◌, List, ◌++◌, ◌∷◌, [], Some, None, true, false, is_some, length, map, slice_set, IfOk, OnOk, OnErr, if◌then◌else◌};
+ghost use Rattle.std.specs.Prelude.{◌≡◌, ℕ, ◌+◌, ◌<◌, ◌≤◌, List, ◌++◌, ◌∷◌, [], Some, None, true, false, is_some, length, slice_set, OnOk, OnErr, if◌then◌else◌};
 ghost use Rattle.std.specs.List.{find};
 ghost use Rattle.std.specs.Option.{option_copied};
 ghost use Rattle.std.specs.Vec.{vec_len, vec_capacity};
@@ -67,14 +67,8 @@ impl Living {
     pub(crate) fn names_differ(&self)
         ensures { AreNamedOnce self.now }
     {
+        // Looked at, so that the proof knows that they are living services.
         let _ = &self.slots;
-    }
-
-    /// Whether a service of this name lives.
-    pub(crate) fn lives(&self, id: &Text) -> bool
-        ensures { result ≡ lives self.now id.now }
-    {
-        self.find(id).is_some()
     }
 
     /// Takes the services of these names away, where there are any, and puts others behind those that
@@ -89,7 +83,6 @@ impl Living {
         ensures ok { OnOk result (self.new ≡ left_by self.old ids.now ++ services.items) }
         ensures err { OnErr result (self.new ≡ self.old) }
     {
-        let names = names_of(alloc, services.as_slice())?;
         make_room(
             alloc,
             &mut self.slots,
@@ -97,20 +90,9 @@ impl Living {
             services.as_slice(),
         )?;
         take_all(&mut self.slots, &self.places, ids);
-        put_all(&mut self.slots, &mut self.places, names, services);
+        put_all(&mut self.slots, &mut self.places, services);
         Ok(())
     }
-}
-
-// Copies of the names of services.
-fn names_of(alloc: Global, services: &[Service]) -> Result<Vec<Text>, Memory>
-    ensures { IfOk result (λ names. names.items ≡ map (λ service. service.id) services.now) }
-{
-    let mut names = Vec::new(alloc);
-    for service in services {
-        names.push(service.id.copy(alloc)?)?;
-    }
-    Ok(names)
 }
 
 // Whether the slot of a place holds a service of this name.
@@ -211,25 +193,18 @@ fn take_all(slots: &mut Vec<Option<Service>>, places: &BTreeMap<Text, usize>, id
 }
 
 // Puts a service into a slot behind the others, where there is room for one and for its name.
-fn put_in(
-    slots: &mut Vec<Option<Service>>,
-    places: &mut BTreeMap<Text, usize>,
-    id: Text,
-    service: Service,
-)
+fn put_in(slots: &mut Vec<Option<Service>>, places: &mut BTreeMap<Text, usize>, service: Service)
     requires noted { AreNoted slots.old.items places.old }
-    requires id { id ≡ service.id }
     requires fresh { lives (filled slots.old.items) service.id ≡ false }
     requires room { HasRoom slots.old 1 }
-    requires name { is_some (noted places.old id) ≡ true }
+    requires name { is_some (noted places.old service.id) ≡ true }
     ensures noted { AreNoted slots.new.items places.new }
     ensures more { filled slots.new.items ≡ filled slots.old.items ++ service ∷ [] }
     ensures room { UsesRoom slots.old slots.new }
     ensures names { KeepsNames places.old places.new }
 {
-    let place = slots.len();
+    note_place(places, &service.id, slots.len());
     fill_slot(slots, service);
-    note_place(places, id, place);
 }
 
 // Adds a slot with a service, where there is room for one.
@@ -246,40 +221,34 @@ fn fill_slot(slots: &mut Vec<Option<Service>>, service: Service)
 }
 
 // Notes the place of a name, where there is room for it.
-fn note_place(places: &mut BTreeMap<Text, usize>, id: Text, place: usize)
-    requires { is_some (noted places.old id) ≡ true }
+fn note_place(places: &mut BTreeMap<Text, usize>, id: &Text, place: usize)
+    requires { is_some (noted places.old id.now) ≡ true }
     ensures { (name : List ℕ) → noted places.new name
-        ≡ (if is_same_text id name then Some place else noted places.old name) }
+        ≡ (if is_same_text id.now name then Some place else noted places.old name) }
 {
-    match places.insert(id, place) {
-        Ok(_) => {}
-        Err(_) => unreachable!(),
+    match places.get_mut(id) {
+        Some(at) => *at = place,
+        None => unreachable!(),
     }
 }
 
-// Puts services with their names into slots behind the others, in their order, where there is room
-// for them and for their names.
+// Puts services into slots behind the others, in their order, where there is room for them and for
+// their names.
 fn put_all(
     slots: &mut Vec<Option<Service>>,
     places: &mut BTreeMap<Text, usize>,
-    names: Vec<Text>,
     services: Vec<Service>,
 )
     requires noted { AreNoted slots.old.items places.old }
-    requires names { names.items ≡ map (λ service. service.id) services.items }
     requires fresh { AreFresh (filled slots.old.items) services.items }
     requires room { HasRoom slots.old (length services.items) }
-    requires room_of_names { HasNames places.old services.items }
+    requires names { HasNames places.old services.items }
     ensures noted { AreNoted slots.new.items places.new }
     ensures more { filled slots.new.items ≡ filled slots.old.items ++ services.items }
 {
-    let mut names = names;
-    let mut services = services;
-    if services.is_empty() {
-        return;
+    for service in services {
+        put_in(slots, places, service);
     }
-    put_in(slots, places, names.remove(0), services.remove(0));
-    put_all(slots, places, names, services);
 }
 
 // Drops what stands in a slot.

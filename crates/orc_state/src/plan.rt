@@ -54,20 +54,14 @@ fn push_expansion(
     ensures { OnOk result (expansions.new ≡ expansions.old ++ expansions_by names.now action.now made.now) }
 {
     match action {
-        Action::Create(id, _) => {
-            expansions.push((id.copy(alloc)?, literal_parts(alloc, names, made)?))
-        }
-        Action::Modify(id, _) => {
-            expansions.push((id.copy(alloc)?, literal_parts(alloc, names, made)?))
-        }
-        Action::Redeploy(id) => {
+        Action::Create(id, _) | Action::Modify(id, _) | Action::Redeploy(id) => {
             expansions.push((id.copy(alloc)?, literal_parts(alloc, names, made)?))
         }
         _ => Ok(()),
     }
 }
 
-// Those of actions, by what these came to.
+// The expansions of the services that actions create, modify or redeploy, by what these came to.
 fn all_expansions(
     alloc: Global,
     names: &[Text],

@@ -35,7 +35,7 @@ pub fn is_served(lists: &[ServiceList], path: &Path) -> bool
     lists.iter().any(|it| meets(it.list.steps.as_slice(), path.steps.as_slice()))
 }
 
-// Whether the path is that of an entry of one of the lists, and a line may name it.
+// Whether the path is that of an entry of a list whose entries are services, and a line may name it.
 fn is_service_path(alloc: Global, decls: &Decls, path: &Path) -> bool
     ensures { result ≡ is_service_path decls.now path.now }
 {
@@ -60,14 +60,14 @@ fn is_body_item(schema: &Schema, entry: &Path, put: &Put) -> bool
         && (entry.is_prefix_of(&put.path) && entry.steps.len() < put.path.steps.len())
 }
 
-// Whether each of the items does.
+// Whether each of the items stands below the entry, where the schema has it.
 fn are_body_items(schema: &Schema, entry: &Path, puts: &[Put]) -> bool
     ensures { result ≡ list_all (is_body_item schema.now entry.now) puts.now }
 {
     puts.iter().all(|put| is_body_item(schema, entry, put))
 }
 
-// Whether the items are the tree's below the entry.
+// Whether the items are, in path order, those that the tree has below the entry.
 fn are_below(entry: &Path, tree: &Tree, puts: &[Put]) -> bool
     ensures { result ≡ are_below entry.now (entries tree.now) puts.now }
 {

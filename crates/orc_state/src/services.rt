@@ -23,7 +23,7 @@ fn exists(alloc: Global, known: &Tree, id: &Text) -> Result<Option<Answer>, Memo
 }
 
 // The answer to an action on the service of this name, where none lives.
-fn is_missing(alloc: Global, known: &Tree, id: &Text) -> Result<Option<Answer>, Memory>
+fn missing(alloc: Global, known: &Tree, id: &Text) -> Result<Option<Answer>, Memory>
     requires { IsTrue (is_key id.now) }
     ensures { IfOk result (λ found. found ≡ (if knows_service known.now id.now then None else Some (Missing id.now))) }
 {
@@ -33,23 +33,22 @@ fn is_missing(alloc: Global, known: &Tree, id: &Text) -> Result<Option<Answer>, 
     Ok(Some(Answer::Missing(id.copy(alloc)?)))
 }
 
-// Whether the action creates what lives, or names what doesn't.
+// The answer to an action that creates a service that lives, or names one that doesn't.
 fn existence_of(alloc: Global, known: &Tree, action: &Action) -> Result<Option<Answer>, Memory>
     requires { IsTrue (service_key action.now) }
     ensures { IfOk result (λ found. found ≡ service_fault (knows_service known.now) action.now) }
 {
     match action {
-        Action::Create(id, _) => exists(alloc, known, id),
-        Action::Modify(id, _) => is_missing(alloc, known, id),
-        Action::Redeploy(id) => is_missing(alloc, known, id),
-        Action::Literal(id, _) => exists(alloc, known, id),
-        Action::Delete(id) => is_missing(alloc, known, id),
+        Action::Create(id, _) | Action::Literal(id, _) => exists(alloc, known, id),
+        Action::Modify(id, _) | Action::Redeploy(id) | Action::Delete(id) => {
+            missing(alloc, known, id)
+        }
         // The other kinds name no service.
         _ => Ok(None),
     }
 }
 
-/// The first action that does.
+/// The answer to the first action that creates a service that lives, or names one that doesn't.
 pub(crate) fn existence(
     alloc: Global,
     known: &Tree,

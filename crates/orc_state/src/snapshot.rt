@@ -13,10 +13,9 @@ ghost use Rattle.orc_state.specs.States.{State};
 ghost use Rattle.orc_state.specs.inside.Sights.{planned_sight, service_key};
 
 use crate::Decls;
-use crate::data::{data_after, invalid_behind};
+use crate::data::data_behind;
 use crate::laws::literal_is_expansion;
 use crate::plan::{Plan, planned_known};
-use crate::services::existence;
 use orc_call::{Answer, Call};
 use orc_text::Memory;
 use orc_tree::Tree;
@@ -75,7 +74,7 @@ impl Snapshot {
         self.plan_known(alloc, decls, call)
     }
 
-    // The same by what the snapshot knows.
+    // The plan of a call by what the snapshot knows of the living services, or why there is none.
     fn plan_known(
         &self,
         alloc: Global,
@@ -91,13 +90,9 @@ impl Snapshot {
         ensures { IfOk result (λ found. found ≡ planned_sight decls.now self.now call.now) }
     {
         let actions = call.actions.as_slice();
-        if let Some(found) = existence(alloc, &self.known, actions)? {
-            return Ok(Err(found));
-        }
-        let data = data_after(alloc, &self.data, actions)?;
-        match invalid_behind(alloc, &decls.data_schema, actions, &self.data, &data)? {
-            Some(found) => Ok(Err(found)),
-            None => planned_known(alloc, decls, &self.known, self.front, actions, &data),
+        match data_behind(alloc, &decls.data_schema, &self.known, &self.data, actions)? {
+            Ok(data) => planned_known(alloc, decls, &self.known, self.front, actions, &data),
+            Err(found) => Ok(Err(found)),
         }
     }
 }

@@ -9,7 +9,7 @@ ghost use Rattle.orc_state.specs.Calls.{is_call};
 ghost use Rattle.orc_state.specs.Declarations.{AreDecls};
 ghost use Rattle.orc_state.specs.Metas.{IsMeta};
 ghost use Rattle.orc_state.specs.Plans.{call_targets};
-ghost use Rattle.orc_state.specs.Next.{IsStateOf, after, clash, existence, refusal};
+ghost use Rattle.orc_state.specs.Next.{IsStateOf, after, clash, refusal};
 ghost use Rattle.orc_state.specs.Snapshots.{IsSnapshotOf};
 ghost use Rattle.orc_state.specs.Touched.{touched_among, touched_devices};
 ghost use Rattle.orc_state.specs.inside.Behind.{IsDataBehind, changed_by};
@@ -17,15 +17,13 @@ ghost use Rattle.orc_state.specs.inside.Keeping.{IsStoreFor};
 ghost use Rattle.orc_state.specs.inside.Sights.{service_key};
 
 use crate::base::declared_base;
-use crate::commit::{comers, place, turn_ids};
-use crate::data::{data_after, invalid_behind, opening_data};
+use crate::data::{data_behind, opening_data};
 use crate::expanding::expanded;
 use crate::known::known_behind;
 use crate::living::Living;
-use crate::services::existence;
-use crate::stores::stores_behind;
+use crate::stores::{place, stores_behind};
 use crate::touched::touched_among;
-use crate::turns::turns;
+use crate::turns::{comers, turn_ids, turns};
 use crate::{Decls, Device, Snapshot};
 use orc_call::{Action, Answer, Call};
 use orc_path::Path;
@@ -50,7 +48,7 @@ pub struct State {
     pub(crate) data: Tree,
     pub(crate) stores: Row<Refs>,
     pub(crate) live: Living,
-    // What lives on which devices once more, in pages that a snapshot shares.
+    // What lives on which devices, as `live` tells it too, in pages that a snapshot shares.
     pub(crate) known: Tree,
 }
 
@@ -167,9 +165,9 @@ impl State {
         self.next_touching(alloc, decls, call, &mut touched)
     }
 
-    /// The same. Of a call that is done it also puts the numbers of the devices that the call touches,
-    /// as `touched_devices` tells them of the state before it, in the place of those handed in. The call
-    /// is expanded once for both.
+    /// Does a call as `next` does. Of a call that is done it also puts the numbers of the devices that
+    /// the call touches, as `touched_devices` tells them of the state before it, in the place of those
+    /// handed in. The call is expanded once for both.
     pub fn next_touching(
         &mut self,
         alloc: Global,
@@ -193,14 +191,6 @@ impl State {
         }
     }
 
-    // Which of the actions creates a service that lives, or names one that doesn't.
-    fn existence(&self, alloc: Global, actions: &[Action]) -> Result<Option<Answer>, Memory>
-        requires { All (λ action. IsTrue (service_key action)) actions.now }
-        ensures { IfOk result (λ found. found ≡ existence self.now.live actions.now) }
-    {
-        existence(alloc, &self.known, actions)
-    }
-
     // The data behind a call, or why it is refused before services are looked at.
     fn data_behind(
         &self,
@@ -213,17 +203,10 @@ impl State {
         requires valid { broken_of decls.now.data_schema self.now.data ≡ None }
         requires changed { DiffersInside (call_targets call.now.actions) self.now.data
             (data_after call.now.actions self.now.data) }
-        ensures { IfOk result (λ found. IsDataBehind decls.now self.now call.now found) }
+        ensures { IfOk result (IsDataBehind decls.now self.now call.now) }
     {
         let actions = call.actions.as_slice();
-        if let Some(found) = self.existence(alloc, actions)? {
-            return Ok(Err(found));
-        }
-        let data = data_after(alloc, &self.data, actions)?;
-        match invalid_behind(alloc, &decls.data_schema, actions, &self.data, &data)? {
-            Some(found) => Ok(Err(found)),
-            None => Ok(Ok(data)),
-        }
+        data_behind(alloc, &decls.data_schema, &self.known, &self.data, actions)
     }
 
     // Goes on with the data behind a call: expands its services and does what its actions come to, or

@@ -1,6 +1,6 @@
 //! The stores of the devices behind a call: where it touches a device, what its moves and edits make
-//! of a copy of that device's store.
-ghost use Rattle.std.specs.Prelude.{◌≡◌, ℕ, ◌<◌, ◌^◌, ◌==◌, false, IfErr, IfOk, IsTrue, OnOk, length};
+//! of a copy of that device's store, which then takes the store's place.
+ghost use Rattle.std.specs.Prelude.{◌≡◌, ℕ, ◌<◌, ◌≤◌, ◌^◌, ◌==◌, false, IfErr, IfOk, IsTrue, OnOk, length};
 ghost use Rattle.std.specs.List.{flat_map, list_all, list_any};
 ghost use Rattle.orc_refs.specs.Clashes.{IsCause};
 ghost use Rattle.orc_refs.specs.Moves.{BringWhole, IsMoved, StartAt, are_distinct, edit_fits, writes_after};
@@ -8,7 +8,7 @@ ghost use Rattle.orc_refs.specs.Stores.{written_by};
 ghost use Rattle.orc_state.specs.States.{name_of};
 ghost use Rattle.orc_services.specs.Fitting.{FitActions};
 ghost use Rattle.orc_state.specs.inside.Turns.{turns_of};
-ghost use Rattle.orc_state.specs.inside.Keeping.{AreBehind, AreKept, ComesTo, IsChangeOf, IsOpenTo, IsStoreBehind, IsStoreFor, StaysOn};
+ghost use Rattle.orc_state.specs.inside.Keeping.{AreBehind, AreKept, ComesTo, IsChangeOf, IsOpenTo, IsStoreBehind, IsStoreFor, StaysOn, placed};
 
 use crate::living::Living;
 use crate::turns::{Turn, edits_on, moves_on};
@@ -87,8 +87,8 @@ fn store_behind(
     moved(alloc, store, moves.as_slice(), edits.as_slice(), device)
 }
 
-// The same where the device is among those that are touched; else the store stays, and is not looked
-// at.
+// The store of a device behind actions where they touch it, or the clash that they meet there; none of
+// another device, whose store stays and is not looked at.
 fn change_of(
     alloc: Global,
     names: &[Text],
@@ -147,4 +147,17 @@ pub(crate) fn stores_behind(
         }
     }
     Ok(Ok(changes))
+}
+
+/// Puts changed stores in the places of the old ones.
+pub(crate) fn place(mut stores: Vec<Refs>, changes: Vec<Option<Refs>>) -> Vec<Refs>
+    requires { length changes.items ≤ length stores.items }
+    ensures { result.items ≡ placed stores.items changes.items }
+{
+    for (device, change) in changes.into_iter().enumerate() {
+        if let Some(store) = change {
+            stores[device] = store;
+        }
+    }
+    stores
 }

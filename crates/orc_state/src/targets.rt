@@ -25,7 +25,7 @@ fn push_entry(targets: &mut Row<Target>, alloc: Global, id: &Text) -> Result<(),
     }
 }
 
-// Adds where it may go.
+// Adds where the entry of the service of an id may go, and all below it.
 fn push_leave(targets: &mut Row<Target>, alloc: Global, id: &Text) -> Result<(), Memory>
     ensures { OnOk result (targets.new ≡ targets.old ++ leave_targets (path_of id.now)) }
 {
@@ -35,13 +35,12 @@ fn push_leave(targets: &mut Row<Target>, alloc: Global, id: &Text) -> Result<(),
     }
 }
 
-// Adds what an action may write.
+// Adds what an action may write on any data.
 fn push_targets(targets: &mut Row<Target>, alloc: Global, action: &Action) -> Result<(), Memory>
     ensures { OnOk result (targets.new ≡ targets.old ++ targets_of action.now) }
 {
     match action {
-        Action::Create(id, _) => push_entry(targets, alloc, id),
-        Action::Modify(id, _) => push_entry(targets, alloc, id),
+        Action::Create(id, _) | Action::Modify(id, _) => push_entry(targets, alloc, id),
         Action::Delete(id) => push_leave(targets, alloc, id),
         Action::Set(put) => targets.push(Target::One(put.path.copy(alloc)?)),
         Action::Unset(path) => targets.push(Target::Under(path.copy(alloc)?)),

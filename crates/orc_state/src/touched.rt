@@ -39,7 +39,7 @@ pub fn touched_devices(
     }
 }
 
-/// The same of expanded actions.
+/// The numbers of the devices that expanded actions touch.
 pub(crate) fn touched_among(
     alloc: Global,
     names: &[Text],
@@ -61,8 +61,8 @@ pub(crate) fn touched_among(
     Ok(devices)
 }
 
-/// The living services that actions take away, each looked up once.
-pub(crate) fn taken<'a>(
+// The living services that actions take away, each looked up once.
+fn taken<'a>(
     alloc: Global,
     live: &'a Living,
     actions: &[Action],
@@ -84,14 +84,13 @@ fn taken_by<'a>(live: &'a Living, action: &Action) -> Option<&'a Service>
     ensures { option_copied result ≡ taken_by live.now action.now }
 {
     match action {
-        Action::Literal(id, _) => live.find(id),
-        Action::Delete(id) => live.find(id),
+        Action::Literal(id, _) | Action::Delete(id) => live.find(id),
         _ => None,
     }
 }
 
-/// Whether one of the actions touches the device, given the living services that they take away.
-pub(crate) fn is_touched(
+// Whether one of the actions touches the device, given the living services that they take away.
+fn is_touched(
     names: &[Text],
     state: &State,
     actions: &[Action],
@@ -109,7 +108,7 @@ pub(crate) fn is_touched(
 }
 
 // Whether one of the actions makes a service that writes on the device or edits its base, or one of
-// the services has an item there.
+// the services that they take away has an item on it.
 fn touches(names: &[Text], actions: &[Action], taken: &[&Service], device: u32) -> bool
     requires device { device < length names.now }
     requires complete { All (λ service. device < length service.now.parts) taken.now }
@@ -128,7 +127,7 @@ fn is_edited(actions: &[Action], name: &Text) -> bool
     actions.iter().any(|action| is_edited_by(action, name))
 }
 
-// Whether the action does.
+// Whether the action makes a service that writes on the device of this name, or edits its base.
 fn is_edited_by(action: &Action, name: &Text) -> bool
     ensures { result ≡ is_edited_by name.now action.now }
 {

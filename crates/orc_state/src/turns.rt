@@ -1,11 +1,11 @@
 //! What a call does to the services that it names, and what that asks of the store of one device.
-ghost use Rattle.std.specs.Prelude.{◌≡◌, ◌++◌, IfOk, IsTrue, OnOk, slice_get};
+ghost use Rattle.std.specs.Prelude.{◌≡◌, ◌++◌, map, IfOk, IsTrue, OnOk, slice_get};
 ghost use Rattle.std.specs.Option.{option_copied};
 ghost use Rattle.std.specs.List.{flat_map};
 ghost use Rattle.orc_refs.specs.Moves.{AreWhole, BringWhole, items_of};
 ghost use Rattle.orc_state.specs.States.{part};
 ghost use Rattle.orc_services.specs.Fitting.{fits_action, FitActions};
-ghost use Rattle.orc_state.specs.inside.Turns.{edits_of, held_by, move_of, turns_of};
+ghost use Rattle.orc_state.specs.inside.Turns.{comers, edits_of, held_by, move_of, turn_id, turns_of};
 
 use crate::Service;
 use crate::expansion::expansion;
@@ -19,9 +19,9 @@ use std::alloc::Global;
 /// What an expanded call does to a service that it names.
 #[derive(Drop)]
 pub(crate) enum Turn {
-    /// It makes the service.
+    /// The call makes this service.
     Comes(Service),
-    /// It deletes the service of this name.
+    /// The call deletes the service of this name.
     Goes(Text),
 }
 
@@ -63,7 +63,52 @@ pub(crate) fn turns(alloc: Global, names: &[Text], actions: &[Action]) -> Result
     Ok(turns)
 }
 
-// The part of a device, where there is one.
+// Adds the service that comes, if one does.
+fn push_comer(services: &mut Vec<Service>, turn: Turn) -> Result<(), Memory>
+    ensures { OnOk result (services.new.items ≡ services.old.items ++ comers turn) }
+{
+    match turn {
+        Turn::Comes(service) => {
+            services.push(service)?;
+            Ok(())
+        }
+        Turn::Goes(_) => Ok(()),
+    }
+}
+
+/// The services that come.
+pub(crate) fn comers(alloc: Global, turns: Vec<Turn>) -> Result<Vec<Service>, Memory>
+    ensures { IfOk result (λ services. services.items ≡ flat_map comers turns.items) }
+{
+    let mut services = Vec::new(alloc);
+    for turn in turns {
+        push_comer(&mut services, turn)?;
+    }
+    Ok(services)
+}
+
+/// The names of the services that come or go.
+pub(crate) fn turn_ids(alloc: Global, turns: &[Turn]) -> Result<Vec<Text>, Memory>
+    ensures { IfOk result (λ ids. ids.items ≡ map turn_id turns.now) }
+{
+    let mut ids = Vec::new(alloc);
+    for turn in turns {
+        ids.push(turn_id(turn).copy(alloc)?)?;
+    }
+    Ok(ids)
+}
+
+// The name of the service that comes or goes.
+fn turn_id(turn: &Turn) -> &Text
+    ensures { result.now ≡ turn_id turn.now }
+{
+    match turn {
+        Turn::Comes(service) => &service.id,
+        Turn::Goes(id) => id,
+    }
+}
+
+// What a service writes on a device, by its parts, where there is one of the device.
 fn part_of(parts: &[Tree], device: u32) -> Option<&Tree>
     ensures { option_copied result ≡ slice_get parts.now device }
 {

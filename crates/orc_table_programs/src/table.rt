@@ -1,4 +1,6 @@
 //! Tables: each has lines of one kind.
+ghost use Rattle.std.specs.Prelude.{◌≡◌, ◌↔◌, ◌==◌, ◌&&◌, not, length, slice_index, IsOkAnd, IsTrue};
+
 use crate::score::Score;
 use crate::undone::Undone;
 use std::io;
@@ -7,6 +9,20 @@ use std::io;
 pub trait Table {
     /// Does a line, and says whether it holds.
     fn take(&mut self, line: &str) -> Result<bool, Undone>;
+}
+
+// Whether a line says something: it isn't empty and doesn't begin with `#`.
+fn says(line: &str) -> bool
+    ensures { result ≡ (not (length line.now == 0) && not (slice_index line.now 0 == 35)) }
+{
+    !line.is_empty() && !line.starts_with('#')
+}
+
+// Whether a line holds that was answered so. One that isn't done doesn't.
+fn holds(answer: Result<bool, Undone>) -> bool
+    ensures { IsTrue result ↔ IsOkAnd answer IsTrue }
+{
+    answer.unwrap_or(false)
 }
 
 /// Does the lines of a table from top to bottom, but for those that are empty or begin with `#`. Prints the lines that
@@ -19,14 +35,13 @@ pub fn run_lines<R: Print, T: Table + Drop>(
 ) -> io::Result<bool> {
     let mut score = Score::new();
     for line in text.lines() {
-        if line.is_empty() || line.starts_with('#') {
-            continue;
+        if says(line) {
+            let good = holds(table.take(line));
+            if !good {
+                println!(rt; "{name}: {line} DIFFERS")?;
+            }
+            score.take(good);
         }
-        let holds = table.take(line).unwrap_or(false);
-        if !holds {
-            println!(rt; "{name}: {line} DIFFERS")?;
-        }
-        score.take(holds);
     }
     score.told(rt, name, "lines")
 }

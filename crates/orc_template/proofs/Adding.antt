@@ -27,10 +27,6 @@ pub gathers_none : (due : Result Expanding Failed) (reads : List Read) (f : Expa
 gathers_none due reads (fault.At n rule) h = h
 gathers_none due reads fault.Memory h = tt
 
--- want of memory finds nothing and adds nothing
-pub finds_none : (due : Result Expanding Failed) (reads : List Read) (r : Result Expansion ExpandFault) → r ≡ Err fault.Memory → FindsExpansion due reads (parts_result r)
-finds_none due reads r is = subst (λ (x : Result Expansion ExpandFault). FindsExpansion due reads (parts_result x)) (sym is) tt
-
 pub adds_none : {T : Type 0} (answer : Result T ExpandFault) (old read new : List Read) (r : Result T ExpandFault) → r ≡ Err fault.Memory → new ≡ old → AddsReads answer old read new r
 adds_none answer old read new r is h = subst (AddsReads answer old read new) (sym is) h
 

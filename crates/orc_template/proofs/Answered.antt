@@ -10,8 +10,8 @@ use Rattle.orc_expr.specs.declared.read.Read.{Read}
 use Rattle.orc_template.specs.Readers.{Readers}
 use Rattle.orc_template.specs.Blocks.{Blocks, blocks_inside}
 use Rattle.orc_template.specs.Devices.{DeviceTable}
-use Rattle.orc_template.specs.Expansions.{Expanding, Failed, blocks_expanded, expanded, device_parts, AnswersExpansion}
-use Rattle.orc_template.specs.inside.Expanding.{Expands, FindsExpansion}
+use Rattle.orc_template.specs.Expansions.{Expanding, Failed, blocks_expanded, expanded, AnswersExpansion}
+use Rattle.orc_template.specs.inside.Expanding.{FindsExpansion}
 use Rattle.orc_template.specs.declared.fault.ExpandFault.{ExpandFault}
 use Rattle.orc_template.specs.declared.fault.ExpandFault.TheVariants as fault
 
@@ -23,13 +23,6 @@ begins readers devices instance template v blocks start are written reads =
     ap (λ b. blocks_expanded (record { readers = readers; view = v; devices = devices }) instance 1 b start) are
     ∙ ap (λ (w : List Config). blocks_expanded (record { readers = readers; view = v; devices = devices }) instance 1 (blocks_inside template) (record { written = w; reads = start.reads })) written
     ∙ ap (λ (rs : List Read). blocks_expanded (record { readers = readers; view = v; devices = devices }) instance 1 (blocks_inside template) (record { written = map (λ name. empty) devices.names; reads = rs })) reads
-
-pub finds_ok : (due : Result Expanding Failed) (new : Expanding) (parts : List (ℕ × List Put)) → due ≡ Ok new → parts ≡ device_parts 0 new.written → FindsExpansion due new.reads (Ok parts)
-finds_ok due new parts is are = (new, is, are, refl)
-
-pub finds_err : (due : Result Expanding Failed) (new : Expanding) (f : ExpandFault) → Expands due new (Err f) → FindsExpansion due new.reads (Err f)
-finds_err due new (fault.At n rule) h = h
-finds_err due new fault.Memory h = tt
 
 -- the reads come behind those that were there
 pub answered : (due : Result Expanding Failed) (old read new : List Read) (result : Result (List (ℕ × List Put)) ExpandFault)

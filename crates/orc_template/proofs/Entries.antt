@@ -13,7 +13,7 @@ use Rattle.orc_template.specs.Values.{Scene, Done, Does, keys_done}
 use Rattle.orc_template.specs.Writing.{Ended, go_on, with_done, write_at, members_done, entry_done, Writes}
 use Rattle.orc_template.specs.declared.writing.Writing.{Writing}
 use Rattle.orc_template.specs.declared.fault.Halt.{Halt}
-use Rattle.orc_template.proofs.Handed.{writes_so, with_does, with_on, wrote, stops_on}
+use Rattle.orc_template.proofs.Handed.{writes_so, with_does, wrote, stops_on}
 use Rattle.orc_json.proofs.Found.{entry_fits}
 
 names_below : (at : List PathStep) (name : List ℕ) → path_names (below at name []) ≡ path_names at ++ name ∷ []
@@ -43,9 +43,6 @@ module _ (scene : Scene) (s : SchemaTable) (keys : List (List ℕ)) (at : List P
       ap (λ x. with_done (keys_done scene s (path_names steps) x keys w.reads.reads) w.tree more) is
       ∙ ap (λ names. with_done (keys_done scene s names (object ms) keys w.reads.reads) w.tree more) (ap path_names steps_are ∙ names_below at name)
       ∙ ap (λ x. entry_done scene s keys at name x w) (sym is)
-
-  pub keys_fail : (r : Result (Unit {0}) Halt) (h : Halt) (new : Writing) → IsErrAnd r (λ y. y ≡ h) → Does first new.reads.reads (Err h) → Writes whole new r
-  keys_fail r h new err does = writes_so (with_done first w.tree more) whole new r by_keys (with_on first w.tree more r h new err does)
 
   module _ (texts : List (List ℕ)) (reads : List Read) (before : Does first reads (Ok texts)) where
     by_texts : more texts (behind reads) ≡ whole

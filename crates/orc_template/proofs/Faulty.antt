@@ -1,12 +1,11 @@
 -- The fault of a template is of its members or of its expressions.
-use Rattle.std.proofs.Common.{◌≡◌, ℕ, ◌+◌, Bool, true, false, cond, List, codes, Option, Some, None, Err, is_some, refl, sym, ap, subst, ◌∙◌, arith}
+use Rattle.std.proofs.Common.{◌≡◌, ℕ, ◌+◌, Bool, true, false, cond, List, codes, Option, Some, None, Err, is_some, refl, subst}
 use Rattle.serde_json.specs.Data.{Data}
 use Rattle.orc_path.specs.Steps.{PathStep}
 use Rattle.orc_json.specs.Readings.{IsJson}
 use Rattle.orc_template.specs.Blocks.{Blocks, no_block, block, block_count, blocks_inside, text_of_member}
 use Rattle.orc_template.specs.Templates.{Site, is_block, block_resolves, block_node, node_fault, block_fault, blocks_fault, is_template, template_fault, ReadsTemplate}
 use Rattle.std.specs.Option.{option_or}
-use Rattle.orc_template.specs.inside.Faults.{one_fault}
 use Rattle.orc_template.specs.declared.fault.TemplateFault.{TemplateFault}
 use Rattle.orc_template.specs.declared.fault.TemplateFault.TheVariants.{NotJson, BadMember, BadExpr, Memory}
 
@@ -55,14 +54,3 @@ first_is (Some f) other h = refl
 pub first_none : (one other : Option TemplateFault) → is_some one ≡ false → option_or one other ≡ other
 first_none None other h = refl
 first_none (Some f) other h = let never : ⊥ = cc in absurd never
-
--- a block with its members whose expressions resolve has the fault of the blocks inside
-pub inside_fault : (place : Site) (n m : ℕ) (d : Data) (blocks : Blocks) (node : List PathStep) → is_block d ≡ true → block_node place (text_of_member (codes "for") d) ≡ Some node
-    → block_resolves (record place { node = node }) d ≡ true → m ≡ n + 1 + 0 → blocks ≡ blocks_inside d → blocks_fault (record place { node = node }) m blocks ≡ one_fault place n d
-inside_fault place n m d blocks node fits leads resolves next are =
-    let number : m ≡ n + 1 = omega arith in
-    ap (λ k. blocks_fault (record place { node = node }) k blocks) number
-    ∙ ap (blocks_fault (record place { node = node }) (n + 1)) are
-    ∙ sym (ap (λ t. cond t (node_fault place n d (λ inside. blocks_fault inside (n + 1) (blocks_inside d)) (block_node place (text_of_member (codes "for") d))) (Some (BadMember n))) fits
-    ∙ ap (node_fault place n d (λ inside. blocks_fault inside (n + 1) (blocks_inside d))) leads
-    ∙ ap (λ t. cond t (blocks_fault (record place { node = node }) (n + 1) (blocks_inside d)) (Some (BadExpr n))) resolves)

@@ -1,5 +1,5 @@
 -- The nodes of a block's `for`, and the JSON of no `config`.
-use Rattle.std.proofs.Common.{◌≡◌, ℕ, ◌++◌, List, Option, Some, None, Result, Err, sym, ap, ◌∙◌, rules}
+use Rattle.std.proofs.Common.{◌≡◌, ℕ, ◌++◌, List, Option, Some, Result, Err, sym, ap, ◌∙◌, rules}
 use Rattle.serde_json.specs.Data.{Data, null}
 use Rattle.serde_json.specs.View.{view}
 use Rattle.serde_json.specs.declared.value.Value.{Null, the_lemmas}
@@ -20,6 +20,3 @@ module _ (g : Ground) (n : ℕ) (d : Data) (inside : List PathStep → Expanding
 
   abbrev many : List Read → Result Expanding Failed
   many rs = Err (record { block = n; rule = MANY_VALUES; reads = rs })
-
-  pub many_found : found ≡ None → look_expanded g n d inside found read e ≡ many new
-  many_found is = ap (λ o. look_expanded g n d inside o read e) is ∙ sym (ap many reads)

@@ -34,9 +34,6 @@ does_so left whole reads (Ok x) is h = sym is ∙ h
 does_so left whole reads (Err (halt.Rule rule)) is h = sym is ∙ h
 does_so left whole reads (Err halt.Memory) is h = tt
 
-pub does_memory : {X : Type 0} (due : Done X) (reads : List Read) (r : Result X Halt) → r ≡ Err halt.Memory → Does due reads r
-does_memory due reads r is = rw is tt
-
 -- what was given, where nothing is read
 pub does_value : {X : Type 0} (value : Result X ℕ) (reads : List Read) (r : Result X Halt) → GivesValue value r → Does (done value reads) reads r
 does_value value reads (Ok x) h = ap (λ v. done v reads) h

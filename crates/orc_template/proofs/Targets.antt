@@ -23,9 +23,6 @@ stops_so left whole new (Err (halt.Rule rule)) is h = sym is ∙ h
 stops_so left whole new (Err halt.Memory) is h = tt
 
 module _ (g : Ground) (here : List PathStep) (config : Data) (found : Option ℕ) (e : Expanding) where
-  pub no_device : found ≡ None → Stops (on_device g here config found e) e (Err (halt.Rule UNKNOWN_DEVICE))
-  no_device is = ap (λ o. on_device g here config o e) is
-
   pub no_schema : (number : ℕ) → found ≡ Some number → schema_of_device g.devices number ≡ None → Stops (on_device g here config found e) e (Err (halt.Rule UNKNOWN_DEVICE))
   no_schema number is none =
       ap (λ o. on_device g here config o e) is ∙ ap (λ s. on_schema (scene_at g here) number config s (slice_get e.written number) e) none

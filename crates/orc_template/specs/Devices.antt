@@ -28,7 +28,8 @@ is_device_table devices = all_differ devices.names && have_schemas devices
 -- the number of the device of this name
 abbrev pub device_of : List ℕ → List (List ℕ) → Option ℕ
 device_of name [] = None
-device_of name (first ∷ later) = if same_text first name then Some 0 else option_map (λ n. n + 1) (device_of name later)
+device_of name (first ∷ later) =
+    if same_text first name then Some 0 else option_map (λ number. number + 1) (device_of name later)
 
 -- the schema of a device
 abbrev pub schema_of_device : DeviceTable → ℕ → Option SchemaTable

@@ -37,12 +37,12 @@ pub record Failed : Type 0 where
   pub reads : List Read
 
 abbrev pub fails : {X : Type 0} → ℕ → Result X Ended → Result X Failed
-fails number (Ok x) = Ok x
+fails number (Ok value) = Ok value
 fails number (Err ended) = Err (record { block = number; rule = ended.rule; reads = ended.reads })
 
 -- one thing behind another
 abbrev pub go_further : {X Y : Type 0} → Result X Failed → (X → Result Y Failed) → Result Y Failed
-go_further (Ok x) more = more x
+go_further (Ok value) more = more value
 go_further (Err failed) more = Err failed
 
 -- what an expansion stands on: how texts are read, what is seen, and the devices
@@ -52,7 +52,7 @@ pub record Ground : Type 0 where
   pub devices : DeviceTable
 
 abbrev pub scene_at : Ground → List PathStep → Scene
-scene_at g here = record { readers = g.readers; view = g.view; here = here }
+scene_at grounds here = record { readers = grounds.readers; view = grounds.view; here = here }
 
 -- `when` -------------------------------------------------------------------------------------------------------------
 
@@ -63,102 +63,112 @@ told (Some met) = Ok met
 -- whether the condition of a block holds, which has none or one
 abbrev pub condition_done : Scene → Option Condition → List Read → Done Bool
 condition_done scene None reads = done (Ok true) reads
-condition_done scene (Some c) reads =
-    done (told (judged c scene.here scene.view).is_met) (reads ++ (judged c scene.here scene.view).reads)
+condition_done scene (Some condition) reads =
+    done (told (judged condition scene.here scene.view).is_met)
+    (reads ++ (judged condition scene.here scene.view).reads)
 
 abbrev pub when_done : Scene → Data → List Read → Done Bool
-when_done scene d reads =
-    condition_done scene (option_and_then scene.readers.condition (text_of_member (codes "when") d)) reads
+when_done scene json reads =
+    condition_done scene (option_and_then scene.readers.condition (text_of_member (codes "when") json)) reads
 
 -- `device` and `config` ----------------------------------------------------------------------------------------------
 
 -- what was written on a device is put in its place
 abbrev pub put_written : ℕ → List Config → Result Writing Ended → Result Expanding Ended
-put_written number written (Ok w) =
-    Ok (record { written = slice_set written number w.tree; reads = w.reads.reads })
+put_written number written (Ok writing) =
+    Ok (record { written = slice_set written number writing.tree; reads = writing.reads.reads })
 put_written number written (Err ended) = Err ended
 
 -- what is written on a device that has a schema
 abbrev pub on_tree : Scene → ℕ → Data → SchemaTable → Option Config → Expanding → Result Expanding Ended
-on_tree scene number config s None e = ends UNKNOWN_DEVICE e.reads
-on_tree scene number config s (Some tree) e = put_written number e.written
-    (object_done scene s [] [] config (record { tree = tree; reads = record { reads = e.reads } }))
+on_tree scene number config schema None expanding = ends UNKNOWN_DEVICE expanding.reads
+on_tree scene number config schema (Some tree) expanding = put_written number expanding.written
+    (object_done scene schema [] [] config (record { tree = tree; reads = record { reads = expanding.reads } }))
 
 -- a plain device has no leaf
 abbrev pub on_schema : Scene → ℕ → Data → Option SchemaTable → Option Config → Expanding → Result Expanding Ended
-on_schema scene number config None tree e = ends UNKNOWN_DEVICE e.reads
-on_schema scene number config (Some s) tree e =
-    if s.plain then ends BAD_LEAF e.reads else on_tree scene number config s tree e
+on_schema scene number config None tree expanding = ends UNKNOWN_DEVICE expanding.reads
+on_schema scene number config (Some schema) tree expanding =
+    if schema.plain then ends BAD_LEAF expanding.reads else on_tree scene number config schema tree expanding
 
 abbrev pub on_device : Ground → List PathStep → Data → Option ℕ → Expanding → Result Expanding Ended
-on_device g here config None e = ends UNKNOWN_DEVICE e.reads
-on_device g here config (Some number) e =
-    on_schema (scene_at g here) number config (schema_of_device g.devices number) (slice_get e.written number) e
+on_device grounds here config None expanding = ends UNKNOWN_DEVICE expanding.reads
+on_device grounds here config (Some number) expanding =
+    on_schema (scene_at grounds here) number config (schema_of_device grounds.devices number)
+    (slice_get expanding.written number) expanding
 
 abbrev pub on_name : Ground → List PathStep → Data → Result (List ℕ) ℕ → Expanding → Result Expanding Ended
-on_name g here config (Ok name) e = on_device g here config (device_of name g.devices.names) e
-on_name g here config (Err rule) e = ends rule e.reads
+on_name grounds here config (Ok name) expanding =
+    on_device grounds here config (device_of name grounds.devices.names) expanding
+on_name grounds here config (Err rule) expanding = ends rule expanding.reads
 
 abbrev pub target_by : Ground → List PathStep → Data → Option (List ℕ) → Expanding → Result Expanding Ended
-target_by g here d None e = Ok e
-target_by g here d (Some text) e =
-    on_name g here (unwrap_or (get (codes "config") d) null) (string_done (scene_at g here) text e.reads).value
-    (record e { reads = (string_done (scene_at g here) text e.reads).reads })
+target_by grounds here json None expanding = Ok expanding
+target_by grounds here json (Some text) expanding =
+    on_name grounds here (unwrap_or (get (codes "config") json) null)
+    (string_done (scene_at grounds here) text expanding.reads).value
+    (record expanding { reads = (string_done (scene_at grounds here) text expanding.reads).reads })
 
 -- the device of a block and what its `config` writes there, where it has them
 abbrev pub target_done : Ground → List PathStep → Data → Expanding → Result Expanding Ended
-target_done g here d e = target_by g here d (text_of_member (codes "device") d) e
+target_done grounds here json expanding = target_by grounds here json (text_of_member (codes "device") json) expanding
 
 -- Blocks -------------------------------------------------------------------------------------------------------------
 
 -- a block at a node: its target and then the blocks inside, where its condition holds
 abbrev pub met_by : Ground → ℕ → Data → (List PathStep → Expanding → Result Expanding Failed) → List PathStep
     → Result Bool ℕ → Expanding → Result Expanding Failed
-met_by g n d inside here (Ok true) e = go_further (fails n (target_done g here d e)) (inside here)
-met_by g n d inside here (Ok false) e = Ok e
-met_by g n d inside here (Err rule) e = fails n (ends rule e.reads)
+met_by grounds block_number json inside here (Ok true) expanding =
+    go_further (fails block_number (target_done grounds here json expanding)) (inside here)
+met_by grounds block_number json inside here (Ok false) expanding = Ok expanding
+met_by grounds block_number json inside here (Err rule) expanding = fails block_number (ends rule expanding.reads)
 
 abbrev pub node_expanded : Ground → ℕ → Data → (List PathStep → Expanding → Result Expanding Failed)
     → List PathStep → Expanding → Result Expanding Failed
-node_expanded g n d inside here e =
-    met_by g n d inside here (when_done (scene_at g here) d e.reads).value
-    (record e { reads = (when_done (scene_at g here) d e.reads).reads })
+node_expanded grounds block_number json inside here expanding =
+    met_by grounds block_number json inside here (when_done (scene_at grounds here) json expanding.reads).value
+    (record expanding { reads = (when_done (scene_at grounds here) json expanding.reads).reads })
 
 abbrev pub nodes_expanded : Ground → ℕ → Data → (List PathStep → Expanding → Result Expanding Failed)
     → List (List PathStep) → Expanding → Result Expanding Failed
-nodes_expanded g n d inside [] e = Ok e
-nodes_expanded g n d inside (node ∷ more) e =
-    go_further (node_expanded g n d inside node e) (nodes_expanded g n d inside more)
+nodes_expanded grounds block_number json inside [] expanding = Ok expanding
+nodes_expanded grounds block_number json inside (node ∷ more) expanding =
+    go_further (node_expanded grounds block_number json inside node expanding)
+    (nodes_expanded grounds block_number json inside more)
 
 -- where `for` leads
 abbrev pub found_expanded : Ground → ℕ → Data → (List PathStep → Expanding → Result Expanding Failed)
     → Option (List (List PathStep)) → Expanding → Result Expanding Failed
-found_expanded g n d inside None e = fails n (ends MANY_VALUES e.reads)
-found_expanded g n d inside (Some nodes) e = nodes_expanded g n d inside nodes e
+found_expanded grounds block_number json inside None expanding = fails block_number (ends MANY_VALUES expanding.reads)
+found_expanded grounds block_number json inside (Some nodes) expanding =
+    nodes_expanded grounds block_number json inside nodes expanding
 
 abbrev pub look_expanded : Ground → ℕ → Data → (List PathStep → Expanding → Result Expanding Failed)
     → Option (List (List PathStep)) → List Read → Expanding → Result Expanding Failed
-look_expanded g n d inside found read e =
-    found_expanded g n d inside found (record e { reads = e.reads ++ read })
+look_expanded grounds block_number json inside found read expanding =
+    found_expanded grounds block_number json inside found (record expanding { reads = expanding.reads ++ read })
 
 -- a block is done once at its context, or with `for` once for each node, which is then the context
 abbrev pub each_expanded : Ground → List PathStep → ℕ → Data → (List PathStep → Expanding → Result Expanding Failed)
     → Option Expression → Expanding → Result Expanding Failed
-each_expanded g here n d inside None e = node_expanded g n d inside here e
-each_expanded g here n d inside (Some each) e =
-    look_expanded g n d inside (nodes_of each here g.view).found (nodes_of each here g.view).reads e
+each_expanded grounds here block_number json inside None expanding =
+    node_expanded grounds block_number json inside here expanding
+each_expanded grounds here block_number json inside (Some each) expanding =
+    look_expanded grounds block_number json inside (nodes_of each here grounds.view).found
+    (nodes_of each here grounds.view).reads expanding
 
 abbrev pub block_expanded : Ground → List PathStep → ℕ → Data
     → (List PathStep → Expanding → Result Expanding Failed) → Expanding → Result Expanding Failed
-block_expanded g here n d inside e =
-    each_expanded g here n d inside (option_and_then g.readers.expression (text_of_member (codes "for") d)) e
+block_expanded grounds here block_number json inside expanding =
+    each_expanded grounds here block_number json inside
+    (option_and_then grounds.readers.expression (text_of_member (codes "for") json)) expanding
 
--- blocks in their order, numbered in the order of the text from n on, the outer before the inner
+-- blocks in their order, numbered in the order of the text from `first` on, the outer before the inner
 abbrev pub blocks_expanded : Ground → List PathStep → ℕ → Blocks → Expanding → Result Expanding Failed
-blocks_expanded g here n no_block e = Ok e
-blocks_expanded g here n (block d inner later) e = go_further
-    (block_expanded g here n d (λ node. blocks_expanded g node (n + 1) inner) e)
-    (blocks_expanded g here (n + 1 + block_count inner) later)
+blocks_expanded grounds here first no_block expanding = Ok expanding
+blocks_expanded grounds here first (block json inner later) expanding = go_further
+    (block_expanded grounds here first json (λ node. blocks_expanded grounds node (first + 1) inner) expanding)
+    (blocks_expanded grounds here (first + 1 + block_count inner) later)
 
 -- nothing is written on any device
 abbrev pub nothing_written : DeviceTable → Expanding
@@ -172,7 +182,7 @@ expanded readers devices instance template view =
 
 -- what it read
 abbrev pub reads_expanded : Result Expanding Failed → List Read
-reads_expanded (Ok e) = e.reads
+reads_expanded (Ok expanding) = expanding.reads
 reads_expanded (Err failed) = failed.reads
 
 -- the items of each device on which one is written: devices by their numbers, items in path order
@@ -191,7 +201,8 @@ device_parts number (config ∷ later) = device_part number (entries config) ++ 
 abbrev pub AnswersExpansion : Result Expanding Failed → List Read → List Read
     → Result (List (ℕ × List Put)) ExpandFault → Type 0
 AnswersExpansion due old new (Ok parts) =
-    (e : Expanding) × (due ≡ Ok e) × (parts ≡ device_parts 0 e.written) × (new ≡ old ++ e.reads)
+    (expanding : Expanding) × (due ≡ Ok expanding) × (parts ≡ device_parts 0 expanding.written)
+    × (new ≡ old ++ expanding.reads)
 AnswersExpansion due old new (Err (At number rule)) =
     (reads : List Read) × (due ≡ Err (record { block = number; rule = rule; reads = reads })) × (new ≡ old ++ reads)
 AnswersExpansion due old new (Err Memory) = new ≡ old
@@ -199,7 +210,7 @@ AnswersExpansion due old new (Err Memory) = new ≡ old
 -- The same of what is written on each device, by the devices' numbers.
 abbrev pub AnswersWriting : Result Expanding Failed → List Read → List Read → Result (List Config) ExpandFault → Type 0
 AnswersWriting due old new (Ok trees) =
-    (e : Expanding) × (due ≡ Ok e) × (trees ≡ e.written) × (new ≡ old ++ e.reads)
+    (expanding : Expanding) × (due ≡ Ok expanding) × (trees ≡ expanding.written) × (new ≡ old ++ expanding.reads)
 AnswersWriting due old new (Err (At number rule)) =
     (reads : List Read) × (due ≡ Err (record { block = number; rule = rule; reads = reads })) × (new ≡ old ++ reads)
 AnswersWriting due old new (Err Memory) = new ≡ old

@@ -41,28 +41,30 @@ is_short_value (Leaf text) = is_value text && not (is_long_value text)
 
 -- An item may stand at a path: the path keeps the limits, the schema has the item there in its canonical
 -- form, and the text of a leaf is a value that keeps the limit.
-pub record MayStand (s : SchemaTable) (path : List PathStep) (it : Item) : Type 0 where
+pub record MayStand (schema : SchemaTable) (path : List PathStep) (it : Item) : Type 0 where
   pub short : is_long_path path ≡ false
-  pub typed : IsTrue (is_typed s path it)
+  pub typed : IsTrue (is_typed schema path it)
   pub value : IsTrue (is_short_value it)
 
 -- a configuration of such items
-pub record IsConfigUnder (s : SchemaTable) (config : Config) : Type 0 where
+pub record IsConfigUnder (schema : SchemaTable) (config : Config) : Type 0 where
   pub whole : IsConfig config
-  pub items : (path : List PathStep) (it : Item) → get config path ≡ Some it → MayStand s path it
+  pub items : (path : List PathStep) (it : Item) → get config path ≡ Some it → MayStand schema path it
 
 -- one for each device, under the schema of the device
 pub record AreDeviceTrees (devices : DeviceTable) (trees : List Config) : Type 0 where
   pub one_each : length trees ≡ length devices.names
   pub written :
-      (number : ℕ) (config : Config) (s : SchemaTable)
-      → slice_get trees number ≡ Some config → schema_of_device devices number ≡ Some s → IsConfigUnder s config
+      (number : ℕ) (config : Config) (schema : SchemaTable)
+      → slice_get trees number ≡ Some config → schema_of_device devices number ≡ Some schema
+      → IsConfigUnder schema config
 
 -- What an expansion writes on a device is a configuration of items that may stand under the device's schema.
 abbrev pub WrittenIsTyped : Type 0
 WrittenIsTyped =
     (readers : Readers) (devices : DeviceTable) (instance : List PathStep) (template : Data) (view : Viewed)
-    (e : Expanding) → expanded readers devices instance template view ≡ Ok e → AreDeviceTrees devices e.written
+    (expanding : Expanding) → expanded readers devices instance template view ≡ Ok expanding
+    → AreDeviceTrees devices expanding.written
 
 -- The rule is one of the five of an expansion, and the block one of these blocks.
 pub record IsFaultIn (blocks : Blocks) (failed : Failed) : Type 0 where

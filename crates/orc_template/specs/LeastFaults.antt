@@ -11,14 +11,14 @@ use Rattle.orc_template.specs.declared.fault.TemplateFault.TheVariants.{NotJson,
 -- Faults are ordered by their block, and those of one block by their rule: 1 NotJson, 2 BadMember, 3 BadExpr.
 abbrev pub fault_block : TemplateFault → ℕ
 fault_block NotJson = 0
-fault_block (BadMember n) = n
-fault_block (BadExpr n) = n
+fault_block (BadMember block_number) = block_number
+fault_block (BadExpr block_number) = block_number
 fault_block Memory = 0
 
 abbrev pub fault_rule : TemplateFault → ℕ
 fault_rule NotJson = 1
-fault_rule (BadMember n) = 2
-fault_rule (BadExpr n) = 3
+fault_rule (BadMember block_number) = 2
+fault_rule (BadExpr block_number) = 3
 fault_rule Memory = 4
 
 abbrev pub is_less_fault : TemplateFault → TemplateFault → Bool
@@ -28,14 +28,14 @@ is_less_fault one other =
 
 -- a block's members are at fault, or not
 abbrev pub member_faults : ℕ → Data → List TemplateFault
-member_faults n d = if is_block d then [] else BadMember n ∷ []
+member_faults block_number json = if is_block json then [] else BadMember block_number ∷ []
 
 -- its expressions are, or not: the text of its `for` leads to no node, or what the block says at the node doesn't
 -- resolve
 abbrev pub expression_faults : Site → ℕ → Data → Option (List PathStep) → List TemplateFault
-expression_faults place n d None = BadExpr n ∷ []
-expression_faults place n d (Some node) =
-    if block_resolves (record place { node = node }) d then [] else BadExpr n ∷ []
+expression_faults place block_number json None = BadExpr block_number ∷ []
+expression_faults place block_number json (Some node) =
+    if block_resolves (record place { node = node }) json then [] else BadExpr block_number ∷ []
 
 -- the faults of the blocks inside, where there is a node at which they are done
 abbrev pub inner_faults : Site → (Site → List TemplateFault) → Option (List PathStep) → List TemplateFault
@@ -43,19 +43,22 @@ inner_faults place inside None = []
 inner_faults place inside (Some node) = inside (record place { node = node })
 
 abbrev pub own_faults : Site → ℕ → Data → List TemplateFault
-own_faults place n d =
-    member_faults n d ++ expression_faults place n d (block_node place (text_of_member (codes "for") d))
+own_faults place block_number json =
+    member_faults block_number json
+    ++ expression_faults place block_number json (block_node place (text_of_member (codes "for") json))
 
--- all faults of blocks, numbered in the order of the text from n on, also of those behind one at fault
+-- all faults of blocks, numbered in the order of the text from `first` on, also of those behind one at fault
 abbrev pub faults_of_blocks : Site → ℕ → Blocks → List TemplateFault
-faults_of_blocks place n no_block = []
-faults_of_blocks place n (block d inner later) =
-    (own_faults place n d
-    ++ inner_faults place (λ at. faults_of_blocks at (n + 1) inner) (block_node place (text_of_member (codes "for") d)))
-    ++ faults_of_blocks place (n + 1 + block_count inner) later
+faults_of_blocks place first no_block = []
+faults_of_blocks place first (block json inner later) =
+    (own_faults place first json
+    ++ inner_faults place (λ at. faults_of_blocks at (first + 1) inner)
+    (block_node place (text_of_member (codes "for") json)))
+    ++ faults_of_blocks place (first + 1 + block_count inner) later
 
 abbrev pub faults_of_template : Site → Data → List TemplateFault
-faults_of_template place d = if is_template d then faults_of_blocks place 1 (blocks_inside d) else BadMember 0 ∷ []
+faults_of_template place json =
+    if is_template json then faults_of_blocks place 1 (blocks_inside json) else BadMember 0 ∷ []
 
 -- no fault of the list is less than this one
 abbrev pub AreNotLess : TemplateFault → List TemplateFault → Type 0
@@ -77,4 +80,5 @@ pub record HasLeastFault (all : List TemplateFault) (found : Option TemplateFaul
 -- The fault that a text is refused with is the least of all its faults as a template: that of the least block, and of
 -- the least rule there. A text that has no fault is not refused.
 abbrev pub LeastFaultIsNamed : Type 0
-LeastFaultIsNamed = (place : Site) (d : Data) → HasLeastFault (faults_of_template place d) (template_fault place d)
+LeastFaultIsNamed =
+    (place : Site) (json : Data) → HasLeastFault (faults_of_template place json) (template_fault place json)

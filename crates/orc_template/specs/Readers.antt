@@ -10,8 +10,8 @@ pub record Readers : Type 0 where
 
 -- it gives what has this text, and nothing else
 pub record ReadsBack {X : Type 0} (is : X → Bool) (text_of : X → List ℕ) (read : List ℕ → Option X) : Type 0 where
-  pub again : (x : X) → IsTrue (is x) → read (text_of x) ≡ Some x
-  pub only : (text : List ℕ) (x : X) → read text ≡ Some x → IsTrue (is x) × (text_of x ≡ text)
+  pub again : (value : X) → IsTrue (is value) → read (text_of value) ≡ Some value
+  pub only : (text : List ℕ) (value : X) → read text ≡ Some value → IsTrue (is value) × (text_of value ≡ text)
 
 -- such readers there are, and each two give the same
 pub record AreReaders (readers : Readers) : Type 0 where

@@ -16,7 +16,7 @@ json_value bytes = if is_utf8 bytes then read bytes else None
 
 -- a template is the text of its JSON
 abbrev pub template_json : List ℕ → Data
-template_json text = option_map_or (λ d. d) (json_value text) null
+template_json text = option_map_or (λ json. json) (json_value text) null
 
 abbrev pub read_result : Result (List ℕ) TemplateFault → Result Data TemplateFault
 read_result result = result_map_both template_json (λ fault. fault) result

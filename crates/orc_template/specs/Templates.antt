@@ -23,16 +23,16 @@ use Rattle.orc_template.specs.declared.fault.TemplateFault.TheVariants.{NotJson,
 -- a block has these members, each of its kind: `for`, `when` and `device` are strings, `config` is an object, and
 -- `blocks` an array
 abbrev pub member_fits : List ℕ → Data → Bool
-member_fits name d =
-    if same_text name (codes "blocks") then is_some (as_array d) else
-    if same_text name (codes "config") then is_some (as_object d) else
-    if same_text name (codes "device") then is_some (as_str d) else
-    if same_text name (codes "for") then is_some (as_str d) else
-    if same_text name (codes "when") then is_some (as_str d) else false
+member_fits name json =
+    if same_text name (codes "blocks") then is_some (as_array json) else
+    if same_text name (codes "config") then is_some (as_object json) else
+    if same_text name (codes "device") then is_some (as_str json) else
+    if same_text name (codes "for") then is_some (as_str json) else
+    if same_text name (codes "when") then is_some (as_str json) else false
 
 abbrev pub members_fit : Members → Bool
 members_fit no_members = true
-members_fit (member name d ms) = member_fits name d && members_fit ms
+members_fit (member name json pairs) = member_fits name json && members_fit pairs
 
 -- `device` and `config` come together
 abbrev pub come_together : Option Data → Option Data → Bool
@@ -42,18 +42,19 @@ come_together (Some one) None = false
 come_together (Some one) (Some other) = true
 
 abbrev pub are_paired : Data → Bool
-are_paired d = come_together (get (codes "device") d) (get (codes "config") d)
+are_paired json = come_together (get (codes "device") json) (get (codes "config") json)
 
 abbrev pub is_block : Data → Bool
-is_block d = option_map_or members_fit (as_object d) false && are_paired d
+is_block json = option_map_or members_fit (as_object json) false && are_paired json
 
 -- a template is an object with the member `blocks`, an array, and no other
 abbrev pub only_blocks : Members → Bool
 only_blocks no_members = true
-only_blocks (member name d ms) = (same_text name (codes "blocks") && is_some (as_array d)) && only_blocks ms
+only_blocks (member name json pairs) =
+    (same_text name (codes "blocks") && is_some (as_array json)) && only_blocks pairs
 
 abbrev pub is_template : Data → Bool
-is_template d = option_map_or only_blocks (as_object d) false && is_some (get (codes "blocks") d)
+is_template json = option_map_or only_blocks (as_object json) false && is_some (get (codes "blocks") json)
 
 -- Expressions --------------------------------------------------------------------------------------------------------
 
@@ -70,7 +71,8 @@ node_of_text place text = option_and_then (resolved place.shapes place.node) (pl
 -- the text is that of a condition whose expression leads to a node
 abbrev pub condition_resolves : Site → List ℕ → Bool
 condition_resolves place text =
-    option_map_or (λ c. is_some (resolved place.shapes place.node c.look)) (place.readers.condition text) false
+    option_map_or (λ condition. is_some (resolved place.shapes place.node condition.look))
+    (place.readers.condition text) false
 
 abbrev pub part_resolves : Site → Part → Bool
 part_resolves place (Written text) = true
@@ -84,19 +86,19 @@ abbrev mutual
   -- the same of each string in a JSON value, but for the names of members
   pub data_resolves : Site → Data → Bool
   data_resolves place null = true
-  data_resolves place (boolean b) = true
-  data_resolves place (number n) = true
-  data_resolves place (string t) = string_resolves place t
-  data_resolves place (array ds) = items_resolve place ds
-  data_resolves place (object ms) = members_resolve place ms
+  data_resolves place (boolean truth) = true
+  data_resolves place (number amount) = true
+  data_resolves place (string text) = string_resolves place text
+  data_resolves place (array items) = items_resolve place items
+  data_resolves place (object pairs) = members_resolve place pairs
 
   pub items_resolve : Site → Items → Bool
   items_resolve place no_items = true
-  items_resolve place (item d ds) = data_resolves place d && items_resolve place ds
+  items_resolve place (item json items) = data_resolves place json && items_resolve place items
 
   pub members_resolve : Site → Members → Bool
   members_resolve place no_members = true
-  members_resolve place (member name d ms) = data_resolves place d && members_resolve place ms
+  members_resolve place (member name json pairs) = data_resolves place json && members_resolve place pairs
 
 -- the node at which a block is done: that of `for`, else the one around it
 abbrev pub block_node : Site → Option (List ℕ) → Option (List PathStep)
@@ -105,45 +107,46 @@ block_node place (Some text) = node_of_text place text
 
 -- what a block says at its node resolves
 abbrev pub block_resolves : Site → Data → Bool
-block_resolves place d =
-    option_map_or (condition_resolves place) (text_of_member (codes "when") d) true
-    && (option_map_or (data_resolves place) (get (codes "device") d) true
-    && option_map_or (data_resolves place) (get (codes "config") d) true)
+block_resolves place json =
+    option_map_or (condition_resolves place) (text_of_member (codes "when") json) true
+    && (option_map_or (data_resolves place) (get (codes "device") json) true
+    && option_map_or (data_resolves place) (get (codes "config") json) true)
 
 -- Faults -------------------------------------------------------------------------------------------------------------
 
 abbrev pub node_fault : Site → ℕ → Data → (Site → Option TemplateFault) → Option (List PathStep)
     → Option TemplateFault
-node_fault place n d inside None = Some (BadExpr n)
-node_fault place n d inside (Some node) =
-    if block_resolves (record place { node = node }) d then inside (record place { node = node })
-    else Some (BadExpr n)
+node_fault place block_number json inside None = Some (BadExpr block_number)
+node_fault place block_number json inside (Some node) =
+    if block_resolves (record place { node = node }) json then inside (record place { node = node })
+    else Some (BadExpr block_number)
 
 -- the first fault of a block: of its members, of its expressions, and then of the blocks inside
 abbrev pub block_fault : Site → ℕ → Data → (Site → Option TemplateFault) → Option TemplateFault
-block_fault place n d inside =
-    if is_block d then node_fault place n d inside (block_node place (text_of_member (codes "for") d))
-    else Some (BadMember n)
+block_fault place block_number json inside =
+    if is_block json
+    then node_fault place block_number json inside (block_node place (text_of_member (codes "for") json))
+    else Some (BadMember block_number)
 
--- of blocks, numbered in the order of the text from n on, the outer before the inner: so the least block's fault is the
--- first
+-- of blocks, numbered in the order of the text from `first` on, the outer before the inner: so the least block's fault
+-- is the first
 abbrev pub blocks_fault : Site → ℕ → Blocks → Option TemplateFault
-blocks_fault place n no_block = None
-blocks_fault place n (block d inner later) = option_or
-    (block_fault place n d (λ inside. blocks_fault inside (n + 1) inner))
-    (blocks_fault place (n + 1 + block_count inner) later)
+blocks_fault place first no_block = None
+blocks_fault place first (block json inner later) = option_or
+    (block_fault place first json (λ inside. blocks_fault inside (first + 1) inner))
+    (blocks_fault place (first + 1 + block_count inner) later)
 
 -- of a JSON value as a template
 abbrev pub template_fault : Site → Data → Option TemplateFault
-template_fault place d = if is_template d then blocks_fault place 1 (blocks_inside d) else Some (BadMember 0)
+template_fault place json = if is_template json then blocks_fault place 1 (blocks_inside json) else Some (BadMember 0)
 
 -- The answer for bytes: their JSON, where it is a template of the list, or its first fault, or that they are no JSON;
 -- want of memory is free.
 abbrev pub ReadsTemplate : Site → List ℕ → Result Data TemplateFault → Type 0
 ReadsTemplate place bytes (Ok template) = IsJson bytes template × (template_fault place template ≡ None)
 ReadsTemplate place bytes (Err NotJson) = IsNoJson bytes
-ReadsTemplate place bytes (Err (BadMember n)) =
-    (d : Data) × IsJson bytes d × (template_fault place d ≡ Some (BadMember n))
-ReadsTemplate place bytes (Err (BadExpr n)) =
-    (d : Data) × IsJson bytes d × (template_fault place d ≡ Some (BadExpr n))
+ReadsTemplate place bytes (Err (BadMember block_number)) =
+    (json : Data) × IsJson bytes json × (template_fault place json ≡ Some (BadMember block_number))
+ReadsTemplate place bytes (Err (BadExpr block_number)) =
+    (json : Data) × IsJson bytes json × (template_fault place json ≡ Some (BadExpr block_number))
 ReadsTemplate place bytes (Err Memory) = Unit {0}

@@ -40,7 +40,7 @@ done value reads = record { value = value; reads = reads }
 
 -- one thing behind another: where the first broke a rule, nothing is done behind it
 abbrev pub then_by : {X Y : Type 0} → Result X ℕ → List Read → (X → List Read → Done Y) → Done Y
-then_by (Ok x) reads more = more x reads
+then_by (Ok value) reads more = more value reads
 then_by (Err rule) reads more = done (Err rule) reads
 
 abbrev pub then_done : {X Y : Type 0} → Done X → (X → List Read → Done Y) → Done Y
@@ -62,8 +62,8 @@ one_text found read reads = done (one_found found) (reads ++ read)
 -- the one text of an expression; a text that is no expression's has none
 abbrev pub expression_done : Scene → Option Expression → List Read → Done (List ℕ)
 expression_done scene None reads = done (Err NO_VALUE) reads
-expression_done scene (Some e) reads =
-    one_text (texts_of e scene.here scene.view).found (texts_of e scene.here scene.view).reads reads
+expression_done scene (Some expression) reads =
+    one_text (texts_of expression scene.here scene.view).found (texts_of expression scene.here scene.view).reads reads
 
 abbrev pub part_done : Scene → Part → List Read → Done (List ℕ)
 part_done scene (Written text) reads = done (Ok text) reads
@@ -98,12 +98,12 @@ lexical kind text = if is_long_value text then Err BAD_LEAF else fitted (canon_o
 -- else as in the JSON of a configuration: RFC 7951 section 6.
 abbrev pub value_done : Scene → Kind → Data → List Read → Done (List ℕ)
 value_done scene kind null reads = done (fitted (canon_of_json kind null)) reads
-value_done scene kind (boolean b) reads = done (fitted (canon_of_json kind (boolean b))) reads
-value_done scene kind (number n) reads = done (fitted (canon_of_json kind (number n))) reads
-value_done scene kind (string t) reads =
-    then_done (string_done scene t reads) (λ text. done (lexical kind text))
-value_done scene kind (array ds) reads = done (fitted (canon_of_json kind (array ds))) reads
-value_done scene kind (object ms) reads = done (fitted (canon_of_json kind (object ms))) reads
+value_done scene kind (boolean truth) reads = done (fitted (canon_of_json kind (boolean truth))) reads
+value_done scene kind (number amount) reads = done (fitted (canon_of_json kind (number amount))) reads
+value_done scene kind (string written) reads =
+    then_done (string_done scene written reads) (λ text. done (lexical kind text))
+value_done scene kind (array items) reads = done (fitted (canon_of_json kind (array items))) reads
+value_done scene kind (object pairs) reads = done (fitted (canon_of_json kind (object pairs))) reads
 
 -- the text of a key of an entry: a bad leaf where the entry lacks it
 abbrev pub key_value : Scene → Option Kind → Option Data → List Read → Done (List ℕ)
@@ -112,31 +112,31 @@ key_value scene (Some kind) None reads = done (Err BAD_LEAF) reads
 key_value scene (Some kind) (Some value) reads = value_done scene kind value reads
 
 abbrev pub key_done : Scene → SchemaTable → List (List ℕ) → Data → List ℕ → List Read → Done (List ℕ)
-key_done scene s names entry key reads = key_value scene (key_kind s names key) (get key entry) reads
+key_done scene schema names entry key reads = key_value scene (key_kind schema names key) (get key entry) reads
 
 -- the texts of the keys of an entry, in their order, behind some
 abbrev pub more_keys : Scene → SchemaTable → List (List ℕ) → Data → List (List ℕ) → List (List ℕ) → List Read
     → Done (List (List ℕ))
-more_keys scene s names entry front [] reads = done (Ok front) reads
-more_keys scene s names entry front (key ∷ later) reads = then_done (key_done scene s names entry key reads)
-    (λ text. more_keys scene s names entry (front ++ text ∷ []) later)
+more_keys scene schema names entry front [] reads = done (Ok front) reads
+more_keys scene schema names entry front (key ∷ later) reads = then_done (key_done scene schema names entry key reads)
+    (λ text. more_keys scene schema names entry (front ++ text ∷ []) later)
 
 -- all of them, of which there is one at least
 abbrev pub keys_done : Scene → SchemaTable → List (List ℕ) → Data → List (List ℕ) → List Read
     → Done (List (List ℕ))
-keys_done scene s names entry [] reads = done (Err BAD_LEAF) reads
-keys_done scene s names entry (key ∷ later) reads = more_keys scene s names entry [] (key ∷ later) reads
+keys_done scene schema names entry [] reads = done (Err BAD_LEAF) reads
+keys_done scene schema names entry (key ∷ later) reads = more_keys scene schema names entry [] (key ∷ later) reads
 
 -- Answers -------------------------------------------------------------------------------------------------------------
 
 -- The answer is what was given, and the reads are those so far; want of memory is free.
 abbrev pub Does : {X : Type 0} → Done X → List Read → Result X Halt → Type 0
-Does due new (Ok x) = due ≡ done (Ok x) new
+Does due new (Ok value) = due ≡ done (Ok value) new
 Does due new (Err (Rule rule)) = due ≡ done (Err rule) new
 Does due new (Err Memory) = Unit {0}
 
 -- the same, where nothing is read
 abbrev pub GivesValue : {X : Type 0} → Result X ℕ → Result X Halt → Type 0
-GivesValue due (Ok x) = due ≡ Ok x
+GivesValue due (Ok value) = due ≡ Ok value
 GivesValue due (Err (Rule rule)) = due ≡ Err rule
 GivesValue due (Err Memory) = Unit {0}

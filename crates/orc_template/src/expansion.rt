@@ -64,8 +64,7 @@ fn puts_of(alloc: Global, tree: &Tree) -> Result<Row<Put>, Memory>
     ensures { IfOk result (λ puts. puts ≡ map row_put (entries tree.now)) }
 {
     let mut puts = Row::new(alloc);
-    let rows = tree.walk(alloc)?;
-    for row in rows.as_slice() {
+    for row in tree.rows() {
         puts.push(Put {
             path: row.0.copy(alloc)?,
             item: row.1.copy(alloc)?,

@@ -1,5 +1,5 @@
 -- What an edit of rows makes of their map.
-use Rattle.std.proofs.Common.{◌≡◌, Bool, true, false, not, cond, List, [], ◌∷◌, ◌++◌, refl, sym, ap, subst, ◌∙◌}
+use Rattle.std.proofs.Common.{◌≡◌, Bool, true, false, not, cond, List, [], ◌∷◌, refl, sym, ap, subst, ◌∙◌}
 use Rattle.std.specs.Result.{OnOk, OnErr}
 use Rattle.std.specs.declared.result.Result.{Result}
 use Rattle.std.specs.declared.result.Result.TheVariants.{Ok, Err}
@@ -67,11 +67,6 @@ map_of-kept p rows s = on (ends_in_keys p)
 
 pub sorted-kept : (p : List PathStep) (rows : Rows) → is_sorted path_cmp rows ≡ true → is_sorted path_cmp (kept_of p rows) ≡ true
 sorted-kept p rows s = sorted-where_key (λ q. not (is_removed_with p q)) rows s
-
--- what laying one row more makes of a map
-pub insert_all-append : (xs ys : Rows) (m : Config) → insert_all (xs ++ ys) m ≡ insert_all ys (insert_all xs m)
-insert_all-append [] ys m = refl
-insert_all-append (x ∷ xs) ys m = insert_all-append xs ys (insert m x.0 x.1)
 
 -- a row put is a row laid
 pub insert_all-put : (q : List PathStep) (v : Item) (ws : List (List PathStep)) (old new : Rows) → is_sorted path_cmp old ≡ true → ws ≡ [] → new ≡ put path_cmp q v (put_entries ws old)

@@ -67,18 +67,6 @@ pub is_under-at : (front : List PathStep) (name : List ℕ) (p : List PathStep) 
     → is_under front name p ≡ (is_prefix front p && pointwise nat_eq t.node name)
 is_under-at front name p t e = is_under-parts front name p ∙ ap (λ o. is_prefix front p && option_map_or (λ (t : PathStep). pointwise nat_eq t.node name) o false) e
 
--- of as many steps as the front and one more, it is an entry of the list, where it ends in keys
-list_under : (front : List PathStep) (last : PathStep) (p : List PathStep) → last.keys ≡ [] → length p ≡ length front + 1 → is_under front last.node p ≡ true
-    → list_of p ≡ front ++ last ∷ []
-list_under front last [] k l h = absurd (omega arith)
-list_under [] last (t ∷ []) k l h =
-    λ i. record { node = (bytes_decides t.node last.node).0 h i; keys = sym k i } ∷ []
-list_under [] last (t ∷ u ∷ us) k l h = absurd (omega arith)
-list_under (s ∷ ss) last (t ∷ []) k l h = absurd (omega arith)
-list_under (s ∷ ss) last (t ∷ u ∷ us) k l h =
-    let parts = and_parts (step_eq s t) (is_under ss last.node (u ∷ us)) h in
-    λ i. sym ((step_eq_decides s t).0 parts.0) i ∷ list_under ss last (u ∷ us) k (omega arith) parts.1 i
-
 under_list : (front : List PathStep) (last : PathStep) (p : List PathStep) → list_of p ≡ front ++ last ∷ [] → is_under front last.node p ≡ true
 under_list front last [] e = absurd (no_push front last e)
 under_list [] last (t ∷ []) e = (bytes_decides t.node last.node).1 (ap (λ (s : PathStep). s.node) (same_head _ _ _ _ e))

@@ -42,11 +42,6 @@ starts_above : (q : List PathStep) (front part rest : Rows) → is_sorted path_c
 starts_above q front [] rest s l h = absurd (omega arith)
 starts_above q front (row ∷ part) rest s l h = not_less q row.0 front h (sorted_before path_cmp path_cmp_total front row (part ++ rest) s)
 
--- where parts begin is where the first of them does, which has a row
-pub starts_first : (q : List PathStep) (part rest : Rows) → 1 ≤ length part → starts_behind q (part ++ rest) ≡ starts_behind q part
-starts_first q [] rest l = absurd (omega arith)
-starts_first q (row ∷ part) rest l = refl
-
 module _ {E : Type 0} (f : E → Rows) where
   -- each of the parts has a row
   abbrev pub HaveRows : List E → Type 0

@@ -87,11 +87,6 @@ kept_behind p (row ∷ part) rest s b l t =
     and_from _ _ (ap not t)
     (kept_further p row (part ++ rest) (lt_is _ (and_parts (is_lt (path_cmp p row.0)) _ b).0) t (and_parts (below_all path_cmp row.0 (part ++ rest)) _ s).0)
 
--- what takes the first row of parts takes that of the first of them, which has one
-pub taken_first : (p : List PathStep) (part rest : Rows) → 1 ≤ length part → starts_taken p (part ++ rest) ≡ starts_taken p part
-taken_first p [] rest l = absurd (omega arith)
-taken_first p (row ∷ part) rest l = refl
-
 module _ {E : Type 0} (f : E → Rows) where
   pub all_kept-from : (p : List PathStep) (ps : List E) (i end : ℕ) (part : E) → IsPartFor f p ps i → is_sorted path_cmp (flat_map f ps) ≡ true → HaveRows f ps
       → i < end → end < length ps → part ≡ get_or ps end part → starts_taken p (f part) ≡ false → all_kept p (flat_map f (drop end ps)) ≡ true

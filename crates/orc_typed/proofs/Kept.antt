@@ -217,9 +217,6 @@ carried_kept s (x ∷ xs) (y ∷ ys) it own_it names same =
 -- ---- laws
 
 module _ (s : SchemaTable) (path own : List PathStep) (it own_it : Item) (are : AreCanonicalOf s path it own own_it) where
-  abbrev in_table : Bool → List PathStep → Item → Bool
-  in_table plain at at_it = plain || (stand s [] at && is_carried s at at_it)
-
   plain_path : s.plain ≡ true → path ≡ own
   plain_path e =
       let is : Some path ≡ Some own = sym (ap (λ b. cond b (Some path) (canonical_steps s [] path)) e) ∙ are.at in

@@ -10,10 +10,6 @@ use Rattle.orc_types.specs.Ranges.{Range, is_bar, all_of, part_of, parts_of}
 abbrev pub behind : {X : Type 0} → List X → Option (List X) → Option (List X)
 behind front rest = option_map (λ more. front ++ more) rest
 
-pub behind-nil : {X : Type 0} (rest : Option (List X)) → behind [] rest ≡ rest
-behind-nil None = refl
-behind-nil (Some xs) = refl
-
 pub behind-one : {X : Type 0} (front : List X) (x : X) (rest : Option (List X)) → behind (front ++ x ∷ []) rest ≡ behind front (option_map (λ xs. x ∷ xs) rest)
 behind-one front x None = refl
 behind-one front x (Some xs) = ap Some (append_assoc front (x ∷ []) xs)
@@ -21,9 +17,6 @@ behind-one front x (Some xs) = ap Some (append_assoc front (x ∷ []) xs)
 -- one part more
 pub one_more : {X : Type 0} (front : List X) (x : X) (o : Option X) (rest : List (Option X)) (whole : Option (List X)) → o ≡ Some x → behind front (all_of (o ∷ rest)) ≡ whole → behind (front ++ x ∷ []) (all_of rest) ≡ whole
 one_more front x o rest whole is h = behind-one front x (all_of rest) ∙ (ap (λ t. behind front (all_of (t ∷ rest))) (sym is) ∙ h)
-
-pub one_is_bad : {X : Type 0} (front : List X) (o : Option X) (rest : List (Option X)) (whole : Option (List X)) → o ≡ None → behind front (all_of (o ∷ rest)) ≡ whole → None ≡ whole
-one_is_bad front o rest whole is h = ap (λ t. behind front (all_of (t ∷ rest))) (sym is) ∙ h
 
 pub none_is_left : {X : Type 0} (front : List X) (whole : Option (List X)) → behind front (Some []) ≡ whole → Some front ≡ whole
 none_is_left front whole h = ap Some (sym (append-nil front)) ∙ h
@@ -40,13 +33,6 @@ pub next_part : (ends : Range) (front : List Range) (rest part more : List ℕ) 
 next_part ends front rest part more r whole split is h =
     one_more front r (part_of ends part) (map (part_of ends) (slice_split is_bar more)) whole (sym is) (cut ends front rest (part ∷ slice_split is_bar more) whole split h)
 
-pub bad_part : (ends : Range) (front : List Range) (rest part more : List ℕ) (whole : Option (List Range)) → slice_split is_bar rest ≡ part ∷ slice_split is_bar more → None ≡ part_of ends part → Reads ends front rest whole → None ≡ whole
-bad_part ends front rest part more whole split is h =
-    one_is_bad front (part_of ends part) (map (part_of ends) (slice_split is_bar more)) whole (sym is) (cut ends front rest (part ∷ slice_split is_bar more) whole split h)
-
 pub last_part : (ends : Range) (front : List Range) (rest : List ℕ) (r : Range) (whole : Option (List Range)) → slice_split is_bar rest ≡ rest ∷ [] → Some r ≡ part_of ends rest → Reads ends front rest whole → Some (front ++ r ∷ []) ≡ whole
 last_part ends front rest r whole split is h =
     none_is_left (front ++ r ∷ []) whole (one_more front r (part_of ends rest) [] whole (sym is) (cut ends front rest (rest ∷ []) whole split h))
-
-pub bad_last : (ends : Range) (front : List Range) (rest : List ℕ) (whole : Option (List Range)) → slice_split is_bar rest ≡ rest ∷ [] → None ≡ part_of ends rest → Reads ends front rest whole → None ≡ whole
-bad_last ends front rest whole split is h = one_is_bad front (part_of ends rest) [] whole (sym is) (cut ends front rest (rest ∷ []) whole split h)

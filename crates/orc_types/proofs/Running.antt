@@ -21,7 +21,7 @@ or_none None = refl
 or_none (Some x) = refl
 
 -- what is put where nothing was goes behind what was
-pub put_behind : (old new : List ℕ → Option ℤ) (name q : List ℕ) (v : ℤ) → old name ≡ None → new q ≡ cond (same_text name q) (Some v) (old q) → new q ≡ option_or (old q) (cond (same_text name q) (Some v) None)
+pub put_behind : {X : Type 0} (old new : List ℕ → Option X) (name q : List ℕ) (v : X) → old name ≡ None → new q ≡ cond (same_text name q) (Some v) (old q) → new q ≡ option_or (old q) (cond (same_text name q) (Some v) None)
 put_behind old new name q v none put = put ∙ by (same_text name q) refl
   where
     by : (b : Bool) → same_text name q ≡ b → cond b (Some v) (old q) ≡ option_or (old q) (cond b (Some v) None)
@@ -29,7 +29,7 @@ put_behind old new name q v none put = put ∙ by (same_text name q) refl
     by false is = or_none (old q)
 
 -- what is there stays
-pub stays : (old : List ℕ → Option ℤ) (name q : List ℕ) (v t : ℤ) → old name ≡ Some t → old q ≡ option_or (old q) (cond (same_text name q) (Some v) None)
+pub stays : {X : Type 0} (old : List ℕ → Option X) (name q : List ℕ) (v t : X) → old name ≡ Some t → old q ≡ option_or (old q) (cond (same_text name q) (Some v) None)
 stays old name q v t some = by (same_text name q) refl
   where
     by : (b : Bool) → same_text name q ≡ b → old q ≡ option_or (old q) (cond b (Some v) None)

@@ -13,23 +13,24 @@ use Rattle.orc_types.specs.Types.{first_fault}
 
 -- A number that a restricted integer type has is one of its base type.
 abbrev pub RangesNarrow : Type 0
-RangesNarrow = (base rs : List Range) (text : List ℕ) (z : ℤ)
-    → narrowed base text ≡ Some rs → in_ranges rs z ≡ true → in_ranges base z ≡ true
+RangesNarrow = (base ranges : List Range) (text : List ℕ) (number : ℤ)
+    → narrowed base text ≡ Some ranges → in_ranges ranges number ≡ true → in_ranges base number ≡ true
 
 -- A length that a restricted string type has is one of its base type.
 abbrev pub LengthsNarrow : Type 0
-LengthsNarrow = (base ls : List (ℕ × ℕ)) (text : List ℕ) (n : ℕ)
-    → narrowed_lengths base text ≡ Some ls → in_lengths ls n ≡ true → in_lengths base n ≡ true
+LengthsNarrow = (base lengths : List (ℕ × ℕ)) (text : List ℕ) (length : ℕ)
+    → narrowed_lengths base text ≡ Some lengths → in_lengths lengths length ≡ true → in_lengths base length ≡ true
 
 -- Each number of 64 bits has a bound that writes it: its canonical text.
 abbrev pub NumbersReadBack : Type 0
-NumbersReadBack = (z : ℤ) → is_64_bit z ≡ true → written_number (int_text z) ≡ Some z
+NumbersReadBack = (number : ℤ) → is_64_bit number ≡ true → written_number (int_text number) ≡ Some number
 
 -- Two enums have neither the same name nor the same value.
-pub record Differ (a b : EnumName) : Type 0 where
-  pub names : a.name ≢ b.name
-  pub values : a.value ≢ b.value
+pub record Differ (one other : EnumName) : Type 0 where
+  pub names : one.name ≢ other.name
+  pub values : one.value ≢ other.value
 
 -- No two enums of an enumeration without a fault have one name or one value, given or automatic.
 abbrev pub EnumsDiffer : Type 0
-EnumsDiffer = (ss : List Stmt) → first_fault Enumeration [] ss ≡ None → AllPairs Differ (enums_of None ss)
+EnumsDiffer = (statements : List Stmt) → first_fault Enumeration [] statements ≡ None
+    → AllPairs Differ (enums_of None statements)

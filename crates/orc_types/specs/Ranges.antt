@@ -37,7 +37,7 @@ range_up_to ends low high = range_between (bound_of ends (trim low)) (bound_of e
 -- what stands behind a dot that is first
 abbrev pub behind_dot : List ℕ → Option (List ℕ)
 behind_dot [] = None
-behind_dot (c ∷ cs) = if is_dot c then Some cs else None
+behind_dot (byte ∷ later) = if is_dot byte then Some later else None
 
 abbrev pub has_dot : List ℕ → Bool
 has_dot text = is_some (position is_dot text)
@@ -51,8 +51,8 @@ part_of ends text = if has_dot text
 -- the values of options, where each has one
 abbrev pub all_of : {X : Type 0} → List (Option X) → Option (List X)
 all_of [] = Some []
-all_of (None ∷ os) = None
-all_of (Some x ∷ os) = option_map (λ xs. x ∷ xs) (all_of os)
+all_of (None ∷ later) = None
+all_of (Some value ∷ later) = option_map (λ values. value ∷ values) (all_of later)
 
 -- the parts, with bars between
 abbrev pub parts_of : Range → List ℕ → Option (List Range)
@@ -60,7 +60,7 @@ parts_of ends text = all_of (map (part_of ends) (slice_split is_bar text))
 
 -- printable ASCII, space, tab, line feed and carriage return: so no other white space stands round a part
 abbrev pub is_plain : ℕ → Bool
-is_plain c = c == 9 || c == 10 || c == 13 || nat_le 32 c && nat_le c 126
+is_plain byte = byte == 9 || byte == 10 || byte == 13 || nat_le 32 byte && nat_le byte 126
 
 -- no white space stands at an end of the argument
 abbrev pub is_trimmed : List ℕ → Bool
@@ -69,15 +69,15 @@ is_trimmed text = length (trim text) == length text
 -- each part begins behind the end of the one before
 abbrev pub ascend_behind : ℤ → List Range → Bool
 ascend_behind high [] = true
-ascend_behind high (r ∷ rs) = int_lt high r.0 && ascend_behind r.1 rs
+ascend_behind high (range ∷ later) = int_lt high range.0 && ascend_behind range.1 later
 
 abbrev pub ascend : List Range → Bool
 ascend [] = true
-ascend (r ∷ rs) = ascend_behind r.1 rs
+ascend (range ∷ later) = ascend_behind range.1 later
 
 -- the range lies within a part of the base type
 abbrev pub lies_within : List Range → Range → Bool
-lies_within base r = list_any (λ b. int_le b.0 r.0 && int_le r.1 b.1) base
+lies_within base range = list_any (λ part. int_le part.0 range.0 && int_le range.1 part.1) base
 
 -- the least and the greatest number of the base type
 abbrev pub ends_of : List Range → Range
@@ -85,7 +85,7 @@ ends_of base = ((slice_index_or base 0 (pos 0, pos 0)).0, (slice_index_or base (
 
 -- ranges that may restrict the base type
 abbrev pub narrows : List Range → List Range → Bool
-narrows base rs = ascend rs && list_all (lies_within base) rs
+narrows base ranges = ascend ranges && list_all (lies_within base) ranges
 
 -- the ranges that the argument of `range` leaves of the base type's
 abbrev pub narrowed : List Range → List ℕ → Option (List Range)
@@ -94,15 +94,16 @@ narrowed base text = if list_all is_plain text && is_trimmed text
 
 -- a length is an unsigned integer of 64 bits
 abbrev pub is_length : ℤ → Bool
-is_length z = int_le (pos 0) z && int_le z (pos 0xFFFF_FFFF_FFFF_FFFF)
+is_length number = int_le (pos 0) number && int_le number (pos 0xFFFF_FFFF_FFFF_FFFF)
 
 abbrev pub length_range : Range → Option (ℕ × ℕ)
-length_range r = if is_length r.0 && is_length r.1 then Some (unsigned_abs r.0, unsigned_abs r.1) else None
+length_range range = if is_length range.0 && is_length range.1
+    then Some (unsigned_abs range.0, unsigned_abs range.1) else None
 
 abbrev pub as_range : ℕ × ℕ → Range
-as_range l = (pos l.0, pos l.1)
+as_range ends = (pos ends.0, pos ends.1)
 
 -- the lengths that the argument of `length`, in which no `-` stands, leaves of the base type's
 abbrev pub narrowed_lengths : List (ℕ × ℕ) → List ℕ → Option (List (ℕ × ℕ))
 narrowed_lengths base text = if list_any is_minus text then None
-    else option_and_then (λ rs. all_of (map length_range rs)) (narrowed (map as_range base) text)
+    else option_and_then (λ ranges. all_of (map length_range ranges)) (narrowed (map as_range base) text)

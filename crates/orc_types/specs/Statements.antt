@@ -8,29 +8,29 @@ use Rattle.orc_types.specs.declared.fault.TypeFault.{TypeFault}
 use Rattle.orc_types.specs.declared.fault.TypeFault.TheVariants.{Unsupported}
 
 abbrev pub keyword : Stmt → List ℕ
-keyword s = (out-Stmt s).keyword
+keyword statement = (out-Stmt statement).keyword
 
 abbrev pub subs : Stmt → List Stmt
-subs s = (out-Stmt s).subs
+subs statement = (out-Stmt statement).subs
 
 -- the argument; a statement without one has the empty text
 abbrev pub argument : Stmt → List ℕ
-argument s = unwrap_or (out-Stmt s).argument []
+argument statement = unwrap_or (out-Stmt statement).argument []
 
 abbrev pub is_a : List ℕ → Stmt → Bool
-is_a word s = same_text (keyword s) word
+is_a word statement = same_text (keyword statement) word
 
 -- one of the statements has this keyword
 abbrev pub has : List ℕ → List Stmt → Bool
-has word ss = list_any (is_a word) ss
+has word statements = list_any (is_a word) statements
 
 -- the first statement with this keyword
 abbrev pub first_of : List ℕ → List Stmt → Option Stmt
-first_of word ss = find (is_a word) ss
+first_of word statements = find (is_a word) statements
 
 -- a keyword of an extension has a prefix
 abbrev pub has_prefix : List ℕ → Bool
-has_prefix word = list_any (λ c. c == 58) word
+has_prefix word = list_any (λ byte. byte == 58) word
 
 -- what says something about a module, or about another statement, and has no effect on data
 abbrev pub is_idle : List ℕ → Bool
@@ -47,4 +47,5 @@ is_idle word = has_prefix word
 
 -- a statement of which none but those without effect may stand below it: the first other one is at fault
 abbrev pub none_below : Stmt → Option TypeFault
-none_below s = option_map (λ b. Unsupported (keyword b)) (find (λ b. not (is_idle (keyword b))) (subs s))
+none_below statement =
+    option_map (λ below. Unsupported (keyword below)) (find (λ below. not (is_idle (keyword below))) (subs statement))

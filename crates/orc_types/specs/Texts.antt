@@ -2,4 +2,4 @@
 use Rattle.std.specs.Prelude.{ℕ, ◌==◌, Bool}
 
 abbrev pub is_char : ℕ → ℕ → Bool
-is_char c byte = byte == c
+is_char character byte = byte == character

@@ -1,5 +1,5 @@
 -- The digits behind the point.
-use Rattle.std.proofs.Common.{◌≡◌, ℕ, ◌+◌, ◌-◌, ◌*◌, ◌/◌, ◌%◌, ◌<◌, ◌^◌, Bool, false, List, [], ◌∷◌, refl, ap, arith, zero, suc, cond, eqb}
+use Rattle.std.proofs.Common.{◌≡◌, ℕ, ◌+◌, ◌-◌, ◌*◌, ◌/◌, ◌%◌, ◌<◌, ◌^◌, Bool, false, List, [], ◌∷◌, ap, arith, zero, suc, cond, eqb}
 use Rattle.std.proofs.Math.Nat.{pow-suc}
 use Rattle.std.proofs.lemmas.Nat.{div_below}
 use Rattle.std.proofs.lemmas.Bool.Decides.{nat_tests}
@@ -17,10 +17,6 @@ fraction-below_ten (suc k) r below some =
     let bound : r < 10 * 10 ^ k = omega (arith, pow-suc 10 k) in
     rw e (div_below r (10 ^ k) 10 (ten_pow_pos k) bound)
 
-pub fraction-some : (p r : ℕ) → r < 10 ^ p → 0 < r → 0 < p
-fraction-some zero r below some = absurd (omega arith)
-fraction-some (suc k) r below some = omega arith
-
 pub fraction_digits-step : (p r : ℕ) → r < 10 ^ p → 0 < r → fraction_digits p r ≡ (48 + r / 10 ^ (p - 1)) ∷ fraction_digits (p - 1) (r % 10 ^ (p - 1))
 fraction_digits-step zero r below some = absurd (omega arith)
 fraction_digits-step (suc k) r below some =
@@ -28,7 +24,3 @@ fraction_digits-step (suc k) r below some =
     let not_none : eqb r 0 ≡ false = grind (arith, nat_tests) in
     let pick : Bool → List ℕ = λ b. cond b [] ((48 + r / 10 ^ k) ∷ fraction_digits k (r % 10 ^ k)) in
     rw e (ap pick not_none)
-
-pub fraction_digits-none : (p : ℕ) → fraction_digits p 0 ≡ []
-fraction_digits-none zero = refl
-fraction_digits-none (suc k) = refl

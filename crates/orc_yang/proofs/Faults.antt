@@ -48,12 +48,6 @@ pub begins_by : (front : List ℕ) (s : Machine) → Came front s → (cs more :
 begins_by front s w cs more list q h =
     (more, list, q, sound 0 (ap (λ l. run (placed 0 1 l) start 0) (append_assoc front cs more) ∙ (w.goes (cs ++ more) 0 ∙ h (length (encode_utf8_all front)) w.column 0)))
 
-pub refused_by : (front : List ℕ) (s : Machine) → Came front s → (cs : List ℕ) → ((at column end : ℕ) (more : List ℕ) (list : List Stmt) → run (placed at column (cs ++ more)) s end ≡ Ok list → ⊥)
-    → CanOpen (front ++ cs) → ⊥
-refused_by front s w cs h b =
-    h (length (encode_utf8_all front)) w.column 0 b.0 b.1
-    (sym (w.goes (cs ++ b.0) 0) ∙ (ap (λ l. run (placed 0 1 l) start 0) (sym (append_assoc front cs b.0)) ∙ complete 0 b.3))
-
 pub begins : (front : List ℕ) (s : Machine) → Came front s → pending s.work ≡ None → CanOpen front
 begins front s w q =
     let a = accepts s q in
@@ -104,9 +98,6 @@ module _ (front : List ℕ) (done : List Stmt) (frames : List Frame) where
 
   pub takes_joining : (h : Head) (a : List ℕ) → Came front (S done frames (Gap (Joining h a))) → TakesString front
   takes_joining h a w = (can_follow front _ _ w 34 refl refl, can_follow front _ _ w 39 refl refl, stops_err front _ w 125 _ refl)
-
-  regrouped : (P : List ℕ → Type 0) (cs ds : List ℕ) → P ((front ++ cs) ++ ds) → P (front ++ (cs ++ ds))
-  regrouped P cs ds p = subst P (append_assoc front cs ds) p
 
   ungrouped : (P : List ℕ → Type 0) (cs ds : List ℕ) → P (front ++ (cs ++ ds)) → P ((front ++ cs) ++ ds)
   ungrouped P cs ds p = subst P (sym (append_assoc front cs ds)) p

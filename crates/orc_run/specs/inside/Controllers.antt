@@ -33,21 +33,21 @@ use Rattle.std.specs.List.{list_all}
 
 -- what it knows as committed, and what it was committing
 abbrev pub known_of : {D : Type 0} → Controller D → List Call
-known_of c = take c.known c.past.history
+known_of controller = take controller.known controller.past.history
 
 abbrev pub pending_of : {D : Type 0} → Controller D → List Call
-pending_of c = drop c.known c.past.history
+pending_of controller = drop controller.known controller.past.history
 
 -- what a user can tell of the controller, where it knows these entries
 abbrev pub view_of : {D : Type 0} → Controller D → List Entry → View D
-view_of c entries = record {
-  disk = c.journal.disk.inner;
+view_of controller entries = record {
+  disk = controller.journal.disk.inner;
   entries = entries;
-  known = known_of c;
-  pending = pending_of c;
-  up = c.up;
-  armed = c.journal.disk.op;
-  bytes = c.journal.disk.bytes;
+  known = known_of controller;
+  pending = pending_of controller;
+  up = controller.up;
+  armed = controller.journal.disk.op;
+  bytes = controller.journal.disk.bytes;
 }
 
 -- where a step led: the controller and what the step printed, or the end of the run
@@ -60,60 +60,61 @@ ends_run disk text end = Err (record { disk = disk; text = text; stop = end })
 
 -- a call was served: the controller goes on with this text, or the run ends
 abbrev pub GoesOn : {D : Type 0} → Option Stop → List ℕ → Controller D → StepResult D → Type 0
-GoesOn None text c result = result ≡ Ok (c, text)
-GoesOn (Some end) text c result = result ≡ ends_run c.journal.disk.inner text end
+GoesOn None text controller result = result ≡ Ok (controller, text)
+GoesOn (Some end) text controller result = result ≡ ends_run controller.journal.disk.inner text end
 
 -- the run ends for want of memory
 abbrev pub Wants : {D : Type 0} → Controller D → StepResult D → Type 0
-Wants c result = result ≡ ends_run c.journal.disk.inner [] ending.Memory
+Wants controller result = result ≡ ends_run controller.journal.disk.inner [] ending.Memory
 
 module _ {D : Type 0} (meaning : DiskMeaning D) where
   -- it is up: its journal holds these entries, and the history that it knows
-  pub record IsUp (decls : Decls) (entries : List Entry) (c : Controller D) : Type 0 where
-    pub holds : Holds (inside meaning) c.journal decls.text entries
+  pub record IsUp (decls : Decls) (entries : List Entry) (controller : Controller D) : Type 0 where
+    pub holds : Holds (inside meaning) controller.journal decls.text entries
     pub ordered : IsTrue (is_ordered entries)
-    pub decided : history_of entries ≡ c.past.history
-    pub numbers : All (λ entry. is_taken c.past.numbers (number_of entry) ≡ true) entries
-    pub filled : IsFilled c.past.numbers
-    pub named : AreNamed c.past.numbers entries
-    pub running : c.journal.disk.stopped ≡ false
-    pub limit : c.journal.limit ≡ LARGEST_JOURNAL
-    pub all : c.known ≡ length c.past.history
+    pub decided : history_of entries ≡ controller.past.history
+    pub numbers : All (λ entry. is_taken controller.past.numbers (number_of entry) ≡ true) entries
+    pub filled : IsFilled controller.past.numbers
+    pub named : AreNamed controller.past.numbers entries
+    pub running : controller.journal.disk.stopped ≡ false
+    pub limit : controller.journal.limit ≡ LARGEST_JOURNAL
+    pub all : controller.known ≡ length controller.past.history
 
   -- it is up, and the state has done the actions of a call that is to be committed
-  pub record IsCommitting (decls : Decls) (call : Call) (entries : List Entry) (c : Controller D) : Type 0 where
-    pub running : c.up ≡ true
-    pub up : IsUp decls entries c
-    pub legal : IsLegal decls c.past.history
-    pub due : IsDue decls c.past.history call
-    pub behind : IsBehind decls c.past (c.past.history ++ call ∷ [])
+  pub record IsCommitting (decls : Decls) (call : Call) (entries : List Entry) (controller : Controller D)
+      : Type 0 where
+    pub running : controller.up ≡ true
+    pub up : IsUp decls entries controller
+    pub legal : IsLegal decls controller.past.history
+    pub due : IsDue decls controller.past.history call
+    pub behind : IsBehind decls controller.past (controller.past.history ++ call ∷ [])
 
   -- it knows these entries, a legal history, and the state behind it
-  pub record Knows (decls : Decls) (entries : List Entry) (c : Controller D) : Type 0 where
-    pub within : c.known ≤ length c.past.history
-    pub behind : IsBehind decls c.past (known_of c)
-    pub legal : IsLegal decls (known_of c)
-    pub rests : Rests meaning decls (view_of c entries)
-    pub up : c.up ≡ true → IsUp decls entries c
+  pub record Knows (decls : Decls) (entries : List Entry) (controller : Controller D) : Type 0 where
+    pub within : controller.known ≤ length controller.past.history
+    pub behind : IsBehind decls controller.past (known_of controller)
+    pub legal : IsLegal decls (known_of controller)
+    pub rests : Rests meaning decls (view_of controller entries)
+    pub up : controller.up ≡ true → IsUp decls entries controller
 
   -- it knows some entries
   abbrev pub IsSound : Decls → Controller D → Type 0
-  IsSound decls c = (entries : List Entry) × Knows decls entries c
+  IsSound decls controller = (entries : List Entry) × Knows decls entries controller
 
   -- a step of a script under the declarations can be done
-  pub record CanDo (decls : Decls) (c : Controller D) (step : ScriptStep) : Type 0 where
+  pub record CanDo (decls : Decls) (controller : Controller D) (step : ScriptStep) : Type 0 where
     pub declared : AreDecls decls
     pub schemas : All schema.IsSound decls.schemas
     pub short : length decls.text < 2 ^ 32
-    pub sound : IsSound decls c
+    pub sound : IsSound decls controller
     pub lawful : IsTrue (is_step decls step)
 
   -- the steps of a script under the declarations can be done
-  pub record CanRun (decls : Decls) (c : Controller D) (steps : List ScriptStep) : Type 0 where
+  pub record CanRun (decls : Decls) (controller : Controller D) (steps : List ScriptStep) : Type 0 where
     pub declared : AreDecls decls
     pub schemas : All schema.IsSound decls.schemas
     pub short : length decls.text < 2 ^ 32
-    pub sound : IsSound decls c
+    pub sound : IsSound decls controller
     pub lawful : IsTrue (list_all (is_step decls) steps)
 
   -- where a step led
@@ -129,21 +130,23 @@ module _ {D : Type 0} (meaning : DiskMeaning D) where
 
   -- where a step leads a sound controller, whatever entries it knows
   abbrev pub StepsFrom : Decls → Controller D → ScriptStep → StepResult D → Type 0
-  StepsFrom decls c step result = (sound : IsSound decls c) → StepsTo decls (view_of c sound.0) step result
+  StepsFrom decls controller step result =
+      (sound : IsSound decls controller) → StepsTo decls (view_of controller sound.0) step result
 
   -- where serving a call led; where memory was wanting for it a user can tell no difference
   pub record LeadsTo (decls : Decls) (old : View D) (call : Call) (result : Result CallOutcome Memory)
-      (c : Controller D) : Type 0 where
+      (controller : Controller D) : Type 0 where
     pub entries : List Entry
-    pub serves : IfOk result (λ served. ServesTo meaning decls old call served.text served.end (view_of c entries))
-    pub sound : IfOk result (λ served. served.end ≡ None → Knows decls entries c)
-    pub same : OnErr result (view_of c entries ≡ old)
-    pub rests : Rests meaning decls (view_of c entries)
-    pub outlives : Outlives meaning decls old (view_of c entries)
+    pub serves : IfOk result
+        (λ served. ServesTo meaning decls old call served.text served.end (view_of controller entries))
+    pub sound : IfOk result (λ served. served.end ≡ None → Knows decls entries controller)
+    pub same : OnErr result (view_of controller entries ≡ old)
+    pub rests : Rests meaning decls (view_of controller entries)
+    pub outlives : Outlives meaning decls old (view_of controller entries)
 
   -- a controller that was opened: it knows the entries of the bytes that the disk gave, and their history
-  pub record Opens (decls : Decls) (disk : D) (c : Controller D) : Type 0 where
+  pub record Opens (decls : Decls) (disk : D) (controller : Controller D) : Type 0 where
     pub entries : List Entry
-    pub knows : Knows decls entries c
-    pub opened : HasOpened (inside meaning) decls.text LARGEST_JOURNAL (unstopped disk) c.journal entries
-    pub decided : history_of entries ≡ known_of c
+    pub knows : Knows decls entries controller
+    pub opened : HasOpened (inside meaning) decls.text LARGEST_JOURNAL (unstopped disk) controller.journal entries
+    pub decided : history_of entries ≡ known_of controller

@@ -16,20 +16,22 @@ use Rattle.orc_run.specs.inside.Transactions.{TakesLeast}
 use Rattle.orc_run.specs.declared.past.Past.{Past}
 
 -- the intent of a transaction that is to commit this call on these devices
-pub record IsIntentOf (t : ℕ) (call : Call) (devices : List ℕ) (intent : Entry) : Type 0 where
-  pub is : intent ≡ Intent t call devices
+pub record IsIntentOf (transaction : ℕ) (call : Call) (devices : List ℕ) (intent : Entry) : Type 0 where
+  pub is : intent ≡ Intent transaction call devices
   pub fields : IsEntry intent
 
 -- the commit of a call on these devices has begun: it has a number and an intent, and the call stands open behind the
 -- history
-pub record HasBegun (old : Past) (call : Call) (devices : List ℕ) (new : Past) (t : ℕ) (intent : Entry) : Type 0 where
-  pub number : TakesLeast old.numbers new.numbers t
-  pub intended : IsIntentOf t call devices intent
+pub record HasBegun (old : Past) (call : Call) (devices : List ℕ) (new : Past) (transaction : ℕ) (intent : Entry)
+    : Type 0 where
+  pub number : TakesLeast old.numbers new.numbers transaction
+  pub intended : IsIntentOf transaction call devices intent
   pub pending : new.history ≡ old.history ++ call ∷ []
 
 -- what is so of the declarations and entries that an open journal is of
 abbrev pub WhereOpen : {D : Type 0} → DiskMeaning D → OpenJournal (Stopping D) → (List ℕ → List Entry → Type 0) → Type 0
-WhereOpen disk journal P = (decls : List ℕ) (entries : List Entry) → IsOpen disk journal decls entries → P decls entries
+WhereOpen disk journal Says =
+    (decls : List ℕ) (entries : List Entry) → IsOpen disk journal decls entries → Says decls entries
 
 -- the entries stand in their order, and their history is this one, which is legal
 pub record HaveHistory (decls : Decls) (entries : List Entry) (history : List Call) : Type 0 where

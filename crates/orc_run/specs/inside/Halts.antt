@@ -20,14 +20,15 @@ use Rattle.orc_run.specs.declared.stop.Stop.TheVariants as ending
 
 -- what is printed at the start, on a disk that was not empty
 abbrev pub greeting : {D : Type 0} → Controller D → List ℕ
-greeting c = if c.journal.fresh then [] else recovered_line c.known
+greeting controller = if controller.journal.fresh then [] else recovered_line controller.known
 
 module _ {D : Type 0} (meaning : DiskMeaning D) where
   -- the step was done, or ended the run
   abbrev pub Leads : Decls → View D → ScriptStep → List ℕ → Option Stop → View D → Type 0
-  Leads decls w s text None last = Does meaning decls w s text last
-  Leads decls w s text (Some end) last = Breaks meaning decls w s text end last × EndsBecause meaning decls w s end last
-      × (s ≡ Recover → FailsToRecover meaning decls w end last)
+  Leads decls old step text None last = Does meaning decls old step text last
+  Leads decls old step text (Some end) last = Breaks meaning decls old step text end last
+      × EndsBecause meaning decls old step end last
+      × (step ≡ Recover → FailsToRecover meaning decls old end last)
 
   -- the step was done, and the sink took what it printed
   pub record WritesStep (held held' : Option (List ℕ)) (decls : Decls) (old : View D) (step : ScriptStep)
@@ -38,14 +39,14 @@ module _ {D : Type 0} (meaning : DiskMeaning D) where
     pub took : Appends held held' text
 
   -- the run ended at this step, or a write of what the step printed failed
-  pub record Halts (held held' : Option (List ℕ)) (decls : Decls) (w : View D) (s : ScriptStep) (disk : D)
+  pub record Halts (held held' : Option (List ℕ)) (decls : Decls) (old : View D) (step : ScriptStep) (disk : D)
       (status : Result Done Stop) : Type 0 where
     pub last : View D
     pub text : List ℕ
     pub end : Option Stop
     pub disk_is : last.disk ≡ disk
-    pub leads : Leads decls w s text end last
-    pub outlives : Outlives meaning decls w last
+    pub leads : Leads decls old step text end last
+    pub outlives : Outlives meaning decls old last
     pub rests : Rests meaning decls last
     pub wrote : Wrote held held' text end status
     pub failed : is_err status ≡ true
@@ -65,6 +66,6 @@ module _ {D : Type 0} (meaning : DiskMeaning D) where
   -- the start
   abbrev pub GreetsAndFinishes : Option (List ℕ) → Option (List ℕ) → Decls → Controller D → List Entry
       → List ScriptStep → D → Result Done Stop → Type 0
-  GreetsAndFinishes held held' decls c entries script disk status =
-      ((held' ≡ held) × (disk ≡ c.journal.disk.inner) × (status ≡ Err ending.Memory))
-      ⊎ Finishes held held' decls (view_of c entries) script (greeting c) disk status
+  GreetsAndFinishes held held' decls controller entries script disk status =
+      ((held' ≡ held) × (disk ≡ controller.journal.disk.inner) × (status ≡ Err ending.Memory))
+      ⊎ Finishes held held' decls (view_of controller entries) script (greeting controller) disk status

@@ -69,9 +69,9 @@ pub record AreLinesOf (names : List (List ℕ)) (call : Call) (entry : ℕ) (lin
   pub failed : lines.failed ≡ answer_line names call.caller call.number JournalFault
   pub stopped : lines.stopped ≡ codes "stopped\n"
 
-module _ {D : Type 0} (meaning : DiskMeaning D) (decls : Decls) (w : View D) (call : Call) where
+module _ {D : Type 0} (meaning : DiskMeaning D) (decls : Decls) (old : View D) (call : Call) where
   -- What came of a call, by what is printed of it and why the run ends behind it, if it does.
   abbrev pub ServesTo : List ℕ → Option Stop → View D → Type 0
-  ServesTo text None new = Serves meaning decls w call text new
-  ServesTo text (Some end) new = Breaks meaning decls w (step.Serve call) text end new
-      × EndsBecause meaning decls w (step.Serve call) end new
+  ServesTo text None new = Serves meaning decls old call text new
+  ServesTo text (Some end) new = Breaks meaning decls old (step.Serve call) text end new
+      × EndsBecause meaning decls old (step.Serve call) end new

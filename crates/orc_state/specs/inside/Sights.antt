@@ -4,7 +4,7 @@ use Rattle.std.specs.declared.option.Option.TheVariants.{None, Some}
 use Rattle.std.specs.declared.result.Result.TheVariants.{Ok, Err}
 use Rattle.std.specs.FinMap.{len}
 use Rattle.std.specs.List.{filter, fold, list_any, range_with_len}
-use Rattle.std.specs.Option.{option_map_or}
+use Rattle.std.specs.Option.{option_map_or, option_or}
 use Rattle.orc_path.specs.Alphabet.{is_key}
 use Rattle.orc_path.specs.Configurations.{Config, drop_item, put_item}
 use Rattle.orc_path.specs.declared.item.Item.TheVariants.{Entry}
@@ -116,6 +116,6 @@ unless_fault (Some answer) due = Err answer
 abbrev pub planned_sight : Decls → Snapshot → Call → Result Plan Answer
 planned_sight decls snapshot call =
     let config = data_after call.actions snapshot.data in
-    unless_fault (first_service_fault (knows_service snapshot.known) call.actions)
-    (unless_fault (invalid decls.data_schema config)
-    (planned_known decls snapshot.known snapshot.front call.actions config))
+    let fault = first_service_fault (knows_service snapshot.known) call.actions in
+    unless_fault (option_or fault (invalid decls.data_schema config))
+    (planned_known decls snapshot.known snapshot.front call.actions config)

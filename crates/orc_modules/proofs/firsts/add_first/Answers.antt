@@ -1,7 +1,8 @@
 use Rattle.std.proofs.Common.{sym, ap}
 use Rattle.std.proofs.lemmas.Map.Text.{btree_map_updates_str}
 use Rattle.orc_modules.specs.inside.Blocks.{by_name}
-use Rattle.orc_modules.proofs.ByName.{put_behind, lent, under}
+use Rattle.orc_types.proofs.Running.{put_behind}
+use Rattle.orc_modules.proofs.ByName.{lent, under}
 use Rattle.orc_modules.proofs.firsts.add_first.Goals as goal
 
 pub returns-in_ok-insert-in-None : goal.returns-in_ok-insert-in-None

@@ -31,10 +31,10 @@ leave (action ∷ actions) config h =
     ap (λ (c : Config). data_after actions c) (step_leaves action config (or_first (is_on_data action) (list_any is_on_data actions) h))
     ∙ leave actions config (or_second (is_on_data action) (list_any is_on_data actions) h)
 
-pub returns-then-not-is_on_data : goal.returns-then-not-is_on_data
-returns-then-not-is_on_data c =
+pub returns-then-not-any_on_data : goal.returns-then-not-any_on_data
+returns-then-not-any_on_data c =
     let schema = c.args.schema.now in
-    let stays = leave c.args.actions.now c.args.old.now (sym c.is_on_data.ensures ∙ c.if-not-is_on_data.true) in
+    let stays = leave c.args.actions.now c.args.old.now (sym c.any_on_data.ensures ∙ c.if-not-any_on_data.true) in
     sym (ap (λ (m : Config). invalid schema m) (c.requires.behind ∙ stays) ∙ ap (option_map (λ (b : Breach). Invalid b.path b.rule)) c.requires.valid)
 
 pub invalid-requires-clause-changed : goal.invalid-requires-clause-changed

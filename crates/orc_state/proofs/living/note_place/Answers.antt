@@ -4,4 +4,6 @@ use Rattle.orc_state.proofs.living.note_place.Goals as goal
 
 pub returns : goal.returns
 returns c =
-    λ q. noted_put (noted c.args.places.now q) (noted c.insert.new.self q) c.args.id q c.args.place (c.in-Ok.ensures.updates.0 q)
+    let place = c.args.place in
+    let put = (c.get_mut.follows.holds place).3 c.requires in
+    λ q. noted_put (noted c.args.places.now q) (noted (c.get_mut.follows.lender place) q) c.args.id.now q place (put.0 q)

@@ -1,6 +1,6 @@
 use Rattle.std.proofs.Common.{sym, ◌∙◌, subst, arith}
 use Rattle.orc_statements.specs.inside.Seen.{HasToo}
-use Rattle.orc_statements.proofs.Seens.{more_left, none_left}
+use Rattle.orc_statements.proofs.Seens.{more_left}
 use Rattle.orc_statements.proofs.walk.push_all.Goals as goal
 
 pub loop-name-preserved : goal.loop-name-preserved

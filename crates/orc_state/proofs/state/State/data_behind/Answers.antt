@@ -1,8 +1,26 @@
-use Rattle.std.proofs.Common.{ap, sym, ◌∙◌}
-use Rattle.orc_state.proofs.Planning.{differs_so}
+use Rattle.std.proofs.Common.{List, IfOk, ap, subst, ◌∙◌}
+use Rattle.std.specs.Prelude.{Option}
+use Rattle.orc_path.specs.Configurations.{Config}
+use Rattle.orc_call.specs.declared.answer.Answer.{Answer}
+use Rattle.orc_call.specs.declared.call.Action.{Action}
+use Rattle.orc_state.specs.Actions.{data_after}
+use Rattle.orc_state.specs.Next.{existence, first_service_fault}
+use Rattle.orc_state.specs.States.{State}
+use Rattle.orc_state.specs.inside.Behind.{IsDataUnless}
+use Rattle.orc_state.specs.inside.Sights.{knows_service}
+use Rattle.orc_state.proofs.Sighting.{faults_same}
 use Rattle.orc_state.proofs.state.State.data_behind.Goals as goal
 
-pub invalid_behind-requires-clause-changed : goal.invalid_behind-requires-clause-changed
-invalid_behind-requires-clause-changed c =
-    differs_so c.args.call.now.actions c.as_slice-actions.result.now c.args.self.now.data c.self.inside.data c.in_ok-data.data c.as_slice-actions.ensures
-    (ap (λ s. s.data) c.self.view_is) c.in_ok-data.ensures c.requires.changed
+pub returns : goal.returns
+returns c =
+    let schema = c.args.decls.now.data_schema in
+    let actions = c.args.call.now.actions in
+    let known = knows_service c.self.inside.known in
+    let fault_is =
+    ap (first_service_fault known) c.as_slice-actions.ensures ∙ faults_same c.self.inside.live c.self.inside.known actions c.self.invariant.1
+    ∙ ap (λ (s : State). existence s.live actions) c.self.view_is in
+    let data_is =
+    ap (λ (l : List Action). data_after l c.self.inside.data) c.as_slice-actions.ensures ∙ ap (λ (s : State). data_after actions s.data) c.self.view_is in
+    subst (λ (fault : Option Answer). IfOk c.data_behind.result (IsDataUnless fault schema (data_after actions c.args.self.now.data))) fault_is
+    (subst (λ (due : Config). IfOk c.data_behind.result (IsDataUnless (first_service_fault known c.as_slice-actions.result.now) schema due)) data_is
+    c.data_behind.ensures)

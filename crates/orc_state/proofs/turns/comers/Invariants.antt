@@ -2,7 +2,7 @@ use Rattle.std.proofs.Common.{◌≡◌, ◌++◌}
 use Rattle.std.specs.List.{flat_map}
 use Rattle.std.specs.Vec.Iter.{into_iter_items}
 use Rattle.orc_state.specs.inside.Turns.{comers}
-use Rattle.orc_state.proofs.commit.comers.Given as goal
+use Rattle.orc_state.proofs.turns.comers.Given as goal
 
 -- those so far, and those of the turns that are left
 abbrev pub invariant-loop-turn : goal.invariant-loop-turn

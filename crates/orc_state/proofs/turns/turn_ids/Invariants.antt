@@ -1,6 +1,6 @@
 use Rattle.std.proofs.Common.{◌≡◌, map, take}
 use Rattle.orc_state.specs.inside.Turns.{turn_id}
-use Rattle.orc_state.proofs.commit.turn_ids.Given as goal
+use Rattle.orc_state.proofs.turns.turn_ids.Given as goal
 
 -- those so far
 abbrev pub invariant-loop-turn : goal.invariant-loop-turn
