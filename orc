@@ -1,9 +1,15 @@
 #!/bin/sh
-# Runs the program with the words and the standard input given, and ends with its status.
-# Builds it first where it is missing or older than its sources: .ci/build proves what it builds, says on standard error
-# how far it is, and takes nothing of the input.
-top=$(cd "$(dirname "$0")" && pwd) || exit 1
+# Runs the program with the words and the standard input given, and ends with its status. `orc test [NAME..]` runs the
+# programs that hold the examples and the tables of cases instead (.ci/test).
+# Builds the program first where it is missing or older than its sources, if somebody watches: .ci/build proves what it
+# builds, says on a terminal how far it is, and takes nothing of the input. Without a terminal it says what to do.
+top=$(dirname "$(readlink -f "$0")") || exit 1
 program=$top/crates/orc/out/orc
+
+if [ "$1" = test ]; then
+    shift
+    exec "$top/.ci/test" "$@"
+fi
 
 is_old() {
     [ ! -x "$program" ] || [ -n "$(find "$top/crates.txt" "$top/crates" -name out -prune -o -type f \
@@ -11,6 +17,10 @@ is_old() {
 }
 
 if is_old; then
+    if [ ! -t 2 ]; then
+        echo "orc: the program isn't built, or is older than its sources: $top/.ci/build proves and builds it" >&2
+        exit 1
+    fi
     "$top/.ci/build" </dev/null || exit 1
 fi
 # Typedefs, or nodes and groupings, of modules are followed 2,000 one inside another, each on up to 1,400 bytes of the stack.

@@ -2,16 +2,16 @@
 ghost use Rattle.std.specs.Prelude.{◌≡◌, IfOk, IsTrue, is_some, true};
 ghost use Rattle.std.specs.List.{list_all};
 ghost use Rattle.orc_check.specs.Validity.{broken_of};
-ghost use Rattle.orc_state.specs.Calls.{is_lawful_name};
-ghost use Rattle.orc_state.specs.States.{declared_base, fits_puts, opening_data};
+ghost use Rattle.orc_decls.specs.Calls.{is_lawful_name};
+ghost use Rattle.orc_decls.specs.Openings.{declared_base, fits_puts, opening_data};
 
 use crate::rules::{breach, path_message};
 use orc_call::Put;
 use orc_check::accepts_under;
+use orc_decls::{Device, declared_base, is_lawful_name, opening_data};
 use orc_path::Path;
 use orc_schema::Schema;
 use orc_schema_findings::push_quoted;
-use orc_state::{Device, declared_base, is_lawful_name, opening_data};
 use orc_text::{Memory, Text};
 use orc_tree::Tree;
 use std::alloc::Global;

@@ -1,10 +1,10 @@
 //! What is at fault in the path of a line.
 use crate::cuts::{front_of, push_cut, rest_of};
+use orc_decls::{is_kept, is_served};
 use orc_path::{Path, PathFault, Step};
 use orc_schema::{Node, Schema};
 use orc_schema_findings::push_quoted;
 use orc_services::{ServiceList, is_listed};
-use orc_state::{is_kept, is_served};
 use orc_text::{Memory, Text};
 use std::alloc::Global;
 

@@ -1,14 +1,13 @@
 //! The bundle: the text in which an operator declares devices with their bases and scripts the
-//! controller. Any bytes are read here, as the bundle that they are, or as the first line at fault
-//! and the first rule that it breaks.
+//! controller. Any bytes are read here, as what they declare and where their script begins, and as all
+//! of this with the steps of the script; or as the first line at fault and the first rule that it breaks.
 #![tactic(auto)]
 
-mod bundle;
-mod laws;
 mod read;
+mod scripted;
 
-pub use bundle::Bundle;
-pub use laws::{skipped_lines_change_nothing, spelled_is_read, written_is_read};
+pub use orc_declarations::Bundle;
 pub use orc_lines::{LARGEST_BUNDLE, LONGEST_LINE};
 pub use orc_script::{MOST_CALLERS, MOST_STEPS, ScriptStep};
-pub use read::{read_bundle, read_counted};
+pub use read::read_bundle;
+pub use scripted::{ScriptedBundle, read_scripted};

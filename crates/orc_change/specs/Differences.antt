@@ -1,12 +1,13 @@
 -- The difference of two configurations.
-use Rattle.std.specs.Prelude.{Bool, true, false, nat_eq, List, [], ◌∷◌, ◌++◌, Option, if◌then◌else◌, is_none}
+use Rattle.std.specs.Prelude.{◌≡◌, Bool, true, false, nat_eq, List, [], ◌∷◌, ◌++◌, Option, if◌then◌else◌, is_none}
 use Rattle.std.specs.declared.option.Option.TheVariants.{None, Some}
 use Rattle.std.specs.Cmp.Lexicographic.{pointwise}
 use Rattle.std.specs.FinMap.{get, entries}
 use Rattle.orc_path.specs.Steps.{PathStep}
-use Rattle.orc_path.specs.Configurations.{Config}
+use Rattle.orc_path.specs.Configurations.{Config, IsConfig}
 use Rattle.orc_path.specs.declared.item.Item.{Item}
 use Rattle.orc_path.specs.declared.item.Item.TheVariants.{Entry, Leaf}
+use Rattle.orc_tree.specs.Changes.{applied}
 use Rattle.orc_tree.specs.declared.change.Change.{Change}
 use Rattle.orc_tree.specs.declared.change.Change.TheVariants.{Put, Remove}
 
@@ -33,3 +34,7 @@ new_puts (row ∷ rows) from =
 -- path order
 abbrev pub difference : Config → Config → List Change
 difference from to = removals (entries from) to ++ new_puts (entries to) from
+
+-- The difference of two configurations, applied to the first, gives the second.
+abbrev pub DifferenceLeads : Type 0
+DifferenceLeads = (from to : Config) → IsConfig to → applied (difference from to) from ≡ to

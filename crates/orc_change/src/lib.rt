@@ -5,6 +5,8 @@
 #![tactic(auto)]
 
 mod difference;
+mod laws;
 mod likely;
 
 pub use difference::{between, has_item, reverse};
+pub use laws::difference_leads;

@@ -6,8 +6,8 @@ use Rattle.std.proofs.lemmas.Bool.{and_from, and_parts}
 use Rattle.std.proofs.lemmas.List.Elements.{All-push}
 use Rattle.orc_schema.specs.Schemas.{SchemaTable, plain_table}
 use Rattle.orc_schema.specs.Sound.{IsSound}
-use Rattle.orc_state.specs.Calls.{is_device, is_lawful_name, schema_in, is_device_under}
-use Rattle.orc_state.specs.declared.declarations.Device.{Device}
+use Rattle.orc_decls.specs.Calls.{is_device, is_lawful_name, schema_in, is_device_under}
+use Rattle.orc_decls.specs.declared.declarations.Device.{Device}
 use Rattle.orc_declarations.specs.Declarations.{schema_place, with_type}
 use Rattle.orc_lines.specs.Names.{is_among, place_of, with_name}
 use Rattle.orc_lines.specs.Words.{is_text}

@@ -4,10 +4,10 @@ use Rattle.std.specs.Str.{is_utf8}
 use Rattle.std.proofs.lemmas.Bool.{false≢true}
 use Rattle.orc_path.specs.Alphabet.{is_identifier}
 use Rattle.orc_path.specs.Limits.{is_long_name}
-use Rattle.orc_state.specs.Calls.{schema_named}
-use Rattle.orc_state.specs.declared.declarations.TheConstants.{MOST_DEVICES}
-use Rattle.orc_state.specs.declared.rule.Rule.{Rule}
-use Rattle.orc_state.specs.declared.rule.Rule.TheVariants as rule
+use Rattle.orc_decls.specs.Calls.{schema_named}
+use Rattle.orc_decls.specs.declared.declarations.TheConstants.{MOST_DEVICES}
+use Rattle.orc_decls.specs.declared.rule.Rule.{Rule}
+use Rattle.orc_decls.specs.declared.rule.Rule.TheVariants as rule
 use Rattle.orc_declarations.specs.Declarations.{is_script, after_base, after_data, after_datamodel, after_device, after_devicetype, after_forbid, after_header, after_max, after_rule, after_script, after_template, after_text, after_yang, bare_declaration, base_words, block_size, count_in, declaration, declaration_words, declared_at, device_words, is_header, is_taken, lines_taken, max_words, rule_kind, rule_line, is_listed_already, is_template_of, may_be_served, schema_place, schema_words, taken_by, template_count, template_line, template_words, type_words, with_template, with_base, with_device, with_forbid, with_max, with_module, with_type, words_take}
 use Rattle.orc_lines.specs.Items.{forbidden_of, is_past_path, list_path_of, put_of}
 use Rattle.orc_path.specs.Reading.{path_of}

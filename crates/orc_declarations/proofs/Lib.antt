@@ -1,6 +1,6 @@
 mod Added
+mod Bundles
 mod CopiedStatements
-mod Costs
 mod DeclarationWords
 pub mod DeclaredLines
 mod Lawful
@@ -8,3 +8,4 @@ mod LongNames
 pub mod Opened
 mod TemplateTexts
 mod ServiceLists
+mod Tables

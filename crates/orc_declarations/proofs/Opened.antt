@@ -1,28 +1,30 @@
 -- Where the declarations end, and what is lawful there.
-use Rattle.std.proofs.Common.{◌≡◌, ◌+◌, ℕ, suc, Bool, true, cond, List, [], ◌∷◌, length, Option, Some, None, Result, Ok, Err, refl, ap, sym, ◌∙◌, subst, arith, if◌then◌else◌}
+use Rattle.std.proofs.Common.{◌≡◌, ◌+◌, ℕ, suc, Bool, true, cond, List, [], ◌∷◌, ◌++◌, drop, length, Option, Some, None, Result, Ok, Err, refl, ap, sym, ◌∙◌, subst, arith, if◌then◌else◌}
 use Rattle.std.specs.List.{All, IsDistinct, list_all}
 use Rattle.std.specs.Option.{is_none}
-use Rattle.std.specs.Result.{IsErr, IsErrAnd}
+use Rattle.std.specs.Result.{IsErrAnd}
 use Rattle.std.proofs.lemmas.Result.{err_from_is_err_and}
 use Rattle.std.proofs.lemmas.Bool.{and_parts, false≢true}
+use Rattle.std.proofs.lemmas.List.{drop-drop}
 use Rattle.std.proofs.lemmas.List.Sums.{AllPass-from_list_all}
 use Rattle.orc_check.specs.Validity.{Breach, broken_of}
-use Rattle.orc_state.specs.Calls.{is_lawful_name}
-use Rattle.orc_state.specs.Declarations.{AreDecls, accepts_base}
-use Rattle.orc_state.specs.States.{is_same_text, names_of, opening_data}
-use Rattle.orc_state.specs.declared.declarations.Device.{Device}
-use Rattle.orc_state.specs.declared.fault.BundleFault.{BundleFault}
-use Rattle.orc_state.specs.declared.fault.BundleFault.TheVariants.{At, Memory}
-use Rattle.orc_state.specs.declared.rule.Rule.{Rule}
-use Rattle.orc_state.specs.declared.rule.Rule.TheVariants as rule
-use Rattle.orc_state.proofs.Declared.{names-lawful}
+use Rattle.orc_decls.specs.Calls.{is_lawful_name}
+use Rattle.orc_decls.specs.Declarations.{AreDecls, accepts_base}
+use Rattle.orc_decls.specs.Devices.{is_same_text, names_of}
+use Rattle.orc_decls.specs.Openings.{opening_data}
+use Rattle.orc_decls.specs.declared.declarations.Device.{Device}
+use Rattle.orc_decls.specs.declared.fault.BundleFault.{BundleFault}
+use Rattle.orc_decls.specs.declared.fault.BundleFault.TheVariants.{At, Memory}
+use Rattle.orc_decls.specs.declared.rule.Rule.{Rule}
+use Rattle.orc_decls.specs.declared.rule.Rule.TheVariants as rule
+use Rattle.orc_decls.proofs.Declared.{names-lawful}
 use Rattle.orc_declarations.specs.Declarations.{Front, declarations_of, is_script, opened, declared_at, is_opening}
 use Rattle.orc_lines.specs.Lawful.{decls_with, AreDeclared}
 use Rattle.orc_lines.specs.Rules.{on_line}
 use Rattle.orc_lines.specs.Lines.{lines_of}
 use Rattle.orc_lines.specs.declared.declared.Declared.{Declared}
 use Rattle.orc_declarations.specs.declared.read.Behind.{Behind}
-use Rattle.orc_declarations.specs.Answers.{left_of, Declares, IsOpened}
+use Rattle.orc_declarations.specs.Answers.{Declares, IsOpened}
 
 -- what the opening asks
 
@@ -65,11 +67,6 @@ handed_on r answer n front fault handed is h =
     let same : r ≡ at_fault fault = p.1 ∙ ap at_fault p.2 in
     subst (λ (x : Result Behind BundleFault). Declares answer front.declared x) (sym same) (opening_fault answer n front fault is h)
 
--- no byte is left then
-pub none_left : (r : Result Behind BundleFault) → IsErr r → left_of r ≡ 0
-none_left (Ok behind) h = absurd (false≢true h)
-none_left (Err fault) h = refl
-
 -- the opening is looked at, in the line of this number
 abbrev Ends : Result Front (ℕ × Rule) → ℕ → Front → Type 0
 Ends answer n front = answer ≡ opened n front
@@ -86,6 +83,15 @@ goes_on d e at n line later lines first takes b is =
     else declarations_of x (at + length line) (n + 1) later)) takes
     ∙ ap (λ (t : Bool). cond t (opened (n + 1) (record { declared = e; size = at; at = at + length line; number = n + 1; later = later }))
     (declarations_of e (at + length line) (n + 1) later)) is
+
+drop_front : (front later : List ℕ) → drop (length front) (front ++ later) ≡ later
+drop_front [] later = refl
+drop_front (b ∷ bs) later = drop_front bs later
+
+-- the bytes behind a line are those from its end on
+pub later_bytes : (bytes rest line later : List ℕ) (at : ℕ) → rest ≡ drop at bytes → rest ≡ line ++ later → later ≡ drop (at + length line) bytes
+later_bytes bytes rest line later at is parts =
+    sym (drop_front line later) ∙ ap (drop (length line)) (sym parts ∙ is) ∙ drop-drop (length line) at bytes
 
 -- behind the line `script`
 module _ (answer : Result Front (ℕ × Rule)) (d e : Declared) (at n : ℕ) (line : List ℕ) (later lines : List (List ℕ))

@@ -1,27 +1,24 @@
 -- A template more stays lawful.
-use Rattle.std.proofs.Common.{◌≡◌, ◌≤◌, ◌+◌, ◌-◌, arith, length, take, ◌&&◌, ◌||◌, Bool, true, false, not, ℕ, List, [], ◌∷◌, ◌++◌, is_some, map, refl, ap, sym, subst, ◌∙◌}
+use Rattle.std.proofs.Common.{◌≡◌, ◌-◌, length, take, ◌&&◌, ◌||◌, Bool, true, false, not, ℕ, List, [], ◌∷◌, ◌++◌, is_some, map, refl, ap, sym, subst, ◌∙◌}
 use Rattle.std.specs.List.{IsDistinct, list_all, list_any}
 use Rattle.std.specs.Ordering.{eq_by_cmp}
 use Rattle.std.proofs.lemmas.Bool.{and_from, and_parts, or_from, or_parts}
 use Rattle.std.proofs.lemmas.Cmp.{eq_by_cmp_equiv}
 use Rattle.std.proofs.lemmas.Map.Keys.{IsDistinct-push}
 use Rattle.orc_path.specs.Order.{path_cmp}
-use Rattle.std.proofs.lemmas.List.{length-take}
 use Rattle.orc_path.specs.Limits.{is_long_path}
 use Rattle.orc_path.specs.Steps.{PathStep, has_keys, is_path}
-use Rattle.orc_path.specs.Texts.{path_text}
 use Rattle.orc_schema.specs.Schemas.{SchemaTable, node_at, path_names}
 use Rattle.orc_typed.specs.Typed.{stand}
 use Rattle.orc_path.proofs.PathOrder.{path_cmp_total}
 use Rattle.orc_template.specs.Said.{json_value}
 use Rattle.orc_call.specs.declared.call.Put.{Put}
 use Rattle.orc_services.specs.declared.list.ServiceList.{ServiceList}
-use Rattle.orc_state.specs.Calls.{is_kept, is_served, meets}
-use Rattle.orc_state.specs.Declarations.{has_template, is_list_node, is_list_of_services, is_service_list}
+use Rattle.orc_decls.specs.Calls.{is_kept, is_served, meets}
+use Rattle.orc_decls.specs.Declarations.{has_template, is_list_node, is_list_of_services, is_service_list}
 use Rattle.orc_lines.specs.Lawful.{AreDeclared}
 use Rattle.orc_lines.specs.declared.declared.Declared.{Declared}
 use Rattle.orc_lines.proofs.Lawful.{all_more}
-use Rattle.orc_lines.proofs.Work.{path_counts}
 use Rattle.orc_declarations.specs.inside.Templates.{is_reached}
 use Rattle.orc_declarations.specs.Declarations.{is_listed_already, is_template_of, may_be_served}
 
@@ -117,6 +114,3 @@ service_list_parts s list h =
     && stand s [] (take (length list - 1) list) && is_list_node (node_at s (path_names list)) && not (is_kept list)) h
     ∙ parts_of (is_long_path list) (list_all (λ step. not (has_keys step)) list) (stand s [] (take (length list - 1) list))
     (is_list_node (node_at s (path_names list))) (not (is_kept list))
-
-pub front_counted : (p : List PathStep) → length (take (length p - 1) p) ≤ length (path_text p)
-front_counted p = let front = length-take (length p - 1) p in let counts = path_counts p in omega (arith, front, counts)

@@ -12,8 +12,8 @@ use Rattle.orc_template.specs.Templates.{ReadsTemplate, Site, template_fault}
 use Rattle.orc_template.specs.TheReaders.{the_readers}
 use Rattle.orc_template.specs.declared.fault.TemplateFault.{TemplateFault}
 use Rattle.orc_template.specs.declared.fault.TemplateFault.TheVariants as template
-use Rattle.orc_state.specs.declared.rule.Rule.{Rule}
-use Rattle.orc_state.specs.declared.rule.Rule.TheVariants as rule
+use Rattle.orc_decls.specs.declared.rule.Rule.{Rule}
+use Rattle.orc_decls.specs.declared.rule.Rule.TheVariants as rule
 use Rattle.std.specs.Result.{IsErrAnd}
 use Rattle.std.proofs.lemmas.Result.{err_from_is_err_and}
 use Rattle.orc_lines.specs.Answers.{ReadsLine, Takes}

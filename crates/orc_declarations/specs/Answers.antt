@@ -1,10 +1,10 @@
 -- What the reader of declarations answers.
-use Rattle.std.specs.Prelude.{◌≡◌, ℕ, true, false, Result, ◌≤◌, ◌+◌, List, length}
+use Rattle.std.specs.Prelude.{◌≡◌, ℕ, true, false, Result, ◌≤◌, ◌+◌, List, drop, length}
 use Rattle.std.specs.declared.result.Result.TheVariants.{Ok, Err}
-use Rattle.orc_state.specs.declared.rule.Rule.{Rule}
-use Rattle.orc_state.specs.declared.rule.Rule.TheVariants as rule
-use Rattle.orc_state.specs.declared.fault.BundleFault.{BundleFault}
-use Rattle.orc_state.specs.declared.fault.BundleFault.TheVariants as bundle
+use Rattle.orc_decls.specs.declared.rule.Rule.{Rule}
+use Rattle.orc_decls.specs.declared.rule.Rule.TheVariants as rule
+use Rattle.orc_decls.specs.declared.fault.BundleFault.{BundleFault}
+use Rattle.orc_decls.specs.declared.fault.BundleFault.TheVariants as bundle
 use Rattle.orc_lines.specs.declared.fault.LineFault.TheVariants.{Memory}
 use Rattle.orc_declarations.specs.Declarations.{Front, is_opening}
 use Rattle.orc_lines.specs.Lines.{lines_of}
@@ -35,14 +35,10 @@ Declares answer new (Ok behind) = answer ≡ Ok (front_left new behind)
 Declares answer new (Err (bundle.At line rule)) = answer ≡ Err (line, rule)
 Declares answer new (Err bundle.Memory) = Unit {0}
 
--- the bytes behind the declarations; none where they are at fault
-abbrev pub left_of : {E : Type 0} → Result Behind E → ℕ
-left_of (Ok behind) = length behind.later.now
-left_of (Err fault) = 0
-
 -- the parts of the bytes where the declarations end
 pub record EndsWithin (bytes : List ℕ) (behind : Behind) : Type 0 where
   pub size : behind.size ≤ length bytes
   pub rest : behind.at + length behind.later.now ≡ length bytes
+  pub later : behind.later.now ≡ drop behind.at bytes
   pub number : behind.number ≤ behind.at
   pub small : behind.at ≤ LARGEST_BUNDLE

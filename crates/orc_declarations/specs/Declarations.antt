@@ -11,18 +11,18 @@ use Rattle.orc_call.specs.declared.call.Put.{Put}
 use Rattle.orc_path.specs.Steps.{PathStep}
 use Rattle.orc_check.specs.Validity.{broken_of}
 use Rattle.orc_schema.specs.Schemas.{SchemaTable, plain_table}
-use Rattle.orc_state.specs.Calls.{meets, schema_named}
-use Rattle.orc_state.specs.Declarations.{accepts_base, has_template, is_service_list}
+use Rattle.orc_decls.specs.Calls.{meets, schema_named}
+use Rattle.orc_decls.specs.Declarations.{accepts_base, has_template, is_service_list}
 use Rattle.orc_services.specs.declared.list.ServiceList.{ServiceList}
 use Rattle.orc_template.specs.Said.{json_value}
 use Rattle.orc_path.specs.Order.{path_cmp}
 use Rattle.orc_path.specs.Reading.{path_of}
 use Rattle.std.specs.Ordering.{eq_by_cmp}
-use Rattle.orc_state.specs.States.{opening_data}
-use Rattle.orc_state.specs.declared.declarations.Device.{Device}
-use Rattle.orc_state.specs.declared.declarations.TheConstants.{MOST_DEVICES}
-use Rattle.orc_state.specs.declared.rule.Rule.{Rule}
-use Rattle.orc_state.specs.declared.rule.Rule.TheVariants as rule
+use Rattle.orc_decls.specs.Openings.{opening_data}
+use Rattle.orc_decls.specs.declared.declarations.Device.{Device}
+use Rattle.orc_decls.specs.declared.declarations.TheConstants.{MOST_DEVICES}
+use Rattle.orc_decls.specs.declared.rule.Rule.{Rule}
+use Rattle.orc_decls.specs.declared.rule.Rule.TheVariants as rule
 use Rattle.orc_lines.specs.Rules.{checked, or_rule, on_ok}
 use Rattle.orc_lines.specs.Lines.{block_of, is_large, is_skipped, text_of}
 use Rattle.orc_lines.specs.Words.{cut_at, is_text, number_in, words_of}

@@ -6,8 +6,8 @@ use Rattle.std.specs.List.{list_any}
 use Rattle.std.specs.Option.{option_map_or}
 use Rattle.orc_path.specs.Alphabet.{is_identifier}
 use Rattle.orc_path.specs.Limits.{is_long_name}
-use Rattle.orc_state.specs.declared.rule.Rule.{Rule}
-use Rattle.orc_state.specs.declared.rule.Rule.TheVariants as rule
+use Rattle.orc_decls.specs.declared.rule.Rule.{Rule}
+use Rattle.orc_decls.specs.declared.rule.Rule.TheVariants as rule
 use Rattle.orc_yang.specs.Parsing.{statements_of}
 use Rattle.orc_yang.specs.Statement.{statement}
 use Rattle.orc_yang.specs.declared.fault.YangFault.{YangFault}

@@ -4,8 +4,8 @@ use Rattle.std.specs.declared.result.Result.TheVariants.{Ok, Err}
 use Rattle.orc_yang.specs.declared.statement.Stmt.{Stmt}
 use Rattle.orc_schema.specs.Schemas.{SchemaTable, schema_of}
 use Rattle.orc_statements.specs.declared.fault.SchemaFault.{SchemaFault}
-use Rattle.orc_state.specs.declared.rule.Rule.{Rule}
-use Rattle.orc_state.specs.declared.rule.Rule.TheVariants as rule
+use Rattle.orc_decls.specs.declared.rule.Rule.{Rule}
+use Rattle.orc_decls.specs.declared.rule.Rule.TheVariants as rule
 
 abbrev pub with_rule : Result SchemaTable SchemaFault → Result SchemaTable Rule
 with_rule (Ok schema) = Ok schema

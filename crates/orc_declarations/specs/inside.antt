@@ -1,4 +1,3 @@
-pub mod Costs
 pub mod Faults
 pub mod Singles
 pub mod Templates

@@ -1,14 +1,11 @@
 //! What each form of a declaration makes of what was declared so far.
 ghost use Rattle.std.specs.Prelude.{◌≡◌, ◌<◌, ◌≤◌, ◌+◌, ◌^◌, IfOk, OnOk, length};
-ghost use Rattle.orc_state.specs.States.{names_of};
+ghost use Rattle.orc_decls.specs.Devices.{names_of};
 ghost use Rattle.orc_lines.specs.Lines.{lines_of};
-ghost use Rattle.orc_lines.specs.Words.{cut_at, number_in};
-ghost use Rattle.orc_declarations.specs.Declarations.{nothing_declared, with_base, with_forbid, with_max, after_header, after_device, after_base, after_data, after_forbid, after_max, after_rule, rule_kind, after_yang, after_script, block_size, taken_by, lines_taken, declaration, bare_declaration, after_text, declared_at};
+ghost use Rattle.orc_lines.specs.Words.{cut_at};
+ghost use Rattle.orc_declarations.specs.Declarations.{nothing_declared, with_base, with_forbid, with_max, after_header, after_device, after_base, after_data, after_forbid, after_max, after_rule, rule_kind, after_yang, after_script, declaration, bare_declaration, after_text, declared_at};
 ghost use Rattle.orc_lines.specs.Answers.{Takes};
-ghost use Rattle.orc_lines.specs.Costs.{bytes_of_first};
-ghost use Rattle.orc_declarations.specs.inside.Costs.{declared_looks_at};
 ghost use Rattle.orc_lines.specs.Lawful.{AreDeclared};
-ghost use Rattle.orc_lines.specs.Work.{block_work, work_on};
 ghost use Rattle.orc_lines.specs.declared.lines.TheConstants.{LARGEST_BUNDLE};
 
 use crate::module::module_of;
@@ -16,19 +13,18 @@ use crate::schemas::built_in_schema;
 use crate::templates::take_template;
 use crate::types::{schema_place, take_datamodel, take_devicetype};
 use orc_call::Put;
-use orc_io::Steps;
+use orc_decls::{Device, MOST_DEVICES, Names, Rule};
 use orc_lines::{
-    Declared, Keyword, LineFault, Names, Section, block_of, breaks, cut, is_large, is_skipped,
-    keyword_of, line_text, number_of, read_forbidden, read_list_path, read_put, read_text,
+    Declared, Keyword, LineFault, Section, SortedNames, block_of, breaks, cut, is_large,
+    is_skipped, keyword_of, line_text, number_of, read_forbidden, read_list_path, read_put,
+    read_text,
 };
-use orc_path::{Path, is_identifier_counted, is_long_name};
+use orc_path::{Path, is_identifier, is_long_name};
 use orc_schema::{Looks, Schema};
-use orc_state::{Device, MOST_DEVICES, Rule};
 use orc_text::{Memory, Row, Text};
 use orc_yang::Stmt;
 use std::alloc::Global;
 use std::mem::replace;
-use std::sync::ledger::Ledger;
 
 // Adds an item to the base of the device of a number.
 fn push_base(devices: &mut [Device], n: usize, put: Put) -> Result<(), Memory>
@@ -113,16 +109,16 @@ pub fn nothing_declared(alloc: Global) -> Result<Declared, Memory>
     Ok(Declared {
         section: Section::Header,
         skip: 0,
-        modules: Names::new(alloc),
+        modules: SortedNames::new(alloc),
         statements: Row::new(alloc),
         has_data: false,
-        types: Names::new(alloc),
+        types: SortedNames::new(alloc),
         schemas,
         names: Names::new(alloc),
         devices: Row::new(alloc),
         data_schema: built_in_schema(alloc)?,
         data: Row::new(alloc),
-        templates: Names::new(alloc),
+        templates: SortedNames::new(alloc),
         services: Row::new(alloc),
     })
 }
@@ -142,20 +138,14 @@ fn take_header(declared: &mut Declared, text: &str) -> Result<(), LineFault>
 
 // `device D plain` and `device D T`.
 #[tactic(auto, unfolding(crate::specs::Declarations::after_device))]
-fn take_device<L: Ledger>(
-    alloc: Global,
-    declared: &mut Declared,
-    rest: &str,
-    work: &mut Steps<L>,
-) -> Result<(), LineFault>
+fn take_device(alloc: Global, declared: &mut Declared, rest: &str) -> Result<(), LineFault>
     ensures takes { Takes (after_device declared.old rest.now) declared.new result }
     ensures lawful { AreDeclared declared.old → OnOk result (AreDeclared declared.new) }
-    ensures worked { work.new ≤ work.old + work_on rest.now }
 {
     let Some((name, kind)) = cut(rest) else {
         return breaks(Rule::Line);
     };
-    if !is_identifier_counted(name, work) || !is_identifier_counted(kind, work) {
+    if !is_identifier(name) || !is_identifier(kind) {
         return breaks(Rule::Line);
     }
     if is_long_name(name) || is_long_name(kind) {
@@ -185,21 +175,15 @@ fn take_device<L: Ledger>(
 
 // `base D ITEM`.
 #[tactic(auto, unfolding(crate::specs::Declarations::after_base))]
-fn take_base<L: Ledger>(
-    alloc: Global,
-    declared: &mut Declared,
-    rest: &str,
-    work: &mut Steps<L>,
-) -> Result<(), LineFault>
+fn take_base(alloc: Global, declared: &mut Declared, rest: &str) -> Result<(), LineFault>
     requires { declared.old.names ≡ names_of declared.old.devices }
     ensures takes { Takes (after_base declared.old rest.now) declared.new result }
     ensures lawful { AreDeclared declared.old → OnOk result (AreDeclared declared.new) }
-    ensures worked { work.new ≤ work.old + work_on rest.now }
 {
     let Some((name, item)) = cut(rest) else {
         return breaks(Rule::Line);
     };
-    if !is_identifier_counted(name, work) {
+    if !is_identifier(name) {
         return breaks(Rule::Line);
     }
     let is_long = is_long_name(name);
@@ -211,7 +195,6 @@ fn take_base<L: Ledger>(
         declared.schema_named(&name, &plain),
         is_long,
         item,
-        work,
     )?;
     let Some(n) = declared.names.place(&name) else {
         return breaks(Rule::Unknown);
@@ -222,17 +205,10 @@ fn take_base<L: Ledger>(
 
 // `rule D max LISTPATH N`, behind the word `max`.
 #[tactic(auto, unfolding(crate::specs::Declarations::after_max))]
-fn take_max<L: Ledger>(
-    alloc: Global,
-    declared: &mut Declared,
-    name: &str,
-    rest: &str,
-    work: &mut Steps<L>,
-) -> Result<(), LineFault>
+fn take_max(alloc: Global, declared: &mut Declared, name: &str, rest: &str) -> Result<(), LineFault>
     requires { declared.old.names ≡ names_of declared.old.devices }
     ensures takes { Takes (after_max declared.old name.now rest.now) declared.new result }
     ensures lawful { AreDeclared declared.old → OnOk result (AreDeclared declared.new) }
-    ensures worked { work.new ≤ work.old + work_on rest.now }
 {
     let Some((word, count)) = cut(rest) else {
         return breaks(Rule::Line);
@@ -243,13 +219,7 @@ fn take_max<L: Ledger>(
     let is_long = is_long_name(name);
     let name = Text::from_str(alloc, name)?;
     let plain = Schema::plain(alloc);
-    let path = read_list_path(
-        alloc,
-        declared.schema_named(&name, &plain),
-        is_long,
-        word,
-        work,
-    )?;
+    let path = read_list_path(alloc, declared.schema_named(&name, &plain), is_long, word)?;
     let Some(n) = declared.names.place(&name) else {
         return breaks(Rule::Unknown);
     };
@@ -259,28 +229,20 @@ fn take_max<L: Ledger>(
 
 // `rule D forbid PATH = VALUE`, behind the word `forbid`.
 #[tactic(auto, unfolding(crate::specs::Declarations::after_forbid))]
-fn take_forbid<L: Ledger>(
+fn take_forbid(
     alloc: Global,
     declared: &mut Declared,
     name: &str,
     rest: &str,
-    work: &mut Steps<L>,
 ) -> Result<(), LineFault>
     requires { declared.old.names ≡ names_of declared.old.devices }
     ensures takes { Takes (after_forbid declared.old name.now rest.now) declared.new result }
     ensures lawful { AreDeclared declared.old → OnOk result (AreDeclared declared.new) }
-    ensures worked { work.new ≤ work.old + work_on rest.now }
 {
     let is_long = is_long_name(name);
     let name = Text::from_str(alloc, name)?;
     let plain = Schema::plain(alloc);
-    let leaf = read_forbidden(
-        alloc,
-        declared.schema_named(&name, &plain),
-        is_long,
-        rest,
-        work,
-    )?;
+    let leaf = read_forbidden(alloc, declared.schema_named(&name, &plain), is_long, rest)?;
     let Some(n) = declared.names.place(&name) else {
         return breaks(Rule::Unknown);
     };
@@ -289,58 +251,44 @@ fn take_forbid<L: Ledger>(
 }
 
 // A rule of the device of this name, by its kind.
-fn take_rule_kind<L: Ledger>(
+fn take_rule_kind(
     alloc: Global,
     declared: &mut Declared,
     name: &str,
     text: &str,
-    work: &mut Steps<L>,
 ) -> Result<(), LineFault>
     requires { declared.old.names ≡ names_of declared.old.devices }
     ensures takes { Takes (rule_kind declared.old name.now (cut_at 32 text.now)) declared.new result }
     ensures lawful { AreDeclared declared.old → OnOk result (AreDeclared declared.new) }
-    ensures worked { work.new ≤ work.old + work_on text.now }
 {
     match cut(text) {
-        Some(("max", rest)) => take_max(alloc, declared, name, rest, work),
-        Some(("forbid", rest)) => take_forbid(alloc, declared, name, rest, work),
+        Some(("max", rest)) => take_max(alloc, declared, name, rest),
+        Some(("forbid", rest)) => take_forbid(alloc, declared, name, rest),
         _ => breaks(Rule::Line),
     }
 }
 
 // `rule D max ..` and `rule D forbid ..`.
 #[tactic(auto, unfolding(crate::specs::Declarations::after_rule))]
-fn take_rule<L: Ledger>(
-    alloc: Global,
-    declared: &mut Declared,
-    rest: &str,
-    work: &mut Steps<L>,
-) -> Result<(), LineFault>
+fn take_rule(alloc: Global, declared: &mut Declared, rest: &str) -> Result<(), LineFault>
     requires { declared.old.names ≡ names_of declared.old.devices }
     ensures takes { Takes (after_rule declared.old rest.now) declared.new result }
     ensures lawful { AreDeclared declared.old → OnOk result (AreDeclared declared.new) }
-    ensures worked { work.new ≤ work.old + work_on rest.now }
 {
     let Some((name, text)) = cut(rest) else {
         return breaks(Rule::Line);
     };
-    if !is_identifier_counted(name, work) {
+    if !is_identifier(name) {
         return breaks(Rule::Line);
     }
-    take_rule_kind(alloc, declared, name, text, work)
+    take_rule_kind(alloc, declared, name, text)
 }
 
 // `data ITEM`.
 #[tactic(auto, unfolding(crate::specs::Declarations::after_data))]
-fn take_data<L: Ledger>(
-    alloc: Global,
-    declared: &mut Declared,
-    rest: &str,
-    work: &mut Steps<L>,
-) -> Result<(), LineFault>
+fn take_data(alloc: Global, declared: &mut Declared, rest: &str) -> Result<(), LineFault>
     ensures takes { Takes (after_data declared.old rest.now) declared.new result }
     ensures lawful { AreDeclared declared.old → OnOk result (AreDeclared declared.new) }
-    ensures worked { work.new ≤ work.old + work_on rest.now }
 {
     let put = read_put(
         alloc,
@@ -348,7 +296,6 @@ fn take_data<L: Ledger>(
         &declared.data_schema,
         false,
         rest,
-        work,
     )?;
     declared.data.push(put)?;
     Ok(())
@@ -356,28 +303,22 @@ fn take_data<L: Ledger>(
 
 // `yang N`, with the bytes behind the line.
 #[tactic(auto, unfolding(crate::specs::Declarations::after_yang))]
-fn take_yang<L: Ledger, M: Ledger>(
+fn take_yang(
     alloc: Global,
     declared: &mut Declared,
     rest: &str,
     later: &[u8],
-    steps: &mut Steps<L>,
-    work: &mut Steps<M>,
 ) -> Result<(), LineFault>
     ensures takes { Takes (after_yang declared.old rest.now (lines_of later.now)) declared.new result }
     ensures lawful { AreDeclared declared.old → OnOk result (AreDeclared declared.new) }
-    ensures counts { steps.old ≤ steps.new }
-    ensures cost { steps.new ≤ steps.old + bytes_of_first (block_size (number_in rest.now)) (lines_of later.now) }
-    ensures worked { work.new ≤ work.old
-        + block_work (bytes_of_first (block_size (number_in rest.now)) (lines_of later.now)) }
 {
     let Some(count) = number_of(rest) else {
         return breaks(Rule::Line);
     };
-    let Some(text) = block_of(alloc, later, count, steps)? else {
+    let Some(text) = block_of(alloc, later, count)? else {
         return breaks(Rule::Line);
     };
-    let module = module_of(alloc, text.as_slice(), work)?;
+    let module = module_of(alloc, text.as_slice())?;
     if module.name.as_str() == "orc" || declared.modules.has(&module.name) {
         return breaks(Rule::Duplicate);
     }
@@ -398,34 +339,28 @@ fn take_script(declared: &mut Declared) -> Result<(), LineFault>
 }
 
 // A declaration of more than one word.
-#[tactic(auto, unfolding(crate::specs::Declarations::declaration, crate::specs::Declarations::taken_by))]
-fn take_words<L: Ledger, M: Ledger>(
+#[tactic(auto, unfolding(crate::specs::Declarations::declaration))]
+fn take_words(
     alloc: Global,
     declared: &mut Declared,
     word: Keyword,
     rest: &str,
     later: &[u8],
     looks: &Looks,
-    steps: &mut Steps<L>,
-    work: &mut Steps<M>,
 ) -> Result<(), LineFault>
     requires { declared.old.names ≡ names_of declared.old.devices }
     ensures takes { Takes (declaration word declared.old rest.now (lines_of later.now)) declared.new result }
     ensures lawful { AreDeclared declared.old → OnOk result (AreDeclared declared.new) }
-    ensures counts { steps.old ≤ steps.new }
-    ensures cost { steps.new ≤ steps.old + bytes_of_first (taken_by word rest.now) (lines_of later.now) }
-    ensures worked { work.new ≤ work.old + work_on rest.now
-        + block_work (bytes_of_first (taken_by word rest.now) (lines_of later.now)) }
 {
     match word {
-        Keyword::Device => take_device(alloc, declared, rest, work),
-        Keyword::Datamodel => take_datamodel(alloc, declared, rest, looks, work),
-        Keyword::Devicetype => take_devicetype(alloc, declared, rest, looks, work),
-        Keyword::Rule => take_rule(alloc, declared, rest, work),
-        Keyword::Base => take_base(alloc, declared, rest, work),
-        Keyword::Data => take_data(alloc, declared, rest, work),
-        Keyword::Yang => take_yang(alloc, declared, rest, later, steps, work),
-        Keyword::Template => take_template(alloc, declared, rest, later, steps, work),
+        Keyword::Device => take_device(alloc, declared, rest),
+        Keyword::Datamodel => take_datamodel(alloc, declared, rest, looks),
+        Keyword::Devicetype => take_devicetype(alloc, declared, rest, looks),
+        Keyword::Rule => take_rule(alloc, declared, rest),
+        Keyword::Base => take_base(alloc, declared, rest),
+        Keyword::Data => take_data(alloc, declared, rest),
+        Keyword::Yang => take_yang(alloc, declared, rest, later),
+        Keyword::Template => take_template(alloc, declared, rest, later),
         _ => breaks(Rule::Line),
     }
 }
@@ -444,62 +379,41 @@ fn take_word(declared: &mut Declared, word: Keyword) -> Result<(), LineFault>
 
 // A line that is not skipped.
 #[tactic(auto, unfolding(crate::specs::Declarations::after_text))]
-fn take_text<L: Ledger, M: Ledger>(
+fn take_text(
     alloc: Global,
     declared: &mut Declared,
     text: &str,
     later: &[u8],
     looks: &Looks,
-    steps: &mut Steps<L>,
-    work: &mut Steps<M>,
 ) -> Result<(), LineFault>
     requires { declared.old.names ≡ names_of declared.old.devices }
     ensures takes { Takes (after_text declared.old text.now (lines_of later.now)) declared.new result }
     ensures lawful { AreDeclared declared.old → OnOk result (AreDeclared declared.new) }
-    ensures counts { steps.old ≤ steps.new }
-    ensures cost { steps.new ≤ steps.old + bytes_of_first (lines_taken text.now) (lines_of later.now) }
-    ensures worked { work.new ≤ work.old + work_on text.now
-        + block_work (bytes_of_first (lines_taken text.now) (lines_of later.now)) }
 {
     if declared.section == Section::Header {
         return take_header(declared, text);
     }
     match cut(text) {
-        Some((word, rest)) => take_words(
-            alloc,
-            declared,
-            keyword_of(word),
-            rest,
-            later,
-            looks,
-            steps,
-            work,
-        ),
+        Some((word, rest)) => take_words(alloc, declared, keyword_of(word), rest, later, looks),
         None => take_word(declared, keyword_of(text)),
     }
 }
 
 /// A line, with the bytes behind it. So many bytes stand in front of it.
 #[tactic(auto, unfolding(crate::specs::Declarations::declared_at))]
-pub(crate) fn take_line<L: Ledger, M: Ledger>(
+pub(crate) fn take_line(
     alloc: Global,
     declared: &mut Declared,
     at: u64,
     line: &[u8],
     later: &[u8],
     looks: &Looks,
-    steps: &mut Steps<L>,
-    work: &mut Steps<M>,
 ) -> Result<(), LineFault>
     requires room { at + length line.now < 2 ^ 63 }
     requires named { declared.old.names ≡ names_of declared.old.devices }
     ensures takes { Takes (declared_at declared.old at line.now (lines_of later.now)) declared.new result }
     ensures lawful { AreDeclared declared.old → OnOk result (AreDeclared declared.new) }
     ensures small { OnOk result (at + length line.now ≤ LARGEST_BUNDLE) }
-    ensures counts { steps.old ≤ steps.new }
-    ensures cost { steps.new ≤ steps.old + declared_looks_at declared.old line.now (lines_of later.now) }
-    ensures worked { work.new ≤ work.old + work_on line.now
-        + block_work (declared_looks_at declared.old line.now (lines_of later.now)) }
 {
     if is_large(at, line) {
         return breaks(Rule::Size);
@@ -514,5 +428,5 @@ pub(crate) fn take_line<L: Ledger, M: Ledger>(
     if is_skipped(text.as_bytes()) {
         return Ok(());
     }
-    take_text(alloc, declared, text, later, looks, steps, work)
+    take_text(alloc, declared, text, later, looks)
 }

@@ -1,8 +1,10 @@
 //! The declarations of a bundle: devices with their bases and rules, YANG modules, types of devices, the
 //! schema of the data, the opening data and the templates of its lists, read line by line up to the line
-//! `script`.
+//! `script`; and what a bundle then is: its declarations, what each device accepts, and where the script
+//! begins.
 #![tactic(auto)]
 
+mod bundle;
 mod declarations;
 mod module;
 mod opening;
@@ -12,6 +14,7 @@ mod statements;
 mod templates;
 mod types;
 
+pub use bundle::{Bundle, read_declarations};
 pub use declarations::nothing_declared;
-pub use read::{Behind, read_declarations};
+pub use read::{Behind, read_declared};
 pub use types::{modules_named, with_name};

@@ -1,5 +1,5 @@
 //! The YANG module of a block.
-ghost use Rattle.std.specs.Prelude.{◌≡◌, ◌≤◌, ◌+◌, ◌*◌, length};
+ghost use Rattle.std.specs.Prelude.{◌≡◌};
 ghost use Rattle.std.specs.List.{list_any};
 ghost use Rattle.std.specs.Option.{option_copied};
 ghost use Rattle.orc_declarations.specs.Modules.{is_long_identifier, is_long_word, takes_name, is_long_head, has_long_name, module_name, module_of_statement, module_of};
@@ -8,14 +8,12 @@ ghost use Rattle.orc_declarations.specs.inside.Singles.{single};
 ghost use Rattle.orc_lines.specs.Answers.{ReadsLine};
 ghost use Rattle.orc_declarations.specs.inside.Faults.{of_yang};
 
-use orc_io::Steps;
+use orc_decls::Rule;
 use orc_lines::{LineFault, breaks, cut_prefix};
 use orc_path::{is_identifier, is_long_name};
-use orc_state::Rule;
 use orc_text::Text;
-use orc_yang::{Stmt, YangFault, parse_counted};
+use orc_yang::{Stmt, YangFault, parse};
 use std::alloc::Global;
-use std::sync::ledger::Ledger;
 
 /// A module: its name, and the statement that it is.
 #[derive(Drop)]
@@ -145,15 +143,10 @@ fn of_yang(fault: YangFault) -> LineFault
 
 /// The module that the text is.
 #[tactic(auto, unfolding(crate::specs::Modules::module_of))]
-pub(crate) fn module_of<L: Ledger>(
-    alloc: Global,
-    text: &[u8],
-    work: &mut Steps<L>,
-) -> Result<Module, LineFault>
-    ensures reads { ReadsLine (module_of text.now) result }
-    ensures worked { work.new ≤ work.old + 10 * length text.now }
+pub(crate) fn module_of(alloc: Global, text: &[u8]) -> Result<Module, LineFault>
+    ensures { ReadsLine (module_of text.now) result }
 {
-    let statements = match parse_counted(alloc, text, work) {
+    let statements = match parse(alloc, text) {
         Ok(statements) => statements,
         Err(fault) => return Err(of_yang(fault)),
     };

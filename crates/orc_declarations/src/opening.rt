@@ -3,30 +3,18 @@ ghost use Rattle.std.specs.Prelude.{◌≡◌, IfOk, IsTrue};
 ghost use Rattle.std.specs.List.{All, list_all};
 ghost use Rattle.std.specs.Option.{is_none};
 ghost use Rattle.orc_check.specs.Validity.{broken_of};
-ghost use Rattle.orc_state.specs.Calls.{is_device, schema_in};
-ghost use Rattle.orc_state.specs.Declarations.{accepts_base};
-ghost use Rattle.orc_schema.specs.Schemas.{plain_table};
+ghost use Rattle.orc_decls.specs.Calls.{is_device};
+ghost use Rattle.orc_decls.specs.Declarations.{accepts_base};
 ghost use Rattle.orc_declarations.specs.Declarations.{is_opening};
 ghost use Rattle.orc_lines.specs.Lawful.{AreDeclared};
 
 use orc_check::{CheckFault, accepts_under, valid};
+use orc_decls::{Device, declared_base, opening_data, schema_in};
 use orc_lines::Declared;
 use orc_schema::Schema;
-use orc_state::{Device, declared_base, opening_data};
 use orc_text::Memory;
 use orc_tree::Tree;
 use std::alloc::Global;
-
-// The schema of a place.
-fn schema_in<'a>(schemas: &'a [Schema], place: u32, plain: &'a Schema) -> &'a Schema
-    requires { plain.now ≡ plain_table }
-    ensures { result.now ≡ schema_in schemas.now place }
-{
-    match schemas.get(place as usize) {
-        Some(schema) => schema,
-        None => plain,
-    }
-}
 
 // Whether the device accepts its own base.
 fn accepts_base(alloc: Global, schemas: &[Schema], device: &Device) -> Result<bool, Memory>

@@ -1,21 +1,17 @@
 //! Reading of the declarations line by line.
-ghost use Rattle.std.specs.Prelude.{◌≡◌, ◌<◌, ◌≤◌, ◌+◌, ◌*◌, IfOk, OnOk, IsTrue, length};
+ghost use Rattle.std.specs.Prelude.{◌≡◌, IfOk, OnOk, IsTrue};
 ghost use Rattle.orc_lines.specs.Lines.{lines_of};
 ghost use Rattle.orc_declarations.specs.Declarations.{declarations_of, is_opening, nothing_declared};
 ghost use Rattle.orc_lines.specs.Answers.{at_line};
-ghost use Rattle.orc_lines.specs.Costs.{bytes_to, is_kept_line};
 ghost use Rattle.orc_lines.specs.Lawful.{AreDeclared};
-ghost use Rattle.orc_declarations.specs.Answers.{EndsWithin, left_of, Declares, IsOpened};
-ghost use Rattle.orc_lines.specs.Work.{most_work};
+ghost use Rattle.orc_declarations.specs.Answers.{Declares, EndsWithin, IsOpened};
 
 use crate::declarations::take_line;
 use crate::opening::is_opening;
-use orc_io::Steps;
+use orc_decls::{BundleFault, Rule};
 use orc_lines::{Declared, Section, at_line, first_line};
 use orc_schema::Looks;
-use orc_state::{BundleFault, Rule};
 use std::alloc::Global;
-use std::sync::ledger::Ledger;
 
 /// What is left where the declarations end.
 #[derive(Drop)]
@@ -45,13 +41,11 @@ fn check_opening(alloc: Global, declared: &Declared, number: u64) -> Result<(), 
 }
 
 /// Reads the declarations: up to the line `script`, or all lines where there is none. Nothing is declared
-/// before. The counts are those of `read_counted` of `orc_bundle`.
-pub fn read_declarations<'a, L: Ledger, M: Ledger>(
+/// before. After a fault it has what the lines before that declared.
+pub fn read_declared<'a>(
     alloc: Global,
     bytes: &'a [u8],
     declared: &mut Declared,
-    steps: &mut Steps<L>,
-    work: &mut Steps<M>,
 ) -> Result<Behind<'a>, BundleFault>
     requires nothing { declared.old ≡ nothing_declared }
     requires lawful { AreDeclared declared.old }
@@ -59,19 +53,15 @@ pub fn read_declarations<'a, L: Ledger, M: Ledger>(
     ensures lawful { OnOk result (AreDeclared declared.new) }
     ensures opened { OnOk result (IsTrue (is_opening declared.new)) }
     ensures within { IfOk result (EndsWithin bytes.now) }
-    ensures cost { steps.new + bytes_to is_kept_line (lines_of bytes.now) + 2 * left_of result
-        ≤ steps.old + 2 * length bytes.now }
-    ensures worked { work.new + most_work (left_of result) ≤ work.old + most_work (length bytes.now) }
-    ensures counts { IfOk result (λ behind. steps.old + length bytes.now ≤ steps.new + length behind.later.now) }
 {
     let looks = Looks::new();
     let mut rest = bytes;
     let mut at = 0;
     let mut number = 0;
     'lines: while !rest.is_empty() {
-        let (line, later) = first_line(rest, steps);
+        let (line, later) = first_line(rest);
         number += 1;
-        if let Err(fault) = take_line(alloc, declared, at, line, later, &looks, steps, work) {
+        if let Err(fault) = take_line(alloc, declared, at, line, later, &looks) {
             return Err(at_line(number, fault));
         }
         let begin = at;

@@ -7,9 +7,9 @@ ghost use Rattle.orc_lines.specs.Answers.{ReadsLine};
 ghost use Rattle.orc_declarations.specs.inside.Faults.{of_schema};
 
 use crate::statements::orc_module;
+use orc_decls::Rule;
 use orc_lines::LineFault;
 use orc_schema::{Looks, Schema, SchemaFault, schemas_are_sound};
-use orc_state::Rule;
 use orc_text::{Memory, Row};
 use orc_yang::Stmt;
 use std::alloc::Global;

@@ -1,32 +1,27 @@
 //! The line `template`, which gives a list of the data a template, so that its entries are services.
-ghost use Rattle.std.specs.Prelude.{◌≡◌, ◌≤◌, ◌+◌, ◌*◌, not, OnOk, length, option_map};
+ghost use Rattle.std.specs.Prelude.{◌≡◌, not, OnOk, option_map};
 ghost use Rattle.std.specs.List.{list_all, list_any};
 ghost use Rattle.orc_path.specs.Steps.{has_keys};
-ghost use Rattle.orc_path.specs.Texts.{path_text};
-ghost use Rattle.orc_state.specs.Calls.{meets};
-ghost use Rattle.orc_state.specs.Declarations.{is_list_node, is_service_list};
+ghost use Rattle.orc_decls.specs.Calls.{meets};
+ghost use Rattle.orc_decls.specs.Declarations.{is_list_node, is_service_list};
 ghost use Rattle.orc_lines.specs.Answers.{ReadsLine, Takes};
-ghost use Rattle.orc_lines.specs.Costs.{bytes_of_first};
 ghost use Rattle.orc_lines.specs.Lawful.{AreDeclared};
 ghost use Rattle.orc_lines.specs.Lines.{lines_of};
-ghost use Rattle.orc_lines.specs.Work.{work_on};
 ghost use Rattle.orc_lines.specs.Words.{cut_at};
-ghost use Rattle.orc_declarations.specs.Declarations.{after_template, block_size, count_in, is_listed_already, list_template, may_be_served, template_block, template_count, template_line};
+ghost use Rattle.orc_declarations.specs.Declarations.{after_template, is_listed_already, list_template, may_be_served, template_block, template_line};
 ghost use Rattle.orc_declarations.specs.inside.Faults.{of_template};
 ghost use Rattle.orc_declarations.specs.inside.Templates.{is_reached, template_of};
 
 use orc_call::Put;
-use orc_io::Steps;
+use orc_decls::{Rule, is_kept, meets};
 use orc_lines::{Declared, LineFault, block_of, breaks, cut, is_past_path, number_of, read_path};
-use orc_path::{Path, Step, is_identifier_counted, is_long_name};
+use orc_path::{Path, Step, is_identifier, is_long_name};
 use orc_schema::{Node, Schema};
 use orc_services::ServiceList;
-use orc_state::{Rule, is_kept, meets};
 use orc_template::{Template, TemplateFault, the_readers_read_back};
 use orc_text::Text;
-use orc_typed::stand_counted;
+use orc_typed::stand;
 use std::alloc::Global;
-use std::sync::ledger::Ledger;
 
 // Whether no step has keys.
 fn are_bare(steps: &[Step]) -> bool
@@ -43,26 +38,23 @@ fn is_list_node(node: Option<&Node>) -> bool
 }
 
 // Whether the path is that of a list that is reached through containers alone.
-#[tactic(auto, using(crate::proofs::ServiceLists::front_counted))]
-fn is_reached<L: Ledger>(schema: &Schema, list: &Path, work: &mut Steps<L>) -> bool
-    ensures value { result ≡ is_reached schema.now list.now }
-    ensures worked { work.new ≤ work.old + length (path_text list.now) }
+fn is_reached(schema: &Schema, list: &Path) -> bool
+    ensures { result ≡ is_reached schema.now list.now }
 {
     let steps = list.steps.as_slice();
     are_bare(steps)
-        && (stand_counted(schema, &steps[..steps.len().saturating_sub(1)], work)
+        && (stand(schema, &steps[..steps.len().saturating_sub(1)])
             && is_list_node(schema.node(steps)))
 }
 
 // Whether it is one of the data whose entries may be services.
 #[tactic(auto, using(crate::proofs::ServiceLists::service_list_parts))]
-fn is_service_list<L: Ledger>(schema: &Schema, list: &Path, work: &mut Steps<L>) -> bool
-    ensures value { result ≡ is_service_list schema.now list.now }
-    ensures worked { work.new ≤ work.old + 4 * length (path_text list.now) }
+fn is_service_list(schema: &Schema, list: &Path) -> bool
+    ensures { result ≡ is_service_list schema.now list.now }
 {
     // Looked into, so that the proof knows that it is a path.
     let _steps = list.steps.len();
-    !list.is_long_counted(work) && (!is_kept(list) && is_reached(schema, list, work))
+    !list.is_long() && (!is_kept(list) && is_reached(schema, list))
 }
 
 // Whether an item of the data is declared at or under it.
@@ -73,11 +65,10 @@ fn is_used(data: &[Put], list: &Path) -> bool
 }
 
 // Whether it is such a list, and no item of the data is declared at or under it.
-fn may_be_served<L: Ledger>(declared: &Declared, list: &Path, work: &mut Steps<L>) -> bool
-    ensures value { result ≡ may_be_served declared.now list.now }
-    ensures worked { work.new ≤ work.old + 4 * length (path_text list.now) }
+fn may_be_served(declared: &Declared, list: &Path) -> bool
+    ensures { result ≡ may_be_served declared.now list.now }
 {
-    is_service_list(&declared.data_schema, list, work) && !is_used(declared.data.as_slice(), list)
+    is_service_list(&declared.data_schema, list) && !is_used(declared.data.as_slice(), list)
 }
 
 // Whether the list has a template.
@@ -118,20 +109,18 @@ fn read_template(
 }
 
 // The list gets its template: the text of the block of so many lines behind the line.
-fn add_template<L: Ledger>(
+fn add_template(
     alloc: Global,
     declared: &mut Declared,
     name: &str,
     count: u64,
     list: Path,
     text: &[u8],
-    work: &mut Steps<L>,
 ) -> Result<(), LineFault>
     ensures takes { Takes (list_template declared.old name.now count list text.now) declared.new result }
     ensures lawful { AreDeclared declared.old → OnOk result (AreDeclared declared.new) }
-    ensures worked { work.new ≤ work.old + 4 * length (path_text list) }
 {
-    if !may_be_served(declared, &list, work) {
+    if !may_be_served(declared, &list) {
         return breaks(Rule::Path);
     }
     let name = Text::from_str(alloc, name)?;
@@ -146,56 +135,45 @@ fn add_template<L: Ledger>(
 }
 
 // The list of a path's text, and the block of so many lines.
-fn take_block<L: Ledger, M: Ledger>(
+fn take_block(
     alloc: Global,
     declared: &mut Declared,
     name: &str,
     count: u64,
     word: &str,
     later: &[u8],
-    steps: &mut Steps<L>,
-    work: &mut Steps<M>,
 ) -> Result<(), LineFault>
     ensures takes { Takes (template_block declared.old name.now count word.now (lines_of later.now))
         declared.new result }
     ensures lawful { AreDeclared declared.old → OnOk result (AreDeclared declared.new) }
-    ensures counts { steps.old ≤ steps.new }
-    ensures cost { steps.new ≤ steps.old + bytes_of_first count (lines_of later.now) }
-    ensures worked { work.new + 2 * length word.now ≤ work.old + work_on word.now }
 {
     if word.is_empty() {
         return breaks(Rule::Line);
     }
-    let list = read_path(alloc, word, work)?;
-    if is_long_name(name) || is_past_path(&list, work) {
+    let list = read_path(alloc, word)?;
+    if is_long_name(name) || is_past_path(&list) {
         return breaks(Rule::Size);
     }
-    let Some(text) = block_of(alloc, later, count, steps)? else {
+    let Some(text) = block_of(alloc, later, count)? else {
         return breaks(Rule::Line);
     };
     let Some(list) = list else {
         return breaks(Rule::Path);
     };
-    add_template(alloc, declared, name, count, list, text.as_slice(), work)
+    add_template(alloc, declared, name, count, list, text.as_slice())
 }
 
 // The list and the number of lines, behind the template's name.
-fn take_list<L: Ledger, M: Ledger>(
+fn take_list(
     alloc: Global,
     declared: &mut Declared,
     name: &str,
     rest: &str,
     later: &[u8],
-    steps: &mut Steps<L>,
-    work: &mut Steps<M>,
 ) -> Result<(), LineFault>
     ensures takes { Takes (template_line declared.old name.now (lines_of later.now) (cut_at 32 rest.now))
         declared.new result }
     ensures lawful { AreDeclared declared.old → OnOk result (AreDeclared declared.new) }
-    ensures counts { steps.old ≤ steps.new }
-    ensures cost { steps.new ≤ steps.old
-        + bytes_of_first (block_size (count_in (cut_at 32 rest.now))) (lines_of later.now) }
-    ensures worked { work.new + 2 * length rest.now ≤ work.old + work_on rest.now }
 {
     let Some((word, count)) = cut(rest) else {
         return breaks(Rule::Line);
@@ -203,30 +181,25 @@ fn take_list<L: Ledger, M: Ledger>(
     let Some(count) = number_of(count) else {
         return breaks(Rule::Line);
     };
-    take_block(alloc, declared, name, count, word, later, steps, work)
+    take_block(alloc, declared, name, count, word, later)
 }
 
 /// `template T LISTPATH N`, with the bytes behind the line.
 #[tactic(auto, unfolding(crate::specs::Declarations::after_template))]
-pub(crate) fn take_template<L: Ledger, M: Ledger>(
+pub(crate) fn take_template(
     alloc: Global,
     declared: &mut Declared,
     rest: &str,
     later: &[u8],
-    steps: &mut Steps<L>,
-    work: &mut Steps<M>,
 ) -> Result<(), LineFault>
     ensures takes { Takes (after_template declared.old rest.now (lines_of later.now)) declared.new result }
     ensures lawful { AreDeclared declared.old → OnOk result (AreDeclared declared.new) }
-    ensures counts { steps.old ≤ steps.new }
-    ensures cost { steps.new ≤ steps.old + bytes_of_first (block_size (template_count rest.now)) (lines_of later.now) }
-    ensures worked { work.new ≤ work.old + work_on rest.now }
 {
     let Some((name, words)) = cut(rest) else {
         return breaks(Rule::Line);
     };
-    if !is_identifier_counted(name, work) {
+    if !is_identifier(name) {
         return breaks(Rule::Line);
     }
-    take_list(alloc, declared, name, words, later, steps, work)
+    take_list(alloc, declared, name, words, later)
 }

@@ -1,39 +1,35 @@
 //! The lines that name modules, and the schemas of devices.
-ghost use Rattle.std.specs.Prelude.{◌≡◌, ◌≤◌, ◌+◌, ◌++◌, IfOk, OnOk, Some, false, option_and_then, option_to_list, slice_get, suc};
+ghost use Rattle.std.specs.Prelude.{◌≡◌, ◌++◌, IfOk, OnOk, Some, false, option_and_then, option_to_list, slice_get, suc};
 ghost use Rattle.std.specs.List.{list_all, list_any};
 ghost use Rattle.std.specs.Option.{option_copied};
 ghost use Rattle.orc_schema.specs.Schemas.{plain_table};
 ghost use Rattle.orc_schema.specs.Sound.{IsSound};
 ghost use Rattle.orc_path.specs.Alphabet.{is_identifier};
 ghost use Rattle.orc_path.specs.Limits.{is_long_name};
-ghost use Rattle.orc_state.specs.Calls.{schema_in, schema_named};
-ghost use Rattle.orc_state.specs.States.{names_of};
+ghost use Rattle.orc_decls.specs.Calls.{schema_in, schema_named};
+ghost use Rattle.orc_decls.specs.Devices.{names_of};
 ghost use Rattle.orc_lines.specs.Names.{is_among, place_of, with_name};
 ghost use Rattle.orc_declarations.specs.Declarations.{after_datamodel, after_devicetype, is_declared, module_named, modules_named, schema_place, schema_words};
 ghost use Rattle.orc_lines.specs.Answers.{ReadsLine, Takes};
 ghost use Rattle.orc_lines.specs.Lawful.{AreDeclared};
-ghost use Rattle.orc_lines.specs.Work.{bytes_in, work_on};
 
 use crate::schemas::schema_of;
 use crate::statements::{copy, orc_module};
-use orc_io::Steps;
-use orc_lines::{Declared, LineFault, Names, breaks, repeats, words_of};
-use orc_path::{is_identifier_counted, is_long_name};
+use orc_decls::{Device, Rule};
+use orc_lines::{Declared, LineFault, SortedNames, breaks, repeats, words_of};
+use orc_path::{is_identifier, is_long_name};
 use orc_schema::{Looks, Schema};
-use orc_state::{Device, Rule};
 use orc_text::{Memory, Row, Text};
 use orc_yang::Stmt;
 use std::alloc::Global;
-use std::sync::ledger::Ledger;
 
 // Whether all words are names.
-fn are_identifiers<L: Ledger>(words: &[Text], work: &mut Steps<L>) -> bool
-    ensures identifiers { result ≡ list_all is_identifier words.now }
-    ensures worked { work.new ≤ work.old + bytes_in words.now }
+fn are_identifiers(words: &[Text]) -> bool
+    ensures { result ≡ list_all is_identifier words.now }
 {
     let mut rest = words;
     while let [word, more @ ..] = rest {
-        if !is_identifier_counted(word.as_str(), work) {
+        if !is_identifier(word.as_str()) {
             return false;
         }
         rest = more;
@@ -132,21 +128,19 @@ pub fn modules_named(
 }
 
 // The schema of the modules of these names. All the words are names, and one of them may be taken.
-fn schema_words<L: Ledger>(
+fn schema_words(
     alloc: Global,
     declared: &Declared,
     words: &[Text],
     names: &[Text],
     is_double: bool,
     looks: &Looks,
-    work: &mut Steps<L>,
 ) -> Result<Schema, LineFault>
     ensures reads { ReadsLine (schema_words declared.now words.now names.now is_double) result }
     ensures new { OnOk result (is_double ≡ false) }
     ensures sound { IfOk result IsSound }
-    ensures worked { work.new ≤ work.old + bytes_in words.now }
 {
-    if !are_identifiers(words, work) {
+    if !are_identifiers(words) {
         return breaks(Rule::Line);
     }
     if has_long_name(words) {
@@ -167,18 +161,16 @@ fn schema_words<L: Ledger>(
 
 /// `datamodel M M ..`.
 #[tactic(auto, unfolding(crate::specs::Declarations::after_datamodel), using(crate::proofs::ServiceLists::none_apart))]
-pub(crate) fn take_datamodel<L: Ledger>(
+pub(crate) fn take_datamodel(
     alloc: Global,
     declared: &mut Declared,
     rest: &str,
     looks: &Looks,
-    work: &mut Steps<L>,
 ) -> Result<(), LineFault>
     ensures takes { Takes (after_datamodel declared.old rest.now) declared.new result }
     ensures lawful { AreDeclared declared.old → OnOk result (AreDeclared declared.new) }
-    ensures worked { work.new ≤ work.old + work_on rest.now }
 {
-    let words = words_of(alloc, rest, work)?;
+    let words = words_of(alloc, rest)?;
     let names = with_name(alloc, &words, "orc")?;
     let is_double = declared.has_data;
     declared.data_schema = schema_words(
@@ -188,29 +180,26 @@ pub(crate) fn take_datamodel<L: Ledger>(
         names.as_slice(),
         is_double,
         looks,
-        work,
     )?;
     declared.has_data = true;
     declared.data = Row::new(alloc);
-    declared.templates = Names::new(alloc);
+    declared.templates = SortedNames::new(alloc);
     declared.services = Row::new(alloc);
     Ok(())
 }
 
 /// `devicetype T M M ..`.
 #[tactic(auto, unfolding(crate::specs::Declarations::after_devicetype))]
-pub(crate) fn take_devicetype<L: Ledger>(
+pub(crate) fn take_devicetype(
     alloc: Global,
     declared: &mut Declared,
     rest: &str,
     looks: &Looks,
-    work: &mut Steps<L>,
 ) -> Result<(), LineFault>
     ensures takes { Takes (after_devicetype declared.old rest.now) declared.new result }
     ensures lawful { AreDeclared declared.old → OnOk result (AreDeclared declared.new) }
-    ensures worked { work.new ≤ work.old + work_on rest.now }
 {
-    let words = words_of(alloc, rest, work)?;
+    let words = words_of(alloc, rest)?;
     let [name, names @ ..] = words.as_slice() else {
         return breaks(Rule::Line);
     };
@@ -218,15 +207,7 @@ pub(crate) fn take_devicetype<L: Ledger>(
         return breaks(Rule::Line);
     }
     let is_double = declared.types.has(name);
-    let schema = schema_words(
-        alloc,
-        declared,
-        words.as_slice(),
-        names,
-        is_double,
-        looks,
-        work,
-    )?;
+    let schema = schema_words(alloc, declared, words.as_slice(), names, is_double, looks)?;
     declared.types.add(name.copy(alloc)?)?;
     declared.schemas.push(schema)?;
     Ok(())

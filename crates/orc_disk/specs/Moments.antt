@@ -1,5 +1,5 @@
 -- What crashes at the moments of a row of operations may leave.
-use Rattle.std.specs.Prelude.{◌≡◌, ℕ, ◌≤◌, ◌⊎◌, List}
+use Rattle.std.specs.Prelude.{◌≡◌, ◌↔◌, ℕ, ◌≤◌, ◌⊎◌, List}
 use Rattle.orc_disk.specs.Crashes.{LeavesNoMore}
 use Rattle.orc_disk.specs.Meanings.{DiskMeaning}
 
@@ -27,3 +27,7 @@ module _ {D : Type 0} (disk : DiskMeaning D) where
     -- file that has P. So rows can be put behind one another.
     pub earlier_rows : (since : ℕ) (file : List ℕ) → since ≤ disk.moment old
         → disk.left_since new since file → disk.left_since old since file ⊎ P file
+
+  -- What a crash since this moment may have left is just what a crash now may leave.
+  abbrev pub OnlyNow : Type 0
+  OnlyNow = (at : D) (file : List ℕ) → disk.left_since at (disk.moment at) file ↔ disk.may_leave at file

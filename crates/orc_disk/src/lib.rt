@@ -11,11 +11,13 @@ mod disk;
 mod file;
 mod heard;
 mod history;
+mod laws;
 mod memory;
 mod stop;
 mod tear;
 
 pub use disk::{Disk, DiskOp};
 pub use file::FileDisk;
+pub use laws::only_now;
 pub use memory::MemDisk;
 pub use stop::StopDisk;

@@ -10,8 +10,8 @@ use Rattle.orc_explain.specs.declared.explanations.TheConstants.{LOOKED_AT}
 use Rattle.orc_schema_findings.specs.Quoted.{quoted}
 use Rattle.orc_lines.specs.declared.keyword.Keyword.{Keyword}
 use Rattle.orc_lines.specs.declared.keyword.Keyword.TheVariants as keyword
-use Rattle.orc_state.specs.declared.rule.Rule.{Rule}
-use Rattle.orc_state.specs.declared.rule.Rule.TheVariants as rule
+use Rattle.orc_decls.specs.declared.rule.Rule.{Rule}
+use Rattle.orc_decls.specs.declared.rule.Rule.TheVariants as rule
 
 -- how a line with this first word is written, and where it stands
 

@@ -1,18 +1,15 @@
 //! A bundle's fault in words, for the one who mends it.
-ghost use Rattle.std.specs.Prelude.{◌≡◌, ◌<◌, ◌++◌, ◌-◌, codes, drop, take, length, IfOk, OnOk};
+ghost use Rattle.std.specs.Prelude.{◌≡◌, ◌++◌, ◌-◌, codes, drop, take, length, IfOk, OnOk};
 ghost use Rattle.std.specs.List.{list_any};
 ghost use Rattle.std.specs.String.{string_bytes};
 ghost use Rattle.orc_explain.specs.Explanations.{explained, explanation_of, line_explained, looked_at, no_line_explained, allowed_words, call_explained, call_line_words, duplicate_words, form_words, known_words, line_words, rule_words, step_line_words, unknown_words, whole_form};
 ghost use Rattle.orc_lines.specs.Lines.{is_end, lines_of};
 
-use orc_io::Steps;
+use orc_decls::Rule;
 use orc_lines::{Keyword, ends_later, first_line, first_word, keyword_of, line_text, seen};
 use orc_schema_findings::push_quoted;
-use orc_state::Rule;
 use orc_text::{Memory, Text};
 use std::alloc::Global;
-use std::marker::Brand;
-use std::sync::ledger::{Blank, Ledger};
 
 // The bytes that are looked at to show a line: those of one character more than is shown, of four bytes
 // each.
@@ -28,41 +25,31 @@ const WORDS: &str =
 pub fn explanation(alloc: Global, bytes: &[u8], line: u64, rule: Rule) -> Result<Text, Memory>
     ensures { IfOk result (λ text. text ≡ explanation_of bytes.now line rule) }
 {
-    explained::<Brand>(alloc, seen(bytes), line, rule, Blank::new(1))
+    explained(alloc, seen(bytes), line, rule)
 }
 
 // The same of all these bytes.
-fn explained<L: Ledger>(
-    alloc: Global,
-    bytes: &[u8],
-    line: u64,
-    rule: Rule,
-    blank: Blank,
-) -> Result<Text, Memory>
-    requires name { blank.name ≡ L.name }
-    requires parts { blank.parts ≡ L.parts }
-    requires some { 0 < blank.parts }
+fn explained(alloc: Global, bytes: &[u8], line: u64, rule: Rule) -> Result<Text, Memory>
     ensures { IfOk result (λ text. text ≡ explained (drop (line - 1) (lines_of bytes.now)) line rule) }
 {
-    let mut steps = Steps::<L>::new(blank);
-    let rest = lines_from(bytes, line, &mut steps);
+    let rest = lines_from(bytes, line);
     if rest.is_empty() {
         return no_line_explained(alloc, line, rule);
     }
-    let (first, later) = first_line(rest, &mut steps);
-    let ends = ends_later(later, &mut steps);
+    let (first, later) = first_line(rest);
+    let ends = ends_later(later);
     let text = String::from_utf8_lossy(alloc, looked_at(line_text(first)))?;
     line_explained(alloc, text.as_str(), ends, line, rule)
 }
 
 /// The bytes from the line of this number on.
-pub fn lines_from<'a, L: Ledger>(bytes: &'a [u8], line: u64, steps: &mut Steps<L>) -> &'a [u8]
+pub fn lines_from(bytes: &[u8], line: u64) -> &[u8]
     ensures { lines_of result.now ≡ drop (line - 1) (lines_of bytes.now) }
 {
     let mut rest = bytes;
     let mut left = line.saturating_sub(1);
     'lines: while left > 0 && !rest.is_empty() {
-        let (_, behind) = first_line(rest, steps);
+        let (_, behind) = first_line(rest);
         rest = behind;
         left -= 1;
     }

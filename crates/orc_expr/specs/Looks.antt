@@ -281,18 +281,13 @@ nodes_of expression here view = nodes_at view here (followed view here expressio
 abbrev pub is_only : List ℕ → List (List ℕ) → Bool
 is_only text texts = pointwise (pointwise nat_eq) texts (text ∷ [])
 
--- there is one text, and it isn't this one
-abbrev pub is_other : List ℕ → List (List ℕ) → Bool
-is_other text [] = false
-is_other text (found ∷ []) = not (pointwise nat_eq found text)
-is_other text (found ∷ next ∷ more) = false
-
--- a test of the texts: there is one at all, or exactly one that is the given text, or exactly one that isn't
+-- A test of the texts: there is one at all; there is exactly one, and it is the given text (`=`); or that isn't so
+-- (`!=`), since there is none, or there are several, or there is one other text.
 abbrev pub is_met : Test → List (List ℕ) → Bool
 is_met Any [] = false
 is_met Any (text ∷ more) = true
 is_met (Equals text) texts = is_only text texts
-is_met (Differs text) texts = is_other text texts
+is_met (Differs text) texts = not (is_only text texts)
 
 -- whether a condition holds, or nothing where a predicate's term gave more than one text; and what was read
 pub record Judged : Type 0 where

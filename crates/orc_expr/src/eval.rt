@@ -1,7 +1,7 @@
 //! What expressions and conditions give.
 ghost use Rattle.std.specs.Prelude.{◌≡◌, IfOk};
 ghost use Rattle.orc_expr.specs.Parts.{expression_of, condition_of};
-ghost use Rattle.orc_expr.specs.Looks.{texts_of, nodes_of, judged, is_met, is_only, is_other, AnswersLook, listed_result};
+ghost use Rattle.orc_expr.specs.Looks.{texts_of, nodes_of, judged, is_met, is_only, AnswersLook, listed_result};
 ghost use Rattle.orc_expr.specs.Reads.{IsFixedByReads};
 
 use crate::expr::{Cond, EvalFault, Expr, Test};
@@ -150,17 +150,6 @@ fn is_only(text: &Text, texts: &[Text]) -> bool
     }
 }
 
-// Whether there is one text, and it isn't this one.
-fn is_other(text: &Text, texts: &[Text]) -> bool
-    ensures { result ≡ is_other text.now texts.now }
-{
-    match texts {
-        [] => false,
-        [one] => !(one == text),
-        [_, _, ..] => false,
-    }
-}
-
 impl Test {
     // Whether texts meet the test.
     fn is_met(&self, texts: &[Text]) -> bool
@@ -169,7 +158,7 @@ impl Test {
         match self {
             Test::Any => !texts.is_empty(),
             Test::Equals(text) => is_only(text, texts),
-            Test::Differs(text) => is_other(text, texts),
+            Test::Differs(text) => !is_only(text, texts),
         }
     }
 }

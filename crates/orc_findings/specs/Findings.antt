@@ -1,7 +1,7 @@
 -- Of which rules more can be said than the rule: what in particular breaks them.
 use Rattle.std.specs.Prelude.{Bool, true, false}
-use Rattle.orc_state.specs.declared.rule.Rule.{Rule}
-use Rattle.orc_state.specs.declared.rule.Rule.TheVariants as rule
+use Rattle.orc_decls.specs.declared.rule.Rule.{Rule}
+use Rattle.orc_decls.specs.declared.rule.Rule.TheVariants as rule
 
 -- more can be said of a line that breaks this rule
 abbrev pub has_finding : Rule → Bool

@@ -1,49 +1,44 @@
 //! The blocks of lines below `yang N` and `template T LISTPATH N`.
-use orc_io::Steps;
 use orc_lines::{Keyword, block_of, cut, first_line, keyword_of, line_text, number_of, read_text};
 use orc_schema_findings::place_of;
 use orc_text::{Memory, Row};
 use std::alloc::Global;
-use std::sync::ledger::Ledger;
 
 /// The text of a block of so many lines, a number as it is written.
-pub(crate) fn block_under<L: Ledger>(
+pub(crate) fn block_under(
     alloc: Global,
     count: &str,
     later: &[u8],
-    steps: &mut Steps<L>,
 ) -> Result<Option<Row<u8>>, Memory> {
     match number_of(count) {
-        Some(count) => block_of(alloc, later, count, steps),
+        Some(count) => block_of(alloc, later, count),
         None => Ok(None),
     }
 }
 
 /// The line of the bundle in which a byte of a module's text stands; the module's `yang N` is the one
 /// that so many others stand above.
-pub(crate) fn line_in_block<L: Ledger>(
+pub(crate) fn line_in_block(
     alloc: Global,
     bytes: &[u8],
     place: usize,
     at: u64,
-    steps: &mut Steps<L>,
 ) -> Result<Option<u64>, Memory> {
-    match block_at(bytes, place, steps) {
-        Some((line, count, later)) => line_below(alloc, line, count, later, at, steps),
+    match block_at(bytes, place) {
+        Some((line, count, later)) => line_below(alloc, line, count, later, at),
         None => Ok(None),
     }
 }
 
 // The line in which a byte of a block below a line of this number stands.
-fn line_below<L: Ledger>(
+fn line_below(
     alloc: Global,
     line: u64,
     count: u64,
     later: &[u8],
     at: u64,
-    steps: &mut Steps<L>,
 ) -> Result<Option<u64>, Memory> {
-    match block_of(alloc, later, count, steps)? {
+    match block_of(alloc, later, count)? {
         Some(text) => {
             let (lines, _) = place_of(text.as_slice(), at);
             Ok(Some(line.saturating_add(1).saturating_add(lines)))
@@ -53,17 +48,13 @@ fn line_below<L: Ledger>(
 }
 
 // The line `yang N` that so many others stand above: its number, N, and the bytes behind it.
-fn block_at<'a, L: Ledger>(
-    bytes: &'a [u8],
-    place: usize,
-    steps: &mut Steps<L>,
-) -> Option<(u64, u64, &'a [u8])> {
+fn block_at<'a>(bytes: &'a [u8], place: usize) -> Option<(u64, u64, &'a [u8])> {
     let mut rest = bytes;
     let mut number: u64 = 0;
     let mut left = place;
     let mut skip: u64 = 0;
     'lines: while !rest.is_empty() {
-        let (line, later) = first_line(rest, steps);
+        let (line, later) = first_line(rest);
         rest = later;
         number = number.saturating_add(1);
         if skip > 0 {

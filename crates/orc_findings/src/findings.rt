@@ -1,18 +1,15 @@
 //! What in particular is at fault in a line, over what was declared in front of it.
-ghost use Rattle.std.specs.Prelude.{◌≡◌, ◌⊎◌, ◌<◌, IfOk, IsTrue, None};
+ghost use Rattle.std.specs.Prelude.{◌≡◌, ◌⊎◌, IfOk, IsTrue, None};
 ghost use Rattle.orc_findings.specs.Findings.{has_finding};
 
 use crate::lines::line_finding;
 use crate::openings::opening_finding;
-use orc_declarations::{nothing_declared, read_declarations};
+use orc_declarations::{nothing_declared, read_declared};
+use orc_decls::{BundleFault, Rule};
 use orc_explain::lines_from;
-use orc_io::Steps;
 use orc_lines::{Declared, seen};
-use orc_state::{BundleFault, Rule};
 use orc_text::{Memory, Text};
 use std::alloc::Global;
-use std::marker::Brand;
-use std::sync::ledger::{Blank, Ledger};
 
 /// What in particular breaks one of the rules `yang`, `schema`, `template`, `json`, `path`, `value` and
 /// `opening` in a line of this number, which the bytes break first: the place in a module's text; the
@@ -25,7 +22,7 @@ pub fn finding(alloc: Global, bytes: &[u8], line: u64, rule: Rule) -> Result<Opt
     if !has_finding(rule) {
         return Ok(None);
     }
-    found_of::<Brand, Brand>(alloc, seen(bytes), line, rule, Blank::new(1), Blank::new(1))
+    found_of(alloc, seen(bytes), line, rule)
 }
 
 // Whether more than the rule can be said of a line that breaks it.
@@ -45,31 +42,13 @@ fn has_finding(rule: Rule) -> bool
 }
 
 // The finding in all these bytes.
-fn found_of<L: Ledger, M: Ledger>(
-    alloc: Global,
-    bytes: &[u8],
-    line: u64,
-    rule: Rule,
-    blank: Blank,
-    other: Blank,
-) -> Result<Option<Text>, Memory>
-    requires name { blank.name ≡ L.name }
-    requires parts { blank.parts ≡ L.parts }
-    requires some { 0 < blank.parts }
-    requires other_name { other.name ≡ M.name }
-    requires other_parts { other.parts ≡ M.parts }
-    requires other_some { 0 < other.parts }
-{
-    let mut steps = Steps::<L>::new(blank);
-    let mut work = Steps::<M>::new(other);
-    let rest = lines_from(bytes, line, &mut steps);
+fn found_of(alloc: Global, bytes: &[u8], line: u64, rule: Rule) -> Result<Option<Text>, Memory> {
+    let rest = lines_from(bytes, line);
     let front = declared_in(bytes, rest.len(), rule);
-    let declared = read(alloc, front, &mut steps, &mut work)?;
+    let declared = read(alloc, front)?;
     match rule {
         Rule::Opening => opening_finding(alloc, &declared),
-        _ => line_finding(
-            alloc, bytes, &declared, line, rest, rule, &mut steps, &mut work,
-        ),
+        _ => line_finding(alloc, bytes, &declared, line, rest, rule),
     }
 }
 
@@ -83,14 +62,9 @@ fn declared_in(bytes: &[u8], left: usize, rule: Rule) -> &[u8] {
 }
 
 // What these bytes declare, as far as they can be read.
-fn read<L: Ledger, M: Ledger>(
-    alloc: Global,
-    bytes: &[u8],
-    steps: &mut Steps<L>,
-    work: &mut Steps<M>,
-) -> Result<Declared, Memory> {
+fn read(alloc: Global, bytes: &[u8]) -> Result<Declared, Memory> {
     let mut declared = nothing_declared(alloc)?;
-    match read_declarations(alloc, bytes, &mut declared, steps, work) {
+    match read_declared(alloc, bytes, &mut declared) {
         Err(BundleFault::Memory) => Err(Memory),
         _ => Ok(declared),
     }

@@ -1,28 +1,24 @@
 //! What is at fault in the modules that a line `datamodel` or `devicetype` names.
 use crate::blocks::line_in_block;
 use orc_declarations::{modules_named, with_name};
-use orc_io::Steps;
-use orc_lines::{Declared, Keyword, Names, repeats, words_of};
+use orc_lines::{Declared, Keyword, SortedNames, repeats, words_of};
 use orc_schema::Looks;
 use orc_schema_findings::{SchemaFinding, StatementPlace, schema_finding};
 use orc_text::{Memory, Row, Text};
 use std::alloc::Global;
-use std::sync::ledger::Ledger;
 
 /// The finding in the modules that a line with this keyword names, of a bundle of these bytes.
-pub(crate) fn named_finding<L: Ledger, M: Ledger>(
+pub(crate) fn named_finding(
     alloc: Global,
     bytes: &[u8],
     declared: &Declared,
     word: Keyword,
     words: &str,
-    steps: &mut Steps<L>,
-    work: &mut Steps<M>,
 ) -> Result<Option<Text>, Memory> {
-    let all = words_of(alloc, words, work)?;
+    let all = words_of(alloc, words)?;
     match word {
-        Keyword::Datamodel => of_data(alloc, bytes, declared, &all, steps),
-        _ => of_names(alloc, bytes, declared, behind_first(all.as_slice()), steps),
+        Keyword::Datamodel => of_data(alloc, bytes, declared, &all),
+        _ => of_names(alloc, bytes, declared, behind_first(all.as_slice())),
     }
 }
 
@@ -35,30 +31,28 @@ fn behind_first(words: &[Text]) -> &[Text] {
 }
 
 // The finding in the modules of the schema of the data, of which one is built in.
-fn of_data<L: Ledger>(
+fn of_data(
     alloc: Global,
     bytes: &[u8],
     declared: &Declared,
     words: &Row<Text>,
-    steps: &mut Steps<L>,
 ) -> Result<Option<Text>, Memory> {
     let names = with_name(alloc, words, "orc")?;
-    of_names(alloc, bytes, declared, names.as_slice(), steps)
+    of_names(alloc, bytes, declared, names.as_slice())
 }
 
 // The finding in the modules of these names.
-fn of_names<L: Ledger>(
+fn of_names(
     alloc: Global,
     bytes: &[u8],
     declared: &Declared,
     names: &[Text],
-    steps: &mut Steps<L>,
 ) -> Result<Option<Text>, Memory> {
     if repeats(alloc, names)? {
         return Ok(Some(Text::from_str(alloc, "A module stands twice in the line.")?));
     }
     match of_modules(alloc, declared, names)? {
-        Some(found) => placed(alloc, bytes, &declared.modules, names, &found, steps),
+        Some(found) => placed(alloc, bytes, &declared.modules, names, &found),
         None => Ok(None),
     }
 }
@@ -75,39 +69,37 @@ fn of_modules(
 }
 
 // A finding with the line of its statement.
-fn placed<L: Ledger>(
+fn placed(
     alloc: Global,
     bytes: &[u8],
-    known: &Names,
+    known: &SortedNames,
     names: &[Text],
     found: &SchemaFinding,
-    steps: &mut Steps<L>,
 ) -> Result<Option<Text>, Memory> {
-    let line = line_of(alloc, bytes, known, names, &found.place, steps)?;
+    let line = line_of(alloc, bytes, known, names, &found.place)?;
     Ok(Some(found.words(alloc, line)?))
 }
 
 // The line of the bundle in which a statement of the modules of these names stands. The built-in module
 // has none.
-fn line_of<L: Ledger>(
+fn line_of(
     alloc: Global,
     bytes: &[u8],
-    known: &Names,
+    known: &SortedNames,
     names: &[Text],
     statement: &Option<StatementPlace>,
-    steps: &mut Steps<L>,
 ) -> Result<Option<u64>, Memory> {
     let Some(statement) = statement else {
         return Ok(None);
     };
     match place_among(known, names, statement.module) {
-        Some(place) => line_in_block(alloc, bytes, place, statement.at, steps),
+        Some(place) => line_in_block(alloc, bytes, place, statement.at),
         None => Ok(None),
     }
 }
 
 // The place of a module among those that are declared.
-fn place_among(known: &Names, names: &[Text], module: usize) -> Option<usize> {
+fn place_among(known: &SortedNames, names: &[Text], module: usize) -> Option<usize> {
     match names.get(module) {
         Some(name) => known.place(name),
         None => None,

@@ -1,8 +1,8 @@
 //! What the opening data or the base of a device breaks.
 use orc_body_findings::{base_finding, data_finding};
+use orc_decls::Device;
 use orc_lines::Declared;
 use orc_schema::Schema;
-use orc_state::Device;
 use orc_text::{Memory, Text};
 use std::alloc::Global;
 

@@ -1,9 +1,9 @@
 //! What is at fault in the path of a line, in its keys, or in the value behind it.
 use crate::openings::schema_in;
 use orc_body_findings::{PathForm, path_finding, value_finding};
+use orc_decls::Rule;
 use orc_lines::{Declared, Keyword, cut};
 use orc_schema::Schema;
-use orc_state::Rule;
 use orc_text::{Memory, Text};
 use std::alloc::Global;
 

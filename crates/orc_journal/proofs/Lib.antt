@@ -17,6 +17,7 @@ pub mod Unique
 pub mod Accepted
 mod Verdicts
 mod Rules
+mod Pushed
 mod Appended
 mod LeftBehind
 pub mod Puts

@@ -25,7 +25,7 @@ Tells t xs (Some Aborted) = HasIntent xs t × HasMore xs t × IsUnsettled xs t
 Tells t xs (Some Done) = HasIntent xs t × Contains xs (Settled t)
 
 module _ (xs : List Entry) (x : Entry) where
-  intent_stays : (t : ℕ) → HasIntent xs t → HasIntent (xs ++ x ∷ []) t
+  pub intent_stays : (t : ℕ) → HasIntent xs t → HasIntent (xs ++ x ∷ []) t
   intent_stays t h = (h.0, h.1, Contains-append_left xs (x ∷ []) (Intent t h.0 h.1) h.2)
 
   more_stays : (t : ℕ) → HasMore xs t → HasMore (xs ++ x ∷ []) t
@@ -42,7 +42,7 @@ module _ (xs : List Entry) (x : Entry) where
   other_told t (Some Aborted) ne h = (intent_stays t h.0, more_stays t h.1, unsettled_stays t (λ e. ne (ap number_of e)) h.2)
   other_told t (Some Done) ne h = (intent_stays t h.0, Contains-append_left xs (x ∷ []) (Settled t) h.1)
 
-only_unsettled : (xs : List Entry) (t : ℕ) → HasOnlyIntents xs t → IsUnsettled xs t
+pub only_unsettled : (xs : List Entry) (t : ℕ) → HasOnlyIntents xs t → IsUnsettled xs t
 only_unsettled xs t h = All-weaker (λ e. number_of e ≡ t → entry_kind e ≡ 1) (λ e. e ≡ Settled t → ⊥) (λ e one same.
     let kind : entry_kind e ≡ 4 = ap entry_kind same in
     let first : entry_kind e ≡ 1 = one (ap number_of same) in

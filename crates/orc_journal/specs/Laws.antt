@@ -1,5 +1,5 @@
 -- A file is one journal only, and is refused for one reason only; what the order rules ask.
-use Rattle.std.specs.Prelude.{◌≡◌, ◌↔◌, ℕ, ◌<◌, ◌^◌, List, length, All, Contains, IsTrue}
+use Rattle.std.specs.Prelude.{◌≡◌, ◌↔◌, ℕ, ◌<◌, ◌^◌, Bool, true, false, List, [], ◌∷◌, ◌++◌, length, All, Contains, IsTrue}
 use Rattle.orc_call.specs.declared.call.Call.{Call}
 use Rattle.orc_journal.specs.Entries.{entry_kind, number_of}
 use Rattle.orc_journal.specs.Orders.{follows, is_ordered}
@@ -69,3 +69,23 @@ abbrev pub KeepsOrder : Type 0
 KeepsOrder =
     (before : List Entry) (entry : Entry) → IsTrue (is_ordered before)
     → (IsTrue (follows before entry) ↔ MayFollow before entry)
+
+-- what may come behind an entry of the same transaction: Decide, Abort or Settled behind an intent, and Settled behind a
+-- Decide or an Abort
+abbrev pub may_be_next : Entry → Entry → Bool
+may_be_next (Intent t call devices) (Intent number other others) = false
+may_be_next (Intent t call devices) (Decide number) = true
+may_be_next (Intent t call devices) (Abort number) = true
+may_be_next (Intent t call devices) (Settled number) = true
+may_be_next (Decide t) (Settled number) = true
+may_be_next (Abort t) (Settled number) = true
+may_be_next earlier entry = false
+
+-- What one entry more changes for the next one: nothing where that is of another transaction; and where it is of the
+-- same, the entry that may stand there says what may come next.
+abbrev pub EntryMoreKeepsOrder : Type 0
+EntryMoreKeepsOrder =
+    (before : List Entry) (more entry : Entry)
+    → ((number_of more ≡ number_of entry → ⊥) → (MayFollow (before ++ more ∷ []) entry ↔ MayFollow before entry))
+    × (number_of more ≡ number_of entry → MayFollow before more
+    → (MayFollow (before ++ more ∷ []) entry ↔ IsTrue (may_be_next more entry)))

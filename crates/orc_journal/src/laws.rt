@@ -1,5 +1,5 @@
 //! That a file is one journal only, and what the order rules ask. Each function does nothing: its contract is the law.
-ghost use Rattle.orc_journal.specs.Laws.{HasOneListOfEntries, HasOneTextOfDeclarations, HasOneVerdict, KeepsOrder};
+ghost use Rattle.orc_journal.specs.Laws.{EntryMoreKeepsOrder, HasOneListOfEntries, HasOneTextOfDeclarations, HasOneVerdict, KeepsOrder};
 
 /// A file is the journal of one list of entries only.
 pub fn has_one_list_of_entries()
@@ -21,4 +21,10 @@ pub fn has_one_verdict()
 /// is there and no Settled of it.
 pub fn keeps_order()
     ensures { KeepsOrder }
+{}
+
+/// An entry more changes nothing for the next one of another transaction. Of the same one, Decide,
+/// Abort or Settled may come behind an intent, Settled behind a Decide or an Abort, and no more.
+pub fn entry_more_keeps_order()
+    ensures { EntryMoreKeepsOrder }
 {}

@@ -28,5 +28,6 @@ pub use entry::Entry;
 pub use fault::{AppendFault, OpenFault};
 pub use journal::Journal;
 pub use laws::{
-    has_one_list_of_entries, has_one_text_of_declarations, has_one_verdict, keeps_order,
+    entry_more_keeps_order, has_one_list_of_entries, has_one_text_of_declarations, has_one_verdict,
+    keeps_order,
 };

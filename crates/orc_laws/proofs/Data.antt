@@ -23,20 +23,22 @@ use Rattle.orc_call.specs.declared.call.Put.{Put}
 use Rattle.orc_call.specs.declared.call.Call.{Call}
 use Rattle.orc_call.specs.declared.call.Action.{Action}
 use Rattle.orc_call.specs.declared.call.Action.TheVariants.{Create, Modify, Delete, Set, Unset}
-use Rattle.orc_state.specs.States.{device_entry, enter_devices, is_same_text, opening, opening_data, put_all}
-use Rattle.orc_state.specs.Actions.{data_after, data_step, enter_service, leave_service}
+use Rattle.orc_decls.specs.Devices.{device_entry, is_same_text}
+use Rattle.orc_decls.specs.Openings.{enter_devices, opening_data, put_all}
+use Rattle.orc_datastore.specs.States.{opening, Datastore}
+use Rattle.orc_datastore.specs.Actions.{data_after, data_step, enter_service, leave_service}
 use Rattle.orc_path.specs.Reading.{path_of}
-use Rattle.orc_state.specs.Next.{after}
-use Rattle.orc_state.specs.Histories.{fold_from, IsUnrefused}
-use Rattle.orc_state.specs.Calls.{has_body, is_action, is_body, is_body_item, is_data_item, is_data_path, is_kept, is_lawful_name, is_path_under, is_put, is_served, is_service, is_service_path}
-use Rattle.orc_state.specs.Laws.{AreActions}
+use Rattle.orc_datastore.specs.Next.{after}
+use Rattle.orc_datastore.specs.Histories.{fold_from, IsUnrefused}
+use Rattle.orc_decls.specs.Calls.{has_body, is_action, is_body, is_body_item, is_data_item, is_data_path, is_kept, is_lawful_name, is_path_under, is_put, is_served, is_service, is_service_path}
+use Rattle.orc_datastore.specs.Laws.{AreActions}
 use Rattle.orc_laws.specs.Histories.{DataIsConfiguration, DataIsValid, DevicesStay}
-use Rattle.orc_state.specs.declared.declarations.Decls.{Decls}
-use Rattle.orc_state.specs.States.{State}
-use Rattle.orc_state.proofs.Fits.{data-item, item-under, list_all_weaker, service_entry}
-use Rattle.orc_state.proofs.Lists.{not_true, true_not_false}
-use Rattle.orc_state.proofs.Trees.{IsConfig-put_all, is_put_somewhere}
-use Rattle.orc_state.proofs.DataLaws.{no_slash_no_path, device_path, after_valid}
+use Rattle.orc_decls.specs.declared.declarations.Decls.{Decls}
+use Rattle.orc_decls.proofs.Fits.{data-item, item-under, list_all_weaker, service_entry}
+use Rattle.orc_decls.proofs.Lists.{not_true, true_not_false}
+use Rattle.orc_datastore.proofs.Trees.{IsConfig-put_all, is_put_somewhere}
+use Rattle.orc_datastore.proofs.DataLaws.{no_slash_no_path, after_valid}
+use Rattle.orc_decls.proofs.NameTexts.{device_path}
 
 start_no_slash : (b : ℕ) → is_name_start b ≡ true → (b == 47) ≡ false
 start_no_slash b h = grind arith
@@ -107,7 +109,7 @@ behind_config decls (action ∷ actions) config h c =
     behind_config decls actions (data_step config action) (All-tail (λ (a : Action). is_action decls a ≡ true) action actions h)
     (step_config decls config action (All-head (λ (a : Action). is_action decls a ≡ true) action actions h) c)
 
-fold_config : (decls : Decls) (s : State) (calls : List Call) → AreActions decls calls → IsConfig s.data → IsConfig (fold_from decls s calls).data
+fold_config : (decls : Decls) (s : Datastore) (calls : List Call) → AreActions decls calls → IsConfig s.data → IsConfig (fold_from decls s calls).data
 fold_config decls s [] h c = c
 fold_config decls s (call ∷ calls) h c =
     let lawful : Call → Type 0 = λ x. All (λ action. is_action decls action ≡ true) x.actions in
@@ -118,7 +120,7 @@ pub data_is_config : DataIsConfiguration
 data_is_config decls history items names h =
     fold_config decls (opening decls) history h (opening_config decls.data_schema decls.names decls.data items names)
 
-fold_valid : (decls : Decls) (s : State) (calls : List Call) → broken_of decls.data_schema s.data ≡ None → IsUnrefused decls s calls
+fold_valid : (decls : Decls) (s : Datastore) (calls : List Call) → broken_of decls.data_schema s.data ≡ None → IsUnrefused decls s calls
     → broken_of decls.data_schema (fold_from decls s calls).data ≡ None
 fold_valid decls s [] valid h = valid
 fold_valid decls s (call ∷ calls) valid h = fold_valid decls (after decls s call) calls (after_valid decls s call h.0) h.1
@@ -240,7 +242,7 @@ behind_stays decls (action ∷ actions) config path h is =
     behind_stays decls actions (data_step config action) path (All-tail (λ (a : Action). is_action decls a ≡ true) action actions h) is
     ∙ step_stays decls config action path (All-head (λ (a : Action). is_action decls a ≡ true) action actions h) is
 
-fold_stays : (decls : Decls) (s : State) (calls : List Call) (path : List PathStep) → AreActions decls calls → is_kept path ≡ true
+fold_stays : (decls : Decls) (s : Datastore) (calls : List Call) (path : List PathStep) → AreActions decls calls → is_kept path ≡ true
     → get (fold_from decls s calls).data path ≡ get s.data path
 fold_stays decls s [] path h is = refl
 fold_stays decls s (call ∷ calls) path h is =

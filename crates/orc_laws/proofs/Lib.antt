@@ -1,15 +1,7 @@
-mod Agreeing
 mod Overlays
-mod Untouched
 mod Data
-mod FirstClash
 mod Traces
 mod Removals
 mod Lone
 mod Made
 mod Presence
-mod Unread
-mod Standing
-mod Enough
-mod Unrefused
-mod Together

@@ -15,10 +15,11 @@ use Rattle.orc_path.proofs.ConfigurationLaws.{get-drop_item, get-put_item-elsewh
 use Rattle.orc_path.proofs.Extensions.{is_prefix_rest}
 use Rattle.orc_path.proofs.Prefixes.{is_prefix-from_take}
 use Rattle.orc_call.specs.declared.call.Put.{Put}
-use Rattle.orc_state.specs.States.{is_same_text, put_all}
-use Rattle.orc_state.specs.Calls.{meets}
-use Rattle.orc_state.proofs.Lists.{true_not_false}
-use Rattle.orc_state.proofs.Planning.{below_itself, way_below}
+use Rattle.orc_decls.specs.Devices.{is_same_text}
+use Rattle.orc_decls.specs.Openings.{put_all}
+use Rattle.orc_decls.specs.Calls.{meets}
+use Rattle.orc_decls.proofs.Lists.{true_not_false}
+use Rattle.orc_datastore.proofs.Planning.{below_itself, way_below}
 
 falls : (t : Bool) → (t ≡ true → ⊥) → t ≡ false
 falls true h = absurd (h refl)

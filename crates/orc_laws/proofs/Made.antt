@@ -26,26 +26,26 @@ use Rattle.orc_template.specs.Said.{template_json}
 use Rattle.orc_services.specs.Services.{Instance, Serving, expansion_at, expansion_of, instance_at, instance_of, list_with}
 use Rattle.orc_services.specs.Expanded.{as_literal, expanded_actions, expanded_action, writes_of}
 use Rattle.orc_services.specs.declared.list.ServiceList.{ServiceList}
-use Rattle.orc_state.specs.States.{State, expansion, has_id, is_same_text, opening}
-use Rattle.orc_state.specs.Actions.{data_after, is_named_by, is_service_among, live_after, live_step, names, new_services, service_of, services_once}
-use Rattle.orc_state.specs.Next.{after, clash, existence, expanded_call, expanded_to, invalid, refusal, serving_on, unexpanded}
-use Rattle.orc_state.specs.Calls.{has_body, is_action, is_call, is_service, is_service_path}
-use Rattle.orc_state.specs.Declarations.{AreDecls}
-use Rattle.orc_state.specs.Histories.{fold_from}
-use Rattle.orc_state.specs.Legal.{IsLegal, state_of}
+use Rattle.orc_datastore.specs.States.{Datastore, expansion, has_id, opening}
+use Rattle.orc_decls.specs.Devices.{is_same_text}
+use Rattle.orc_datastore.specs.Actions.{data_after, is_named_by, live_after, live_step, names, new_services}
+use Rattle.orc_decls.specs.Calls.{is_service_among, service_of, services_once, has_body, is_action, is_call, is_service, is_service_path}
+use Rattle.orc_datastore.specs.Next.{after, clash, existence, expanded_call, expanded_to, invalid, refusal, serving_on, unexpanded}
+use Rattle.orc_decls.specs.Declarations.{AreDecls}
+use Rattle.orc_datastore.specs.Histories.{fold_from}
+use Rattle.orc_datastore.specs.Legal.{IsLegal, state_of}
 use Rattle.orc_laws.specs.Making.{HoldsExpansion, IsLeftBy, service_named}
 use Rattle.orc_laws.specs.Services.{IsLastMade, LivingIsLastMade, ServiceHoldsItsExpansion, UnnamedServiceStays}
-use Rattle.orc_state.specs.Laws.{LiteralIsExpansion}
+use Rattle.orc_datastore.specs.Laws.{LiteralIsExpansion}
 use Rattle.orc_laws.specs.Histories.{NamesOther}
-use Rattle.orc_state.specs.declared.declarations.Decls.{Decls}
-use Rattle.orc_state.specs.declared.state.Service.{Service}
-use Rattle.orc_state.proofs.Agreement.{first_in, later_in, or_none}
-use Rattle.orc_state.proofs.Expanded.{all_named, other_unnamed, parted}
-use Rattle.orc_state.proofs.Fits.{call-actions, call-once}
-use Rattle.orc_state.proofs.Legality.{legal_front, unrefused_last}
-use Rattle.orc_state.proofs.Lists.{filter_passes, not_true, or_first, or_second, true_not_false}
-use Rattle.orc_state.proofs.Named.{is_text_itself, made_others}
-use Rattle.orc_state.proofs.Legality.{fold_from-append}
+use Rattle.orc_decls.specs.declared.declarations.Decls.{Decls}
+use Rattle.orc_datastore.specs.declared.datastore.Service.{Service}
+use Rattle.orc_datastore.proofs.Agreement.{first_in, later_in, or_none}
+use Rattle.orc_datastore.proofs.Expanded.{all_named, other_unnamed, parted}
+use Rattle.orc_decls.proofs.Fits.{call-actions, call-once}
+use Rattle.orc_datastore.proofs.Legality.{legal_front, unrefused_last, fold_from-append}
+use Rattle.orc_decls.proofs.Lists.{filter_passes, not_true, or_first, or_second, true_not_false}
+use Rattle.orc_datastore.proofs.Named.{is_text_itself, made_others}
 
 pub same_ok : {X E : Type 0} (x y : X) → ◌≡◌ {A = Result X E} (Ok x) (Ok y) → x ≡ y
 same_ok x y h = cc
@@ -124,7 +124,7 @@ step_takes devices live id =
     ∙ ap (λ o. option_or o None) (gone (Delete id) live id (λ s. refl))
 
 -- what the actions of a call that isn't refused come to
-pub expanded_whole : (decls : Decls) (s : State) (call : Call) → refusal decls s call ≡ None
+pub expanded_whole : (decls : Decls) (s : Datastore) (call : Call) → refusal decls s call ≡ None
     → (acts : List Action) × (expanded_call decls s call ≡ Ok acts)
 expanded_whole decls s call h = on (expanded_call decls s call) refl
   where
@@ -314,7 +314,7 @@ last_made law decls history id service is legal found = on (last_naming id histo
         let one = naming_action last.call.actions id last.naming in
         let at = state_of decls last.before in
         let behind : service_named (fold_from decls at (last.call ∷ last.later)) id ≡ Some service =
-        ap (λ (z : State). service_named z id) (sym (ap (fold_from decls (opening decls)) last.whole ∙ fold_from-append decls (opening decls) last.before (last.call ∷ last.later)))
+        ap (λ (z : Datastore). service_named z id) (sym (ap (fold_from decls (opening decls)) last.whole ∙ fold_from-append decls (opening decls) last.before (last.call ∷ last.later)))
         ∙ found in
         record {
           before = last.before;

@@ -9,12 +9,13 @@ use Rattle.orc_path.specs.Configurations.{Config, overlay}
 use Rattle.orc_path.proofs.ConfigurationLaws.{same_config, get-overlay}
 use Rattle.orc_path.specs.declared.item.Item.{Item}
 use Rattle.orc_refs.specs.Live.{overlaid}
-use Rattle.orc_state.specs.States.{part, tree_due, config_of}
-use Rattle.orc_state.specs.Legal.{state_of}
-use Rattle.orc_laws.specs.Histories.{AllAgree, IsOverlay, OverlayIsOne, OrderOfCreationIsFree}
-use Rattle.orc_state.specs.declared.state.Service.{Service}
-use Rattle.orc_state.proofs.Agreement.{none_in_nil, first_in, later_in, in_cases}
-use Rattle.orc_laws.proofs.Agreeing.{living_agree}
+use Rattle.orc_datastore.specs.States.{part, tree_due, config_of}
+use Rattle.orc_datastore.specs.Legal.{state_of}
+use Rattle.orc_plans.specs.Clashing.{AllAgree}
+use Rattle.orc_laws.specs.Histories.{IsOverlay, OverlayIsOne, OrderOfCreationIsFree}
+use Rattle.orc_datastore.specs.declared.datastore.Service.{Service}
+use Rattle.orc_datastore.proofs.Agreement.{none_in_nil, first_in, later_in, in_cases}
+use Rattle.orc_plans.proofs.Agreeing.{living_agree}
 
 -- the overlay of services, one after the other, on a base
 abbrev laid : List Service → ℕ → Config → Config

@@ -32,25 +32,27 @@ use Rattle.orc_template.specs.Expansions.{Expanding, Failed}
 use Rattle.orc_services.specs.Services.{Serving, expansion_of, list_with}
 use Rattle.orc_services.specs.Expanded.{as_literal, expanded_actions, expanded_action, writes_of}
 use Rattle.orc_services.specs.declared.list.ServiceList.{ServiceList}
-use Rattle.orc_state.specs.States.{State, device_entry, device_list_path, enter_devices, has_id, is_same_text, lives, opening, opening_data, put_all}
-use Rattle.orc_state.specs.Actions.{data_after, data_step, enter_service, is_service_among, leave_service, live_after, live_step, service_of, services_once}
-use Rattle.orc_state.specs.Next.{after, existence, existence_of, expanded_to, refusal, serving_on}
-use Rattle.orc_state.specs.Histories.{fold_from, IsUnrefused}
-use Rattle.orc_state.specs.Calls.{has_body, is_action, is_body, is_body_item, is_call, is_data_item, is_data_path, is_kept, is_lawful_name, is_put, is_served, is_service, is_service_path, meets}
-use Rattle.orc_state.specs.Declarations.{AreDecls, has_template, is_list_of_services, is_service_list}
+use Rattle.orc_datastore.specs.States.{Datastore, has_id, lives, opening}
+use Rattle.orc_decls.specs.Devices.{device_entry, device_list_path, is_same_text}
+use Rattle.orc_decls.specs.Openings.{enter_devices, opening_data, put_all}
+use Rattle.orc_datastore.specs.Actions.{data_after, data_step, enter_service, leave_service, live_after, live_step}
+use Rattle.orc_decls.specs.Calls.{is_service_among, service_of, services_once, has_body, is_action, is_body, is_body_item, is_call, is_data_item, is_data_path, is_kept, is_lawful_name, is_put, is_served, is_service, is_service_path, meets}
+use Rattle.orc_datastore.specs.Next.{after, existence, existence_of, expanded_to, refusal, serving_on}
+use Rattle.orc_datastore.specs.Histories.{fold_from, IsUnrefused}
+use Rattle.orc_decls.specs.Declarations.{AreDecls, has_template, is_list_of_services, is_service_list}
 use Rattle.orc_laws.specs.Services.{ServiceLivesWhereItStands}
-use Rattle.orc_state.specs.declared.declarations.Decls.{Decls}
-use Rattle.orc_state.specs.declared.state.Service.{Service}
-use Rattle.orc_state.proofs.Agreement.{or_none}
+use Rattle.orc_decls.specs.declared.declarations.Decls.{Decls}
+use Rattle.orc_datastore.specs.declared.datastore.Service.{Service}
+use Rattle.orc_datastore.proofs.Agreement.{or_none}
 use Rattle.orc_laws.proofs.Data.{name_no_path}
-use Rattle.orc_state.proofs.Expanded.{parted}
-use Rattle.orc_state.proofs.Fits.{call-actions, call-once, list_all_weaker}
-use Rattle.orc_state.proofs.Lists.{not_true, or_first, or_second, true_not_false}
+use Rattle.orc_datastore.proofs.Expanded.{parted}
+use Rattle.orc_decls.proofs.Fits.{call-actions, call-once, list_all_weaker}
+use Rattle.orc_decls.proofs.Lists.{not_true, or_first, or_second, true_not_false}
 use Rattle.orc_laws.proofs.Lone.{body_elsewhere, drop_elsewhere, entry_elsewhere, is_lone, leave_elsewhere, list_meets, lone_entry, lone_keyed, meets_list, put_elsewhere}
 use Rattle.orc_laws.proofs.Made.{expanded_whole, named_once, no_ok, same_ok, step_makes, step_stays, step_takes}
-use Rattle.orc_state.proofs.Named.{is_text_itself, other_way}
-use Rattle.orc_state.proofs.Placed.{any_find}
-use Rattle.orc_state.proofs.Planning.{below_itself}
+use Rattle.orc_datastore.proofs.Named.{is_text_itself, other_way}
+use Rattle.orc_datastore.proofs.Placed.{any_find}
+use Rattle.orc_datastore.proofs.Planning.{below_itself}
 
 -- what an action makes of the life of a service, and of its entry in the data
 
@@ -399,7 +401,7 @@ module _ (decls : Decls) (is : AreDecls decls) (id : List ℕ) (path : List Path
 
   -- a call keeps that the service lives where its entry stands
 
-  call_keeps : (state : State) (call : Call) → is_call decls call ≡ true → refusal decls state call ≡ None
+  call_keeps : (state : Datastore) (call : Call) → is_call decls call ≡ true → refusal decls state call ≡ None
       → lives state.live id ≡ is_there state.data → lives (after decls state call).live id ≡ is_there (after decls state call).data
   call_keeps state call lawful h before =
       let config = data_after call.actions state.data in
@@ -414,7 +416,7 @@ module _ (decls : Decls) (is : AreDecls decls) (id : List ℕ) (path : List Path
       ∙ ap (λ b. fold (stands_step id) b call.actions) (sym (any_find (has_id id) state.live) ∙ before)
       ∙ sym (all_stand call.actions state.data actions)
 
-  calls_keep : (state : State) (calls : List Call) → All (λ call. IsTrue (is_call decls call)) calls → IsUnrefused decls state calls
+  calls_keep : (state : Datastore) (calls : List Call) → All (λ call. IsTrue (is_call decls call)) calls → IsUnrefused decls state calls
       → lives state.live id ≡ is_there state.data → lives (fold_from decls state calls).live id ≡ is_there (fold_from decls state calls).data
   calls_keep state [] lawful h before = before
   calls_keep state (call ∷ calls) lawful h before =

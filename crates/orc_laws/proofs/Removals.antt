@@ -17,27 +17,26 @@ use Rattle.orc_call.specs.declared.call.Action.{Action}
 use Rattle.orc_call.specs.declared.call.Action.TheVariants.{Create, Modify, Redeploy, Literal, Delete}
 use Rattle.orc_path.specs.Reading.{path_of}
 use Rattle.orc_call.specs.declared.call.DevicePut.{DevicePut}
-use Rattle.orc_state.specs.States.{has_id, is_same_text, lives, opening, others, part}
-use Rattle.orc_state.specs.Actions.{data_after, is_named_by, is_service_among, live_after, named, names, service_of, touched}
-use Rattle.orc_state.specs.Clashes.{clash_at, clash_from, differs, least, rivals, unequal_among, unequal_of, unequal_on}
-use Rattle.orc_state.specs.Next.{after, clash, existence, existence_of, invalid, refusal, serving_on, expanded_call, expanded_to, unexpanded}
-use Rattle.orc_state.specs.Histories.{fold_from, IsUnrefused}
-use Rattle.orc_state.specs.Calls.{is_action, is_call, is_lawful_name, is_write}
-use Rattle.orc_state.specs.Legal.{IsSame, AreDistinct}
+use Rattle.orc_datastore.specs.States.{has_id, lives, opening, others, part, Datastore}
+use Rattle.orc_decls.specs.Devices.{is_same_text}
+use Rattle.orc_datastore.specs.Actions.{data_after, is_named_by, live_after, named, names, touched}
+use Rattle.orc_decls.specs.Calls.{is_service_among, service_of, is_action, is_call, is_lawful_name, is_write}
+use Rattle.orc_datastore.specs.Clashes.{clash_at, clash_from, differs, least, rivals, unequal_among, unequal_of, unequal_on}
+use Rattle.orc_datastore.specs.Next.{after, clash, existence, existence_of, invalid, refusal, serving_on, expanded_call, expanded_to, unexpanded}
+use Rattle.orc_datastore.specs.Histories.{fold_from, IsUnrefused}
+use Rattle.orc_datastore.specs.Legal.{IsSame, AreDistinct}
 use Rattle.orc_laws.specs.Histories.{Creates, Deletes, NamesOther, UnrefusedWithoutTrace, LegalWithoutTrace}
-use Rattle.orc_state.specs.declared.declarations.Decls.{Decls}
-use Rattle.orc_state.specs.declared.state.Service.{Service}
-use Rattle.orc_state.specs.States.{State}
-use Rattle.orc_state.proofs.Lists.{filter-filter, or_first, or_second}
+use Rattle.orc_decls.specs.declared.declarations.Decls.{Decls}
+use Rattle.orc_datastore.specs.declared.datastore.Service.{Service}
+use Rattle.orc_decls.proofs.Lists.{filter-filter, or_first, or_second}
 use Rattle.orc_laws.proofs.Data.{name_no_path}
-use Rattle.orc_state.proofs.Expanded.{other_unnamed}
-use Rattle.orc_state.proofs.Fits.{call-actions}
-use Rattle.orc_state.proofs.Named.{created_is_new, other_way}
-use Rattle.orc_state.proofs.Agreement.{least_none, map_nil, map_none, or_none, on_none}
-use Rattle.orc_laws.proofs.Agreeing.{none_on, unrefused_parts}
-use Rattle.orc_state.proofs.Legality.{fold_from-append}
+use Rattle.orc_datastore.proofs.Expanded.{other_unnamed}
+use Rattle.orc_decls.proofs.Fits.{call-actions}
+use Rattle.orc_datastore.proofs.Named.{created_is_new, other_way}
+use Rattle.orc_datastore.proofs.Agreement.{least_none, map_nil, map_none, or_none, on_none}
+use Rattle.orc_plans.proofs.Agreeing.{none_on, unrefused_parts}
+use Rattle.orc_datastore.proofs.Legality.{fold_from-append, unrefused_front, unrefused_last, All-front}
 use Rattle.orc_laws.proofs.Traces.{without, behind-without, gone_again, after-without, deleted_leaves_no_trace}
-use Rattle.orc_state.proofs.Legality.{unrefused_front, unrefused_last, All-front}
 
 -- where nothing unequal is found, none is found among fewer living services
 
@@ -144,7 +143,7 @@ clash_without devices live actions id other h =
     ∙ ap (λ (l : List Service). clash_from (others behind id) l 0 devices) (touched_without actions behind id other)
     ∙ fewer_from (λ s. not (has_id id s)) behind (touched actions behind) 0 devices h
 
-refusal_without : (decls : Decls) (s : State) (call : Call) (id : List ℕ) → NamesOther id call
+refusal_without : (decls : Decls) (s : Datastore) (call : Call) (id : List ℕ) → NamesOther id call
     → refusal decls s call ≡ None → refusal decls (without id s) call ≡ None
 refusal_without decls s call id other h =
     let exist = existence s.live call.actions in
@@ -162,37 +161,37 @@ refusal_without decls s call id other h =
     ∙ clash_without decls.names s.live acts id
     (other_unnamed (serving_on decls (data_after call.actions s.data)) call.actions id other) third.1
 
-calls_without : (decls : Decls) (s : State) (calls : List Call) (id : List ℕ) → All (NamesOther id) calls
+calls_without : (decls : Decls) (s : Datastore) (calls : List Call) (id : List ℕ) → All (NamesOther id) calls
     → IsUnrefused decls s calls → IsUnrefused decls (without id s) calls
 calls_without decls s [] id other h = tt
 calls_without decls s (call ∷ calls) id other h =
     let here : NamesOther id call = All-head (NamesOther id) call calls other in (
       refusal_without decls s call id here h.0,
-      subst (λ (z : State). IsUnrefused decls z calls) (after-without decls s call id here)
+      subst (λ (z : Datastore). IsUnrefused decls z calls) (after-without decls s call id here)
           (calls_without decls (after decls s call) calls id (All-tail (NamesOther id) call calls other) h.1),
     )
 
 -- histories one behind the other
 
-unrefused_back : (decls : Decls) (s : State) (a b : List Call) → IsUnrefused decls s (a ++ b) → IsUnrefused decls (fold_from decls s a) b
+unrefused_back : (decls : Decls) (s : Datastore) (a b : List Call) → IsUnrefused decls s (a ++ b) → IsUnrefused decls (fold_from decls s a) b
 unrefused_back decls s [] b h = h
 unrefused_back decls s (call ∷ a) b h = unrefused_back decls (after decls s call) a b h.1
 
-unrefused_joined : (decls : Decls) (s : State) (a b : List Call) → IsUnrefused decls s a → IsUnrefused decls (fold_from decls s a) b → IsUnrefused decls s (a ++ b)
+unrefused_joined : (decls : Decls) (s : Datastore) (a b : List Call) → IsUnrefused decls s a → IsUnrefused decls (fold_from decls s a) b → IsUnrefused decls s (a ++ b)
 unrefused_joined decls s [] b h k = k
 unrefused_joined decls s (call ∷ a) b h k = (h.0, unrefused_joined decls (after decls s call) a b h.1 k)
 
 -- the state behind the two calls, and what comes later
-same_behind : (decls : Decls) (s : State) (before between later : List Call) (create delete : Call) (id : List ℕ) (writes : List DevicePut)
+same_behind : (decls : Decls) (s : Datastore) (before between later : List Call) (create delete : Call) (id : List ℕ) (writes : List DevicePut)
     → Creates create id writes → Deletes delete id → path_of id ≡ None → lives (fold_from decls s before).live id ≡ false → All (NamesOther id) between
     → fold_from decls s (before ++ create ∷ [] ++ between ++ delete ∷ [] ++ later) ≡ fold_from decls s (before ++ between ++ later)
 same_behind decls s before between later create delete id writes makes goes none absent other =
     fold_from-append decls s (before ++ create ∷ [] ++ between ++ delete ∷ []) later
-    ∙ ap (λ (z : State). fold_from decls z later) (deleted_leaves_no_trace decls s before between create delete id writes makes goes none absent other)
+    ∙ ap (λ (z : Datastore). fold_from decls z later) (deleted_leaves_no_trace decls s before between create delete id writes makes goes none absent other)
     ∙ sym (fold_from-append decls s (before ++ between) later)
 
 -- the service didn't live before
-absent_before : (decls : Decls) (s : State) (before rest : List Call) (create : Call) (id : List ℕ) (writes : List DevicePut)
+absent_before : (decls : Decls) (s : Datastore) (before rest : List Call) (create : Call) (id : List ℕ) (writes : List DevicePut)
     → Creates create id writes → IsUnrefused decls s (before ++ create ∷ [] ++ rest) → lives (fold_from decls s before).live id ≡ false
 absent_before decls s before rest create id writes makes h =
     let at = fold_from decls s before in
@@ -209,13 +208,13 @@ unrefused_without decls s before between later create delete id writes makes goe
     let absent = absent_before decls s before between create id writes makes made in
     let created : fold_from decls s (before ++ create ∷ []) ≡ after decls at create = fold_from-append decls s before (create ∷ []) in
     let middle : IsUnrefused decls (after decls at create) between =
-    subst (λ (z : State). IsUnrefused decls z between) created (unrefused_back decls s (before ++ create ∷ []) between made) in
+    subst (λ (z : Datastore). IsUnrefused decls z between) created (unrefused_back decls s (before ++ create ∷ []) between made) in
     let first : IsUnrefused decls s before =
     unrefused_front decls s before (create ∷ []) (unrefused_front decls s (before ++ create ∷ []) between made) in
     let second : IsUnrefused decls at between =
-    subst (λ (z : State). IsUnrefused decls z between) (gone_again decls at create id writes makes absent) (calls_without decls (after decls at create) between id other middle) in
+    subst (λ (z : Datastore). IsUnrefused decls z between) (gone_again decls at create id writes makes absent) (calls_without decls (after decls at create) between id other middle) in
     let third : IsUnrefused decls (fold_from decls s (before ++ between)) later =
-    subst (λ (z : State). IsUnrefused decls z later) (deleted_leaves_no_trace decls s before between create delete id writes makes goes none absent other)
+    subst (λ (z : Datastore). IsUnrefused decls z later) (deleted_leaves_no_trace decls s before between create delete id writes makes goes none absent other)
     (unrefused_back decls s (before ++ create ∷ [] ++ between ++ delete ∷ []) later h) in
     unrefused_joined decls s (before ++ between) later (unrefused_joined decls s before between first second) third
 

@@ -6,28 +6,18 @@ use Rattle.orc_path.specs.Steps.{PathStep}
 use Rattle.orc_path.specs.Configurations.{Config, IsConfig}
 use Rattle.orc_path.specs.declared.item.Item.{Item}
 use Rattle.orc_check.specs.Validity.{broken_of}
-use Rattle.orc_state.specs.States.{config_of, lives, opening, opening_data, part, tree_due}
+use Rattle.orc_datastore.specs.States.{config_of, lives, opening, part, tree_due, Datastore}
+use Rattle.orc_decls.specs.Openings.{opening_data}
 use Rattle.orc_path.specs.Reading.{path_of}
-use Rattle.orc_state.specs.Actions.{is_service_among}
-use Rattle.orc_state.specs.Next.{after}
-use Rattle.orc_state.specs.Histories.{fold_from, IsUnrefused}
-use Rattle.orc_state.specs.Touched.{is_touched}
-use Rattle.orc_state.specs.Calls.{is_data_item, is_kept, is_lawful_name}
-use Rattle.orc_state.specs.Legal.{IsLegal, state_of}
-use Rattle.orc_state.specs.declared.declarations.Decls.{Decls}
+use Rattle.orc_decls.specs.Calls.{is_service_among, is_data_item, is_kept, is_lawful_name}
+use Rattle.orc_datastore.specs.Histories.{fold_from, IsUnrefused}
+use Rattle.orc_datastore.specs.Legal.{IsLegal, state_of}
+use Rattle.orc_decls.specs.declared.declarations.Decls.{Decls}
 use Rattle.orc_call.specs.declared.call.Action.TheVariants.{Literal, Delete}
 use Rattle.orc_call.specs.declared.call.Call.{Call}
 use Rattle.orc_call.specs.declared.call.DevicePut.{DevicePut}
-use Rattle.orc_state.specs.declared.state.Service.{Service}
-use Rattle.orc_state.specs.States.{State}
-use Rattle.orc_state.specs.Laws.{AreActions}
-
--- A call changes no tree but those of the devices that it touches.
-abbrev pub UntouchedStay : Type 0
-UntouchedStay =
-    (decls : Decls) (state : State) (call : Call) (device : ℕ)
-    → is_touched decls state call device ≡ false
-    → tree_due (after decls state call) device ≡ tree_due state device
+use Rattle.orc_datastore.specs.declared.datastore.Service.{Service}
+use Rattle.orc_datastore.specs.Laws.{AreActions}
 
 -- Where the actions of a history are ones that call blocks can give, the data behind it is a configuration.
 abbrev pub DataIsConfiguration : Type 0
@@ -52,22 +42,6 @@ DevicesStay =
     (decls : Decls) (history : List Call) (path : List PathStep)
     → AreActions decls history → is_kept path ≡ true
     → get (state_of decls history).data path ≡ get (opening_data decls.names decls.data) path
-
--- two services write no unequal items at one path of a device
-abbrev pub Agree : Service → Service → Type 0
-Agree one other =
-    (device : ℕ) (path : List PathStep) (item item' : Item)
-    → get (part one device) path ≡ Some item → get (part other device) path ≡ Some item' → item ≡ item'
-
--- no two of the services write unequal items at one path of a device
-abbrev pub AllAgree : List Service → Type 0
-AllAgree live = (one other : Service) → Contains live one → Contains live other → Agree one other
-
--- Where no call of a history is refused, the services that it leaves alive agree.
-abbrev pub ServicesAgree : Type 0
-ServicesAgree =
-    (decls : Decls) (history : List Call) → IsUnrefused decls (opening decls) history
-    → AllAgree (state_of decls history).live
 
 -- at each path the item that some living service writes there, else the base's
 pub record IsOverlay (live : List Service) (device : ℕ) (base tree : Config) : Type 0 where
@@ -103,7 +77,7 @@ Deletes call id = call.actions ≡ Delete id ∷ []
 -- never been created: whatever calls that don't name it came between.
 abbrev pub DeletedWithoutTrace : Type 0
 DeletedWithoutTrace =
-    (decls : Decls) (state : State) (before between : List Call) (create delete : Call)
+    (decls : Decls) (state : Datastore) (before between : List Call) (create delete : Call)
     (id : List ℕ) (writes : List DevicePut)
     → Creates create id writes → Deletes delete id → path_of id ≡ None
     → lives (fold_from decls state before).live id ≡ false → All (NamesOther id) between
@@ -114,7 +88,7 @@ DeletedWithoutTrace =
 -- come later.
 abbrev pub UnrefusedWithoutTrace : Type 0
 UnrefusedWithoutTrace =
-    (decls : Decls) (state : State) (before between later : List Call) (create delete : Call)
+    (decls : Decls) (state : Datastore) (before between later : List Call) (create delete : Call)
     (id : List ℕ) (writes : List DevicePut)
     → Creates create id writes → Deletes delete id → path_of id ≡ None → All (NamesOther id) between
     → IsUnrefused decls state (before ++ create ∷ [] ++ between ++ delete ∷ [] ++ later)
@@ -130,7 +104,7 @@ LegalWithoutTrace =
     IsLegal decls whole → IsLegal decls without × (state_of decls whole ≡ state_of decls without)
 
 -- each service of a state lives in another one too
-abbrev pub LivesIn : State → State → Type 0
+abbrev pub LivesIn : Datastore → Datastore → Type 0
 LivesIn one other = (service : Service) → Contains one.live service → Contains other.live service
 
 -- The tree of a device doesn't depend on the order in which the services that live now were created: two histories that

@@ -1,4 +1,3 @@
 pub mod Histories
 pub mod Making
 pub mod Services
-pub mod Plans

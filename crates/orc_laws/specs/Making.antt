@@ -10,11 +10,11 @@ use Rattle.orc_call.specs.declared.call.Action.{Action}
 use Rattle.orc_call.specs.declared.call.Action.TheVariants.{Create, Modify, Redeploy, Literal, Delete}
 use Rattle.orc_template.specs.Expansions.{Expanding}
 use Rattle.orc_services.specs.Services.{Instance, expansion_at, instance_of, list_with}
-use Rattle.orc_state.specs.States.{State, expansion, has_id}
-use Rattle.orc_state.specs.Actions.{service_of}
-use Rattle.orc_state.specs.Next.{serving_on}
-use Rattle.orc_state.specs.declared.declarations.Decls.{Decls}
-use Rattle.orc_state.specs.declared.state.Service.{Service}
+use Rattle.orc_datastore.specs.States.{Datastore, expansion, has_id}
+use Rattle.orc_decls.specs.Calls.{service_of}
+use Rattle.orc_datastore.specs.Next.{serving_on}
+use Rattle.orc_decls.specs.declared.declarations.Decls.{Decls}
+use Rattle.orc_datastore.specs.declared.datastore.Service.{Service}
 
 -- the path is that of an entry of a list with a template, whatever its keys
 abbrev pub is_instance_path : Decls → List PathStep → Bool
@@ -29,7 +29,7 @@ abbrev pub NamesService : Action → List ℕ → Type 0
 NamesService action id = service_of action ≡ Some id
 
 -- the living service of a name
-abbrev pub service_named : State → List ℕ → Option Service
+abbrev pub service_named : Datastore → List ℕ → Option Service
 service_named state id = find (has_id id) state.live
 
 -- A service of a list with a template lives, and holds on each device what the expansion of the template on these data

@@ -1,61 +1,20 @@
 -- What a living service holds, where it lives, and which clash refuses a call.
-use Rattle.std.specs.Prelude.{◌≡◌, ℕ, ◌≤◌, List, ◌∷◌, ◌++◌, All, Contains, IsTrue, MatchOption, slice_get}
+use Rattle.std.specs.Prelude.{◌≡◌, ℕ, List, ◌∷◌, ◌++◌, All, Contains, IsTrue}
 use Rattle.std.specs.declared.option.Option.TheVariants.{None, Some}
-use Rattle.std.specs.declared.cmp.Ordering.TheVariants.{Less}
 use Rattle.orc_path.specs.Steps.{PathStep}
-use Rattle.orc_path.specs.Order.{path_cmp, text_cmp}
-use Rattle.orc_state.specs.States.{lives}
+use Rattle.orc_datastore.specs.States.{lives, Datastore}
 use Rattle.orc_path.specs.Reading.{path_of}
-use Rattle.orc_state.specs.Actions.{live_after, touched}
-use Rattle.orc_state.specs.Next.{after, clash, refusal}
-use Rattle.orc_state.specs.Histories.{fold_from}
-use Rattle.orc_state.specs.Declarations.{AreDecls}
-use Rattle.orc_state.specs.Calls.{is_call}
-use Rattle.orc_state.specs.Legal.{IsLegal, state_of}
+use Rattle.orc_datastore.specs.Next.{after, clash, refusal}
+use Rattle.orc_datastore.specs.Histories.{fold_from}
+use Rattle.orc_decls.specs.Declarations.{AreDecls}
+use Rattle.orc_decls.specs.Calls.{is_call}
+use Rattle.orc_datastore.specs.Legal.{IsLegal, state_of}
 use Rattle.orc_laws.specs.Making.{IsLeftBy, NamesService, is_instance_path, is_present_at, service_named}
-use Rattle.orc_state.specs.declared.declarations.Decls.{Decls}
-use Rattle.orc_call.specs.declared.answer.Answer.TheVariants.{Clash}
+use Rattle.orc_decls.specs.declared.declarations.Decls.{Decls}
 use Rattle.orc_call.specs.declared.call.Action.{Action}
 use Rattle.orc_call.specs.declared.call.Call.{Call}
-use Rattle.orc_state.specs.declared.state.Service.{Service}
-use Rattle.orc_state.specs.States.{State}
+use Rattle.orc_datastore.specs.declared.datastore.Service.{Service}
 use Rattle.orc_laws.specs.Histories.{NamesOther}
-use Rattle.orc_state.specs.Clashes.{IsClash}
-
--- There is a clash of the service at a place among these, and there is none of them on a lesser device, nor at a lesser
--- path of that device, nor of one before it there, nor of it with a lesser name there.
-pub record IsLeastClash (services live : List Service) (device : ℕ) (path : List PathStep) (id : List ℕ) : Type 0 where
-  pub place : ℕ
-  pub service : Service
-  pub there : slice_get services place ≡ Some service
-  pub rival : Service
-  pub named : rival.id ≡ id
-  pub clash : IsClash live device path service rival
-  pub least_device :
-      (device' : ℕ) (path' : List PathStep) (service' rival' : Service)
-      → Contains services service' → IsClash live device' path' service' rival' → device ≤ device'
-  pub least_path :
-      (path' : List PathStep) (service' rival' : Service)
-      → Contains services service' → IsClash live device path' service' rival' → path_cmp path' path ≡ Less → ⊥
-  pub first :
-      (place' : ℕ) (service' rival' : Service)
-      → slice_get services place' ≡ Some service' → IsClash live device path service' rival' → place ≤ place'
-  pub least_name :
-      (rival' : Service) → IsClash live device path service rival' → text_cmp rival'.id id ≡ Less → ⊥
-
--- The clash that refuses a call is the least one between the services that it names and the others that live behind it,
--- and where no clash refuses it there is none.
-abbrev pub ClashIsLeast : Type 0
-ClashIsLeast =
-    (names : List (List ℕ)) (before : List Service) (actions : List Action)
-    → let live = live_after names actions before in
-    let services = touched actions live in
-    MatchOption (clash names before actions)
-    ((device : ℕ) (path : List PathStep) (service rival : Service)
-    → Contains services service → IsClash live device path service rival → ⊥)
-    (λ answer.
-    (device : ℕ) × (path : List PathStep) × (id : List ℕ)
-    × (answer ≡ Clash device path id) × IsLeastClash services live device path id)
 
 -- The entries of a list with a template are the living services: behind a legal history, of such a list, a service
 -- lives exactly where its entry stands in the data, at the path whose text is its name.
@@ -69,7 +28,7 @@ ServiceLivesWhereItStands =
 -- make it.
 abbrev pub UnnamedServiceStays : Type 0
 UnnamedServiceStays =
-    (decls : Decls) (state : State) (calls : List Call) (id : List ℕ) → All (NamesOther id) calls
+    (decls : Decls) (state : Datastore) (calls : List Call) (id : List ℕ) → All (NamesOther id) calls
     → service_named (fold_from decls state calls) id ≡ service_named state id
 
 -- A service that a call names is what its action leaves, where the call isn't refused: it holds its expansion on the
@@ -77,7 +36,7 @@ UnnamedServiceStays =
 -- also where they change the data.
 abbrev pub ServiceHoldsItsExpansion : Type 0
 ServiceHoldsItsExpansion =
-    (decls : Decls) (state : State) (call : Call) (later : List Call) (action : Action) (id : List ℕ)
+    (decls : Decls) (state : Datastore) (call : Call) (later : List Call) (action : Action) (id : List ℕ)
     → AreDecls decls → IsTrue (is_call decls call) → refusal decls state call ≡ None
     → Contains call.actions action → NamesService action id → All (NamesOther id) later
     → IsLeftBy decls (after decls state call).data action (service_named (fold_from decls state (call ∷ later)) id)

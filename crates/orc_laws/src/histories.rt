@@ -1,11 +1,5 @@
 //! Laws over whole histories: of trees and data, and of services that came and went.
-ghost use Rattle.orc_laws.specs.Histories.{ServicesAgree, OverlayIsOne, DeletedWithoutTrace, UnrefusedWithoutTrace, LegalWithoutTrace, OrderOfCreationIsFree, UntouchedStay, DataIsConfiguration, DataIsValid, DevicesStay};
-
-/// The services that a history of calls, none of them refused, leaves alive write no unequal items
-/// at one path of a device.
-pub fn services_agree()
-    ensures { ServicesAgree }
-{}
+ghost use Rattle.orc_laws.specs.Histories.{OverlayIsOne, DeletedWithoutTrace, UnrefusedWithoutTrace, LegalWithoutTrace, OrderOfCreationIsFree, DataIsConfiguration, DataIsValid, DevicesStay};
 
 /// Under such a history each device's tree is one configuration: at each path the item that some
 /// living service writes, else the base's.
@@ -34,11 +28,6 @@ pub fn legal_without_trace()
 /// where its base is the same.
 pub fn order_of_creation_is_free()
     ensures { OrderOfCreationIsFree }
-{}
-
-/// A call changes no tree but those of the devices that it touches.
-pub fn untouched_stay()
-    ensures { UntouchedStay }
 {}
 
 /// Where the actions of a history are ones that call blocks can give, the data behind it is a

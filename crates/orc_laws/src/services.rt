@@ -1,15 +1,7 @@
 //! Laws of what living services hold, where they live, and which clash refuses a call.
-ghost use Rattle.orc_laws.specs.Services.{ClashIsLeast, ServiceLivesWhereItStands, UnnamedServiceStays, ServiceHoldsItsExpansion, LivingIsLastMade};
+ghost use Rattle.orc_laws.specs.Services.{ServiceLivesWhereItStands, UnnamedServiceStays, ServiceHoldsItsExpansion, LivingIsLastMade};
 
-use orc_state::literal_is_expansion;
-
-/// The clash for which a call is refused is the least: there a service that the call names and another
-/// one that lives behind it would write unequal items, and no two do so on a lesser device, at a
-/// lesser path of that device, by a service that the call names earlier, or with another one of a
-/// lesser name there. Where no clash refuses the call there is none.
-pub fn clash_is_least()
-    ensures { ClashIsLeast }
-{}
+use orc_datastore::literal_is_expansion;
 
 /// The entries of a list with a template are the living services: behind a legal history such a
 /// service lives exactly where its entry stands in the data.

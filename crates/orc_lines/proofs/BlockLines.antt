@@ -1,8 +1,7 @@
 -- A block is taken line by line.
-use Rattle.std.proofs.Common.{◌≡◌, ℕ, zero, suc, ◌<◌, ◌≤◌, ◌+◌, ◌-◌, length, arith, List, [], ◌∷◌, ◌++◌, Option, Some, None, refl, ap, sym, ◌∙◌, append_assoc}
+use Rattle.std.proofs.Common.{◌≡◌, ℕ, ◌<◌, ◌-◌, List, [], ◌∷◌, ◌++◌, Option, Some, None, refl, ap, sym, ◌∙◌, append_assoc}
 use Rattle.std.specs.Option.{option_map}
 use Rattle.orc_lines.specs.Lines.{lines_of, block_of, as_line, text_of}
-use Rattle.orc_lines.specs.Costs.{bytes_of_first}
 use Rattle.orc_lines.proofs.LinesOf.{block_step}
 
 -- what stands in front of a block is added twice
@@ -28,13 +27,3 @@ taken bytes count rest line behind text before longer after left so_far some lin
     ∙ ap (option_map (λ (block : List ℕ). before ++ block)) (block_step left line (lines_of behind) some)
     ∙ added before (text_of line) (block_of (left - 1) (lines_of behind))
     ∙ ap (λ (f : List ℕ). option_map (λ (block : List ℕ). f ++ block) (block_of (left - 1) (lines_of behind))) front
-
--- its bytes too
-first_step : (n : ℕ) (line : List ℕ) (later : List (List ℕ)) → 0 < n → bytes_of_first n (line ∷ later) ≡ length line + bytes_of_first (n - 1) later
-first_step zero line later some = absurd (omega arith)
-first_step (suc n) line later some = let less : suc n - 1 ≡ n = omega arith in rw less refl
-
-pub first_taken : (left : ℕ) (line : List ℕ) (later : List (List ℕ)) (steps now : ℕ) (lines : List (List ℕ)) (most : ℕ)
-    → 0 < left → lines ≡ line ∷ later → now ≡ steps + length line → steps + bytes_of_first left lines ≤ most → now + bytes_of_first (left - 1) later ≤ most
-first_taken left line later steps now lines most some is counted so_far =
-    let step = ap (bytes_of_first left) is ∙ first_step left line later some in omega arith

@@ -13,7 +13,7 @@ use Rattle.orc_schema.specs.declared.line.Node.{Node}
 use Rattle.orc_schema.specs.declared.line.Node.TheVariants as node
 use Rattle.orc_typed.specs.Typed.{canonical_item, canonical_path, carries, is_carried, is_in_schema, is_typed, stand}
 use Rattle.orc_typed.specs.Laws.{AreCanonicalOf, CanonicalIsTyped, CanonicalKeeps, KeepsPlace, has_plain_text}
-use Rattle.orc_state.specs.Calls.{is_item_at, is_lawful_item, is_put}
+use Rattle.orc_decls.specs.Calls.{is_item_at, is_lawful_item, is_put}
 use Rattle.orc_lines.specs.Items.{can_carry, is_long_item}
 
 so_not : (b : Bool) → b ≡ false → not b ≡ true

@@ -7,8 +7,8 @@ use Rattle.orc_schema.specs.Schemas.{SchemaTable, path_names}
 use Rattle.orc_typed.specs.Typed.{canonical_keys, canonical_path, canonical_steps, kinds_at}
 use Rattle.orc_call.specs.declared.call.Put.{Put}
 use Rattle.orc_services.specs.declared.list.ServiceList.{ServiceList}
-use Rattle.orc_state.specs.States.{is_same_text}
-use Rattle.orc_state.specs.Calls.{is_kept, is_served, meets}
+use Rattle.orc_decls.specs.Devices.{is_same_text}
+use Rattle.orc_decls.specs.Calls.{is_kept, is_served, meets}
 use Rattle.orc_lines.specs.Items.{is_barred}
 use Rattle.orc_lines.specs.declared.fault.LineFault.{LineFault}
 

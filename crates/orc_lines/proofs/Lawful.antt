@@ -1,12 +1,9 @@
 -- One more stays lawful.
-use Rattle.std.proofs.Common.{◌≡◌, ℕ, List, [], ◌∷◌, ◌++◌, Bool, true, false, ◌&&◌, slice_get, refl, Result, Ok, Err}
+use Rattle.std.proofs.Common.{◌≡◌, List, [], ◌∷◌, ◌++◌, Bool, true, false, ◌&&◌, refl, Result, Ok, Err}
 use Rattle.std.specs.List.{list_all}
-use Rattle.std.specs.Option.{option_map_or}
 use Rattle.std.specs.Result.{OnOk}
 use Rattle.std.specs.Cmp.{first_so, second_so}
-use Rattle.orc_schema.specs.Schemas.{SchemaTable, plain_table}
-use Rattle.orc_state.specs.Calls.{schema_in}
-use Rattle.orc_state.specs.declared.declarations.Device.{Device}
+pub use Rattle.orc_decls.proofs.SchemaPlaces.{schema_at}
 
 pub both : (a b : Bool) → a ≡ true → b ≡ true → (a && b) ≡ true
 both true b p q = q
@@ -17,14 +14,6 @@ all_more f [] x h e = both (f x) true e refl
 all_more f (y ∷ ys) x h e =
     both (f y) (list_all f (ys ++ x ∷ [])) (first_so (f y) (list_all f ys) h) (all_more f ys x (second_so (f y) (list_all f ys) h) e)
 
--- the schema of the device of a place
-abbrev pub schema_at : List SchemaTable → List Device → ℕ → SchemaTable
-schema_at schemas ds n = option_map_or (λ (d : Device). schema_in schemas d.schema) (slice_get ds n) plain_table
-
 pub on_ok_more : {T E : Type 0} (r : Result T E) (P Q : Type 0) → (P → Q) → OnOk r P → OnOk r Q
 on_ok_more (Ok x) P Q f h = f h
 on_ok_more (Err e) P Q f h = h
-
-pub both_ok : {T E : Type 0} (r : Result T E) (P Q S : Type 0) → (P → Q → S) → OnOk r P → OnOk r Q → OnOk r S
-both_ok (Ok x) P Q S f h k = f h k
-both_ok (Err e) P Q S f h k = h

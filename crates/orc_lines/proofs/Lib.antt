@@ -1,6 +1,5 @@
 mod BlockLines
 pub mod CanonicalItems
-pub mod Costs
 pub mod Cuts
 pub mod DataPaths
 mod KeptPaths
@@ -15,4 +14,3 @@ pub mod Rules
 pub mod SchemaPlaces
 mod Utf8
 mod WordCuts
-pub mod Work

@@ -9,7 +9,7 @@ use Rattle.std.specs.Cmp.Lexicographic.{slice_cmp, bytes_decides, nat_list_eq_eq
 use Rattle.std.proofs.lemmas.Bool.{false≢true}
 use Rattle.std.proofs.lemmas.Map.Text.{is_eq-slice_cmp}
 use Rattle.std.proofs.lemmas.Map.Keys.{IsDistinct-push}
-use Rattle.orc_state.specs.States.{is_same_text}
+use Rattle.orc_decls.specs.Devices.{is_same_text}
 use Rattle.orc_lines.specs.Names.{is_among, place_of}
 use Rattle.orc_lines.specs.inside.Numbered.{HasPlaces}
 use Rattle.orc_lines.proofs.SchemaPlaces.{one_more, within_more, some_first}

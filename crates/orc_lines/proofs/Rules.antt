@@ -1,6 +1,6 @@
 -- What is known where no rule is broken.
 use Rattle.std.proofs.Common.{◌≡◌, ℕ, Bool, true, false, not, cond, Result, Ok, Err, Option, Some, None, refl, sym}
-use Rattle.orc_state.specs.declared.rule.Rule.{Rule}
+use Rattle.orc_decls.specs.declared.rule.Rule.{Rule}
 use Rattle.orc_lines.specs.Rules.{or_rule, on_ok, on_line}
 
 -- answers of a known type

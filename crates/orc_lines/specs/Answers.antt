@@ -1,10 +1,10 @@
 -- What readers answer.
 use Rattle.std.specs.Prelude.{◌≡◌, ℕ, Result}
 use Rattle.std.specs.declared.result.Result.TheVariants.{Ok, Err}
-use Rattle.orc_state.specs.declared.rule.Rule.{Rule}
-use Rattle.orc_state.specs.declared.fault.BundleFault.{BundleFault}
-use Rattle.orc_state.specs.declared.fault.BundleFault.TheVariants.{At, Memory}
-use Rattle.orc_state.specs.declared.fault.BundleFault.TheVariants as bundle
+use Rattle.orc_decls.specs.declared.rule.Rule.{Rule}
+use Rattle.orc_decls.specs.declared.fault.BundleFault.{BundleFault}
+use Rattle.orc_decls.specs.declared.fault.BundleFault.TheVariants.{At, Memory}
+use Rattle.orc_decls.specs.declared.fault.BundleFault.TheVariants as bundle
 use Rattle.orc_lines.specs.declared.fault.LineFault.{LineFault}
 use Rattle.orc_lines.specs.declared.fault.LineFault.TheVariants.{Breaks, Memory}
 

@@ -15,9 +15,9 @@ use Rattle.orc_typed.specs.Typed.{canonical_item, canonical_path, is_in_schema, 
 use Rattle.orc_call.specs.declared.call.Put.{Put}
 use Rattle.orc_services.specs.Services.{list_with}
 use Rattle.orc_services.specs.declared.list.ServiceList.{ServiceList}
-use Rattle.orc_state.specs.Calls.{blank_item, has_entries, is_data_path, is_kept, is_list_path, is_served}
-use Rattle.orc_state.specs.declared.rule.Rule.{Rule}
-use Rattle.orc_state.specs.declared.rule.Rule.TheVariants as rule
+use Rattle.orc_decls.specs.Calls.{blank_item, has_entries, is_data_path, is_kept, is_list_path, is_served}
+use Rattle.orc_decls.specs.declared.rule.Rule.{Rule}
+use Rattle.orc_decls.specs.declared.rule.Rule.TheVariants as rule
 use Rattle.orc_lines.specs.Rules.{checked, of_option, or_rule, on_ok}
 use Rattle.orc_lines.specs.Words.{cut_at, is_text}
 

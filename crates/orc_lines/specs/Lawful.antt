@@ -1,6 +1,6 @@
 -- What was declared so far, and that it is lawful.
 use Rattle.std.specs.Prelude.{ℕ, List, ◌≡◌, ◌≤◌, suc, not, [], length, map, slice_get, IsTrue}
-use Rattle.orc_state.specs.declared.declarations.Decls.{Decls}
+use Rattle.orc_decls.specs.declared.declarations.Decls.{Decls}
 use Rattle.orc_lines.specs.declared.declared.Declared.{Declared}
 use Rattle.std.specs.declared.option.Option.TheVariants.{Some}
 use Rattle.std.specs.List.{list_all, All, IsDistinct}
@@ -8,10 +8,10 @@ use Rattle.std.specs.Ordering.{eq_by_cmp}
 use Rattle.orc_path.specs.Order.{path_cmp}
 use Rattle.orc_schema.specs.Schemas.{plain_table}
 use Rattle.orc_schema.specs.Sound.{IsSound}
-use Rattle.orc_state.specs.States.{names_of}
-use Rattle.orc_state.specs.Calls.{is_data_item, is_device, is_served}
-use Rattle.orc_state.specs.Declarations.{is_list_of_services}
-use Rattle.orc_state.specs.declared.declarations.TheConstants.{MOST_DEVICES}
+use Rattle.orc_decls.specs.Devices.{names_of}
+use Rattle.orc_decls.specs.Calls.{is_data_item, is_device, is_served}
+use Rattle.orc_decls.specs.Declarations.{is_list_of_services}
+use Rattle.orc_decls.specs.declared.declarations.TheConstants.{MOST_DEVICES}
 
 -- what was declared, with its text
 abbrev pub decls_with : List ℕ → Declared → Decls

@@ -6,6 +6,4 @@ pub mod Names
 pub mod Items
 pub mod Lawful
 pub mod Answers
-pub mod Costs
-pub mod Work
 pub mod inside

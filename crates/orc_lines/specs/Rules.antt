@@ -2,7 +2,7 @@
 use Rattle.std.specs.Prelude.{Bool, List, [], ◌∷◌, Option, Result, if◌then◌else◌, ℕ}
 use Rattle.std.specs.declared.option.Option.TheVariants.{None, Some}
 use Rattle.std.specs.declared.result.Result.TheVariants.{Ok, Err}
-use Rattle.orc_state.specs.declared.rule.Rule.{Rule}
+use Rattle.orc_decls.specs.declared.rule.Rule.{Rule}
 
 -- the first rule of a list that is broken, else the answer
 abbrev pub checked : {X : Type 0} → List (Bool × Rule) → Result X Rule → Result X Rule

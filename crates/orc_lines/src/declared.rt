@@ -1,15 +1,14 @@
 //! What was declared so far, against which the lines of declarations and of the script are read.
-ghost use Rattle.std.specs.Prelude.{◌≡◌, slice_get};
-ghost use Rattle.std.specs.Option.{option_copied};
+ghost use Rattle.std.specs.Prelude.{◌≡◌};
 ghost use Rattle.orc_schema.specs.Schemas.{plain_table};
-ghost use Rattle.orc_state.specs.Calls.{schema_in, schema_named};
-ghost use Rattle.orc_state.specs.States.{names_of};
+ghost use Rattle.orc_decls.specs.Calls.{schema_named};
+ghost use Rattle.orc_decls.specs.Devices.{names_of};
 
-use crate::names::Names;
+use crate::names::SortedNames;
 use orc_call::Put;
+use orc_decls::{Device, Names, schema_named};
 use orc_schema::Schema;
 use orc_services::ServiceList;
-use orc_state::Device;
 use orc_text::{Row, Text};
 use orc_yang::Stmt;
 
@@ -31,12 +30,12 @@ pub struct Declared {
     /// How many lines of a block are still to come.
     pub skip: u64,
     /// The names of the modules, and their statements.
-    pub modules: Names,
+    pub modules: SortedNames,
     pub statements: Row<Stmt>,
     /// The data schema is declared.
     pub has_data: bool,
     /// The types of devices.
-    pub types: Names,
+    pub types: SortedNames,
     /// The plain schema, and behind it that of each type.
     pub schemas: Row<Schema>,
     /// The names of the devices.
@@ -47,7 +46,7 @@ pub struct Declared {
     pub data_schema: Schema,
     pub data: Row<Put>,
     /// The names of the templates, and the lists that have them.
-    pub templates: Names,
+    pub templates: SortedNames,
     pub services: Row<ServiceList>,
 }
 
@@ -58,30 +57,12 @@ impl Declared {
         requires plain { plain.now ≡ plain_table }
         ensures { result.now ≡ schema_named self.now.schemas self.now.devices name.now }
     {
-        let Some(n) = self.names.place(name) else {
-            return plain;
-        };
-        match self.device_at(n) {
-            Some(device) => self.schema_at(device.schema, plain),
-            None => plain,
-        }
-    }
-
-    // The device of a number.
-    fn device_at(&self, n: usize) -> Option<&Device>
-        ensures { option_copied result ≡ slice_get self.now.devices n }
-    {
-        self.devices.as_slice().get(n)
-    }
-
-    // The schema of a place.
-    fn schema_at<'a>(&'a self, place: u32, plain: &'a Schema) -> &'a Schema
-        requires { plain.now ≡ plain_table }
-        ensures { result.now ≡ schema_in self.now.schemas place }
-    {
-        match self.schemas.as_slice().get(place as usize) {
-            Some(schema) => schema,
-            None => plain,
-        }
+        schema_named(
+            &self.names,
+            self.schemas.as_slice(),
+            self.devices.as_slice(),
+            name,
+            plain,
+        )
     }
 }

@@ -2,7 +2,7 @@
 ghost use Rattle.std.specs.Prelude.{◌≡◌, Err};
 ghost use Rattle.orc_lines.specs.Answers.{at_line};
 
-use orc_state::{BundleFault, Rule};
+use orc_decls::{BundleFault, Rule};
 use orc_text::Memory;
 
 /// Why a line was not taken.

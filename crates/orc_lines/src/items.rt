@@ -1,46 +1,34 @@
 //! Items and where they stand.
-ghost use Rattle.std.specs.Prelude.{IsTrue, ◌≡◌, ◌≤◌, ◌<◌, ◌+◌, ◌*◌, [], IfOk, IfSome, MatchOption, None, Some, false, length, option_map};
+ghost use Rattle.std.specs.Prelude.{IsTrue, ◌≡◌, [], IfOk, IfSome, MatchOption, None, Some, false, option_map};
 ghost use Rattle.orc_path.specs.Alphabet.{is_value};
 ghost use Rattle.orc_path.specs.Reading.{path_of};
-ghost use Rattle.orc_path.specs.Texts.{path_text};
 ghost use Rattle.orc_path.specs.Values.{value_of};
-ghost use Rattle.orc_state.specs.Calls.{is_data_path, is_forbid_rule, is_item_under, is_list_path, is_put, is_served};
+ghost use Rattle.orc_decls.specs.Calls.{is_data_path, is_forbid_rule, is_item_under, is_list_path, is_put, is_served};
 ghost use Rattle.orc_lines.specs.Answers.{ReadsLine};
 ghost use Rattle.orc_lines.specs.Items.{is_past_path, is_past_value, is_long_item, is_barred, can_carry, canonical_put, after_mark, data_path_of, entry_of, forbidden_of, kept_path_of, leaf_in, leaf_of, list_path_of, put_of, stored_data_path, stored_list_path, names_service, is_service_at, service_path_of, stored_service_path};
 ghost use Rattle.orc_schema.specs.Schemas.{SchemaTable, path_names};
 ghost use Rattle.orc_typed.specs.Typed.{canonical_path};
 ghost use Rattle.orc_typed.specs.Laws.{has_plain_text};
-ghost use Rattle.orc_typed.specs.Sizes.{item_size};
-ghost use Rattle.orc_lines.specs.Work.{path_bytes, work_on};
 
 use crate::fault::{LineFault, breaks};
 use crate::lists::{is_data_path, is_list_path, names_list};
 use crate::words::cut;
 use orc_call::Put;
-use orc_io::Steps;
-use orc_path::{Item, Path, PathFault, is_long_value, read_value_counted, values_are_read};
+use orc_decls::{Rule, blank_item, is_kept, is_served};
+use orc_path::{Item, Path, PathFault, is_long_value, read_value, values_are_read};
 use orc_schema::Schema;
 use orc_services::{ServiceList, is_listed};
-use orc_state::{Rule, blank_item, is_kept, is_served};
 use orc_text::{Memory, Text};
 use orc_typed::{
-    canonical_is_typed, canonical_item_counted, canonical_keeps, canonical_path_counted,
-    is_in_schema_counted,
+    canonical_is_typed, canonical_item, canonical_keeps, canonical_path, is_in_schema,
 };
 use std::alloc::Global;
-use std::sync::ledger::Ledger;
 
 /// The path of a text, where it is one.
-pub fn read_path<L: Ledger>(
-    alloc: Global,
-    word: &str,
-    work: &mut Steps<L>,
-) -> Result<Option<Path>, Memory>
-    ensures value { IfOk result (λ found. found ≡ path_of word.now) }
-    ensures text { IfOk result (λ found. path_bytes found ≤ length word.now) }
-    ensures worked { work.new ≤ work.old + 2 * length word.now }
+pub fn read_path(alloc: Global, word: &str) -> Result<Option<Path>, Memory>
+    ensures { IfOk result (λ found. found ≡ path_of word.now) }
 {
-    match Path::parse_counted(alloc, word, work) {
+    match Path::parse(alloc, word) {
         Ok(path) => Ok(Some(path)),
         Err(PathFault::BadPath { .. }) => Ok(None),
         Err(PathFault::Memory) => Err(Memory),
@@ -48,45 +36,31 @@ pub fn read_path<L: Ledger>(
 }
 
 // The value of a text, where it is one.
-fn value_in<L: Ledger>(
-    alloc: Global,
-    text: &str,
-    work: &mut Steps<L>,
-) -> Result<Option<Text>, Memory>
+fn value_in(alloc: Global, text: &str) -> Result<Option<Text>, Memory>
     ensures value { IfOk result (λ found. found ≡ value_of text.now) }
     ensures lawful { IfOk result (λ found. IfSome found (λ value. IsTrue (is_value value))) }
-    ensures size { IfOk result (λ found. IfSome found (λ value. length value ≤ length text.now)) }
-    ensures worked { work.new ≤ work.old + 2 * length text.now }
 {
     values_are_read();
-    read_value_counted(alloc, text, work)
+    read_value(alloc, text)
 }
 
 /// Whether a path passes a limit.
-pub fn is_past_path<L: Ledger>(path: &Option<Path>, work: &mut Steps<L>) -> bool
-    ensures long { result ≡ is_past_path path.now }
-    ensures worked { work.new ≤ work.old + 2 * path_bytes path.now }
+pub fn is_past_path(path: &Option<Path>) -> bool
+    ensures { result ≡ is_past_path path.now }
 {
     match path {
-        Some(path) => path.is_long_counted(work),
+        Some(path) => path.is_long(),
         None => false,
     }
 }
 
 /// The path that a word is, which keeps the limits. What stands in front of it may pass one. A limit
 /// that is passed is rule `size`, and a word that is no path rule `path`.
-pub fn read_kept_path<L: Ledger>(
-    alloc: Global,
-    is_long: bool,
-    word: &str,
-    work: &mut Steps<L>,
-) -> Result<Path, LineFault>
-    ensures reads { ReadsLine (kept_path_of is_long word.now) result }
-    ensures text { IfOk result (λ path. length (path_text path) ≤ length word.now) }
-    ensures worked { work.new ≤ work.old + 4 * length word.now }
+pub fn read_kept_path(alloc: Global, is_long: bool, word: &str) -> Result<Path, LineFault>
+    ensures { ReadsLine (kept_path_of is_long word.now) result }
 {
-    let path = read_path(alloc, word, work)?;
-    if is_long || is_past_path(&path, work) {
+    let path = read_path(alloc, word)?;
+    if is_long || is_past_path(&path) {
         return breaks(Rule::Size);
     }
     match path {
@@ -107,8 +81,7 @@ fn is_past_value(value: &Option<Text>) -> bool
 
 // What stands behind `=` and a space.
 fn after_mark(rest: &str) -> Option<&str>
-    ensures value { MatchOption result (after_mark rest.now ≡ None) (λ value. after_mark rest.now ≡ Some value.now) }
-    ensures shorter { IfSome result (λ value. length value.now < length rest.now) }
+    ensures { MatchOption result (after_mark rest.now ≡ None) (λ value. after_mark rest.now ≡ Some value.now) }
 {
     match cut(rest) {
         Some(("=", value)) => Some(value),
@@ -127,36 +100,28 @@ pub fn is_long_item(item: &Item) -> bool
 }
 
 /// Whether the path can carry such an item under the schema, whatever their texts.
-pub fn can_carry<L: Ledger>(schema: &Schema, path: &Path, item: &Item, work: &mut Steps<L>) -> bool
-    ensures value { result ≡ can_carry schema.now path.now item.now }
-    ensures worked { work.new ≤ work.old + 2 * length (path_text path.now) }
+pub fn can_carry(schema: &Schema, path: &Path, item: &Item) -> bool
+    ensures { result ≡ can_carry schema.now path.now item.now }
 {
-    item.fits(path) && is_in_schema_counted(schema, path, item, work)
+    item.fits(path) && is_in_schema(schema, path, item)
 }
 
 // An item and where it stands, in canonical form.
-fn canonical_put<L: Ledger>(
-    alloc: Global,
-    schema: &Schema,
-    path: &Path,
-    item: &Item,
-    work: &mut Steps<L>,
-) -> Result<Put, LineFault>
+fn canonical_put(alloc: Global, schema: &Schema, path: &Path, item: &Item) -> Result<Put, LineFault>
     ensures reads { ReadsLine (canonical_put schema.now path.now item.now) result }
     ensures lawful { IsTrue (can_carry schema.now path.now item.now) → IsTrue (has_plain_text item.now)
         → IfOk result (λ put. IsTrue (is_put schema.now put)) }
     ensures names { IfOk result (λ put. path_names put.path ≡ path_names path.now) }
-    ensures worked { work.new ≤ work.old + 35 * length (path_text path.now) + 3 * item_size item.now + 2 }
 {
     canonical_is_typed();
     canonical_keeps();
-    let Some(own) = canonical_path_counted(alloc, schema, path, work)? else {
+    let Some(own) = canonical_path(alloc, schema, path)? else {
         return breaks(Rule::Value);
     };
-    let Some(own_item) = canonical_item_counted(alloc, schema, path, item, work)? else {
+    let Some(own_item) = canonical_item(alloc, schema, path, item)? else {
         return breaks(Rule::Value);
     };
-    if own.is_long_counted(work) || is_long_item(&own_item) {
+    if own.is_long() || is_long_item(&own_item) {
         return breaks(Rule::Size);
     }
     Ok(Put {
@@ -176,182 +141,151 @@ fn is_barred(lists: Option<&[ServiceList]>, path: &Path) -> bool
 }
 
 // An entry, of the data or of a device.
-fn read_entry<L: Ledger>(
+fn read_entry(
     alloc: Global,
     lists: Option<&[ServiceList]>,
     schema: &Schema,
     is_long: bool,
     word: &str,
-    work: &mut Steps<L>,
 ) -> Result<Put, LineFault>
     ensures reads { ReadsLine
         (entry_of (option_map (λ lists. lists.now) lists.entry) schema.now is_long word.now) result }
     ensures lawful { IfOk result (λ put. IsTrue (is_put schema.now put)) }
     ensures free { IfOk result (λ put. is_barred (option_map (λ lists. lists.now) lists.entry) put.path ≡ false) }
-    ensures worked { work.new ≤ work.old + 43 * length word.now }
 {
     if word.is_empty() {
         return breaks(Rule::Line);
     }
-    let path = read_kept_path(alloc, is_long, word, work)?;
-    if is_barred(lists, &path) || !can_carry(schema, &path, &Item::Entry, work) {
+    let path = read_kept_path(alloc, is_long, word)?;
+    if is_barred(lists, &path) || !can_carry(schema, &path, &Item::Entry) {
         return breaks(Rule::Path);
     }
-    canonical_put(alloc, schema, &path, &Item::Entry, work)
+    canonical_put(alloc, schema, &path, &Item::Entry)
 }
 
 // A leaf and the text of its value.
-fn read_leaf<L: Ledger>(
+fn read_leaf(
     alloc: Global,
     lists: Option<&[ServiceList]>,
     schema: &Schema,
     is_long: bool,
     word: &str,
     text: &str,
-    work: &mut Steps<L>,
 ) -> Result<Put, LineFault>
     ensures reads { ReadsLine
         (leaf_of (option_map (λ lists. lists.now) lists.entry) schema.now is_long word.now text.now) result }
     ensures lawful { IfOk result (λ put. IsTrue (is_put schema.now put)) }
     ensures free { IfOk result (λ put. is_barred (option_map (λ lists. lists.now) lists.entry) put.path ≡ false) }
-    ensures worked { work.new ≤ work.old + 43 * length word.now + 5 * length text.now }
 {
     if word.is_empty() {
         return breaks(Rule::Line);
     }
-    let path = read_path(alloc, word, work)?;
-    let value = value_in(alloc, text, work)?;
-    if is_long || is_past_path(&path, work) || is_past_value(&value) {
+    let path = read_path(alloc, word)?;
+    let value = value_in(alloc, text)?;
+    if is_long || is_past_path(&path) || is_past_value(&value) {
         return breaks(Rule::Size);
     }
     let Some(path) = path else {
         return breaks(Rule::Path);
     };
-    if is_barred(lists, &path) || !can_carry(schema, &path, &Item::Leaf(Text::new(alloc)), work) {
+    if is_barred(lists, &path) || !can_carry(schema, &path, &Item::Leaf(Text::new(alloc))) {
         return breaks(Rule::Path);
     }
     let Some(value) = value else {
         return breaks(Rule::Value);
     };
-    canonical_put(alloc, schema, &path, &Item::Leaf(value), work)
+    canonical_put(alloc, schema, &path, &Item::Leaf(value))
 }
 
 /// An item line: a path, and behind it ` = ` and a value or nothing. It is stored in canonical form,
 /// as the schema has it. A name in front of it may be too long. Of the data, which has these lists of
 /// services, a line may name neither what the orchestrator keeps itself nor a service.
-pub fn read_put<L: Ledger>(
+pub fn read_put(
     alloc: Global,
     lists: Option<&[ServiceList]>,
     schema: &Schema,
     is_long: bool,
     text: &str,
-    work: &mut Steps<L>,
 ) -> Result<Put, LineFault>
     ensures reads { ReadsLine
         (put_of (option_map (λ lists. lists.now) lists.entry) schema.now is_long text.now) result }
     ensures lawful { IfOk result (λ put. IsTrue (is_put schema.now put)) }
     ensures free { IfOk result (λ put. is_barred (option_map (λ lists. lists.now) lists.entry) put.path ≡ false) }
-    ensures worked { work.new + 2 * length text.now ≤ work.old + work_on text.now }
 {
     let Some((word, rest)) = cut(text) else {
-        return read_entry(alloc, lists, schema, is_long, text, work);
+        return read_entry(alloc, lists, schema, is_long, text);
     };
     match after_mark(rest) {
-        Some(value) => read_leaf(alloc, lists, schema, is_long, word, value, work),
+        Some(value) => read_leaf(alloc, lists, schema, is_long, word, value),
         None => breaks(Rule::Line),
     }
 }
 
 // A path of the data, in canonical form.
-fn stored_data_path<L: Ledger>(
-    alloc: Global,
-    schema: &Schema,
-    path: &Path,
-    work: &mut Steps<L>,
-) -> Result<Path, LineFault>
+fn stored_data_path(alloc: Global, schema: &Schema, path: &Path) -> Result<Path, LineFault>
     ensures reads { ReadsLine (stored_data_path schema.now (canonical_path schema.now path.now)) result }
     ensures lawful { IfOk result (λ own. IsTrue (is_data_path schema.now own)) }
     ensures names { IfOk result (λ own. path_names own ≡ path_names path.now) }
-    ensures worked { work.new ≤ work.old + 131 * length (path_text path.now) }
 {
-    let Some(own) = canonical_path_counted(alloc, schema, path, work)? else {
+    let Some(own) = canonical_path(alloc, schema, path)? else {
         return breaks(Rule::Value);
     };
-    if !is_data_path(alloc, schema, &own, work) {
+    if !is_data_path(alloc, schema, &own) {
         return breaks(Rule::Size);
     }
     Ok(own)
 }
 
 /// The path of a line `unset`: one of the data that can carry an item. It is stored in canonical form.
-pub fn read_data_path<L: Ledger>(
+pub fn read_data_path(
     alloc: Global,
     lists: &[ServiceList],
     schema: &Schema,
     word: &str,
-    work: &mut Steps<L>,
 ) -> Result<Path, LineFault>
     ensures reads { ReadsLine (data_path_of lists.now schema.now word.now) result }
     ensures lawful { IfOk result (λ path. IsTrue (is_data_path schema.now path)) }
     ensures free { IfOk result (λ path. is_served lists.now path ≡ false) }
-    ensures worked { work.new + 2 * length word.now ≤ work.old + work_on word.now }
 {
     if word.is_empty() {
         return breaks(Rule::Line);
     }
-    let path = read_kept_path(alloc, false, word, work)?;
-    if is_barred(Some(lists), &path) || !can_carry(schema, &path, &blank_item(alloc, &path), work) {
+    let path = read_kept_path(alloc, false, word)?;
+    if is_barred(Some(lists), &path) || !can_carry(schema, &path, &blank_item(alloc, &path)) {
         return breaks(Rule::Path);
     }
-    stored_data_path(alloc, schema, &path, work)
+    stored_data_path(alloc, schema, &path)
 }
 
 // Whether the path is that of an entry of one of the lists, whatever its texts.
-fn names_service<L: Ledger>(
-    alloc: Global,
-    lists: &[ServiceList],
-    schema: &Schema,
-    path: &Path,
-    work: &mut Steps<L>,
-) -> bool
-    ensures value { result ≡ names_service lists.now schema.now path.now }
-    ensures worked { work.new ≤ work.old + 2 * length (path_text path.now) }
+fn names_service(alloc: Global, lists: &[ServiceList], schema: &Schema, path: &Path) -> bool
+    ensures { result ≡ names_service lists.now schema.now path.now }
 {
-    is_listed(lists, path)
-        && (!is_kept(path) && can_carry(schema, path, &blank_item(alloc, path), work))
+    is_listed(lists, path) && (!is_kept(path) && can_carry(schema, path, &blank_item(alloc, path)))
 }
 
 // Whether it is one that can be stored: it keeps the limits, and its keys are in canonical form.
-fn is_service_at<L: Ledger>(
-    alloc: Global,
-    lists: &[ServiceList],
-    schema: &Schema,
-    path: &Path,
-    work: &mut Steps<L>,
-) -> bool
-    ensures value { result ≡ is_service_at lists.now schema.now path.now }
-    ensures worked { work.new ≤ work.old + 8 * length (path_text path.now) }
+fn is_service_at(alloc: Global, lists: &[ServiceList], schema: &Schema, path: &Path) -> bool
+    ensures { result ≡ is_service_at lists.now schema.now path.now }
 {
-    is_data_path(alloc, schema, path, work) && is_listed(lists, path)
+    is_data_path(alloc, schema, path) && is_listed(lists, path)
 }
 
 // The path of a service, in canonical form.
-fn stored_service_path<L: Ledger>(
+fn stored_service_path(
     alloc: Global,
     lists: &[ServiceList],
     schema: &Schema,
     path: &Path,
-    work: &mut Steps<L>,
 ) -> Result<Path, LineFault>
     ensures reads { ReadsLine
         (stored_service_path lists.now schema.now (canonical_path schema.now path.now)) result }
     ensures lawful { IfOk result (λ own. IsTrue (is_service_at lists.now schema.now own)) }
-    ensures worked { work.new ≤ work.old + 131 * length (path_text path.now) }
 {
-    let Some(own) = canonical_path_counted(alloc, schema, path, work)? else {
+    let Some(own) = canonical_path(alloc, schema, path)? else {
         return breaks(Rule::Value);
     };
-    if !is_service_at(alloc, lists, schema, &own, work) {
+    if !is_service_at(alloc, lists, schema, &own) {
         return breaks(Rule::Size);
     }
     Ok(own)
@@ -359,42 +293,34 @@ fn stored_service_path<L: Ledger>(
 
 /// The path of a service: that of an entry of one of these lists, which the schema has. It is stored in
 /// canonical form.
-pub fn read_service_path<L: Ledger>(
+pub fn read_service_path(
     alloc: Global,
     lists: &[ServiceList],
     schema: &Schema,
     word: &str,
-    work: &mut Steps<L>,
 ) -> Result<Path, LineFault>
     ensures reads { ReadsLine (service_path_of lists.now schema.now word.now) result }
     ensures lawful { IfOk result (λ path. IsTrue (is_service_at lists.now schema.now path)) }
-    ensures worked { work.new + 2 * length word.now ≤ work.old + work_on word.now }
 {
     if word.is_empty() {
         return breaks(Rule::Line);
     }
-    let path = read_kept_path(alloc, false, word, work)?;
-    if !names_service(alloc, lists, schema, &path, work) {
+    let path = read_kept_path(alloc, false, word)?;
+    if !names_service(alloc, lists, schema, &path) {
         return breaks(Rule::Path);
     }
-    stored_service_path(alloc, lists, schema, &path, work)
+    stored_service_path(alloc, lists, schema, &path)
 }
 
 // The path of a list, in canonical form.
-fn stored_list_path<L: Ledger>(
-    alloc: Global,
-    schema: &Schema,
-    path: &Path,
-    work: &mut Steps<L>,
-) -> Result<Path, LineFault>
+fn stored_list_path(alloc: Global, schema: &Schema, path: &Path) -> Result<Path, LineFault>
     ensures reads { ReadsLine (stored_list_path schema.now (canonical_path schema.now path.now)) result }
     ensures lawful { IfOk result (λ own. IsTrue (is_list_path schema.now own)) }
-    ensures worked { work.new ≤ work.old + 131 * length (path_text path.now) }
 {
-    let Some(own) = canonical_path_counted(alloc, schema, path, work)? else {
+    let Some(own) = canonical_path(alloc, schema, path)? else {
         return breaks(Rule::Value);
     };
-    if !is_list_path(schema, &own, work) {
+    if !is_list_path(schema, &own) {
         return breaks(Rule::Size);
     }
     Ok(own)
@@ -402,25 +328,23 @@ fn stored_list_path<L: Ledger>(
 
 /// The path of a list or a leaf-list, in a line `rule D max`. It is stored in canonical form. A name
 /// in front of it may be too long.
-pub fn read_list_path<L: Ledger>(
+pub fn read_list_path(
     alloc: Global,
     schema: &Schema,
     is_long: bool,
     word: &str,
-    work: &mut Steps<L>,
 ) -> Result<Path, LineFault>
     ensures reads { ReadsLine (list_path_of schema.now is_long word.now) result }
     ensures lawful { IfOk result (λ path. IsTrue (is_list_path schema.now path)) }
-    ensures worked { work.new + 2 * length word.now ≤ work.old + work_on word.now }
 {
     if word.is_empty() {
         return breaks(Rule::Line);
     }
-    let path = read_kept_path(alloc, is_long, word, work)?;
-    if !names_list(schema, &path, work) {
+    let path = read_kept_path(alloc, is_long, word)?;
+    if !names_list(schema, &path) {
         return breaks(Rule::Path);
     }
-    stored_list_path(alloc, schema, &path, work)
+    stored_list_path(alloc, schema, &path)
 }
 
 // The path of a leaf, and its text.
@@ -438,16 +362,14 @@ fn leaf_in(path: Path, item: Item) -> Result<(Path, Text), LineFault>
 /// The leaf of a line `rule D forbid`, and the text that it may not have. A name in front of it may
 /// be too long.
 #[tactic(auto, unfolding(crate::specs::Items::forbidden_of))]
-pub fn read_forbidden<L: Ledger>(
+pub fn read_forbidden(
     alloc: Global,
     schema: &Schema,
     is_long: bool,
     text: &str,
-    work: &mut Steps<L>,
 ) -> Result<(Path, Text), LineFault>
     ensures reads { ReadsLine (forbidden_of schema.now is_long text.now) result }
     ensures lawful { IfOk result (λ leaf. IsTrue (is_forbid_rule schema.now leaf)) }
-    ensures worked { work.new + 2 * length text.now ≤ work.old + work_on text.now }
 {
     let Some((word, rest)) = cut(text) else {
         return breaks(Rule::Line);
@@ -455,6 +377,6 @@ pub fn read_forbidden<L: Ledger>(
     let Some(value) = after_mark(rest) else {
         return breaks(Rule::Line);
     };
-    let put = read_leaf(alloc, None, schema, is_long, word, value, work)?;
+    let put = read_leaf(alloc, None, schema, is_long, word, value)?;
     leaf_in(put.path, put.item)
 }

@@ -24,5 +24,6 @@ pub use lines::{
     is_skipped, lacks_header, line_text, seen,
 };
 pub use lists::names_list;
-pub use names::{Names, repeats};
+pub use names::{SortedNames, repeats};
+pub use orc_decls::Names;
 pub use words::{cut, cut_prefix, first_word, number_of, read_text, words_of};

@@ -1,14 +1,11 @@
-//! The lines of bytes. A loop over lines counts a step for each byte that it looks at.
-ghost use Rattle.std.specs.Prelude.{◌≡◌, ◌<◌, ◌≤◌, ◌+◌, ◌*◌, ◌^◌, ◌++◌, ◌∷◌, MatchOption, IfOk, IfSome, None, Some, length, get_or, take, true};
+//! The lines of bytes.
+ghost use Rattle.std.specs.Prelude.{◌≡◌, ◌<◌, ◌+◌, ◌^◌, ◌++◌, ◌∷◌, MatchOption, IfOk, None, Some, length, get_or, take, true};
 ghost use Rattle.std.specs.List.{list_any};
 ghost use Rattle.orc_lines.specs.Lines.{lacks_header, lines_of, text_of, is_end, is_large, first_kept, is_settled, is_skipped, block_of, seen};
 ghost use Rattle.orc_lines.specs.inside.Blocks.{lacks};
-ghost use Rattle.orc_lines.specs.Costs.{bytes_of_first, bytes_to, is_kept_line};
 
-use orc_io::Steps;
 use orc_text::{Memory, Row};
 use std::alloc::Global;
-use std::sync::ledger::Ledger;
 
 /// The most bytes of a bundle.
 pub const LARGEST_BUNDLE: usize = 16_777_216;
@@ -27,14 +24,11 @@ pub fn seen(bytes: &[u8]) -> &[u8]
 }
 
 // The place of the first line feed.
-fn cut_line<L: Ledger>(bytes: &[u8], steps: &mut Steps<L>) -> Option<usize>
-    ensures place { MatchOption result (lacks 10 bytes.now ≡ true)
+fn cut_line(bytes: &[u8]) -> Option<usize>
+    ensures { MatchOption result (lacks 10 bytes.now ≡ true)
         (λ at. (at < length bytes.now) × (lacks 10 (take at bytes.now) ≡ true) × (get_or bytes.now at 0 ≡ 10)) }
-    ensures cost { MatchOption result (steps.new ≡ steps.old + length bytes.now)
-        (λ at. steps.new ≡ steps.old + (at + 1)) }
 {
     for (at, byte) in bytes.iter().enumerate() {
-        steps.tick();
         if *byte == b'\n' {
             return Some(at);
         }
@@ -43,24 +37,21 @@ fn cut_line<L: Ledger>(bytes: &[u8], steps: &mut Steps<L>) -> Option<usize>
 }
 
 /// The first line and the bytes behind it.
-pub fn first_line<'a, L: Ledger>(bytes: &'a [u8], steps: &mut Steps<L>) -> (&'a [u8], &'a [u8])
+pub fn first_line<'a>(bytes: &'a [u8]) -> (&'a [u8], &'a [u8])
     requires { 0 < length bytes.now }
     ensures lines { lines_of bytes.now ≡ result.0.now ∷ lines_of result.1.now }
     ensures parts { bytes.now ≡ result.0.now ++ result.1.now }
     ensures some { 0 < length result.0.now }
-    ensures cost { steps.new ≡ steps.old + length result.0.now }
 {
-    match cut_line(bytes, steps) {
+    match cut_line(bytes) {
         Some(at) => bytes.split_at(at + 1),
         None => bytes.split_at(bytes.len()),
     }
 }
 
 /// A line without its line feed and one carriage return in front of that.
-#[tactic(auto, using(crate::proofs::Work::text_within))]
 pub fn line_text(line: &[u8]) -> &[u8]
-    ensures text { result.now ≡ text_of line.now }
-    ensures shorter { length result.now ≤ length line.now }
+    ensures { result.now ≡ text_of line.now }
 {
     match line {
         [text @ .., b'\r', b'\n'] => text,
@@ -89,13 +80,12 @@ pub fn is_large(at: u64, line: &[u8]) -> bool
 }
 
 /// Whether a later line is `end`.
-pub fn ends_later<L: Ledger>(bytes: &[u8], steps: &mut Steps<L>) -> bool
-    ensures ends { result ≡ list_any is_end (lines_of bytes.now) }
-    ensures cost { steps.new ≡ steps.old + bytes_to is_end (lines_of bytes.now) }
+pub fn ends_later(bytes: &[u8]) -> bool
+    ensures { result ≡ list_any is_end (lines_of bytes.now) }
 {
     let mut rest = bytes;
     'lines: while !rest.is_empty() {
-        let (line, behind) = first_line(rest, steps);
+        let (line, behind) = first_line(rest);
         if line_text(line) == b"end".as_slice() {
             return true;
         }
@@ -105,14 +95,13 @@ pub fn ends_later<L: Ledger>(bytes: &[u8], steps: &mut Steps<L>) -> bool
 }
 
 // The text of the first line that is not skipped.
-fn first_kept<'a, L: Ledger>(bytes: &'a [u8], steps: &mut Steps<L>) -> Option<&'a [u8]>
-    ensures kept { MatchOption result (first_kept (lines_of bytes.now) ≡ None)
+fn first_kept<'a>(bytes: &'a [u8]) -> Option<&'a [u8]>
+    ensures { MatchOption result (first_kept (lines_of bytes.now) ≡ None)
         (λ text. first_kept (lines_of bytes.now) ≡ Some text.now) }
-    ensures cost { steps.new ≡ steps.old + bytes_to is_kept_line (lines_of bytes.now) }
 {
     let mut rest = bytes;
     'lines: while !rest.is_empty() {
-        let (line, behind) = first_line(rest, steps);
+        let (line, behind) = first_line(rest);
         let text = line_text(line);
         if !is_skipped(text) {
             return Some(text);
@@ -123,37 +112,25 @@ fn first_kept<'a, L: Ledger>(bytes: &'a [u8], steps: &mut Steps<L>) -> Option<&'
 }
 
 /// Whether the first line that is not skipped is `settle`.
-pub fn is_settled<L: Ledger>(bytes: &[u8], steps: &mut Steps<L>) -> bool
-    ensures settled { result ≡ is_settled (lines_of bytes.now) }
-    ensures cost { steps.new ≡ steps.old + bytes_to is_kept_line (lines_of bytes.now) }
+pub fn is_settled(bytes: &[u8]) -> bool
+    ensures { result ≡ is_settled (lines_of bytes.now) }
 {
-    match first_kept(bytes, steps) {
+    match first_kept(bytes) {
         Some(text) => text == b"settle".as_slice(),
         None => false,
     }
 }
 
 /// Whether each line is skipped, as also where there is none.
-pub fn lacks_header<L: Ledger>(bytes: &[u8], steps: &mut Steps<L>) -> bool
-    ensures lacks { result ≡ lacks_header (lines_of bytes.now) }
-    ensures cost { steps.new ≡ steps.old + bytes_to is_kept_line (lines_of bytes.now) }
+pub fn lacks_header(bytes: &[u8]) -> bool
+    ensures { result ≡ lacks_header (lines_of bytes.now) }
 {
-    first_kept(bytes, steps).is_none()
+    first_kept(bytes).is_none()
 }
 
 /// The texts of the first lines, each ended by a line feed, where there are so many lines.
-pub fn block_of<L: Ledger>(
-    alloc: Global,
-    bytes: &[u8],
-    count: u64,
-    steps: &mut Steps<L>,
-) -> Result<Option<Row<u8>>, Memory>
-    ensures block { IfOk result (λ found. found ≡ block_of count (lines_of bytes.now)) }
-    // The last line may lack its line feed.
-    ensures size { IfOk result
-        (λ found. IfSome found (λ text. length text ≤ 2 * bytes_of_first count (lines_of bytes.now))) }
-    ensures counts { steps.old ≤ steps.new }
-    ensures cost { steps.new ≤ steps.old + bytes_of_first count (lines_of bytes.now) }
+pub fn block_of(alloc: Global, bytes: &[u8], count: u64) -> Result<Option<Row<u8>>, Memory>
+    ensures { IfOk result (λ found. found ≡ block_of count (lines_of bytes.now)) }
 {
     let mut rest = bytes;
     let mut text = Vec::new(alloc);
@@ -162,7 +139,7 @@ pub fn block_of<L: Ledger>(
         if rest.is_empty() {
             return Ok(None);
         }
-        let (line, behind) = first_line(rest, steps);
+        let (line, behind) = first_line(rest);
         text.extend_from_slice(line_text(line))?;
         text.push(b'\n')?;
         left -= 1;

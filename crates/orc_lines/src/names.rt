@@ -1,10 +1,11 @@
-//! Names in the order in which they came. However they are chosen, one is found in time that grows with the logarithm
-//! of how many there are.
+//! Names of modules, of types of devices and of templates, of which a bundle may have any number. However
+//! they are chosen, one is found in time that grows with the logarithm of how many there are.
 ghost use Rattle.std.specs.Prelude.{◌≡◌, ◌++◌, ◌∷◌, [], false, length, IfOk, IfSome, OnOk, ◌<◌};
-ghost use Rattle.orc_lines.specs.Names.{is_among, place_of, repeats, with_name};
+ghost use Rattle.orc_decls.specs.Names.{is_among, place_of, with_name};
+ghost use Rattle.orc_lines.specs.Names.{repeats};
 ghost use Rattle.orc_lines.specs.inside.Numbered.{HasPlaces};
 ghost use Rattle.std.specs.List.{IsDistinct};
-ghost use Rattle.orc_state.specs.States.{is_same_text};
+ghost use Rattle.orc_decls.specs.Devices.{is_same_text};
 
 use orc_text::{Memory, Text};
 use std::alloc::Global;
@@ -14,12 +15,12 @@ use std::marker::Model;
 /// Names, of which no two are equal, numbered from 0 in the order in which they came.
 /// Beside them stands the number of each, in the order of the names.
 #[derive(Drop)]
-pub struct Names {
+pub struct SortedNames {
     names: Vec<Text>,
     places: BTreeMap<Text, usize>,
 }
 
-impl Model for Names {
+impl Model for SortedNames {
     ghost use Rattle.std.specs.Prelude.{List, ℕ};
     ghost use Rattle.orc_lines.specs.inside.Numbered.{HasPlaces};
 
@@ -53,30 +54,15 @@ fn put_behind(
     }
 }
 
-impl Names {
+impl SortedNames {
     /// No name.
-    pub fn new(alloc: Global) -> Names
+    pub fn new(alloc: Global) -> SortedNames
         ensures { result ≡ [] }
     {
-        Names {
+        SortedNames {
             names: Vec::new(alloc),
             places: BTreeMap::new(alloc),
         }
-    }
-
-    /// How many names there are.
-    pub fn len(&self) -> usize
-        ensures { result ≡ length self.now }
-    {
-        self.names.len()
-    }
-
-    /// The names, of which no two are equal.
-    pub fn as_slice(&self) -> &[Text]
-        ensures names { result.now ≡ self.now }
-        ensures distinct { IsDistinct is_same_text self.now }
-    {
-        self.names.as_slice()
     }
 
     /// The number of a name.
@@ -109,7 +95,7 @@ impl Names {
 pub fn repeats(alloc: Global, names: &[Text]) -> Result<bool, Memory>
     ensures { IfOk result (λ twice. twice ≡ repeats names.now) }
 {
-    let mut before = Names::new(alloc);
+    let mut before = SortedNames::new(alloc);
     for name in names {
         if before.has(name) {
             return Ok(true);

@@ -1,21 +1,17 @@
 //! The words of a line.
-ghost use Rattle.std.specs.Prelude.{◌≡◌, ◌<◌, ◌≤◌, ◌+◌, ◌∷◌, [], IfOk, IfSome, MatchOption, None, Some, true, false, length};
+ghost use Rattle.std.specs.Prelude.{◌≡◌, ◌∷◌, [], IfOk, MatchOption, None, Some, true, false};
 ghost use Rattle.std.specs.Str.{is_utf8};
 ghost use Rattle.orc_lines.specs.Words.{cut_at, first_word, is_padded, number_in, words_of};
 ghost use Rattle.orc_lines.specs.inside.Words.{CutsWord};
-ghost use Rattle.orc_lines.specs.Work.{bytes_in};
 
-use orc_io::Steps;
 use orc_text::{Memory, Row, Text};
 use std::alloc::Global;
 use std::str;
-use std::sync::ledger::Ledger;
 
 /// The text in front of the first space and the text behind it.
 pub fn cut(text: &str) -> Option<(&str, &str)>
-    ensures parts { MatchOption result (cut_at 32 text.now ≡ None)
+    ensures { MatchOption result (cut_at 32 text.now ≡ None)
         (λ parts. cut_at 32 text.now ≡ Some (parts.0.now, parts.1.now)) }
-    ensures shorter { IfSome result (λ parts. length parts.0.now + length parts.1.now < length text.now) }
 {
     text.split_once(' ')
 }
@@ -46,20 +42,13 @@ fn cut_word(text: &str) -> Option<(&str, &str)>
     text.split_once(' ')
 }
 
-/// The words of a text. A step is counted for each but the last.
-pub fn words_of<L: Ledger>(
-    alloc: Global,
-    text: &str,
-    work: &mut Steps<L>,
-) -> Result<Row<Text>, Memory>
-    ensures words { IfOk result (λ all. all ≡ words_of text.now) }
-    ensures bytes { IfOk result (λ all. bytes_in all ≤ length text.now) }
-    ensures worked { work.new ≤ work.old + length text.now }
+/// The words of a text.
+pub fn words_of(alloc: Global, text: &str) -> Result<Row<Text>, Memory>
+    ensures { IfOk result (λ all. all ≡ words_of text.now) }
 {
     let mut all = Row::new(alloc);
     let mut rest = text;
     while let Some((word, more)) = cut_word(rest) {
-        work.tick();
         all.push(Text::from_str(alloc, word)?)?;
         rest = more;
     }

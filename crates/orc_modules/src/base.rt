@@ -242,19 +242,6 @@ pub fn base_of<'a, 'm>(
     base_at(alloc, modules.most, &*modules, &Site { above }, stmt)
 }
 
-/// What a whole `type` statement makes of it, where neither it nor a typedef is at fault.
-pub fn type_at<'a, 'm>(
-    alloc: Global,
-    modules: &Modules<'a>,
-    above: &'a Above<'a, 'm>,
-    stmt: &Stmt,
-) -> Result<Option<Typed>, Memory>
-    ensures { IfOk result (λ typed.
-        typed ≡ type_at modules.now.most modules.now.all.now (stack above.now) stmt.now) }
-{
-    typed_at(alloc, &*modules, &Site { above }, stmt)
-}
-
 /// The type of a leaf, a leaf-list or a typedef, by the `type` below it.
 pub fn type_in<'a, 'm>(
     alloc: Global,

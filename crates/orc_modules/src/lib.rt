@@ -24,7 +24,7 @@ mod statements;
 mod word;
 
 pub use bare::{bringer, brings_nothing};
-pub use base::{base_of, takes_type, type_at, type_in};
+pub use base::{base_of, takes_type, type_in};
 pub use block::Block;
 pub use deep::{is_too_deep, leads_past};
 pub use leaves::leaf_type;

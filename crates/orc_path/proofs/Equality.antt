@@ -8,7 +8,6 @@ use Rattle.orc_path.specs.Steps.{PathStep}
 use Rattle.orc_path.specs.declared.item.Item.{Item}
 use Rattle.orc_path.specs.declared.item.Item.TheVariants.{Entry, Leaf}
 use Rattle.orc_path.specs.contracts.item.ItemPartialEq.TheImpl as item
-use Rattle.orc_path.specs.contracts.item.WritePartialEq.TheImpl as write
 use Rattle.orc_path.specs.contracts.path.StepPartialEq.TheImpl as step
 use Rattle.orc_path.specs.contracts.path.PathPartialEq.TheImpl as path
 

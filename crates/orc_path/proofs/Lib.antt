@@ -15,7 +15,6 @@ mod Standing
 mod Modes
 mod Names
 pub mod Characters
-pub mod Counting
 mod Cuts
 pub mod PathOf
 pub mod Values

@@ -1,5 +1,5 @@
 -- The modes that a reader goes through, whatever it read.
-use Rattle.std.proofs.Common.{◌≡◌, ℕ, ◌+◌, ◌≤◌, true, false, cond, List, [], ◌++◌, Some, None, Option, length, encode_utf8, IsUtf8, refl, sym, ap, subst, ◌∙◌}
+use Rattle.std.proofs.Common.{◌≡◌, ℕ, ◌+◌, ◌≤◌, true, false, cond, List, ◌++◌, Some, None, Option, length, encode_utf8, IsUtf8, refl, sym, ap, subst, ◌∙◌}
 use Rattle.std.specs.Option.{option_map, option_and_then}
 use Rattle.orc_text.specs.Characters.{is_plain_character}
 use Rattle.orc_path.specs.Steps.{PathStep}

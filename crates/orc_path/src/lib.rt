@@ -21,7 +21,7 @@ mod text;
 mod value;
 mod view;
 
-pub use alphabet::{is_identifier, is_identifier_counted, is_key, is_value};
+pub use alphabet::{is_identifier, is_key, is_value};
 pub use item::{Item, Write};
 pub use laws::{paths_are_read, values_are_read};
 pub use limits::{
@@ -31,5 +31,5 @@ pub use name::Name;
 pub use path::{Path, PathFault, Step};
 pub use shape::Shape;
 pub use text::push_item;
-pub use value::{push_value, read_value, read_value_counted};
+pub use value::{push_value, read_value};
 pub use view::DataView;

@@ -1,16 +1,14 @@
 //! Names of nodes.
-ghost use Rattle.std.specs.Prelude.{◌≡◌, ◌≤◌, ◌<◌, ◌+◌, IfOk, OnOk, IfErr, IsErrOf, IsTrue, length};
+ghost use Rattle.std.specs.Prelude.{◌≡◌, IfOk, IfErr, IsErrOf, IsTrue};
 ghost use Rattle.orc_path.specs.Alphabet.{is_node_name};
 ghost use Rattle.orc_path.specs.Texts.{IsNameText};
 ghost use Rattle.orc_path.specs.Faults.{IsPathFault};
 
 use crate::PathFault;
 use crate::mode::{Mode, is_name_end, name_mode};
-use orc_io::Steps;
 use orc_text::{Copied, Memory, Text};
 use std::alloc::Global;
-use std::marker::{Brand, Model};
-use std::sync::ledger::{Blank, Ledger};
+use std::marker::Model;
 
 /// The name of a node: an identifier (RFC 7950 section 6.2, with ASCII letters), alone or behind
 /// its module's and a colon.
@@ -41,39 +39,8 @@ impl Name {
         ensures fault { IfErr result (IsPathFault IsNameText text.now) }
         ensures memory { IsErrOf result PathFault.Memory → IsNameText text.now }
     {
-        Name::new_uncounted::<Brand>(alloc, &text, Blank::new(1))
-    }
-
-    // The same, where nothing is counted. A call at `Brand` takes no `&str`, so the text is lent again.
-    fn new_uncounted<L: Ledger>(alloc: Global, text: &&str, blank: Blank) -> Result<Name, PathFault>
-        requires name { blank.name ≡ L.name }
-        requires parts { blank.parts ≡ L.parts }
-        requires some { 0 < blank.parts }
-        ensures ok { IfOk result (λ name. name ≡ text.now.now) }
-        ensures fault { IfErr result (IsPathFault IsNameText text.now.now) }
-        ensures memory { IsErrOf result PathFault.Memory → IsNameText text.now.now }
-    {
-        let mut steps = Steps::<L>::new(blank);
-        Name::new_counted(alloc, *text, &mut steps)
-    }
-
-    /// The same, with its steps counted. A step is a byte of the text at which the name's reader looks.
-    /// The bytes of a name are copied once, which isn't counted.
-    pub fn new_counted<L: Ledger>(
-        alloc: Global,
-        text: &str,
-        steps: &mut Steps<L>,
-    ) -> Result<Name, PathFault>
-        ensures ok { IfOk result (λ name. name ≡ text.now) }
-        ensures fault { IfErr result (IsPathFault IsNameText text.now) }
-        ensures memory { IsErrOf result PathFault.Memory → IsNameText text.now }
-        // One step for each byte at most, and one for each byte of a name.
-        ensures cost { steps.new ≤ steps.old + length text.now }
-        ensures counts { OnOk result (steps.old + length text.now ≤ steps.new) }
-    {
         let mut mode = Mode::Slash;
         for (at, byte) in text.as_bytes().iter().enumerate() {
-            steps.tick();
             match name_mode(mode, *byte) {
                 Some(next) => mode = next,
                 None => return Err(PathFault::BadPath { at: at as u64 }),

@@ -1,7 +1,6 @@
 //! Steps and paths.
-ghost use Rattle.std.specs.Prelude.{◌≡◌, ◌≢◌, ◌≤◌, ◌<◌, ◌+◌, ◌*◌, List, IfOk, OnOk, IfErr, IsErrOf, IsTrue, length, take, ◌++◌, ◌∷◌, []};
+ghost use Rattle.std.specs.Prelude.{◌≡◌, ◌≢◌, ◌≤◌, List, IfOk, IfErr, IsErrOf, IsTrue, length, take, ◌++◌, ◌∷◌, []};
 ghost use Rattle.std.specs.Cmp.{IsTotalOrder};
-ghost use Rattle.std.specs.Str.{chars};
 ghost use Rattle.std.specs.declared.cmp.Ordering.TheVariants.{Less};
 ghost use Rattle.orc_path.specs.Order.{path_cmp, is_prefix};
 ghost use Rattle.orc_path.specs.Steps.{PathStep, ends_in_keys, is_path, is_name_behind};
@@ -11,12 +10,10 @@ ghost use Rattle.orc_path.specs.Reading.{path_of};
 
 use crate::Name;
 use crate::reading::{bad_place, read_path};
-use orc_io::Steps;
 use orc_text::{Copied, Memory, Row, Text};
 use std::alloc::Global;
 use std::cmp::Ordering;
-use std::marker::{Brand, Model};
-use std::sync::ledger::{Blank, Ledger};
+use std::marker::Model;
 
 /// Why a text is no path or no name.
 #[derive(Clone, Copy, Debug, PartialEq, Eq)]
@@ -110,50 +107,9 @@ impl Path {
         ensures memory { IsErrOf result PathFault.Memory → IsPathText text.now }
         ensures value { Reads (path_of text.now) result }
     {
-        Path::parse_uncounted::<Brand>(alloc, &text, Blank::new(1))
-    }
-
-    // The same, where nothing is counted. A call at `Brand` takes no `&str`, so the text is lent again.
-    fn parse_uncounted<L: Ledger>(
-        alloc: Global,
-        text: &&str,
-        blank: Blank,
-    ) -> Result<Path, PathFault>
-        requires name { blank.name ≡ L.name }
-        requires parts { blank.parts ≡ L.parts }
-        requires some { 0 < blank.parts }
-        ensures ok { IfOk result (λ path. path_text path ≡ text.now.now) }
-        ensures again { (written : List PathStep) → IsTrue (is_path written) → path_text written ≡ text.now.now
-            → IfOk result (λ path. path ≡ written) }
-        ensures fault { IfErr result (IsPathFault IsPathText text.now.now) }
-        ensures memory { IsErrOf result PathFault.Memory → IsPathText text.now.now }
-        ensures value { Reads (path_of text.now.now) result }
-    {
-        let mut steps = Steps::<L>::new(blank);
-        Path::parse_counted(alloc, *text, &mut steps)
-    }
-
-    /// The same, with its steps counted. A step is a character of the text at which a loop of this
-    /// crate looks: the look for where the text stops being a path's, and the reading of one that is.
-    pub fn parse_counted<L: Ledger>(
-        alloc: Global,
-        text: &str,
-        steps: &mut Steps<L>,
-    ) -> Result<Path, PathFault>
-        ensures ok { IfOk result (λ path. path_text path ≡ text.now) }
-        // A path's text is read as that path.
-        ensures again { (written : List PathStep) → IsTrue (is_path written) → path_text written ≡ text.now
-            → IfOk result (λ path. path ≡ written) }
-        ensures fault { IfErr result (IsPathFault IsPathText text.now) }
-        ensures memory { IsErrOf result PathFault.Memory → IsPathText text.now }
-        ensures value { Reads (path_of text.now) result }
-        // Two steps for each byte at most, and two for each character of a path's text.
-        ensures cost { steps.new ≤ steps.old + 2 * length text.now }
-        ensures counts { OnOk result (steps.old + 2 * length (chars text.now) ≤ steps.new) }
-    {
-        match bad_place(text, steps) {
+        match bad_place(text) {
             Some(at) => Err(PathFault::BadPath { at }),
-            None => Ok(read_path(alloc, text, steps)?),
+            None => Ok(read_path(alloc, text)?),
         }
     }
 

@@ -1,17 +1,13 @@
 //! The text of a value, with escapes.
-ghost use Rattle.std.specs.Prelude.{◌≡◌, ◌<◌, ◌≤◌, ◌+◌, ◌*◌, ◌++◌, true, IfOk, IsErr, IsSome, IsTrue, is_some, OnOk, OnErr, encode_utf8, length};
+ghost use Rattle.std.specs.Prelude.{◌≡◌, ◌<◌, ◌++◌, true, IfOk, IsErr, IsSome, is_some, OnOk, OnErr, encode_utf8};
 ghost use Rattle.std.specs.String.{string_bytes};
 ghost use Rattle.std.specs.List.{flat_map};
-ghost use Rattle.std.specs.Str.{chars};
 ghost use Rattle.orc_path.specs.Texts.{value_escape, value_text, AddsFront};
 ghost use Rattle.orc_path.specs.Values.{value_of};
 ghost use Rattle.orc_path.specs.inside.ValueReading.{value_unescape, is_never_raw, MayCome, Took};
 
-use orc_io::Steps;
 use orc_text::{Memory, Text, is_plain_character};
 use std::alloc::{AllocError, Global};
-use std::marker::Brand;
-use std::sync::ledger::{Blank, Ledger};
 
 fn push_escaped(out: &mut String, byte: u8) -> Result<(), AllocError>
     requires { byte < 128 }
@@ -135,16 +131,12 @@ fn next_escaped(is_escaped: bool, character: char) -> Option<bool>
 }
 
 // Whether the text is that of a value: each character may stand in one, each backslash begins an
-// escape, and none stands raw that may not. It looks at each character once at most, and once where it
-// is one.
-fn is_value_text<L: Ledger>(text: &str, steps: &mut Steps<L>) -> bool
-    ensures value { result ≡ is_some (value_of text.now) }
-    ensures cost { steps.new ≤ steps.old + length (chars text.now) }
-    ensures counts { IsTrue result → steps.old + length (chars text.now) ≤ steps.new }
+// escape, and none stands raw that may not.
+fn is_value_text(text: &str) -> bool
+    ensures { result ≡ is_some (value_of text.now) }
 {
     let mut is_escaped = false;
     for character in text.chars() {
-        steps.tick();
         if !is_plain_character(character) {
             return false;
         }
@@ -161,39 +153,7 @@ pub fn read_value(alloc: Global, text: &str) -> Result<Option<Text>, Memory>
     ensures value { IfOk result (λ found. found ≡ value_of text.now) }
     ensures memory { IsErr result → IsSome (value_of text.now) }
 {
-    read_uncounted::<Brand>(alloc, &text, Blank::new(1))
-}
-
-// The same, where nothing is counted. A call at `Brand` takes no `&str`, so the text is lent again.
-fn read_uncounted<L: Ledger>(
-    alloc: Global,
-    text: &&str,
-    blank: Blank,
-) -> Result<Option<Text>, Memory>
-    requires name { blank.name ≡ L.name }
-    requires parts { blank.parts ≡ L.parts }
-    requires some { 0 < blank.parts }
-    ensures value { IfOk result (λ found. found ≡ value_of text.now.now) }
-    ensures memory { IsErr result → IsSome (value_of text.now.now) }
-{
-    let mut steps = Steps::<L>::new(blank);
-    read_value_counted(alloc, *text, &mut steps)
-}
-
-/// The same, with its steps counted. A step is a character of the text at which a loop of this crate
-/// looks: the look whether the text is a value's, and the reading of one that is.
-pub fn read_value_counted<L: Ledger>(
-    alloc: Global,
-    text: &str,
-    steps: &mut Steps<L>,
-) -> Result<Option<Text>, Memory>
-    ensures value { IfOk result (λ found. found ≡ value_of text.now) }
-    ensures memory { IsErr result → IsSome (value_of text.now) }
-    // Two steps for each byte at most, and two for each character of a value's text.
-    ensures cost { steps.new ≤ steps.old + 2 * length text.now }
-    ensures counts { IfOk result (λ found. IsSome found → steps.old + 2 * length (chars text.now) ≤ steps.new) }
-{
-    if !is_value_text(text, steps) {
+    if !is_value_text(text) {
         return Ok(None);
     }
     let mut reader = ValueReader {
@@ -201,7 +161,6 @@ pub fn read_value_counted<L: Ledger>(
         is_escaped: false,
     };
     for character in text.chars() {
-        steps.tick();
         if !reader.take(character)? {
             return Ok(None);
         }

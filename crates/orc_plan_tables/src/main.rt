@@ -1,17 +1,20 @@
-//! Shows the plans of the calls of bundles.
+//! Shows the plans of the calls of bundles, and what comes of each.
 //!
-//! The words are three for each bundle: `now`, or `late` where a call is planned on the snapshot of the call before;
-//! how often each call is planned besides, of which nothing is printed; and the bundle's file. The calls are planned
-//! and done in the order of the script; the other steps of the script are left out. What is printed is each call, and
-//! below it its plan or why there is none, and whether what it holds fits with what the call before it holds.
+//! The words are three for each bundle: when the snapshot is taken on which a call is planned, `now`, or `late` for the
+//! one that was taken before the call before it, or `first` for the one of the opening; how often besides, of which
+//! nothing is printed, each call is planned, or with `first` checked where it expands a service; and the bundle's file.
+//! The calls are planned, checked on the present state and committed in the order of the script; the other steps of the
+//! script are left out. What is printed is each call, and below it its plan or why there is none; whether what it holds
+//! fits with what the call before it holds; and what it changes on each device with its number in the history, or why
+//! it isn't committed.
 #![tactic(auto)]
 
 mod planning;
 mod shown;
 
-use crate::planning::push_bundle;
-use orc_bundle::read_bundle;
-use orc_state::BundleFault;
+use crate::planning::{When, push_bundle};
+use orc_bundle::read_scripted;
+use orc_decls::BundleFault;
 use orc_table_programs::{ended_apart, given_words};
 use std::alloc::Global;
 use std::process::ExitCode;
@@ -31,7 +34,7 @@ fn run<R: Files<File = fs::File> + Env + Print + AllocGlobal>(rt: &R) -> io::Res
             break;
         };
         let (Some(times), Some(name)) = (words.next(), words.next()) else {
-            println!(rt; "orc_plan_tables now|late TIMES BUNDLE ..")?;
+            println!(rt; "orc_plan_tables now|late|first TIMES BUNDLE ..")?;
             return Ok(false);
         };
         let times = times.as_str().parse::<u32>().unwrap_or(0);
@@ -41,7 +44,7 @@ fn run<R: Files<File = fs::File> + Env + Print + AllocGlobal>(rt: &R) -> io::Res
             rt.alloc(),
             &mut out,
             bytes.as_slice(),
-            when.as_str() == "late",
+            when_of(when.as_str()),
             times,
         );
         print!(rt; "{}", out.as_str())?;
@@ -60,15 +63,26 @@ fn run<R: Files<File = fs::File> + Env + Print + AllocGlobal>(rt: &R) -> io::Res
     Ok(true)
 }
 
+// When the snapshot of a call is taken, by its word.
+fn when_of(word: &str) -> When {
+    if word == "late" {
+        When::Late
+    } else if word == "first" {
+        When::First
+    } else {
+        When::Now
+    }
+}
+
 // Adds what the calls of a bundle come to.
 fn push_file(
     alloc: Global,
     out: &mut String,
     bytes: &[u8],
-    late: bool,
+    when: When,
     times: u32,
 ) -> Result<(), BundleFault> {
-    let bundle = read_bundle(alloc, bytes)?;
-    push_bundle(alloc, out, &bundle, late, times)?;
+    let bundle = read_scripted(alloc, bytes)?;
+    push_bundle(alloc, out, &bundle, when, times)?;
     Ok(())
 }

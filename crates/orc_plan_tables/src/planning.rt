@@ -1,47 +1,62 @@
-//! The calls of a bundle, each planned on a snapshot and then done.
+//! The calls of a bundle, each planned on a snapshot, checked on the present state and committed.
 ghost use Rattle.std.specs.Prelude.{◌≡◌, IfOk, IsTrue};
 ghost use Rattle.std.specs.List.{list_all};
 ghost use Rattle.orc_call.specs.declared.call.Call.{Call};
 ghost use Rattle.orc_script.specs.Steps.{is_step};
 ghost use Rattle.orc_script.specs.declared.step.ScriptStep.TheVariants as ScriptStep;
-ghost use Rattle.orc_bundle.specs.Bundles.{IsBundle};
-ghost use Rattle.orc_state.specs.Calls.{is_call};
-ghost use Rattle.orc_state.specs.Declarations.{AreDecls};
-ghost use Rattle.orc_state.specs.Next.{IsStateOf};
-ghost use Rattle.orc_state.specs.Snapshots.{IsSnapshotUnder};
+ghost use Rattle.orc_bundle.specs.Bundles.{IsScripted};
+ghost use Rattle.orc_decls.specs.Calls.{is_call};
+ghost use Rattle.orc_decls.specs.Declarations.{AreDecls};
+ghost use Rattle.orc_datastore.specs.Legal.{IsNew};
+ghost use Rattle.orc_state.specs.Checks.{CanCommit};
+ghost use Rattle.orc_state.specs.States.{IsPlanAt, IsSnapshotAt, IsStateUnder};
+ghost use Rattle.orc_plan_tables.specs.Benches.{IsBench};
 
-use crate::shown::{push_answer, push_call, push_plan};
-use orc_bundle::{Bundle, ScriptStep};
-use orc_call::Call;
+use crate::shown::{push_answer, push_call, push_changes, push_number, push_plan};
+use orc_bundle::{ScriptStep, ScriptedBundle};
+use orc_call::{Answer, Call};
+use orc_datastore::{Plan, Snapshot};
+use orc_decls::Decls;
 use orc_queue::Held;
-use orc_state::{Decls, Plan, Snapshot, State};
+use orc_state::{State, passed_can_commit, plan_is_at_front, snapshot_stays_at_front};
 use orc_text::Memory;
 use std::alloc::Global;
+use std::mem;
 
-// The state behind the calls so far, the snapshot that was taken before the last of them, or at the opening, how many
-// were done, and what the last one holds.
-#[derive(Drop)]
-struct Bench {
-    state: State,
-    older: Snapshot,
-    front: u64,
-    held: Option<Held>,
+/// When the snapshot is taken on which a call is planned: right before it, before the call before it, or
+/// at the opening.
+#[derive(Clone, Copy)]
+pub enum When {
+    Now,
+    Late,
+    First,
 }
 
-/// Adds the plans of a bundle's calls, each on the snapshot that was taken right before it or, where that is asked,
-/// before the call that stands in front of it. Before that each call is planned so many times on snapshots that are
-/// taken for it and dropped.
+/// The state behind the calls so far; the snapshot of the opening, the one that was taken before the last
+/// call but one, and the one before the last; and what the last one holds.
+#[derive(Drop)]
+pub struct Bench {
+    pub state: State,
+    pub first: Snapshot,
+    pub older: Snapshot,
+    pub newer: Snapshot,
+    pub held: Option<Held>,
+}
+
+/// Adds the plans of a bundle's calls and what comes of them. Each call is planned so many times besides
+/// on snapshots that are taken for it and dropped, or, on the snapshot of the opening, checked so many
+/// times where it expands a service.
 pub(crate) fn push_bundle(
     alloc: Global,
     out: &mut String,
-    bundle: &Bundle,
-    late: bool,
+    bundle: &ScriptedBundle,
+    when: When,
     times: u32,
 ) -> Result<(), Memory>
-    requires { IsBundle bundle.now }
+    requires { IsScripted bundle.now }
 {
     let steps = bundle.steps.as_slice();
-    push_steps(alloc, out, &bundle.decls, steps, late, times)
+    push_steps(alloc, out, &bundle.decls, steps, when, times)
 }
 
 // The same of these steps.
@@ -50,7 +65,7 @@ fn push_steps(
     out: &mut String,
     decls: &Decls,
     steps: &[ScriptStep],
-    late: bool,
+    when: When,
     times: u32,
 ) -> Result<(), Memory>
     requires decls { AreDecls decls.now }
@@ -58,7 +73,7 @@ fn push_steps(
 {
     let mut bench = opened(alloc, decls)?;
     for step in steps {
-        take_step(alloc, out, decls, &mut bench, step, late, times)?;
+        take_step(alloc, out, decls, &mut bench, step, when, times)?;
     }
     Ok(())
 }
@@ -70,18 +85,16 @@ fn take_step(
     decls: &Decls,
     bench: &mut Bench,
     step: &ScriptStep,
-    late: bool,
+    when: When,
     times: u32,
 ) -> Result<(), Memory>
     requires decls { AreDecls decls.now }
-    requires call { (call : Call) → step.now ≡ ScriptStep.Serve call → IsTrue (is_call decls.now call) }
-    requires kept { IsStateOf decls.now bench.old.state }
-    requires older { IsSnapshotUnder decls.now bench.old.older }
-    ensures kept { IsStateOf decls.now bench.new.state }
-    ensures older { IsSnapshotUnder decls.now bench.new.older }
+    requires call { (call : Call) → step.now ≡ ScriptStep.Call call → IsTrue (is_call decls.now call) }
+    requires bench { IsBench decls.now bench.old }
+    ensures { IsBench decls.now bench.new }
 {
     match step {
-        ScriptStep::Serve(call) => take(alloc, out, decls, bench, call, late, times),
+        ScriptStep::Call(call) => take(alloc, out, decls, bench, call, when, times),
         _ => Ok(()),
     }
 }
@@ -89,121 +102,274 @@ fn take_step(
 // The opening state.
 fn opened(alloc: Global, decls: &Decls) -> Result<Bench, Memory>
     requires { AreDecls decls.now }
-    ensures kept { IfOk result (λ bench. IsStateOf decls.now bench.state) }
-    ensures older { IfOk result (λ bench. IsSnapshotUnder decls.now bench.older) }
+    ensures { IfOk result (IsBench decls.now) }
 {
-    let state = State::open(alloc, decls)?;
-    let older = taken(alloc, decls, &state, 0)?;
+    let state = State::start(alloc, decls)?;
+    let first = state.snapshot(alloc)?;
+    let older = state.snapshot(alloc)?;
+    let newer = state.snapshot(alloc)?;
     Ok(Bench {
         state,
+        first,
         older,
-        front: 0,
+        newer,
         held: None,
     })
 }
 
-// Adds a call with its plan, and does it.
+// Adds a call with its plan and what comes of it.
 fn take(
     alloc: Global,
     out: &mut String,
     decls: &Decls,
     bench: &mut Bench,
     call: &Call,
-    late: bool,
+    when: When,
     times: u32,
 ) -> Result<(), Memory>
     requires decls { AreDecls decls.now }
     requires call { IsTrue (is_call decls.now call.now) }
-    requires kept { IsStateOf decls.now bench.old.state }
-    requires older { IsSnapshotUnder decls.now bench.old.older }
-    ensures kept { IsStateOf decls.now bench.new.state }
-    ensures older { IsSnapshotUnder decls.now bench.new.older }
+    requires bench { IsBench decls.now bench.old }
+    ensures { IsBench decls.now bench.new }
 {
-    plan_again(alloc, decls, &bench.state, call, times)?;
     push_call(alloc, out, call)?;
-    plan_and_do(alloc, out, decls, bench, call, late)
+    renew(alloc, decls, bench)?;
+    match bench.state.repeated(alloc, call)? {
+        Some(answer) => push_answer(alloc, out, &answer),
+        None => take_new(alloc, out, decls, bench, call, when, times),
+    }
 }
 
-// Plans a call and does it.
-fn plan_and_do(
+// The same of a call that is new.
+fn take_new(
     alloc: Global,
     out: &mut String,
     decls: &Decls,
     bench: &mut Bench,
     call: &Call,
-    late: bool,
+    when: When,
+    times: u32,
 ) -> Result<(), Memory>
     requires decls { AreDecls decls.now }
     requires call { IsTrue (is_call decls.now call.now) }
-    requires kept { IsStateOf decls.now bench.old.state }
-    requires older { IsSnapshotUnder decls.now bench.old.older }
-    ensures kept { IsStateOf decls.now bench.new.state }
-    ensures older { IsSnapshotUnder decls.now bench.new.older }
+    requires bench { IsBench decls.now bench.old }
+    requires new { IsNew bench.old.state.history call.now }
+    ensures { IsBench decls.now bench.new }
 {
-    let now = taken(alloc, decls, &bench.state, bench.front)?;
-    if late {
-        show(alloc, out, decls, &bench.older, call, &mut bench.held)?;
-    } else {
-        show(alloc, out, decls, &now, call, &mut bench.held)?;
+    match planned_when(alloc, decls, bench, call, when, times)? {
+        Ok(plan) => serve(alloc, out, decls, bench, call, when, times, plan),
+        Err(answer) => {
+            bench.held = None;
+            push_answer(alloc, out, &answer)
+        }
     }
-    bench.older = now;
-    done(alloc, out, decls, &mut bench.state, call, &mut bench.front)
 }
 
-// A snapshot of a state of these declarations.
-fn taken(alloc: Global, decls: &Decls, state: &State, front: u64) -> Result<Snapshot, Memory>
-    requires { IsStateOf decls.now state.now }
-    ensures { IfOk result (IsSnapshotUnder decls.now) }
+// Takes a snapshot of the present state.
+fn renew(alloc: Global, decls: &Decls, bench: &mut Bench) -> Result<(), Memory>
+    requires { IsBench decls.now bench.old }
+    ensures { IsBench decls.now bench.new }
 {
-    let snapshot = state.snapshot(alloc, front)?;
-    Ok(snapshot)
+    let now = bench.state.snapshot(alloc)?;
+    bench.older = mem::replace(&mut bench.newer, now);
+    Ok(())
 }
 
-// Plans a call so many times, each time on a snapshot of its own.
-fn plan_again(
+// The plan of a call on the snapshot that is asked for.
+fn planned_when(
+    alloc: Global,
+    decls: &Decls,
+    bench: &Bench,
+    call: &Call,
+    when: When,
+    times: u32,
+) -> Result<Result<Plan, Answer>, Memory>
+    requires decls { AreDecls decls.now }
+    requires call { IsTrue (is_call decls.now call.now) }
+    requires bench { IsBench decls.now bench.now }
+    ensures { IfOk result (λ found. IfOk found (IsPlanAt decls.now bench.now.state.history call.now)) }
+{
+    match when {
+        When::First => planned(alloc, decls, &bench.state, &bench.first, call),
+        When::Late => planned(alloc, decls, &bench.state, &bench.older, call),
+        When::Now => planned_now(alloc, decls, &bench.state, call, times),
+    }
+}
+
+// The plan of a call on a snapshot at a front of the state's history.
+fn planned(
+    alloc: Global,
+    decls: &Decls,
+    state: &State,
+    snapshot: &Snapshot,
+    call: &Call,
+) -> Result<Result<Plan, Answer>, Memory>
+    requires decls { AreDecls decls.now }
+    requires call { IsTrue (is_call decls.now call.now) }
+    requires snapshot { IsSnapshotAt decls.now state.now.history snapshot.now }
+    ensures { IfOk result (λ found. IfOk found (IsPlanAt decls.now state.now.history call.now)) }
+{
+    plan_is_at_front();
+    snapshot.plan(alloc, decls, call)
+}
+
+// The plan of a call on the present state, which it is planned on so many times besides.
+fn planned_now(
     alloc: Global,
     decls: &Decls,
     state: &State,
     call: &Call,
     times: u32,
+) -> Result<Result<Plan, Answer>, Memory>
+    requires decls { AreDecls decls.now }
+    requires call { IsTrue (is_call decls.now call.now) }
+    requires state { IsStateUnder decls.now state.now }
+    ensures { IfOk result (λ found. IfOk found (IsPlanAt decls.now state.now.history call.now)) }
+{
+    for _ in 0..times {
+        let _found = planned_once(alloc, decls, state, call)?;
+    }
+    planned_once(alloc, decls, state, call)
+}
+
+// The plan of a call on a snapshot that is taken for it.
+fn planned_once(
+    alloc: Global,
+    decls: &Decls,
+    state: &State,
+    call: &Call,
+) -> Result<Result<Plan, Answer>, Memory>
+    requires decls { AreDecls decls.now }
+    requires call { IsTrue (is_call decls.now call.now) }
+    requires state { IsStateUnder decls.now state.now }
+    ensures { IfOk result (λ found. IfOk found (IsPlanAt decls.now state.now.history call.now)) }
+{
+    let snapshot = state.snapshot(alloc)?;
+    planned(alloc, decls, state, &snapshot, call)
+}
+
+// Checks a call that expands a service so many times.
+fn check_again(
+    alloc: Global,
+    decls: &Decls,
+    state: &State,
+    call: &Call,
+    plan: &Plan,
+    times: u32,
 ) -> Result<(), Memory>
     requires decls { AreDecls decls.now }
     requires call { IsTrue (is_call decls.now call.now) }
-    requires kept { IsStateOf decls.now state.now }
+    requires state { IsStateUnder decls.now state.now }
+    requires plan { IsPlanAt decls.now state.now.history call.now plan.now }
 {
+    if plan.expansions.is_empty() {
+        return Ok(());
+    }
     for _ in 0..times {
-        let snapshot = taken(alloc, decls, state, 0)?;
-        let _found = snapshot.plan(alloc, decls, call)?;
+        let _found = state.check(alloc, decls, call, plan)?;
     }
     Ok(())
 }
 
-// Adds the plan of a call on a snapshot, and whether what it holds fits with what the call before it holds, in whose
-// place that is put.
+// Adds what comes of a planned call, and keeps what it holds.
+fn serve(
+    alloc: Global,
+    out: &mut String,
+    decls: &Decls,
+    bench: &mut Bench,
+    call: &Call,
+    when: When,
+    times: u32,
+    plan: Plan,
+) -> Result<(), Memory>
+    requires decls { AreDecls decls.now }
+    requires call { IsTrue (is_call decls.now call.now) }
+    requires bench { IsBench decls.now bench.old }
+    requires plan { IsPlanAt decls.now bench.old.state.history call.now plan }
+    requires new { IsNew bench.old.state.history call.now }
+    ensures { IsBench decls.now bench.new }
+{
+    match show(alloc, out, decls, bench, call, when, times, &plan) {
+        Ok(()) => {
+            bench.held = Some(plan.held);
+            Ok(())
+        }
+        Err(Memory) => Err(Memory),
+    }
+}
+
+// Adds a plan and whether it fits with the one before, checks its call and commits it.
 fn show(
     alloc: Global,
     out: &mut String,
     decls: &Decls,
-    snapshot: &Snapshot,
+    bench: &mut Bench,
     call: &Call,
-    held: &mut Option<Held>,
+    when: When,
+    times: u32,
+    plan: &Plan,
 ) -> Result<(), Memory>
     requires decls { AreDecls decls.now }
     requires call { IsTrue (is_call decls.now call.now) }
-    requires snapshot { IsSnapshotUnder decls.now snapshot.now }
+    requires bench { IsBench decls.now bench.old }
+    requires plan { IsPlanAt decls.now bench.old.state.history call.now plan.now }
+    requires new { IsNew bench.old.state.history call.now }
+    ensures { IsBench decls.now bench.new }
 {
-    match snapshot.plan(alloc, decls, call)? {
-        Ok(plan) => {
-            push_plan(alloc, out, &plan, decls.names.as_slice())?;
-            push_fit(out, &plan, held)?;
-            *held = Some(plan.held);
-            Ok(())
+    push_plan(alloc, out, plan, decls.names())?;
+    push_fit(out, plan, &bench.held)?;
+    if let When::First = when {
+        check_again(alloc, decls, &bench.state, call, plan, times)?;
+    }
+    check(alloc, out, decls, bench, call, plan)
+}
+
+// Checks a call, and commits it.
+fn check(
+    alloc: Global,
+    out: &mut String,
+    decls: &Decls,
+    bench: &mut Bench,
+    call: &Call,
+    plan: &Plan,
+) -> Result<(), Memory>
+    requires decls { AreDecls decls.now }
+    requires call { IsTrue (is_call decls.now call.now) }
+    requires bench { IsBench decls.now bench.old }
+    requires plan { IsPlanAt decls.now bench.old.state.history call.now plan.now }
+    requires new { IsNew bench.old.state.history call.now }
+    ensures { IsBench decls.now bench.new }
+{
+    passed_can_commit();
+    match bench.state.check(alloc, decls, call, plan)? {
+        Ok(sets) => {
+            push_changes(alloc, out, decls.names(), sets.as_slice())?;
+            commit(alloc, out, decls, bench, call, plan)
         }
-        Err(answer) => {
-            push_answer(alloc, out, &answer)?;
-            *held = None;
-            Ok(())
-        }
+        Err(answer) => push_answer(alloc, out, &answer),
+    }
+}
+
+// Commits a call.
+#[tactic(auto, using(crate::proofs::Benching::committed_bench))]
+fn commit(
+    alloc: Global,
+    out: &mut String,
+    decls: &Decls,
+    bench: &mut Bench,
+    call: &Call,
+    plan: &Plan,
+) -> Result<(), Memory>
+    requires decls { AreDecls decls.now }
+    requires call { IsTrue (is_call decls.now call.now) }
+    requires bench { IsBench decls.now bench.old }
+    requires ready { CanCommit decls.now bench.old.state.history call.now plan.now }
+    ensures { IsBench decls.now bench.new }
+{
+    snapshot_stays_at_front();
+    match bench.state.commit(alloc, decls, call.copy(alloc)?, plan)? {
+        Ok(number) => push_number(alloc, out, number),
+        Err(answer) => push_answer(alloc, out, &answer),
     }
 }
 
@@ -219,31 +385,5 @@ fn push_fit(out: &mut String, plan: &Plan, before: &Option<Held>) -> Result<(), 
             Ok(())
         }
         None => Ok(()),
-    }
-}
-
-// Does a call, and adds why it isn't done, where it is not. Counts those that are done.
-fn done(
-    alloc: Global,
-    out: &mut String,
-    decls: &Decls,
-    state: &mut State,
-    call: &Call,
-    front: &mut u64,
-) -> Result<(), Memory>
-    requires decls { AreDecls decls.now }
-    requires call { IsTrue (is_call decls.now call.now) }
-    requires kept { IsStateOf decls.now state.old }
-    ensures kept { IsStateOf decls.now state.new }
-{
-    match state.next(alloc, decls, call)? {
-        None => {
-            *front = front.saturating_add(1);
-            Ok(())
-        }
-        Some(answer) => {
-            out.push_str("  isn't done:\n")?;
-            push_answer(alloc, out, &answer)
-        }
     }
 }

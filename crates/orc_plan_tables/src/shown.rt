@@ -1,10 +1,11 @@
 //! Calls, plans and refusals as lines.
 
 use orc_call::{Answer, Call, Put};
+use orc_datastore::Plan;
 use orc_expr::{Read, Target};
-use orc_path::push_item;
-use orc_state::Plan;
+use orc_path::{Write, push_item};
 use orc_text::{Memory, Text};
+use orc_tree::{Change, ChangeSet};
 use std::alloc::Global;
 
 // Adds a line of two words, set in.
@@ -26,7 +27,12 @@ pub(crate) fn push_call(alloc: Global, out: &mut String, call: &Call) -> Result<
     Ok(())
 }
 
-/// Adds why a call can't be planned or done.
+/// Adds the number of the entry that a call is.
+pub(crate) fn push_number(alloc: Global, out: &mut String, number: u64) -> Result<(), Memory> {
+    push_line(out, "Committed", number.to_string(alloc)?.as_str())
+}
+
+/// Adds why a call can't be planned or committed.
 pub(crate) fn push_answer(alloc: Global, out: &mut String, answer: &Answer) -> Result<(), Memory> {
     match answer {
         Answer::Exists(id) => push_line(out, "Exists", id.as_str()),
@@ -34,8 +40,71 @@ pub(crate) fn push_answer(alloc: Global, out: &mut String, answer: &Answer) -> R
         Answer::Invalid(path, _) => push_line(out, "Invalid", path.text(alloc)?.as_str()),
         Answer::Expand(id, _, _) => push_line(out, "Expand", id.as_str()),
         Answer::Clash(_, path, _) => push_line(out, "Clash", path.text(alloc)?.as_str()),
+        Answer::Conflict(number, write) => push_conflict(alloc, out, *number, write),
+        Answer::Committed(number) => push_number(alloc, out, *number),
+        Answer::Reused(number) => push_line(out, "Reused", number.to_string(alloc)?.as_str()),
         _ => push_line(out, "refused", ""),
     }
+}
+
+// Adds the entry that wrote what was read, and its write.
+fn push_conflict(
+    alloc: Global,
+    out: &mut String,
+    number: u64,
+    write: &Write,
+) -> Result<(), Memory> {
+    out.push_str("  Conflict ")?;
+    out.push_str(number.to_string(alloc)?.as_str())?;
+    match write {
+        Write::At(path) => {
+            out.push_str(" ")?;
+            out.push_str(path.text(alloc)?.as_str())?;
+        }
+        Write::Service(id) => {
+            out.push_str(" service ")?;
+            out.push_str(id.as_str())?;
+        }
+    }
+    out.push_str("\n")?;
+    Ok(())
+}
+
+/// Adds what a call changes on each device.
+pub(crate) fn push_changes(
+    alloc: Global,
+    out: &mut String,
+    names: &[Text],
+    sets: &[(u32, ChangeSet)],
+) -> Result<(), Memory> {
+    for set in sets {
+        let name = name_of(names, set.0);
+        if set.1.changes.is_empty() {
+            push_line(out, "changes nothing on", name)?;
+        } else {
+            push_line(out, "changes", name)?;
+        }
+        for change in set.1.changes.as_slice() {
+            push_change(alloc, out, change)?;
+        }
+    }
+    Ok(())
+}
+
+// Adds a change.
+fn push_change(alloc: Global, out: &mut String, change: &Change) -> Result<(), Memory> {
+    match change {
+        Change::Put(path, item) => {
+            out.push_str("    put ")?;
+            push_item(out, alloc, path, item)?;
+        }
+        Change::Remove(path) => {
+            out.push_str("    remove ")?;
+            out.push_str(path.text(alloc)?.as_str())?;
+        }
+    }
+    out.push_str("\n")?;
+    Ok(())
 }
 
 // The name of the device of a number.

@@ -19,8 +19,8 @@ use Rattle.orc_schema.specs.Schemas.{SchemaTable}
 use Rattle.orc_check.specs.declared.rules.TheConstants.{KIND, KEY, MANDATORY, MIN_ELEMENTS, MAX_ELEMENTS, LEAFREF}
 use Rattle.orc_json.specs.Written.{IsJsonTextOf}
 use Rattle.orc_template.specs.declared.fault.TheConstants.{NO_VALUE, MANY_VALUES, UNKNOWN_DEVICE, BAD_LEAF, SELF_CLASH}
-use Rattle.orc_state.specs.States.{name_of}
-use Rattle.orc_state.specs.Texts.{action_lines}
+use Rattle.orc_decls.specs.Devices.{name_of}
+use Rattle.orc_decls.specs.Texts.{action_lines}
 
 -- trees
 

@@ -5,7 +5,7 @@ ghost use Rattle.orc_print.specs.Printed.{answer_line, answer_words, expansion_w
 
 use orc_call::Answer;
 use orc_check::{KEY, KIND, MANDATORY, MAX_ELEMENTS, MIN_ELEMENTS};
-use orc_state::device_name;
+use orc_decls::device_name;
 use orc_template::{BAD_LEAF, MANY_VALUES, NO_VALUE, UNKNOWN_DEVICE};
 use orc_text::{Memory, Text};
 use std::alloc::Global;

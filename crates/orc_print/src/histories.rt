@@ -3,7 +3,7 @@ ghost use Rattle.std.specs.Prelude.{◌≡◌, ◌++◌, [], codes, IfOk};
 ghost use Rattle.std.specs.List.{flat_map};
 ghost use Rattle.orc_print.specs.inside.Adding.{Adds};
 ghost use Rattle.orc_print.specs.Printed.{history_call, history_lines, history_text};
-ghost use Rattle.orc_state.specs.Texts.{action_lines, body_line, write_line};
+ghost use Rattle.orc_decls.specs.Texts.{action_lines, body_line, write_line};
 
 use orc_call::{Action, Call, DevicePut, Put};
 use orc_path::push_item;

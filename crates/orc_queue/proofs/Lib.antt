@@ -1,2 +1,3 @@
 mod Loops
 mod Fits
+pub mod Mutual

@@ -25,3 +25,7 @@ pub record FitTogether (one other : Held) : Type 0 where
   pub services : IsTrue (share_no_service one.services other.services)
   pub reads_kept : All (CoversNone other.reads.reads) one.targets
   pub keeps_reads : All (CoversNone one.reads.reads) other.targets
+
+-- Fitting is mutual.
+abbrev pub FittingIsMutual : Type 0
+FittingIsMutual = (one other : Held) → FitTogether one other → FitTogether other one

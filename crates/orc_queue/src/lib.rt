@@ -7,5 +7,7 @@
 
 mod fitting;
 mod held;
+mod laws;
 
 pub use held::Held;
+pub use laws::fitting_is_mutual;

@@ -35,7 +35,7 @@ module _ (c : Config) where
       on (inl there) later = is_row (take (suc n) path) row there
       on (inr there) later = later there
 
-  inside_row : (target : Target) (row : Row) → In (rows_inside c target) row → In (entries c) row
+  pub inside_row : (target : Target) (row : Row) → In (rows_inside c target) row → In (entries c) row
   inside_row (One path) row h = front_row path (length path) row h
   inside_row (Under path) row h = (from_filter (λ (r : Row). is_prefix path r.0) (entries c) row h).0
 

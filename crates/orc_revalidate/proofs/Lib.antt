@@ -1,4 +1,4 @@
-mod Members
+pub mod Members
 mod Rowed
 mod Sames
 mod Uncut
@@ -11,3 +11,4 @@ mod Seen
 mod Within
 mod Genuine
 mod Least
+mod Differing

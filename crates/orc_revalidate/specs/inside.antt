@@ -2,3 +2,4 @@
 pub mod Inside
 pub mod Looked
 pub mod Led
+pub mod Changed

@@ -11,6 +11,8 @@ mod inside;
 mod kept;
 mod led;
 mod looks;
+mod paths;
 mod verdict;
 
+pub use paths::changed_paths;
 pub use verdict::revalidate;

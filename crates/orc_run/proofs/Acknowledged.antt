@@ -8,7 +8,7 @@ use Rattle.orc_call.specs.declared.answer.Answer.TheVariants.{Committed, Journal
 use Rattle.orc_append.specs.declared.outcome.Appended.{Appended}
 use Rattle.orc_append.specs.declared.outcome.Appended.TheVariants as appended
 use Rattle.orc_disk.specs.Meanings.{DiskMeaning}
-use Rattle.orc_state.specs.declared.declarations.Decls.{Decls}
+use Rattle.orc_decls.specs.declared.declarations.Decls.{Decls}
 use Rattle.orc_run.specs.Acknowledged.{AcknowledgedStays, HasEntry, IsAcknowledged, IsCallAt}
 use Rattle.orc_run.specs.Acknowledged.IsAcknowledged.{again, commits}
 use Rattle.orc_run.specs.Views.{View}

@@ -1,10 +1,10 @@
 -- What a call finds that is answered at once, or is to be committed.
-use Rattle.std.proofs.Common.{◌≡◌, ℕ, true, List, [], ◌∷◌, ◌++◌, take, None, Result, Ok, Err, IfOk, OnErr, refl, sym, ap, subst, ◌∙◌, arith}
-use Rattle.std.proofs.Math.Seq.{take-length}
+use Rattle.std.proofs.Common.{◌≡◌, ℕ, true, List, [], ◌∷◌, ◌++◌, take, length, None, Result, Ok, Err, IfOk, OnErr, refl, sym, ap, subst, ◌∙◌, arith}
+use Rattle.std.proofs.lemmas.List.{length-append, take-append-le}
 use Rattle.std.proofs.lemmas.Result.{IfOk-weaker}
 use Rattle.orc_call.specs.declared.call.Call.{Call}
 use Rattle.orc_call.specs.declared.answer.Answer.{Answer}
-use Rattle.orc_state.specs.Legal.{AnswersAtOnce, IsDue, IsLegal}
+use Rattle.orc_datastore.specs.Legal.{AnswersAtOnce, IsDue, IsLegal}
 use Rattle.orc_run.specs.inside.Pasts.{IsBehind}
 use Rattle.orc_run.specs.Steps.{Serves}
 use Rattle.orc_print.specs.Printed.{answer_line}
@@ -13,7 +13,7 @@ use Rattle.orc_run.specs.inside.Controllers.{known_of, view_of, IsCommitting, Kn
 use Rattle.orc_disk.specs.Meanings.{DiskMeaning}
 use Rattle.orc_journal.specs.declared.entry.Entry.{Entry}
 use Rattle.orc_run.specs.declared.controller.Controller.{Controller}
-use Rattle.orc_state.specs.declared.declarations.Decls.{Decls}
+use Rattle.orc_decls.specs.declared.declarations.Decls.{Decls}
 use Rattle.orc_run.specs.declared.past.Past.{Past}
 use Rattle.orc_run.specs.declared.serving.CallOutcome.{CallOutcome}
 use Rattle.orc_run.specs.Views.{View}
@@ -71,52 +71,63 @@ says {D} meaning laws decls entries old sound call given past kept names all ser
 module _ {D : Type 0} (meaning : DiskMeaning D)
     (decls : Decls) (entries : List Entry) (old : Controller D) (sound : Knows meaning decls entries old) where
   module _ (up : old.up ≡ true) where
-    -- it knows its whole history
-    pub knows_all : take old.known old.past.history ≡ old.past.history
-    knows_all = subst (λ (n : ℕ). take n old.past.history ≡ old.past.history) (sym (sound.up up).all) (take-length old.past.history)
-
-    pub behind : IsBehind decls old.past old.past.history
-    behind = subst (λ (l : List Call). IsBehind decls old.past l) knows_all sound.behind
-
-    pub at_once : AreLaws meaning → (call : Call) (given : Answer) (past : Past) → past ≡ old.past → (names : List (List ℕ)) → names ≡ decls.names → AnswersAtOnce decls old.past.history call given
+    pub at_once : AreLaws meaning → (call : Call) (given : Answer) (past : Past) → past ≡ old.past → (names : List (List ℕ)) → names ≡ decls.names
+        → AnswersAtOnce decls old.past.state.history call given
         → (result : Result CallOutcome Memory) → IfOk result (λ served. served ≡ record { text = answer_line names call.caller call.number given; end = None })
         → LeadsTo meaning decls (view_of old entries) call result (record old { past = past })
     at_once laws call given past kept names all answers result is =
         says meaning laws decls entries old sound call given past kept names all
-        (Serves.at_once given up (subst (λ (l : List Call). AnswersAtOnce decls l call given) (sym knows_all) answers)) result is
+        (Serves.at_once given up (subst (λ (l : List Call). AnswersAtOnce decls l call given) sound.behind.history answers)) result is
 
-    module _ (call : Call) (past : Past) (rest : past ≡ record old.past { state = past.state }) (due : IsDue decls old.past.history call) where
+    module _ (call : Call) (due : IsDue decls old.past.state.history call) where
       pub is_due : IsDue decls (known_of old) call
-      is_due = subst (λ (l : List Call). IsDue decls l call) (sym knows_all) due
+      is_due = subst (λ (l : List Call). IsDue decls l call) sound.behind.history due
 
-      -- with another state it is the same world
-      pub same_view : view_of (record old { past = past }) entries ≡ view_of old entries
-      same_view = ap (λ (p : Past). view_of (record old { past = p }) entries) rest
+      -- it knows the same of a state with one call more
+      same_known : (s : State) → s.history ≡ old.past.state.history ++ call ∷ [] → take old.known s.history ≡ known_of old
+      same_known s more = ap (take old.known) more ∙ take-append-le old.known old.past.state.history (call ∷ []) sound.within
 
-      with_state : (s : State) → IsBehind decls (record old.past { state = s }) (old.past.history ++ call ∷ [])
+      view_with : (s : State) → IsBehind decls (record old.past { state = s }) (old.past.state.history ++ call ∷ [])
+          → view_of (record old { past = record old.past { state = s } }) entries ≡ view_of old entries
+      view_with s behind = ap (λ (l : List Call). record (view_of old entries) { known = l }) (same_known s behind.history)
+
+      with_state : (s : State) → IsBehind decls (record old.past { state = s }) (old.past.state.history ++ call ∷ [])
           → IsCommitting meaning decls call entries (record old { past = record old.past { state = s } })
       with_state s behind =
           let u = sound.up up in
+          let known : take old.known s.history ≡ known_of old = same_known s behind.history in
           record {
             running = up;
             up = record {
               holds = u.holds;
               ordered = u.ordered;
-              decided = u.decided;
+              decided = u.decided ∙ sym known;
+              none = u.none;
               numbers = u.numbers;
               filled = u.filled;
               named = u.named;
               running = u.running;
               limit = u.limit;
-              all = u.all;
             };
-            legal = subst (λ (l : List Call). IsLegal decls l) knows_all sound.legal;
-            due = due;
-            behind = behind;
+            within = let within = sound.within in
+                omega (arith, within, ap (λ (l : List Call). length l) behind.history, length-append old.past.state.history (call ∷ []));
+            legal = subst (λ (l : List Call). IsLegal decls l) (sym known) sound.legal;
+            due = subst (λ (l : List Call). IsDue decls l call) (sym known) is_due;
+            behind = record {
+              history = behind.history ∙ ap (λ (l : List Call). l ++ call ∷ []) (sound.behind.history ∙ sym known);
+              state = behind.state;
+            };
           }
 
-      -- the call is to be committed
-      pub is_committing : IsBehind decls past (old.past.history ++ call ∷ []) → IsCommitting meaning decls call entries (record old { past = past })
-      is_committing done =
-          subst (λ (p : Past). IsBehind decls p (old.past.history ++ call ∷ []) → IsCommitting meaning decls call entries (record old { past = p })) (sym rest)
-          (with_state past.state) done
+      module _ (past : Past) (rest : past ≡ record old.past { state = past.state }) (done : IsBehind decls past (old.past.state.history ++ call ∷ [])) where
+        -- with that state it is the same world
+        pub same_view : view_of (record old { past = past }) entries ≡ view_of old entries
+        same_view =
+            subst (λ (p : Past). IsBehind decls p (old.past.state.history ++ call ∷ []) → view_of (record old { past = p }) entries ≡ view_of old entries) (sym rest)
+            (view_with past.state) done
+
+        -- the call is to be committed
+        pub is_committing : IsCommitting meaning decls call entries (record old { past = past })
+        is_committing =
+            subst (λ (p : Past). IsBehind decls p (old.past.state.history ++ call ∷ []) → IsCommitting meaning decls call entries (record old { past = p })) (sym rest)
+            (with_state past.state) done

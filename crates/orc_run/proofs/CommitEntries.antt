@@ -11,10 +11,10 @@ use Rattle.orc_journal.specs.Committed.{call_of, as_calls, history_of}
 use Rattle.orc_journal.specs.declared.entry.Entry.{Entry}
 use Rattle.orc_journal.specs.declared.entry.Entry.TheVariants.{Intent, Decide, Settled}
 use Rattle.orc_journal.proofs.Orderings.{stage_of-push, is_ordered-push}
-use Rattle.orc_state.specs.Legal.{IsLegal}
+use Rattle.orc_datastore.specs.Legal.{IsLegal}
 use Rattle.orc_run.specs.inside.Transactions.{is_taken}
 use Rattle.orc_run.specs.inside.Deciding.{HaveHistory}
-use Rattle.orc_state.specs.declared.declarations.Decls.{Decls}
+use Rattle.orc_decls.specs.declared.declarations.Decls.{Decls}
 use Rattle.orc_run.specs.declared.numbers.Numbers.{Numbers}
 use Rattle.orc_run.proofs.Fronts.{history_of-append}
 use Rattle.orc_journal.proofs.Newest.{call_of-append}

@@ -1,7 +1,7 @@
 -- A call that is to be committed: what is so where its commit came to its end.
-use Rattle.std.proofs.Common.{◌≡◌, ◌⊎◌, ℕ, ◌+◌, ◌≤◌, Bool, true, false, List, [], ◌∷◌, ◌++◌, codes, length, take, drop, All, IsTrue, Option, Some, None, IfSome, is_some, Result, Ok, Err, inl, inr, ⊎_elim, refl, sym, ap, subst, ◌∙◌, arith}
-use Rattle.std.proofs.Math.Seq.{take-length, drop-length, take-append_seam, drop-append_seam}
-use Rattle.std.proofs.lemmas.List.{length-append}
+use Rattle.std.proofs.Common.{◌≡◌, ◌⊎◌, ℕ, ◌+◌, ◌≤◌, Bool, true, false, List, [], ◌∷◌, ◌++◌, codes, length, take, All, IsTrue, Option, Some, None, IfSome, is_some, Result, Ok, Err, inl, inr, ⊎_elim, refl, sym, ap, subst, ◌∙◌, arith}
+use Rattle.std.proofs.Math.Seq.{take-length}
+use Rattle.std.proofs.lemmas.List.{length-append, length-take-le}
 use Rattle.std.proofs.lemmas.Option.{IfSome_then}
 use Rattle.orc_text.specs.declared.memory.Memory.{Memory}
 use Rattle.orc_io.specs.Counts.{Rose}
@@ -21,22 +21,21 @@ use Rattle.orc_append.specs.Views.{JournalView, journal_view, IsOpen}
 use Rattle.orc_append.specs.Appends.{Appends, LeavesOldOrNew}
 use Rattle.orc_append.specs.declared.outcome.Appended.{Appended}
 use Rattle.orc_append.specs.declared.outcome.Appended.TheVariants as appended
-use Rattle.orc_state.specs.Next.{IsStateOf}
-use Rattle.orc_state.specs.Touched.{touched_devices}
-use Rattle.orc_state.specs.Calls.{is_call}
-use Rattle.orc_state.specs.Legal.{IsLegal, IsDue, state_of}
-use Rattle.orc_state.specs.declared.declarations.Decls.{Decls}
-use Rattle.orc_state.specs.States.{State}
-use Rattle.orc_state.proofs.Legality.{legal_more}
-use Rattle.orc_script.specs.declared.step.ScriptStep.TheVariants.{Serve}
+use Rattle.orc_datastore.specs.Touched.{touched_devices}
+use Rattle.orc_decls.specs.Calls.{is_call}
+use Rattle.orc_datastore.specs.Legal.{IsLegal, IsDue, state_of}
+use Rattle.orc_decls.specs.declared.declarations.Decls.{Decls}
+use Rattle.orc_state.specs.States.{IsStateUnder, State}
+use Rattle.orc_datastore.proofs.Legality.{legal_more}
+use Rattle.orc_script.specs.declared.step.ScriptStep.TheVariants as script_step
 use Rattle.orc_run.specs.Views.{View, Decodes, IsKept, Rests, Outlives}
 use Rattle.orc_run.specs.Commits.{AppendsUpTo, Commits, commit_end, commit_text, intent_of, is_named, is_up_behind, journal_at, known_by, known_then, pending_then}
 use Rattle.orc_run.specs.Steps.{Breaks, EndsBecause, Serves}
 use Rattle.orc_run.specs.declared.opening.TheConstants.{LARGEST_JOURNAL}
 use Rattle.orc_run.specs.inside.Pasts.{IsBehind}
 use Rattle.orc_run.specs.inside.Transactions.{is_taken, AreNamed, TakesNumber}
-use Rattle.orc_run.specs.inside.Serving.{ComesBehind, EndsBehind, ServesTo, count_then, kept_then, up_behind}
-use Rattle.orc_run.specs.inside.Controllers.{view_of, IsCommitting, IsUp, Knows, LeadsTo}
+use Rattle.orc_run.specs.inside.Serving.{ComesBehind, EndsBehind, ServesTo, count_then, pending_behind, up_behind}
+use Rattle.orc_run.specs.inside.Controllers.{known_of, view_of, IsCommitting, IsUp, Knows, LeadsTo}
 use Rattle.orc_run.specs.inside.Deciding.{HasBegun, HaveHistory}
 use Rattle.orc_run.specs.declared.commit.Stage.{Stage}
 use Rattle.orc_run.specs.declared.commit.Stage.TheVariants.{Intent, Decide, Settled}
@@ -189,21 +188,17 @@ text_of names call Settled outcome before = ap (commit_text names call Settled o
 module _ {D : Type 0} (meaning : DiskMeaning D) (only_now : (d : D) (c : List ℕ) → meaning.left_since d (meaning.moment d) c → meaning.may_leave d c)
     (decls : Decls) (call : Call) (es : List Entry) (old : Controller D)
     (is : IsCommitting meaning decls call es old) (lawful : IsTrue (is_call decls call)) where
-  -- what it knows, and nothing is pending
-  known_old : take old.known old.past.history ≡ old.past.history
-  known_old = subst (λ (n : ℕ). take n old.past.history ≡ old.past.history) (sym is.up.all) (take-length old.past.history)
-
-  have_old : HaveHistory decls es old.past.history
+  have_old : HaveHistory decls es (known_of old)
   have_old = record { ordered = is.up.ordered; decided = is.up.decided; legal = is.legal }
 
-  legal_new : IsLegal decls (old.past.history ++ call ∷ [])
-  legal_new = legal_more decls old.past.history call is.legal lawful is.due
+  legal_new : IsLegal decls (known_of old ++ call ∷ [])
+  legal_new = legal_more decls (known_of old) call is.legal lawful is.due
 
   abbrev before : List Call
-  before = old.past.history
+  before = known_of old
 
   abbrev behind : List Call
-  behind = old.past.history ++ call ∷ []
+  behind = known_of old ++ call ∷ []
 
   -- the file has one history, or the other
   abbrev HasEither : List ℕ → Type 0
@@ -247,24 +242,15 @@ module _ {D : Type 0} (meaning : DiskMeaning D) (only_now : (d : D) (c : List �
   kept_either Decide v w at known pending file has = ⊎_elim (λ h. inl (kept_before v at file h)) (λ h. inr (kept_at Decide w known pending file (inr h))) has
   kept_either Settled v w at known pending file has = ⊎_elim (λ h. inl (kept_before v at file h)) (λ h. inr (kept_at Settled w known pending file h)) has
 
-  -- what is known of the calls that are kept, and what is pending
-  opens : take (length before) behind ≡ before
-  opens = take-append_seam before (call ∷ [])
+  pending_is_then : (stage : Stage) → pending_behind stage (call ∷ []) ≡ pending_then stage call
+  pending_is_then Intent = refl
+  pending_is_then Decide = refl
+  pending_is_then Settled = refl
 
-  kept_known : (stage : Stage) → take (count_then stage (length before) (length behind)) (kept_then stage (length before) behind) ≡ known_then stage before call
-  kept_known Intent = ap (take (length before)) opens ∙ take-length before
-  kept_known Decide = opens
-  kept_known Settled = take-length behind
-
-  kept_pending : (stage : Stage) → drop (count_then stage (length before) (length behind)) (kept_then stage (length before) behind) ≡ pending_then stage call
-  kept_pending Intent = ap (drop (length before)) opens ∙ drop-length before
-  kept_pending Decide = drop-append_seam before (call ∷ [])
-  kept_pending Settled = drop-length behind
-
-  kept_within : (stage : Stage) → count_then stage (length before) (length behind) ≤ length (kept_then stage (length before) behind)
-  kept_within Intent = omega (arith, ap length opens)
-  kept_within Decide = omega (arith, length-append before (call ∷ []))
-  kept_within Settled = omega arith
+  count_unsettled : (stage : Stage) (m n : ℕ) → (stage ≡ Settled → ⊥) → count_then stage m n ≡ m
+  count_unsettled Intent m n other = refl
+  count_unsettled Decide m n other = refl
+  count_unsettled Settled m n other = absurd (other refl)
 
   known_unsettled : (stage : Stage) → (stage ≡ Settled → ⊥) → known_then stage before call ≡ before
   known_unsettled Intent other = refl
@@ -272,16 +258,18 @@ module _ {D : Type 0} (meaning : DiskMeaning D) (only_now : (d : D) (c : List �
   known_unsettled Settled other = absurd (other refl)
 
   -- where memory was wanting before the intent was made
-  pub not_begun : (result : Result CallOutcome Memory) (memory : Memory) → result ≡ Err memory → (past : Past) → past.history ≡ old.past.history
+  pub not_begun : (result : Result CallOutcome Memory) (memory : Memory) → result ≡ Err memory → (past : Past) → past.state ≡ old.past.state → past.pending ≡ []
       → LeadsTo meaning decls (view_of old es) call result (record old { past = past })
-  not_begun result memory is_err past same =
+  not_begun result memory is_err past same none =
       let w = view_of old es in
-      let keeps : (file : List ℕ) → Decodes decls file before → IsKept decls w file = kept_before w known_old in
+      let keeps : (file : List ℕ) → Decodes decls file before → IsKept decls w file = kept_before w refl in
       let rests : Rests meaning decls w = record {
         reads = IfSome_then (meaning.content old.journal.disk.inner) stands_old.reads keeps;
         images = λ file left. keeps file (stands_old.images file left);
       } in
-      let alike : w ≡ view_of (record old { past = past }) es = ap (λ (h : List Call). record w { known = take old.known h; pending = drop old.known h }) (sym same) in
+      let alike : w ≡ view_of (record old { past = past }) es =
+      ap (λ (x : State). record w { known = take old.known x.history }) (sym same)
+      ∙ ap (λ (l : List Call). record w { known = take old.known past.state.history; pending = l }) (is.up.none ∙ sym none) in
       let outlives : Outlives meaning decls w w =
       outlives_kept meaning decls w w (omega arith) (started meaning w.disk (IsKept decls w) (λ c left. rests.images c (only_now w.disk c left))) refl in
       subst (λ (r : Result CallOutcome Memory). LeadsTo meaning decls w call r (record old { past = past })) (sym is_err) (record {
@@ -301,15 +289,15 @@ module _ {D : Type 0} (meaning : DiskMeaning D) (only_now : (d : D) (c : List �
     stage_old = unnamed_stage old.past.numbers t es begun.number.free is.up.numbers
 
     -- the intent says no more
-    have_intent : HaveHistory decls (es ++ intent ∷ []) old.past.history
-    have_intent = subst (λ (e : Entry). HaveHistory decls (es ++ e ∷ []) old.past.history) (sym intended)
-        (intent_has t decls es old.past.history have_old call devices stage_old)
+    have_intent : HaveHistory decls (es ++ intent ∷ []) (known_of old)
+    have_intent = subst (λ (e : Entry). HaveHistory decls (es ++ e ∷ []) (known_of old)) (sym intended)
+        (intent_has t decls es (known_of old) have_old call devices stage_old)
 
     -- the decision commits the call
-    have_decision : HaveHistory decls ((es ++ intent ∷ []) ++ entry.Decide t ∷ []) (old.past.history ++ call ∷ [])
-    have_decision = subst (λ (e : Entry). HaveHistory decls ((es ++ e ∷ []) ++ entry.Decide t ∷ []) (old.past.history ++ call ∷ [])) (sym intended)
-        (decision_has t decls (es ++ entry.Intent t call devices ∷ []) old.past.history
-        (intent_has t decls es old.past.history have_old call devices stage_old) call devices
+    have_decision : HaveHistory decls ((es ++ intent ∷ []) ++ entry.Decide t ∷ []) (known_of old ++ call ∷ [])
+    have_decision = subst (λ (e : Entry). HaveHistory decls ((es ++ e ∷ []) ++ entry.Decide t ∷ []) (known_of old ++ call ∷ [])) (sym intended)
+        (decision_has t decls (es ++ entry.Intent t call devices ∷ []) (known_of old)
+        (intent_has t decls es (known_of old) have_old call devices stage_old) call devices
         (opened t call devices es stage_old) (newest t call devices es) legal_new)
 
     ends : IsTrue (follows ((es ++ intent ∷ []) ++ entry.Decide t ∷ []) (entry.Settled t))
@@ -377,7 +365,7 @@ module _ {D : Type 0} (meaning : DiskMeaning D) (only_now : (d : D) (c : List �
         on true named = absurd (let free = begun.number.free in let taken = named_taken old.past.numbers t es is.up.numbers named in cc)
         on false named = named
 
-    module _ (touched : devices ≡ touched_devices decls (state_of decls (take old.known old.past.history)) call)
+    module _ (touched : devices ≡ touched_devices decls (state_of decls (known_of old)) call)
         (stage : Stage) (outcome : Appended) (j : OpenJournal (Stopping D))
         (so : AppendsUpTo meaning decls.text stage (journal_view old.journal es) intent t outcome (journal_view j (known_by stage outcome es intent t))) where
       abbrev known_now : List Entry
@@ -392,7 +380,7 @@ module _ {D : Type 0} (meaning : DiskMeaning D) (only_now : (d : D) (c : List �
           subst (λ m. A m LARGEST_JOURNAL) is.up.limit
           (subst (λ n. A old.journal.limit n) (limit_of meaning decls.text stage a b intent t outcome so ∙ is.up.limit) so)
 
-      module _ (up : Bool) (kept : Past) (known : ℕ) (known_is : take known kept.history ≡ known_then stage before call) (pending_is : drop known kept.history ≡ pending_then stage call)
+      module _ (up : Bool) (kept : Past) (known : ℕ) (known_is : take known kept.state.history ≡ known_then stage before call) (pending_is : kept.pending ≡ pending_then stage call)
           (up_is : up ≡ is_up_behind outcome) where
         abbrev now : Controller D
         now = record { journal = j; up = up; past = kept; known = known }
@@ -406,7 +394,7 @@ module _ {D : Type 0} (meaning : DiskMeaning D) (only_now : (d : D) (c : List �
           next = record {
             journal = is.up.holds.file;
             ordered = is.up.ordered;
-            decided = is.up.decided ∙ sym known_old;
+            decided = is.up.decided;
             positive = begun.number.positive;
             free = is_free;
             least = λ u from below. is.up.named u (begun.number.least u from below);
@@ -414,13 +402,13 @@ module _ {D : Type 0} (meaning : DiskMeaning D) (only_now : (d : D) (c : List �
           appends = subst (λ (e : Entry). AppendsUpTo meaning decls.text stage (journal_at meaning (view_of old es)) e t outcome
               (journal_at meaning (view_of now known_now))) the_intent moved;
           entries = ap (λ (e : Entry). known_by stage outcome es e t) the_intent;
-          known = known_is ∙ ap (λ (l : List Call). known_then stage l call) (sym known_old);
+          known = known_is;
           pending = pending_is;
           up = up_is;
         }
 
-        due : IsDue decls (take old.known old.past.history) call
-        due = subst (λ (l : List Call). IsDue decls l call) (sym known_old) is.due
+        due : IsDue decls (known_of old) call
+        due = is.due
 
         went : Went meaning (HasDuring stage) old.journal.disk.inner j.disk.inner × Stands meaning (HasAt stage) j.disk.inner
         went = commit_went stage outcome (journal_view j (known_by stage outcome es intent t)) so
@@ -434,19 +422,19 @@ module _ {D : Type 0} (meaning : DiskMeaning D) (only_now : (d : D) (c : List �
         outlives_now = record {
           later = went.0.later;
           images = weaker meaning old.journal.disk.inner j.disk.inner (HasDuring stage) (λ file. IsKept decls (view_of old es) file ⊎ IsKept decls (view_of now known_now) file)
-              (kept_either stage (view_of old es) (view_of now known_now) known_old known_is pending_is) went.0.run;
+              (kept_either stage (view_of old es) (view_of now known_now) refl known_is pending_is) went.0.run;
           still_tells = went.0.tells;
         }
 
         -- why the run ends behind it
-        ended : (end : Stop) → commit_end outcome ≡ Some end → EndsBecause meaning decls (view_of old es) (Serve call) end (view_of now known_now)
-        ended end ends = cause_by (λ (x : Stop). EndsBecause meaning decls (view_of old es) (Serve call) x (view_of now known_now)) outcome end ends
+        ended : (end : Stop) → commit_end outcome ≡ Some end → EndsBecause meaning decls (view_of old es) (script_step.Call call) end (view_of now known_now)
+        ended end ends = cause_by (λ (x : Stop). EndsBecause meaning decls (view_of old es) (script_step.Call call) x (view_of now known_now)) outcome end ends
             (λ failed. rose_by meaning decls.text stage (journal_view old.journal es) (journal_view j (known_by stage outcome es intent t)) intent t
             (subst (λ (o : Appended). AppendsUpTo meaning decls.text stage (journal_view old.journal es) intent t o (journal_view j (known_by stage outcome es intent t))) failed so))
             (λ len. inl (call, refl)) tt
 
         abbrev text_now : List ℕ
-        text_now = commit_text decls.names call stage outcome (length (take known kept.history))
+        text_now = commit_text decls.names call stage outcome (length (take known kept.state.history))
 
         -- it is served, or the run ends, by the outcome
         served_as : (end : Option Stop) → end ≡ commit_end outcome → ServesTo meaning decls (view_of old es) call text_now end (view_of now known_now)
@@ -456,9 +444,9 @@ module _ {D : Type 0} (meaning : DiskMeaning D) (only_now : (d : D) (c : List �
         -- or it was stopped before it was decided, and the run ends for want of memory
         stopped_as : (stage ≡ Settled → ⊥) → outcome ≡ appended.Stopped → ServesTo meaning decls (view_of old es) call text_now (Some ending.Memory) (view_of now known_now)
         stopped_as unsettled stops = (
-          subst (λ (text : List ℕ). Breaks meaning decls (view_of old es) (Serve call) text ending.Memory (view_of now known_now))
-              (sym (ap (λ (o : Appended). commit_text decls.names call stage o (length (take known kept.history))) stops
-              ∙ stopped_text decls.names call stage (length (take known kept.history)) unsettled))
+          subst (λ (text : List ℕ). Breaks meaning decls (view_of old es) (script_step.Call call) text ending.Memory (view_of now known_now))
+              (sym (ap (λ (o : Appended). commit_text decls.names call stage o (length (take known kept.state.history))) stops
+              ∙ stopped_text decls.names call stage (length (take known kept.state.history)) unsettled))
               (Breaks.stopped call stage (view_of now known_now) is.running due unsettled
               (subst (λ (o : Appended). Commits meaning decls (view_of old es) call stage o (view_of now known_now)) stops commits)),
           tt,
@@ -492,8 +480,8 @@ module _ {D : Type 0} (meaning : DiskMeaning D) (only_now : (d : D) (c : List �
 
       module _ (state : past.state ≡ old.past.state)
           (open_now : (outcome ≡ appended.Stopped → ⊥) → (outcome ≡ appended.Failed → ⊥) → IsOpen meaning j decls.text (known_by stage outcome es intent t)) where
-        more : past.history ≡ behind
-        more = begun.pending
+        more : past.state.history ≡ behind
+        more = ap (λ (x : State). x.history) state ∙ is.behind.history
 
         -- its number is taken, and again by its decision and its end
         taken : TakesNumber old.past.numbers past.numbers (number_of intent)
@@ -516,28 +504,19 @@ module _ {D : Type 0} (meaning : DiskMeaning D) (only_now : (d : D) (c : List �
             (named_more past.numbers past.numbers (es ++ intent ∷ []) (entry.Decide t)
             (named_more old.past.numbers past.numbers es intent is.up.named taken) again) again
 
-        module _ (state_now : State) where
+        module _ (state_now : State) (known_at : take (count_then stage old.known (length past.state.history)) state_now.history ≡ known_then stage before call) where
           abbrev kept_past : Stage → Past
-          kept_past s = record { numbers = past.numbers; history = kept_then s old.known past.history; state = state_now }
+          kept_past s = record { numbers = past.numbers; state = state_now; pending = pending_behind s past.pending }
 
           -- the controller behind the commit
           abbrev at : Stage → Controller D
-          at s = record { journal = j; up = up_behind outcome old.up; past = kept_past s; known = count_then s old.known (length past.history) }
+          at s = record { journal = j; up = up_behind outcome old.up; past = kept_past s; known = count_then s old.known (length past.state.history) }
 
-          known_at : (s : Stage) → take (count_then s old.known (length past.history)) (kept_then s old.known past.history) ≡ known_then s before call
-          known_at s = ap (λ (h : List Call). take (count_then s old.known (length h)) (kept_then s old.known h)) more
-              ∙ ap (λ (n : ℕ). take (count_then s n (length behind)) (kept_then s n behind)) is.up.all ∙ kept_known s
-
-          pending_at : (s : Stage) → drop (count_then s old.known (length past.history)) (kept_then s old.known past.history) ≡ pending_then s call
-          pending_at s = ap (λ (h : List Call). drop (count_then s old.known (length h)) (kept_then s old.known h)) more
-              ∙ ap (λ (n : ℕ). drop (count_then s n (length behind)) (kept_then s n behind)) is.up.all ∙ kept_pending s
-
-          within_at : (s : Stage) → count_then s old.known (length past.history) ≤ length (kept_then s old.known past.history)
-          within_at s = subst (λ (h : List Call). count_then s old.known (length h) ≤ length (kept_then s old.known h)) (sym more)
-              (subst (λ (n : ℕ). count_then s n (length behind) ≤ length (kept_then s n behind)) (sym is.up.all) (kept_within s))
+          pending_at : pending_behind stage past.pending ≡ pending_then stage call
+          pending_at = ap (pending_behind stage) begun.pending ∙ pending_is_then stage
 
           rests_at : Rests meaning decls (view_of (at stage) known_now)
-          rests_at = rests_now (up_behind outcome old.up) (kept_past stage) (count_then stage old.known (length past.history)) (known_at stage) (pending_at stage)
+          rests_at = rests_now (up_behind outcome old.up) (kept_past stage) (count_then stage old.known (length past.state.history)) known_at pending_at
               (up_is outcome old.up is.running)
 
           up_settled : outcome ≡ appended.Done → stage ≡ Settled → IsUp meaning decls known_now (at stage)
@@ -548,13 +527,14 @@ module _ {D : Type 0} (meaning : DiskMeaning D) (only_now : (d : D) (c : List �
               let here : IsUp meaning decls (known_by Settled appended.Done es intent t) (at Settled) = record {
                 holds = held.holds;
                 ordered = have_end.ordered;
-                decided = have_end.decided ∙ sym more;
+                decided = have_end.decided
+                    ∙ sym (subst (λ (s : Stage). take (count_then s old.known (length past.state.history)) state_now.history ≡ known_then s before call) last known_at);
+                none = refl;
                 numbers = numbers_all;
                 filled = begun.number.takes.filled;
                 named = named_all;
                 running = held.running;
                 limit = limit_of meaning decls.text stage (journal_view old.journal es) (journal_view j (known_by stage outcome es intent t)) intent t outcome so ∙ is.up.limit;
-                all = refl;
               } in
               subst (λ (s : Stage). IsUp meaning decls (known_by s outcome es intent t) (at s)) (sym last)
               (subst (λ (o : Appended). IsUp meaning decls (known_by Settled o es intent t) (at Settled)) (sym done) here)
@@ -562,14 +542,14 @@ module _ {D : Type 0} (meaning : DiskMeaning D) (only_now : (d : D) (c : List �
           -- the decision was appended, and the run goes on
           knows_settled : stage ≡ Settled → (outcome ≡ appended.Done) ⊎ (outcome ≡ appended.Stopped) → state_now ≡ past.state → Knows meaning decls known_now (at stage)
           knows_settled last which kept =
-              let same = kept ∙ state in
-              let known : take (count_then stage old.known (length past.history)) (kept_then stage old.known past.history) ≡ behind =
-              known_at stage ∙ ap (λ (s : Stage). known_then s before call) last in
+              let known : take (count_then stage old.known (length past.state.history)) state_now.history ≡ behind =
+              known_at ∙ ap (λ (s : Stage). known_then s before call) last in
               record {
-                within = within_at stage;
+                within = subst (λ (s : Stage). count_then s old.known (length past.state.history) ≤ length state_now.history) (sym last)
+                    (subst (λ (x : State). length past.state.history ≤ length x.history) (sym kept) (omega arith));
                 behind = record {
-                  state = same ∙ is.behind.state ∙ ap (λ (l : List Call). state_of decls l) (sym known);
-                  kept = subst (λ (s : State). IsStateOf decls s) (sym same) is.behind.kept;
+                  history = ap (λ (x : State). x.history) kept ∙ more ∙ sym known;
+                  state = subst (IsStateUnder decls) (sym (kept ∙ state)) is.behind.state;
                 };
                 legal = subst (λ (l : List Call). IsLegal decls l) (sym known) legal_new;
                 rests = rests_at;
@@ -577,16 +557,17 @@ module _ {D : Type 0} (meaning : DiskMeaning D) (only_now : (d : D) (c : List �
               }
 
           -- it was not, and the disk is stopped
-          knows_stopped : (stage ≡ Settled → ⊥) → outcome ≡ appended.Stopped → IsBehind decls (kept_past stage) (take old.known past.history) → Knows meaning decls known_now (at stage)
+          knows_stopped : (stage ≡ Settled → ⊥) → outcome ≡ appended.Stopped → IsBehind decls (kept_past stage) (take old.known past.state.history)
+              → Knows meaning decls known_now (at stage)
           knows_stopped unsettled stops has =
-              let opened : take old.known past.history ≡ before = ap (take old.known) more ∙ ap (λ (n : ℕ). take n behind) is.up.all ∙ opens in
-              let known : take (count_then stage old.known (length past.history)) (kept_then stage old.known past.history) ≡ before = known_at stage ∙ known_unsettled stage unsettled in
+              let opened : take old.known past.state.history ≡ before = ap (λ (x : State). take old.known x.history) state in
+              let known : take (count_then stage old.known (length past.state.history)) state_now.history ≡ before = known_at ∙ known_unsettled stage unsettled in
+              let count = count_unsettled stage old.known (length past.state.history) unsettled in
+              let long : length (take old.known past.state.history) ≡ old.known =
+              length-take-le old.known past.state.history (subst (λ (x : State). old.known ≤ length x.history) (sym state) is.within) in
               record {
-                within = within_at stage;
-                behind = record {
-                  state = has.state ∙ ap (λ (l : List Call). state_of decls l) (opened ∙ sym known);
-                  kept = has.kept;
-                };
+                within = omega (arith, count, long, ap (λ (l : List Call). length l) has.history);
+                behind = record { history = has.history ∙ opened ∙ sym known; state = has.state };
                 legal = subst (λ (l : List Call). IsLegal decls l) (sym known) is.legal;
                 rests = rests_at;
                 up = λ on. let d = down_is outcome old.up stops in absurd cc;
@@ -598,21 +579,39 @@ module _ {D : Type 0} (meaning : DiskMeaning D) (only_now : (d : D) (c : List �
             → LeadsTo meaning decls (view_of old es) call (Ok (record { text = text; end = end })) new
         came text end new says comes =
             let q = new.past.state in
-            let n = count_then stage old.known (length past.history) in
+            let n = count_then stage old.known (length past.state.history) in
             subst (λ (x : Controller D). LeadsTo meaning decls (view_of old es) call (Ok (record { text = text; end = end })) x) (sym comes.is)
-            (leads (up_behind outcome old.up) (kept_past q stage) n (known_at q stage) (pending_at q stage) (up_is outcome old.up is.running) text end
-            (says ∙ text_of decls.names call stage outcome before ∙ ap (λ (l : List Call). commit_text decls.names call stage outcome (length l)) (sym (known_at q stage)))
+            (leads (up_behind outcome old.up) (kept_past q known_here stage) n known_here (pending_at q known_here) (up_is outcome old.up is.running) text end
+            (says ∙ text_of decls.names call stage outcome before ∙ ap (λ (l : List Call). commit_text decls.names call stage outcome (length l)) (sym known_here))
             comes.ends comes.settled_ends (λ none. on stage refl none))
           where
-            stopped_here : end ≡ None → (stage ≡ Settled → ⊥) → Knows meaning decls known_now (at new.past.state stage)
+            unsettled_known : (stage ≡ Settled → ⊥) → take (count_then stage old.known (length past.state.history)) new.past.state.history ≡ known_then stage before call
+            unsettled_known unsettled =
+                ap (λ (n : ℕ). take n new.past.state.history) (count_unsettled stage old.known (length past.state.history) unsettled)
+                ∙ comes.unsettled_known unsettled ∙ ap (λ (x : State). take old.known x.history) state ∙ sym (known_unsettled stage unsettled)
+
+            settled_known : stage ≡ Settled → take (count_then stage old.known (length past.state.history)) new.past.state.history ≡ known_then stage before call
+            settled_known last =
+                subst (λ (s : Stage). take (count_then s old.known (length past.state.history)) new.past.state.history ≡ known_then s before call) (sym last)
+                (ap (λ (x : State). take (length past.state.history) x.history) (comes.settled_state last) ∙ take-length past.state.history ∙ more)
+
+            known_by_stage : (s : Stage) → stage ≡ s → take (count_then stage old.known (length past.state.history)) new.past.state.history ≡ known_then stage before call
+            known_by_stage Intent e = unsettled_known (λ h. let z : Intent ≡ Settled = sym e ∙ h in absurd cc)
+            known_by_stage Decide e = unsettled_known (λ h. let z : Decide ≡ Settled = sym e ∙ h in absurd cc)
+            known_by_stage Settled e = settled_known e
+
+            known_here : take (count_then stage old.known (length past.state.history)) new.past.state.history ≡ known_then stage before call
+            known_here = known_by_stage stage refl
+
+            stopped_here : end ≡ None → (stage ≡ Settled → ⊥) → Knows meaning decls known_now (at new.past.state known_here stage)
             stopped_here none unsettled =
                 let stops : outcome ≡ appended.Stopped = ⊎_elim
                 (λ done. absurd (unfinished meaning decls.text stage (journal_view old.journal es) (journal_view j (known_by stage outcome es intent t)) intent t outcome unsettled so done))
                 (λ stops. stops) (goes_behind outcome (subst (EndsBehind outcome) none comes.ends)) in
                 let has = comes.stopped_state unsettled stops none in
-                knows_stopped new.past.state unsettled stops (record { state = has.state; kept = has.kept })
+                knows_stopped new.past.state known_here unsettled stops (record { history = has.history; state = has.state })
 
-            on : (s : Stage) → stage ≡ s → end ≡ None → Knows meaning decls known_now (at new.past.state stage)
+            on : (s : Stage) → stage ≡ s → end ≡ None → Knows meaning decls known_now (at new.past.state known_here stage)
             on Intent e none = stopped_here none (λ h. let z : Intent ≡ Settled = sym e ∙ h in absurd cc)
             on Decide e none = stopped_here none (λ h. let z : Decide ≡ Settled = sym e ∙ h in absurd cc)
-            on Settled e none = knows_settled new.past.state e (goes_on outcome (sym none ∙ comes.settled_ends e)) (comes.settled_state e)
+            on Settled e none = knows_settled new.past.state known_here e (goes_on outcome (sym none ∙ comes.settled_ends e)) (comes.settled_state e)

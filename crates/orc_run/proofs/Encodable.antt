@@ -39,15 +39,14 @@ use Rattle.orc_call.specs.declared.call.Action.{Action}
 use Rattle.orc_call.specs.declared.call.Action.TheVariants.{Create, Modify, Redeploy, Literal, Delete, Set, Unset, BasePut, BaseRemove}
 use Rattle.orc_call.specs.declared.call.DevicePut.{DevicePut}
 use Rattle.orc_call.specs.declared.call.TheConstants.{MOST_ACTIONS}
-use Rattle.orc_state.specs.States.{is_same_text, names_of}
-use Rattle.orc_state.specs.Actions.{services_once}
-use Rattle.orc_state.specs.States.{put_all}
-use Rattle.orc_state.specs.Calls.{are_below, blank_item, device_named, has_body, is_body, is_body_item, is_data_item, is_put, is_served, is_service, is_service_path, is_action, is_call, is_data_path, is_item_at, is_item_under, is_kept, is_lawful_item, is_lawful_name, is_path_under, is_write, schema_named}
-use Rattle.orc_state.specs.Declarations.{AreDecls}
-use Rattle.orc_state.specs.declared.declarations.Decls.{Decls}
-use Rattle.orc_state.specs.declared.lawful.TheConstants.{MOST_WRITES}
-use Rattle.orc_state.proofs.Declared.{declared-named, names-lawful}
-use Rattle.orc_state.proofs.Fits.{call-actions, data-item, item-under, write-item}
+use Rattle.orc_decls.specs.Devices.{is_same_text, names_of}
+use Rattle.orc_decls.specs.Calls.{services_once, are_below, blank_item, device_named, has_body, is_body, is_body_item, is_data_item, is_put, is_served, is_service, is_service_path, is_action, is_call, is_data_path, is_item_at, is_item_under, is_kept, is_lawful_item, is_lawful_name, is_path_under, is_write, schema_named}
+use Rattle.orc_decls.specs.Openings.{put_all}
+use Rattle.orc_decls.specs.Declarations.{AreDecls}
+use Rattle.orc_decls.specs.declared.declarations.Decls.{Decls}
+use Rattle.orc_decls.specs.declared.lawful.TheConstants.{MOST_WRITES}
+use Rattle.orc_decls.proofs.Declared.{declared-named, names-lawful}
+use Rattle.orc_decls.proofs.Fits.{call-actions, data-item, item-under, write-item}
 
 either : (a b : Bool) → (a || b) ≡ true → (a ≡ true) ⊎ (b ≡ true)
 either true b h = inl refl

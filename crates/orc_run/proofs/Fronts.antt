@@ -4,9 +4,9 @@ use Rattle.std.proofs.lemmas.List.{take-append-drop}
 use Rattle.orc_call.specs.declared.call.Call.{Call}
 use Rattle.orc_journal.specs.Committed.{commits, history_from, history_of}
 use Rattle.orc_journal.specs.declared.entry.Entry.{Entry}
-use Rattle.orc_state.specs.Legal.{IsLegal}
-use Rattle.orc_state.specs.declared.declarations.Decls.{Decls}
-use Rattle.orc_state.proofs.Legality.{legal_front}
+use Rattle.orc_datastore.specs.Legal.{IsLegal}
+use Rattle.orc_decls.specs.declared.declarations.Decls.{Decls}
+use Rattle.orc_datastore.proofs.Legality.{legal_front}
 
 -- a history, one entry more
 history_from-append : (before entries : List Entry) (entry : Entry) → history_from before (entries ++ entry ∷ []) ≡ history_from before entries ++ commits (before ++ entries) entry

@@ -4,7 +4,7 @@ use Rattle.orc_call.specs.declared.call.Call.{Call}
 use Rattle.orc_journal.specs.Committed.{history_of}
 use Rattle.orc_journal.proofs.Unique.{one_journal, gated_is_journal}
 use Rattle.orc_journal.proofs.Accepted.{not_empty}
-use Rattle.orc_state.specs.declared.declarations.Decls.{Decls}
+use Rattle.orc_decls.specs.declared.declarations.Decls.{Decls}
 use Rattle.orc_run.specs.Views.{Decodes, HasHistory}
 
 pub one_history : (decls : Decls) (file : List ℕ) (learned held : List Call) → HasHistory decls file learned → Decodes decls file held → learned ≡ held

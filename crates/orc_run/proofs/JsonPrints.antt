@@ -16,20 +16,20 @@ use Rattle.orc_schema.specs.Schemas.{SchemaTable, plain_table}
 use Rattle.orc_schema.specs.Sound.{IsSound}
 use Rattle.orc_json.specs.TypedJson.{IsTypedConfig, TypedHasJson}
 use Rattle.orc_call.specs.declared.call.Call.{Call}
-use Rattle.orc_state.specs.States.{is_same_text, name_of, names_of, tree_due}
-use Rattle.orc_state.specs.Calls.{device_named, is_action, is_call, is_device, is_device_under, is_lawful_name, schema_in}
-use Rattle.orc_state.specs.Laws.{AreActions, TreeIsConfiguration, TreeIsTyped}
-use Rattle.orc_state.proofs.Fits.{call-actions, list_all-read}
-use Rattle.orc_state.specs.Declarations.{AreDecls}
-use Rattle.orc_state.specs.Legal.{IsLegal, state_of}
-use Rattle.orc_state.specs.declared.declarations.Decls.{Decls}
-use Rattle.orc_state.specs.declared.declarations.Device.{Device}
-use Rattle.orc_state.specs.States.{State}
+use Rattle.orc_decls.specs.Devices.{is_same_text, name_of, names_of}
+use Rattle.orc_datastore.specs.States.{tree_due, Datastore}
+use Rattle.orc_decls.specs.Calls.{device_named, is_action, is_call, is_device, is_device_under, is_lawful_name, schema_in}
+use Rattle.orc_datastore.specs.Laws.{AreActions, TreeIsConfiguration, TreeIsTyped}
+use Rattle.orc_decls.proofs.Fits.{call-actions, list_all-read}
+use Rattle.orc_decls.specs.Declarations.{AreDecls}
+use Rattle.orc_datastore.specs.Legal.{IsLegal, state_of}
+use Rattle.orc_decls.specs.declared.declarations.Decls.{Decls}
+use Rattle.orc_decls.specs.declared.declarations.Device.{Device}
 use Rattle.orc_print.specs.Printed.{IsJsonGroup, json_line}
 use Rattle.orc_run.specs.Steps.{PrintsJson, device_schema}
 
 -- where there is a JSON value, one line is printed
-pub json_one : (decls : Decls) (state : State) (d : ℕ) (text text' : List ℕ) → PrintsJson decls state d text → PrintsJson decls state d text' → text ≡ text'
+pub json_one : (decls : Decls) (state : Datastore) (d : ℕ) (text text' : List ℕ) → PrintsJson decls state d text → PrintsJson decls state d text' → text ≡ text'
 json_one decls state d text text' p q =
     let ms = p.0 in
     p.1.2 ∙ ap (json_line (name_of decls.names d)) (p.1.1 ms.0 ms.1 ∙ sym (q.1.1 ms.0 ms.1)) ∙ sym q.1.2
@@ -90,14 +90,14 @@ tree_typed config law decls history d are legal =
     }
 
 -- the tree of a device with a type has a JSON value, and this is printed of it
-pub prints_json : (decls : Decls) (history : List Call) (d : ℕ) (state : State) (tree : Config) (names : List (List ℕ)) (name : List ℕ) (schema : SchemaTable) (bytes row : List ℕ)
+pub prints_json : (decls : Decls) (history : List Call) (d : ℕ) (state : Datastore) (tree : Config) (names : List (List ℕ)) (name : List ℕ) (schema : SchemaTable) (bytes row : List ℕ)
     → TypedHasJson → TreeIsConfiguration → TreeIsTyped → AreDecls decls → All IsSound decls.schemas → IsLegal decls history → (device_schema decls d).plain ≡ false
     → state ≡ state_of decls history → tree ≡ tree_due state d → name ≡ name_of names d → names ≡ decls.names → schema ≡ device_schema decls d
     → IsJsonGroup name schema tree bytes → row ≡ bytes → PrintsJson decls (state_of decls history) d row
 prints_json decls history d state tree names name schema bytes row law config typing are all legal typed behind due named own under group same = (
   law (device_schema decls d) (tree_due (state_of decls history) d) (device_sound decls d all typed) typed (tree_typed config typing decls history d are legal),
   subst (λ (t : List ℕ). IsJsonGroup (name_of decls.names d) (device_schema decls d) (tree_due (state_of decls history) d) t) (sym same)
-      (subst (λ (c : Config). IsJsonGroup (name_of decls.names d) (device_schema decls d) c bytes) (due ∙ ap (λ (s : State). tree_due s d) behind)
+      (subst (λ (c : Config). IsJsonGroup (name_of decls.names d) (device_schema decls d) c bytes) (due ∙ ap (λ (s : Datastore). tree_due s d) behind)
       (subst (λ (s : SchemaTable). IsJsonGroup (name_of decls.names d) s tree bytes) under
       (subst (λ (n : List ℕ). IsJsonGroup n schema tree bytes) (named ∙ ap (λ (ns : List (List ℕ)). name_of ns d) own) group))),
 )

@@ -13,14 +13,14 @@ use Rattle.orc_run.specs.Ends.{IsSubsequence, calls_in, RunsUntil, KeepsAll}
 use Rattle.orc_disk.specs.Meanings.{DiskMeaning}
 use Rattle.orc_run.specs.Runs.StepsDone.{begun, one_more}
 use Rattle.orc_run.specs.Ends.IsSubsequence.{none, skip, take}
-use Rattle.orc_state.specs.declared.declarations.Decls.{Decls}
+use Rattle.orc_decls.specs.declared.declarations.Decls.{Decls}
 use Rattle.orc_script.specs.declared.step.ScriptStep.{ScriptStep}
 use Rattle.orc_script.specs.declared.step.ScriptStep.TheVariants as step
 use Rattle.orc_run.specs.declared.stop.Stop.{Stop}
 
 calls_in-append : (steps more : List ScriptStep) → calls_in (steps ++ more) ≡ calls_in steps ++ calls_in more
 calls_in-append [] more = refl
-calls_in-append (step.Serve call ∷ steps) more = ap (λ (l : List Call). call ∷ l) (calls_in-append steps more)
+calls_in-append (step.Call call ∷ steps) more = ap (λ (l : List Call). call ∷ l) (calls_in-append steps more)
 calls_in-append (other ∷ steps) more = calls_in-append steps more
 
 some_of_more : (some calls more : List Call) → IsSubsequence some calls → IsSubsequence some (calls ++ more)
@@ -109,8 +109,8 @@ module _ {D : Type 0} where
   adds_step meaning decls first w new calls (step.Show d) text told so does = adds_equal first w new calls so does.1
   adds_step meaning decls first w new calls (step.Json d) text told so does = adds_equal first w new calls so does.1
   adds_step meaning decls first w new calls (step.Meta d path) text told so does = adds_equal first w new calls so does.1
-  adds_step meaning decls first w new calls step.Data text told so does = adds_equal first w new calls so does.1
-  adds_step meaning decls first w new calls (step.Serve call) text told so does = adds_serve meaning decls first w new calls call text so does
+  adds_step meaning decls first w new calls step.ShowData text told so does = adds_equal first w new calls so does.1
+  adds_step meaning decls first w new calls (step.Call call) text told so does = adds_serve meaning decls first w new calls call text so does
   adds_step meaning decls first w new calls step.Settle text told so does = adds_equal first w new calls so does.1
   adds_step meaning decls first w new calls step.Stop text told so does = adds_same first w new calls [] so (ap (λ (x : View D). x.known) does.1) (ap (λ (x : View D). x.pending) does.1)
   adds_step meaning decls first w new calls (step.StopAt call bytes) text told so does = adds_armed first w new calls w.up call bytes so does.1

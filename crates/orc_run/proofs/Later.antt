@@ -4,7 +4,7 @@ use Rattle.orc_call.specs.declared.call.Call.{Call}
 use Rattle.orc_disk.specs.Meanings.{DiskMeaning}
 use Rattle.orc_disk.specs.Moments.{LeavesOnly}
 use Rattle.orc_disk.proofs.Moments.{joined, weaker}
-use Rattle.orc_state.specs.declared.declarations.Decls.{Decls}
+use Rattle.orc_decls.specs.declared.declarations.Decls.{Decls}
 use Rattle.orc_script.specs.declared.step.ScriptStep.{ScriptStep}
 use Rattle.orc_script.specs.declared.step.ScriptStep.TheVariants as step
 use Rattle.orc_run.specs.Views.{View, IsKept, Outlives, Rests}
@@ -46,8 +46,8 @@ module _ {D : Type 0} (meaning : DiskMeaning D) (decls : Decls) where
   front_step old new (step.Show d) text told does = front_equal old new does.1
   front_step old new (step.Json d) text told does = front_equal old new does.1
   front_step old new (step.Meta d path) text told does = front_equal old new does.1
-  front_step old new step.Data text told does = front_equal old new does.1
-  front_step old new (step.Serve call) text told does = front_serves old new call text does
+  front_step old new step.ShowData text told does = front_equal old new does.1
+  front_step old new (step.Call call) text told does = front_serves old new call text does
   front_step old new step.Settle text told does = front_equal old new does.1
   front_step old new step.Stop text told does = front_same old.known new.known (ap (λ (v : View D). v.known) does.1)
   front_step old new (step.StopAt k b) text told does = front_armed old new k b old.up does.1

@@ -2,8 +2,7 @@ mod Ruled
 mod Refusals
 mod Encodable
 mod Pasts
-mod Equality
-mod AtOnce
+mod Replayed
 mod Ranges
 mod JsonPrints
 mod Rising
@@ -13,7 +12,6 @@ mod Runs
 mod Keeps
 mod Tops
 mod Histories
-mod Finding
 mod Fronts
 mod Openings
 mod Recoveries
@@ -32,4 +30,3 @@ mod Later
 mod Acknowledged
 mod Behind
 mod Committing
-mod Shorts

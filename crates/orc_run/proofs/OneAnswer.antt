@@ -6,9 +6,9 @@ use Rattle.std.proofs.lemmas.List.Elements.{All-nil, All-cons, All-append, All-t
 use Rattle.orc_call.specs.declared.call.Call.{Call}
 use Rattle.orc_call.specs.declared.answer.Answer.{Answer}
 use Rattle.orc_call.specs.declared.answer.Answer.TheVariants.{Committed, Reused}
-use Rattle.orc_state.specs.Legal.{AnswersAtOnce, AreDistinct, IsDue, IsNew, IsSame}
-use Rattle.orc_state.specs.Legal.AnswersAtOnce.{again, reused, refused}
-use Rattle.orc_state.specs.declared.declarations.Decls.{Decls}
+use Rattle.orc_datastore.specs.Legal.{AnswersAtOnce, AreDistinct, IsDue, IsNew, IsSame}
+use Rattle.orc_datastore.specs.Legal.AnswersAtOnce.{again, reused, refused}
+use Rattle.orc_decls.specs.declared.declarations.Decls.{Decls}
 
 flip : (a b : Call) → IsSame a b → IsSame b a
 flip a b same = (sym same.0, sym same.1)

@@ -13,8 +13,8 @@ use Rattle.orc_disk.specs.Stops.{Stopping, inside}
 use Rattle.orc_append.specs.Views.{unstopped}
 use Rattle.orc_run.specs.Opening.{IsOpened}
 use Rattle.orc_print.specs.Printed.{recovered_line}
-use Rattle.orc_state.specs.Legal.{AreDistinct}
-use Rattle.orc_state.specs.declared.declarations.Decls.{Decls}
+use Rattle.orc_datastore.specs.Legal.{AreDistinct}
+use Rattle.orc_decls.specs.declared.declarations.Decls.{Decls}
 use Rattle.orc_script.specs.declared.step.ScriptStep.{ScriptStep}
 use Rattle.orc_run.specs.Views.{View, HasHistory}
 use Rattle.orc_run.specs.Runs.{StepsDone}

@@ -18,12 +18,13 @@ use Rattle.orc_run.specs.Opening.{IsOpened, IsPastFault, IsRefused, stop_of}
 use Rattle.orc_run.specs.declared.stop.Stop.{Stop}
 use Rattle.std.specs.Result.{IfOk, IfErr, MatchResult}
 use Rattle.orc_journal.specs.declared.entry.Entry.{Entry}
-use Rattle.orc_state.specs.Legal.{IsLegal}
-use Rattle.orc_run.specs.inside.Pasts.{IsBehind, IsPast}
+use Rattle.orc_datastore.specs.Legal.{IsLegal}
+use Rattle.orc_run.specs.inside.Pasts.{IsPast}
+use Rattle.orc_run.proofs.Pasts.{past_legal}
 use Rattle.orc_run.specs.Views.{View, IsKept, Rests}
 use Rattle.orc_run.specs.inside.Controllers.{known_of, view_of, Knows, Opens}
 use Rattle.orc_disk.specs.Meanings.{DiskMeaning}
-use Rattle.orc_state.specs.declared.declarations.Decls.{Decls}
+use Rattle.orc_decls.specs.declared.declarations.Decls.{Decls}
 use Rattle.orc_run.specs.declared.controller.Controller.{Controller}
 
 kept : {D : Type 0} (decls : Decls) (w : View D) (entries : List Entry) (file : List ℕ) → IsGated file decls.text entries → IsTrue (is_ordered entries)
@@ -81,7 +82,7 @@ module _ {D : Type 0} (meaning : DiskMeaning D) (decls : Decls) (old : D) (text 
 
 module _ {D : Type 0} (meaning : DiskMeaning D) where
   newly_rests : (decls : Decls) (c : Controller D) (entries : List Entry) → Holds (inside meaning) c.journal decls.text entries
-      → IsTrue (is_ordered entries) → history_of entries ≡ take c.known c.past.history → IsLegal decls (take c.known c.past.history)
+      → IsTrue (is_ordered entries) → history_of entries ≡ known_of c → IsLegal decls (known_of c)
       → Rests meaning decls (view_of c entries)
   newly_rests decls c entries holds ordered decided legal =
       let w = view_of c entries in
@@ -91,28 +92,28 @@ module _ {D : Type 0} (meaning : DiskMeaning D) where
         images = λ file left. subst (λ o. IfSome o (IsKept decls w)) (holds.durable file left) reads;
       }
 
-  pub newly_sound : (decls : Decls) (c : Controller D) (entries : List Entry) → IsPast decls c.past entries → c.known ≡ length c.past.history
+  pub newly_sound : (decls : Decls) (c : Controller D) (entries : List Entry) → IsPast decls c.past entries → c.known ≡ length c.past.state.history
       → Holds (inside meaning) c.journal decls.text entries → IsTrue (is_ordered entries)
       → c.journal.limit ≡ LARGEST_JOURNAL → c.journal.disk.stopped ≡ false → Knows meaning decls entries c
   newly_sound decls c entries past all holds ordered limit running =
-      let whole : take c.known c.past.history ≡ c.past.history = ap (λ n. take n c.past.history) all ∙ take-length c.past.history in
-      let decided : history_of entries ≡ take c.known c.past.history = sym past.history ∙ sym whole in
-      let legal : IsLegal decls (take c.known c.past.history) = subst (λ (h : List Call). IsLegal decls h) decided past.legal in
+      let whole : known_of c ≡ c.past.state.history = ap (λ n. take n c.past.state.history) all ∙ take-length c.past.state.history in
+      let decided : history_of entries ≡ known_of c = sym past.behind.history ∙ sym whole in
+      let legal : IsLegal decls (known_of c) = subst (λ (h : List Call). IsLegal decls h) decided (past_legal decls c.past (history_of entries) past.behind) in
       record {
         within = omega (arith, all);
-        behind = subst (λ (h : List Call). IsBehind decls c.past h) decided past.behind;
+        behind = record { history = past.behind.history ∙ decided; state = past.behind.state };
         legal = legal;
         rests = newly_rests decls c entries holds ordered decided legal;
         up = λ u. record {
           holds = holds;
           ordered = ordered;
-          decided = sym past.history;
+          decided = decided;
+          none = past.none;
           numbers = past.numbers;
           filled = past.filled;
           named = past.named;
           running = running;
           limit = limit;
-          all = all;
         };
       }
 

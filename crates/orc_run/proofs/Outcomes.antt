@@ -13,7 +13,7 @@ use Rattle.orc_run.specs.Views.{View, IsKept, Rests, Outlives}
 use Rattle.orc_run.specs.Steps.{Breaks, Does, EndsBecause, FailsToRecover}
 use Rattle.orc_run.specs.inside.Controllers.{view_of, IsSound, StepsTo, Wants, StepResult, ends_run}
 use Rattle.orc_disk.specs.Meanings.{DiskMeaning}
-use Rattle.orc_state.specs.declared.declarations.Decls.{Decls}
+use Rattle.orc_decls.specs.declared.declarations.Decls.{Decls}
 use Rattle.orc_script.specs.declared.step.ScriptStep.{ScriptStep}
 use Rattle.orc_script.specs.declared.step.ScriptStep.TheVariants.{Recover, StopAt}
 use Rattle.orc_run.specs.declared.controller.Controller.{Controller}

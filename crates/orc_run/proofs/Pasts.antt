@@ -1,6 +1,6 @@
 -- The past of entries, one entry more.
 use Rattle.std.proofs.Common.{◌⊎◌, ⊎_elim, inl, Bool, ◌||◌, eqb, false, ◌≡◌, ℕ, zero, suc, ◌+◌, ◌<◌, true, List, [], ◌∷◌, ◌++◌, All, IsTrue, None, Some, length, drop, take, get_or, refl, sym, ap, subst, ◌∙◌, append-nil, arith}
-use Rattle.std.proofs.lemmas.List.{take_more}
+use Rattle.std.proofs.lemmas.List.{take-append-drop, take_more}
 use Rattle.std.proofs.lemmas.Option.{slice_get_read}
 use Rattle.std.proofs.lemmas.List.Elements.{All-head, All-tail, All-nil, All-cons, All-append, All-weaker}
 use Rattle.std.proofs.lemmas.List.Folds.{list_any-append}
@@ -12,19 +12,16 @@ use Rattle.orc_journal.specs.Entries.{number_of}
 use Rattle.orc_journal.specs.Committed.{commits, history_of}
 use Rattle.orc_journal.specs.declared.entry.Entry.{Entry}
 use Rattle.orc_journal.specs.declared.entry.Entry.TheVariants.{Intent, Decide, Abort, Settled}
-use Rattle.orc_state.specs.States.{opening}
-use Rattle.orc_state.specs.Next.{IsStateOf, after, refusal}
-use Rattle.orc_state.specs.Histories.{IsUnrefused}
-use Rattle.orc_state.specs.Calls.{is_call}
-use Rattle.orc_state.specs.Legal.{IsLegal, IsDue}
+use Rattle.orc_decls.specs.Calls.{is_call}
+use Rattle.orc_datastore.specs.Legal.{IsLegal, IsDue, state_of}
 use Rattle.orc_run.specs.inside.Pasts.{IsBehind, IsPast}
 use Rattle.orc_run.specs.Opening.{IsIllegalAt}
 use Rattle.orc_run.specs.inside.Transactions.{is_taken, AreNamed, IsFilled, TakesNumber}
-use Rattle.orc_state.specs.declared.declarations.Decls.{Decls}
+use Rattle.orc_decls.specs.declared.declarations.Decls.{Decls}
 use Rattle.orc_run.specs.declared.numbers.Numbers.{Numbers}
 use Rattle.orc_run.specs.declared.past.Past.{Past}
-use Rattle.orc_state.specs.States.{State}
-use Rattle.orc_state.proofs.Legality.{fold_from-push, legal_none, legal_more, legal_last}
+use Rattle.orc_state.specs.States.{IsStateUnder}
+use Rattle.orc_datastore.proofs.Legality.{legal_front, legal_last}
 use Rattle.orc_run.proofs.Fronts.{history_of-append}
 
 -- the numbers of entries are taken, with one more
@@ -69,7 +66,7 @@ named_taken numbers t (e ∷ entries) all named =
 -- an entry that commits nothing
 pub past_same : (decls : Decls) (old : Past) (numbers : Numbers) (before : List Entry) (entry : Entry) → IsPast decls old before → commits before entry ≡ []
     → TakesNumber old.numbers numbers (number_of entry)
-    → IsPast decls (record { numbers = numbers; history = old.history; state = old.state }) (before ++ entry ∷ [])
+    → IsPast decls (record { numbers = numbers; state = old.state; pending = old.pending }) (before ++ entry ∷ [])
 past_same decls old numbers before entry past none takes =
     let e : history_of before ≡ history_of (before ++ entry ∷ []) =
     sym (history_of-append before entry ∙ ap (λ (l : List Call). history_of before ++ l) none ∙ append-nil (history_of before)) in
@@ -77,39 +74,36 @@ past_same decls old numbers before entry past none takes =
       numbers = all_taken old.numbers numbers before entry past.numbers takes;
       filled = takes.filled;
       named = named_more old.numbers numbers before entry past.named takes;
-      history = past.history ∙ e;
-      legal = subst (λ (l : List Call). IsLegal decls l) e past.legal;
-      behind = subst (λ (l : List Call). IsBehind decls (record { numbers = numbers; history = old.history; state = old.state }) l) e
-          (record { state = past.behind.state; kept = past.behind.kept });
+      none = past.none;
+      behind = record { history = past.behind.history ∙ e; state = past.behind.state };
     }
 
 -- an entry that commits a call
 pub past_more : (decls : Decls) (old new : Past) (before : List Entry) (entry : Entry) (call : Call) → IsPast decls old before → commits before entry ≡ call ∷ []
-    → TakesNumber old.numbers new.numbers (number_of entry)
-    → IsTrue (is_call decls call) → IsDue decls old.history call → new.history ≡ old.history ++ call ∷ [] → IsBehind decls new new.history
+    → TakesNumber old.numbers new.numbers (number_of entry) → new.pending ≡ old.pending → IsBehind decls new (old.state.history ++ call ∷ [])
     → IsPast decls new (before ++ entry ∷ [])
-past_more decls old new before entry call past one takes lawful due more behind =
+past_more decls old new before entry call past one takes still behind =
     let e : history_of before ++ call ∷ [] ≡ history_of (before ++ entry ∷ []) =
     sym (history_of-append before entry ∙ ap (λ (l : List Call). history_of before ++ l) one) in
-    let h : new.history ≡ history_of (before ++ entry ∷ []) = more ∙ ap (λ (l : List Call). l ++ call ∷ []) past.history ∙ e in
     record {
       numbers = all_taken old.numbers new.numbers before entry past.numbers takes;
       filled = takes.filled;
       named = named_more old.numbers new.numbers before entry past.named takes;
-      history = h;
-      legal = subst (λ (l : List Call). IsLegal decls l) e
-          (legal_more decls (history_of before) call past.legal lawful (subst (λ (l : List Call). IsDue decls l call) past.history due));
-      behind = subst (λ (l : List Call). IsBehind decls new l) h behind;
+      none = still ∙ past.none;
+      behind = record {
+        history = behind.history ∙ ap (λ (l : List Call). l ++ call ∷ []) past.behind.history ∙ e;
+        state = behind.state;
+      };
     }
 
 -- an entry that commits a call after which the history is not legal
 pub past_ends : (decls : Decls) (old : Past) (before : List Entry) (entry : Entry) (call : Call) → IsPast decls old before → commits before entry ≡ call ∷ []
-    → (IsTrue (is_call decls call) → IsDue decls old.history call → ⊥) → IsLegal decls (history_of (before ++ entry ∷ [])) → ⊥
+    → (IsTrue (is_call decls call) → IsDue decls old.state.history call → ⊥) → IsLegal decls (history_of (before ++ entry ∷ [])) → ⊥
 past_ends decls old before entry call past one never legal =
     let e : history_of (before ++ entry ∷ []) ≡ history_of before ++ call ∷ [] =
     history_of-append before entry ∙ ap (λ (l : List Call). history_of before ++ l) one in
     let last = legal_last decls (history_of before) call (subst (λ (l : List Call). IsLegal decls l) e legal) in
-    never last.0 (subst (λ (l : List Call). IsDue decls l call) (sym past.history) last.1)
+    never last.0 (subst (λ (l : List Call). IsDue decls l call) (sym past.behind.history) last.1)
 
 cons_is : (call : Call) (calls : List Call) → [] ≡ call ∷ calls → ⊥
 cons_is call calls e = cc
@@ -121,25 +115,24 @@ decides before (Decide t) call e = (t, refl)
 decides before (Abort t) call e = absurd (cons_is call [] e)
 decides before (Settled t) call e = absurd (cons_is call [] e)
 
--- the state behind a history, one call later
-pub behind_more : (decls : Decls) (old new : Past) (call : Call) → IsBehind decls old old.history
-    → new.state ≡ after decls old.state call → IsStateOf decls new.state → IsBehind decls new (old.history ++ call ∷ [])
-behind_more decls old new call behind done kept = record {
-  state = done ∙ ap (λ (s : State). after decls s call) behind.state ∙ sym (fold_from-push decls (opening decls) old.history call);
-  kept = kept;
-}
-
 -- before any entry
-pub past_none : (decls : Decls) (past : Past) → IsFilled past.numbers → ((t : ℕ) → is_taken past.numbers t ≡ false) → past.history ≡ [] → past.state ≡ opening decls → IsStateOf decls past.state
-    → IsPast decls past []
-past_none decls past filled free none state kept = record {
+pub past_none : (decls : Decls) (past : Past) → IsFilled past.numbers → ((t : ℕ) → is_taken past.numbers t ≡ false) → past.pending ≡ [] → past.state.history ≡ []
+    → IsStateUnder decls past.state → IsPast decls past []
+past_none decls past filled free none empty state = record {
   numbers = All-nil (λ e. is_taken past.numbers (number_of e) ≡ true);
   filled = filled;
   named = λ t taken. let f = free t in absurd cc;
-  history = none;
-  legal = legal_none decls;
-  behind = record { state = state; kept = kept };
+  none = none;
+  behind = record { history = empty; state = state };
 }
+
+-- the history of a past is legal
+pub past_legal : (decls : Decls) (past : Past) (history : List Call) → IsBehind decls past history → IsLegal decls history
+past_legal decls past history behind = subst (λ (l : List Call). IsLegal decls l) behind.history behind.state.legal
+
+-- and its datastore is the one that the history makes
+pub past_store : (decls : Decls) (past : Past) (history : List Call) → IsBehind decls past history → past.state.datastore ≡ state_of decls history
+past_store decls past history behind = behind.state.datastore ∙ ap (state_of decls) behind.history
 
 -- the entries up to a place, and the one there
 upto : (entries : List Entry) (place : ℕ) (entry : Entry) → place < length entries → entry ≡ get_or entries place entry → take place entries ++ entry ∷ [] ≡ take (place + 1) entries
@@ -156,15 +149,19 @@ pub illegal_at : (decls : Decls) (past : Past) (before entries : List Entry) (pl
 illegal_at decls past before entries place entry within is front so h = record {
   t = h.0.0;
   decide = slice_get_read entries (length entries) place entry refl within is ∙ ap Some h.0.1;
-  before = so.legal;
+  before = past_legal decls past (history_of (take place entries)) so.behind;
   illegal =
       λ legal. h.1 (subst (λ (l : List Entry). IsLegal decls (history_of l))
       (sym (ap (λ (l : List Entry). l ++ entry ∷ []) front ∙ upto entries place entry within is)) legal);
 }
 
--- none of the calls that are left is refused where it stands, so the first of them isn't
-pub unrefused_at : (decls : Decls) (state : State) (calls : List Call) (place : ℕ) (call : Call) → place < length calls → call ≡ get_or calls place call
-    → IsUnrefused decls state (drop place calls) → refusal decls state call ≡ None
-unrefused_at decls state [] place call within is h = absurd (omega (arith, within))
-unrefused_at decls state (first ∷ rest) zero call within is h = subst (λ (c : Call). refusal decls state c ≡ None) (sym is) h.0
-unrefused_at decls state (first ∷ rest) (suc place) call within is h = unrefused_at decls state rest place call (omega (arith, within)) is h
+-- each call of a legal history is due where it stands
+pub due_at : (decls : Decls) (calls : List Call) (place : ℕ) (call : Call) → IsLegal decls calls → place < length calls → call ≡ get_or calls place call
+    → IsTrue (is_call decls call) × IsDue decls (take place calls) call
+due_at decls calls place call legal within is =
+    let front : take (place + 1) calls ≡ take place calls ++ call ∷ [] =
+    take_more calls place call within ∙ ap (λ c. take place calls ++ c ∷ []) (sym is) in
+    legal_last decls (take place calls) call
+    (subst (λ (l : List Call). IsLegal decls l) front
+    (legal_front decls (take (place + 1) calls) (drop (place + 1) calls)
+    (subst (λ (l : List Call). IsLegal decls l) (sym (take-append-drop (place + 1) calls)) legal)))

@@ -11,12 +11,12 @@ use Rattle.std.proofs.lemmas.List.Sums.{length-filter, count_by-le-length}
 use Rattle.std.proofs.lemmas.Map.Keys.{sorted_from_strictly_increasing}
 use Rattle.orc_journal.specs.Entries.{AreDevices}
 use Rattle.orc_call.specs.declared.call.Call.{Call}
-use Rattle.orc_state.specs.Next.{expanded_call, expanded_to}
-use Rattle.orc_state.specs.Touched.{is_touched_among, touched_devices}
-use Rattle.orc_state.specs.Declarations.{AreDecls}
-use Rattle.orc_state.specs.declared.declarations.Decls.{Decls}
-use Rattle.orc_state.specs.declared.declarations.Device.{Device}
-use Rattle.orc_state.specs.States.{State}
+use Rattle.orc_datastore.specs.Next.{expanded_call, expanded_to}
+use Rattle.orc_datastore.specs.Touched.{is_touched_among, touched_devices}
+use Rattle.orc_decls.specs.Declarations.{AreDecls}
+use Rattle.orc_decls.specs.declared.declarations.Decls.{Decls}
+use Rattle.orc_decls.specs.declared.declarations.Device.{Device}
+use Rattle.orc_datastore.specs.States.{Datastore}
 
 below : (n : ℕ) → n < 2 ^ 16 → All (λ device. device < 2 ^ 16) (range_with_len 0 n)
 below n few =
@@ -37,7 +37,7 @@ are_devices p n few = record {
 }
 
 -- the devices that a call touches are such numbers
-pub touched_are_devices : (decls : Decls) (state : State) (call : Call) (devices : List ℕ) → AreDecls decls → devices ≡ touched_devices decls state call → AreDevices devices
+pub touched_are_devices : (decls : Decls) (state : Datastore) (call : Call) (devices : List ℕ) → AreDecls decls → devices ≡ touched_devices decls state call → AreDevices devices
 touched_are_devices decls state call devices are is =
     let count : length decls.names ≡ length decls.devices = ap length are.named ∙ length-map decls.devices (λ (d : Device). d.name) in
     subst AreDevices (sym is) (are_devices (is_touched_among decls.names state (expanded_to (expanded_call decls state call))) (length decls.names) (omega (arith, count, are.few)))

@@ -15,14 +15,14 @@ use Rattle.orc_append.specs.Views.{unstopped}
 use Rattle.orc_journal.proofs.Endings.{IsOpening-gated}
 use Rattle.orc_journal.proofs.Unique.{one_journal, gated_is_journal}
 use Rattle.orc_journal.proofs.Accepted.{not_damaged, not_foreign, not_strange, not_empty}
-use Rattle.orc_state.specs.Legal.{IsLegal}
+use Rattle.orc_datastore.specs.Legal.{IsLegal}
 use Rattle.orc_run.specs.Views.{View, IsKept, IsWithin, Rests, HasHistory}
 use Rattle.orc_run.specs.Steps.{Breaks, EndsBecause, FailsToRecover, Recovers}
 use Rattle.orc_run.specs.inside.Controllers.{known_of, pending_of, view_of, Opens, StepsTo, Wants, StepResult, ends_run}
 use Rattle.orc_run.specs.Opening.{IsIllegal, IsOpened, IsRefused, IsRefusedAtOnce, IsRefusedBecause, MayBeOpening}
 use Rattle.orc_disk.specs.Meanings.{DiskMeaning}
 use Rattle.orc_print.specs.Printed.{recovered_line}
-use Rattle.orc_state.specs.declared.declarations.Decls.{Decls}
+use Rattle.orc_decls.specs.declared.declarations.Decls.{Decls}
 use Rattle.orc_script.specs.declared.step.ScriptStep.TheVariants as step
 use Rattle.orc_run.specs.declared.controller.Controller.{Controller}
 use Rattle.orc_run.specs.declared.stop.Stop.{Stop}
@@ -157,7 +157,7 @@ module _ {D : Type 0} (meaning : DiskMeaning D) where
       → IfSome (meaning.content w.disk) (λ file. HasHistory decls file (known_of c)) → w.disk ≡ disk
       → text ≡ recovered_line c.known → Recovers meaning decls w text (view_of c is.entries)
   recovers decls w c text rests disk is up tells at prints = record {
-    prints = prints ∙ ap recovered_line (sym (length-take-le c.known c.past.history is.knows.within));
+    prints = prints ∙ ap recovered_line (sym (length-take-le c.known c.past.state.history is.knows.within));
     up = up.0;
     armed = up.1;
     pending = up.2;

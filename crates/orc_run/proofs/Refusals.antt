@@ -5,10 +5,10 @@ use Rattle.std.specs.declared.option.Option.{Option}
 use Rattle.std.specs.Option.{option_or}
 use Rattle.orc_path.specs.Steps.{PathStep}
 use Rattle.orc_check.specs.Validity.{Breach, broken_of}
-use Rattle.orc_state.specs.States.{lives}
-use Rattle.orc_state.specs.Actions.{data_after, live_after, touched}
-use Rattle.orc_state.specs.Clashes.{clash_at, clash_from, unequal_on}
-use Rattle.orc_state.specs.Next.{clash, existence, existence_of, invalid, refusal, serving_on, expanded_call, expanded_to, unexpanded}
+use Rattle.orc_datastore.specs.States.{lives, Datastore}
+use Rattle.orc_datastore.specs.Actions.{data_after, live_after, touched}
+use Rattle.orc_datastore.specs.Clashes.{clash_at, clash_from, unequal_on}
+use Rattle.orc_datastore.specs.Next.{clash, existence, existence_of, invalid, refusal, serving_on, expanded_call, expanded_to, unexpanded}
 use Rattle.orc_expr.specs.declared.read.Read.{Read}
 use Rattle.orc_template.specs.declared.fault.TheConstants.{NO_VALUE, SELF_CLASH}
 use Rattle.orc_template.specs.Expansions.{Expanding, Failed}
@@ -22,9 +22,8 @@ use Rattle.orc_call.specs.declared.call.Action.TheVariants.{Create, Modify, Rede
 use Rattle.orc_call.specs.declared.call.Call.{Call}
 use Rattle.orc_call.specs.declared.answer.Answer.{Answer}
 use Rattle.orc_call.specs.declared.answer.Answer.TheVariants.{Clash, Exists, Invalid, Missing}
-use Rattle.orc_state.specs.declared.declarations.Decls.{Decls}
-use Rattle.orc_state.specs.declared.state.Service.{Service}
-use Rattle.orc_state.specs.States.{State}
+use Rattle.orc_decls.specs.declared.declarations.Decls.{Decls}
+use Rattle.orc_datastore.specs.declared.datastore.Service.{Service}
 use Rattle.orc_run.proofs.Ruled.{IsRuled, broken_ruled}
 
 -- where there is an answer, it is one that calls get, and names a device among so many
@@ -126,7 +125,7 @@ unexpanded_among : (n : ℕ) (o : Result (List Action) Answer) → AnswersAmong 
 unexpanded_among n (Ok actions) h = tt
 unexpanded_among n (Err answer) h = h
 
-pub refusal-among : FaultsAreNamed → (decls : Decls) (s : State) (call : Call) → IsAmong (length decls.names) (refusal decls s call)
+pub refusal-among : FaultsAreNamed → (decls : Decls) (s : Datastore) (call : Call) → IsAmong (length decls.names) (refusal decls s call)
 refusal-among named decls s call =
     let n = length decls.names in
     let items = data_after call.actions s.data in

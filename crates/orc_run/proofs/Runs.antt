@@ -15,7 +15,7 @@ use Rattle.orc_run.specs.inside.Controllers.{StepsTo}
 use Rattle.orc_run.specs.inside.Halts.{Leads, Halts, Finishes}
 use Rattle.orc_disk.specs.Meanings.{DiskMeaning}
 use Rattle.orc_run.specs.Runs.StepsDone.{begun, one_more}
-use Rattle.orc_state.specs.declared.declarations.Decls.{Decls}
+use Rattle.orc_decls.specs.declared.declarations.Decls.{Decls}
 use Rattle.orc_script.specs.declared.step.ScriptStep.{ScriptStep}
 use Rattle.orc_run.specs.declared.controller.LastStep.{LastStep}
 use Rattle.orc_run.specs.declared.stop.Done.{Done}

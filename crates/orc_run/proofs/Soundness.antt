@@ -5,7 +5,7 @@ use Rattle.orc_run.specs.Views.{View, IsKept, Rests}
 use Rattle.orc_run.specs.inside.Controllers.{view_of, IsUp, Knows}
 use Rattle.orc_disk.specs.Meanings.{DiskMeaning}
 use Rattle.orc_journal.specs.declared.entry.Entry.{Entry}
-use Rattle.orc_state.specs.declared.declarations.Decls.{Decls}
+use Rattle.orc_decls.specs.declared.declarations.Decls.{Decls}
 use Rattle.orc_run.specs.declared.controller.Controller.{Controller}
 
 -- the controller, stopped
@@ -53,12 +53,12 @@ module _ {D : Type 0} (meaning : DiskMeaning D) where
     };
     ordered = up.ordered;
     decided = up.decided;
+    none = up.none;
     numbers = up.numbers;
     filled = up.filled;
     named = up.named;
     running = up.running;
     limit = up.limit;
-    all = up.all;
   }
 
   pub armed-sound : (decls : Decls) (entries : List Entry) (c : Controller D) (call bytes : ℕ) → Knows meaning decls entries c → Knows meaning decls entries (armed c call bytes)

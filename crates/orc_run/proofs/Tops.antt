@@ -8,7 +8,7 @@ use Rattle.orc_io.specs.Pieces.{GivesUpTo}
 use Rattle.orc_lines.specs.declared.lines.TheConstants.{LARGEST_BUNDLE}
 use Rattle.orc_disk.specs.Moments.{LeavesOnly}
 use Rattle.orc_script.specs.Steps.{is_step}
-use Rattle.orc_bundle.specs.Bundles.{IsBundle}
+use Rattle.orc_bundle.specs.Bundles.{IsScripted}
 use Rattle.orc_print.specs.Printed.{recovered_line}
 use Rattle.orc_run.specs.Views.{View, HasHistory}
 use Rattle.orc_run.specs.Steps.{EndsBecause}
@@ -19,13 +19,13 @@ use Rattle.orc_run.specs.Checks.{EndsCheck}
 use Rattle.orc_run.specs.Ends.{Outside, GivesFault, Starts, Wrote, BundleRun, IsUnopened, EndsOver, WholeCheck, WholeHistory, WholeRun, EndsBy, asking_history}
 use Rattle.orc_words.specs.declared.words.Command.{Command}
 use Rattle.orc_words.specs.declared.words.Command.TheVariants.{Check, Run, History}
-use Rattle.orc_state.specs.declared.rule.Rule.{Rule}
+use Rattle.orc_decls.specs.declared.rule.Rule.{Rule}
 use Rattle.orc_run.specs.inside.Halts.{greeting, Finishes, GreetsAndFinishes}
 use Rattle.orc_disk.specs.Meanings.{DiskMeaning}
-use Rattle.orc_bundle.specs.declared.bundle.Bundle.{Bundle}
+use Rattle.orc_bundle.specs.declared.scripted.ScriptedBundle.{ScriptedBundle}
 use Rattle.orc_script.specs.declared.step.ScriptStep.{ScriptStep}
 use Rattle.orc_run.specs.declared.controller.Controller.{Controller}
-use Rattle.orc_state.specs.declared.declarations.Decls.{Decls}
+use Rattle.orc_decls.specs.declared.declarations.Decls.{Decls}
 use Rattle.orc_run.specs.declared.stop.Done.{Done}
 use Rattle.orc_run.specs.declared.stop.Stop.{Stop}
 use Rattle.orc_run.specs.declared.stop.Stop.TheVariants as ending
@@ -58,7 +58,7 @@ module _ {D : Type 0} (meaning : DiskMeaning D) where
     history = tells;
     opened = (is.entries, record { journal = c.journal; disk_is = refl; opened = is.opened }, is.decided);
     entries = refl;
-    greeting_is = greets_so is.opened.file c.journal.fresh c.known (length (known_of c)) (sym (length-take-le c.known c.past.history is.knows.within)) is.opened.fresh;
+    greeting_is = greets_so is.opened.file c.journal.fresh c.known (length (known_of c)) (sym (length-take-le c.known c.past.state.history is.knows.within)) is.opened.fresh;
     opening = opening;
     still_tells = told;
     later = later;
@@ -67,7 +67,7 @@ module _ {D : Type 0} (meaning : DiskMeaning D) where
 
   -- it ran
   pub is_run : ((d : D) (c : List ℕ) → meaning.left_since d (meaning.moment d) c → meaning.may_leave d c)
-      → (bundle : Bundle) (before after : Outside D) (c : Controller D) (entries : List Entry) (status : Result Done Stop)
+      → (bundle : ScriptedBundle) (before after : Outside D) (c : Controller D) (entries : List Entry) (status : Result Done Stop)
       → Starts meaning bundle.decls before.disk (view_of c entries) (greeting c)
       → Finishes meaning before.held after.held bundle.decls (view_of c entries) bundle.steps (greeting c) after.disk status
       → BundleRun meaning bundle before after status
@@ -89,20 +89,20 @@ module _ {D : Type 0} (meaning : DiskMeaning D) where
     unwritten = fin.unwritten;
   }
 
-  over_run : (bundle : Bundle) (before after : Outside D) (status : Result Done Stop) → BundleRun meaning bundle before after status
+  over_run : (bundle : ScriptedBundle) (before after : Outside D) (status : Result Done Stop) → BundleRun meaning bundle before after status
       → EndsOver meaning bundle before after status
   over_run bundle before after (Ok done) run = run
   over_run bundle before after (Err ending.WriteFault) run = run
   over_run bundle before after (Err other) run = inr run
 
-  pub over_unopened : (bundle : Bundle) (before after : Outside D) (end : Stop) → IsUnopened meaning bundle before after end
+  pub over_unopened : (bundle : ScriptedBundle) (before after : Outside D) (end : Stop) → IsUnopened meaning bundle before after end
       → EndsOver meaning bundle before after (Err end)
   over_unopened bundle before after ending.WriteFault not = absurd not.cause
   over_unopened bundle before after end not = inl not
 
   -- the end of a bundle's run, for what was opened
   pub over_script : ((d : D) (c : List ℕ) → meaning.left_since d (meaning.moment d) c → meaning.may_leave d c)
-      → (bundle : Bundle) (before after : Outside D) (c : Controller D) (entries : List Entry) (status : Result Done Stop)
+      → (bundle : ScriptedBundle) (before after : Outside D) (c : Controller D) (entries : List Entry) (status : Result Done Stop)
       → Starts meaning bundle.decls before.disk (view_of c entries) (greeting c)
       → GreetsAndFinishes meaning before.held after.held bundle.decls c entries bundle.steps after.disk status
       → EndsOver meaning bundle before after status
@@ -119,7 +119,7 @@ module _ {D : Type 0} (meaning : DiskMeaning D) where
 
   -- the same for a controller that was opened
   pub ran_over : ((d : D) (c : List ℕ) → meaning.left_since d (meaning.moment d) c → meaning.may_leave d c)
-      → (bundle : Bundle) (before after : Outside D) (c : Controller D) (is : Opens meaning bundle.decls before.disk c)
+      → (bundle : ScriptedBundle) (before after : Outside D) (c : Controller D) (is : Opens meaning bundle.decls before.disk c)
       → (c.up ≡ true) × (c.journal.disk.op ≡ 0) × (pending_of c ≡ []) → IfSome (meaning.content before.disk) (λ file. HasHistory bundle.decls file (known_of c))
       → LeavesOnly meaning before.disk c.journal.disk.inner (MayBeOpening meaning bundle.decls before.disk)
       → is_some (meaning.content c.journal.disk.inner) ≡ is_some (meaning.content before.disk) → meaning.faults before.disk ≤ meaning.faults c.journal.disk.inner
@@ -131,7 +131,7 @@ module _ {D : Type 0} (meaning : DiskMeaning D) where
       (subst (λ (l : List ScriptStep). GreetsAndFinishes meaning before.held after.held bundle.decls c is.entries l after.disk status) all ends)
 
   -- what is needed to run the script of a bundle
-  pub can_run : (b : Bundle) → IsBundle b → length b.decls.text < 2 ^ 32 → (c : Controller D) (steps : List ScriptStep) → steps ≡ b.steps → IsSound meaning b.decls c
+  pub can_run : (b : ScriptedBundle) → IsScripted b → length b.decls.text < 2 ^ 32 → (c : Controller D) (steps : List ScriptStep) → steps ≡ b.steps → IsSound meaning b.decls c
       → CanRun meaning b.decls c steps
   can_run b lawful short c steps all sound = record {
     declared = lawful.decls;
@@ -155,7 +155,7 @@ module _ {D : Type 0} (meaning : DiskMeaning D) where
   wrote_end held held' text end ending.NotJournal never wrote = wrote.0
   wrote_end held held' text end (ending.Damaged at) never wrote = wrote.0
 
-  run_cause : (bundle : Bundle) (before after : Outside D) (other : Stop) → (other ≡ ending.WriteFault → ⊥)
+  run_cause : (bundle : ScriptedBundle) (before after : Outside D) (other : Stop) → (other ≡ ending.WriteFault → ⊥)
       → BundleRun meaning bundle before after (Err other)
       → (w last : View D) × (s : ScriptStep) × EndsBecause meaning bundle.decls w s other last
   run_cause bundle before after other never run =
@@ -164,7 +164,7 @@ module _ {D : Type 0} (meaning : DiskMeaning D) where
       let found = ends_with_cause meaning bundle.decls run.ran.start runs.done runs.rest run.ran.text run.end runs.last other e runs.runs in
       (found.0, runs.last, found.1, found.2)
 
-  pub run_stop : (bundle : Bundle) (before after : Outside D) (status : Result Done Stop) → EndsOver meaning bundle before after status
+  pub run_stop : (bundle : ScriptedBundle) (before after : Outside D) (status : Result Done Stop) → EndsOver meaning bundle before after status
       → IfErr status IsRunStop
   run_stop bundle before after (Ok done) ends = tt
   run_stop bundle before after (Err (ending.Bundle line rule)) ends =
@@ -182,7 +182,7 @@ module _ {D : Type 0} (meaning : DiskMeaning D) where
   run_stop bundle before after (Err (ending.Damaged at)) ends = tt
 
   -- a fault of the journal's disk was counted
-  pub run_rose : (bundle : Bundle) (before after : Outside D) (status : Result Done Stop) → EndsOver meaning bundle before after status
+  pub run_rose : (bundle : ScriptedBundle) (before after : Outside D) (status : Result Done Stop) → EndsOver meaning bundle before after status
       → status ≡ Err ending.JournalFault → Rose (meaning.faults before.disk) (meaning.faults after.disk)
   run_rose bundle before after status ends is = ⊎_elim (λ not. not.cause) fault (subst (EndsOver meaning bundle before after) is ends)
     where
@@ -224,7 +224,7 @@ module _ {D : Type 0} (meaning : DiskMeaning D) where
   by_history before after (Err (ending.Damaged at)) why ends = ends
 
   -- the run of a bundle, where its steps are those of a slice
-  pub ends_over_slice : (bundle : Bundle) (steps : List ScriptStep) → steps ≡ bundle.steps → (before after : Outside D)
+  pub ends_over_slice : (bundle : ScriptedBundle) (steps : List ScriptStep) → steps ≡ bundle.steps → (before after : Outside D)
       (status : Result Done Stop) → EndsOver meaning (record { decls = bundle.decls; steps = steps }) before after status
       → EndsOver meaning bundle before after status
   ends_over_slice bundle steps is before after status ends =
@@ -273,11 +273,11 @@ pub run_is : (status : Result Done Stop) (end : Stop) → IfErr status IsRunStop
 run_is status end causes is = subst (λ (s : Result Done Stop). IfErr s IsRunStop) is causes
 
 -- so it is of a check
-pub check_is : (bundle : Bundle) (held now : Option (List ℕ)) (status : Result Done Stop) (end : Stop) → EndsCheck bundle held now status → status ≡ Err end → EndsCheck bundle held now (Err end)
+pub check_is : (bundle : ScriptedBundle) (held now : Option (List ℕ)) (status : Result Done Stop) (end : Stop) → EndsCheck bundle held now status → status ≡ Err end → EndsCheck bundle held now (Err end)
 check_is bundle held now status end ends is = subst (λ (s : Result Done Stop). EndsCheck bundle held now s) is ends
 
 -- a bundle with `history` as its one step is a bundle
-pub asking_is_bundle : (bundle : Bundle) → IsBundle bundle → IsBundle (asking_history bundle)
+pub asking_is_bundle : (bundle : ScriptedBundle) → IsScripted bundle → IsScripted (asking_history bundle)
 asking_is_bundle bundle lawful = record {
   decls = lawful.decls;
   sound = lawful.sound;

@@ -11,9 +11,10 @@ use Rattle.orc_append.specs.Views.{JournalView}
 use Rattle.orc_append.specs.declared.outcome.Appended.{Appended}
 use Rattle.orc_append.specs.declared.outcome.Appended.TheVariants as appended
 use Rattle.orc_disk.specs.Meanings.{DiskMeaning}
-use Rattle.orc_state.specs.States.{tree_due, name_of}
-use Rattle.orc_state.specs.Legal.{state_of, AnswersAtOnce, AreDistinct, IsDue}
-use Rattle.orc_state.specs.declared.declarations.Decls.{Decls}
+use Rattle.orc_datastore.specs.States.{tree_due}
+use Rattle.orc_decls.specs.Devices.{name_of}
+use Rattle.orc_datastore.specs.Legal.{state_of, AnswersAtOnce, AreDistinct, IsDue}
+use Rattle.orc_decls.specs.declared.declarations.Decls.{Decls}
 use Rattle.orc_print.specs.Printed.{answer_line, data_text, history_text, recovered_line, tree_text}
 use Rattle.orc_script.specs.declared.step.ScriptStep.{ScriptStep}
 use Rattle.orc_script.specs.declared.step.ScriptStep.TheVariants as step
@@ -202,7 +203,7 @@ module _ {D E : Type 0} (one : DiskMeaning D) (other : DiskMeaning E) (decls : D
       let said = subst (λ (l : List Call). PrintsMeta old'.up decls (state_of decls l) d path text') known_same q.0 in
       stay known up old new old' new' text text' distinct is is'
       (meta_one old.up decls (state_of decls old.known) d path text text' p.0 (subst (λ (b : Bool). PrintsMeta b decls (state_of decls old.known) d path text') up_same said)) p.1 q.1
-  does_one known up old new old' new' step.Data text text' plain distinct is is' t t' p q =
+  does_one known up old new old' new' step.ShowData text text' plain distinct is is' t t' p q =
       stay known up old new old' new' text text' distinct is is'
       (p.0 ∙ printed old.up old'.up (is.up_is ∙ sym is'.up_is) ∙ sym q.0) p.1 q.1
     where
@@ -211,7 +212,7 @@ module _ {D E : Type 0} (one : DiskMeaning D) (other : DiskMeaning E) (decls : D
       printed false false e = refl
       printed true false e = absurd cc
       printed false true e = absurd cc
-  does_one known up old new old' new' (step.Serve call) text text' plain distinct is is' t t' p q =
+  does_one known up old new old' new' (step.Call call) text text' plain distinct is is' t t' p q =
       serves_one known up old new old' new' call text text' distinct is is' t t' p q
   does_one known up old new old' new' step.Settle text text' plain distinct is is' t t' p q = stay known up old new old' new' text text' distinct is is' (p.0 ∙ sym q.0) p.1 q.1
   does_one known up old new old' new' step.Stop text text' plain distinct is is' t t' p q = record {

@@ -5,7 +5,7 @@ use Rattle.orc_call.specs.declared.call.Call.{Call}
 use Rattle.orc_call.specs.declared.answer.Answer.TheVariants.{Committed}
 use Rattle.orc_append.specs.declared.outcome.Appended.{Appended}
 use Rattle.orc_disk.specs.Meanings.{DiskMeaning}
-use Rattle.orc_state.specs.declared.declarations.Decls.{Decls}
+use Rattle.orc_decls.specs.declared.declarations.Decls.{Decls}
 use Rattle.orc_script.specs.declared.step.ScriptStep.{ScriptStep}
 use Rattle.orc_run.specs.Views.{View, Decodes, Rests}
 use Rattle.orc_run.specs.Commits.{Commits, answer_by}

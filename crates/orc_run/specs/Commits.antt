@@ -15,9 +15,9 @@ use Rattle.orc_append.specs.Views.{JournalView}
 use Rattle.orc_append.specs.Appends.{Appends as AppendsEntry, known_behind}
 use Rattle.orc_append.specs.declared.outcome.Appended.{Appended}
 use Rattle.orc_append.specs.declared.outcome.Appended.TheVariants as appended
-use Rattle.orc_state.specs.Legal.{state_of}
-use Rattle.orc_state.specs.Touched.{touched_devices}
-use Rattle.orc_state.specs.declared.declarations.Decls.{Decls}
+use Rattle.orc_datastore.specs.Legal.{state_of}
+use Rattle.orc_datastore.specs.Touched.{touched_devices}
+use Rattle.orc_decls.specs.declared.declarations.Decls.{Decls}
 use Rattle.orc_print.specs.Printed.{answer_line}
 use Rattle.orc_disk.specs.Meanings.{DiskMeaning}
 use Rattle.orc_run.specs.Views.{View}

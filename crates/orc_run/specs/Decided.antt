@@ -3,9 +3,9 @@ use Rattle.std.specs.Prelude.{◌≡◌, ◌⊎◌, ℕ, ◌+◌, List, take, Re
 use Rattle.std.specs.declared.option.Option.TheVariants.{Some}
 use Rattle.std.specs.declared.result.Result.TheVariants.{Ok, Err}
 use Rattle.orc_disk.specs.Meanings.{DiskMeaning}
-use Rattle.orc_state.specs.declared.rule.Rule.{Rule}
-use Rattle.orc_bundle.specs.Bundles.{bundle_of}
-use Rattle.orc_bundle.specs.declared.bundle.Bundle.{Bundle}
+use Rattle.orc_decls.specs.declared.rule.Rule.{Rule}
+use Rattle.orc_bundle.specs.Bundles.{scripted_of}
+use Rattle.orc_bundle.specs.declared.scripted.ScriptedBundle.{ScriptedBundle}
 use Rattle.orc_lines.specs.declared.lines.TheConstants.{LARGEST_BUNDLE}
 use Rattle.orc_run.specs.Ends.{EndsBy, Outside}
 use Rattle.orc_run.specs.declared.stop.Done.{Done}
@@ -15,7 +15,7 @@ use Rattle.orc_words.specs.declared.words.Command.{Command}
 
 -- A bundle doesn't end with Bundle. Bytes that are none end with it, and with the first line at fault and the first
 -- rule that it breaks, unless reading failed or memory ran out.
-abbrev pub EndsDecided : Result Bundle (ℕ × Rule) → Result Done Stop → Type 0
+abbrev pub EndsDecided : Result ScriptedBundle (ℕ × Rule) → Result Done Stop → Type 0
 EndsDecided (Ok bundle) status = (line : ℕ) (rule : Rule) → status ≡ Err (ending.Bundle line rule) → ⊥
 EndsDecided (Err fault) status =
     (status ≡ Err (ending.Bundle fault.0 fault.1)) ⊎ (status ≡ Err ending.ReadFault) ⊎ (status ≡ Err ending.Memory)
@@ -25,4 +25,4 @@ EndsDecided (Err fault) status =
 abbrev pub BytesDecide : {D : Type 0} → DiskMeaning D → Type 0
 BytesDecide {D} meaning = (command : Command) (before after : Outside D) (status : Result Done Stop) (all : List ℕ)
     → before.left ≡ Some all → EndsBy meaning (Some command) before after status
-    → EndsDecided (bundle_of (take (LARGEST_BUNDLE + 1) all)) status
+    → EndsDecided (scripted_of (take (LARGEST_BUNDLE + 1) all)) status

@@ -6,8 +6,8 @@ use Rattle.std.specs.Io.KnownBytes.{Appends, Consumes, IsAtEnd}
 use Rattle.orc_io.specs.Pieces.{GivesUpTo, TakesFront}
 use Rattle.orc_disk.specs.Moments.{LeavesOnly}
 use Rattle.orc_call.specs.declared.call.Call.{Call}
-use Rattle.orc_bundle.specs.Bundles.{bundle_of}
-use Rattle.orc_state.specs.Legal.{IsLegal}
+use Rattle.orc_bundle.specs.Bundles.{scripted_of}
+use Rattle.orc_datastore.specs.Legal.{IsLegal}
 use Rattle.orc_print.specs.Printed.{recovered_line}
 use Rattle.orc_disk.specs.Meanings.{DiskMeaning}
 use Rattle.orc_run.specs.Views.{View, Decodes, HasHistory, Rests}
@@ -15,21 +15,20 @@ use Rattle.orc_run.specs.Steps.{Does}
 use Rattle.orc_run.specs.Runs.{StepsDone, EndsAtStep}
 use Rattle.orc_run.specs.Opening.{IsOpenedAs, IsRefused, IsRefusedBecause, MayBeOpening}
 use Rattle.orc_lines.specs.declared.lines.TheConstants.{LARGEST_BUNDLE}
-use Rattle.orc_bundle.specs.declared.bundle.Bundle.{Bundle}
+use Rattle.orc_bundle.specs.declared.scripted.ScriptedBundle.{ScriptedBundle}
 use Rattle.orc_script.specs.declared.step.ScriptStep.{ScriptStep}
-use Rattle.orc_script.specs.declared.step.ScriptStep.TheVariants.{Serve}
 use Rattle.orc_script.specs.declared.step.ScriptStep.TheVariants as step
-use Rattle.orc_state.specs.declared.declarations.Decls.{Decls}
+use Rattle.orc_decls.specs.declared.declarations.Decls.{Decls}
 use Rattle.orc_run.specs.declared.stop.Done.{Done}
 use Rattle.orc_run.specs.declared.stop.Stop.{Stop}
 use Rattle.orc_run.specs.declared.stop.Stop.TheVariants as ending
-use Rattle.orc_state.specs.declared.rule.Rule.{Rule}
+use Rattle.orc_decls.specs.declared.rule.Rule.{Rule}
 use Rattle.orc_run.specs.Checks.{EndsCheck}
 use Rattle.orc_words.specs.declared.words.Command.{Command}
 use Rattle.orc_words.specs.declared.words.Command.TheVariants.{Check, Run, History}
 
 -- the declarations of a bundle with `history` as the one step
-abbrev pub asking_history : Bundle → Bundle
+abbrev pub asking_history : ScriptedBundle → ScriptedBundle
 asking_history bundle = record bundle { steps = step.History ∷ [] }
 
 -- what stands outside a run: the bytes that its source has left, those that its sink holds, each where it tells them,
@@ -47,17 +46,17 @@ pub record GivesFirst (before after : Option (List ℕ)) (bytes : List ℕ) : Ty
   pub end : length bytes ≤ LARGEST_BUNDLE → IsAtEnd after
 
 -- they are this bundle, and the source was read to its end
-pub record GivesBundle (before after : Option (List ℕ)) (bundle : Bundle) : Type 0 where
+pub record GivesBundle (before after : Option (List ℕ)) (bundle : ScriptedBundle) : Type 0 where
   pub bytes : List ℕ
   pub first : GivesFirst before after bytes
-  pub is : bundle_of bytes ≡ Ok bundle
+  pub is : scripted_of bytes ≡ Ok bundle
   pub at_end : IsAtEnd after
 
 -- or this line of them is the first one at fault, and this is the first rule that it breaks
 pub record GivesFault (before after : Option (List ℕ)) (line : ℕ) (rule : Rule) : Type 0 where
   pub bytes : List ℕ
   pub first : GivesFirst before after bytes
-  pub is : bundle_of bytes ≡ Err (line, rule)
+  pub is : scripted_of bytes ≡ Err (line, rule)
 
 -- one history is a front of another
 abbrev pub IsPrefix : List Call → List Call → Type 0
@@ -77,7 +76,7 @@ HoldsFrom decls calls file = (history : List Call) × Decodes decls file history
 -- the calls that steps submit
 abbrev pub calls_in : List ScriptStep → List Call
 calls_in [] = []
-calls_in (Serve call ∷ steps) = call ∷ calls_in steps
+calls_in (step.Call call ∷ steps) = call ∷ calls_in steps
 calls_in (other ∷ steps) = calls_in steps
 
 -- How the status of a run fits what its sink took and how its script ended. Where all was done, the whole text was
@@ -182,7 +181,7 @@ module _ {D : Type 0} (meaning : DiskMeaning D) where
     pub keeps : is_some (meaning.content before) ≡ true → KeepsAll decls start runs.last script
 
   -- the script of a bundle was run over the disk, and the sink took what the run printed
-  pub record BundleRun (bundle : Bundle) (before after : Outside D) (status : Result Done Stop) : Type 0 where
+  pub record BundleRun (bundle : ScriptedBundle) (before after : Outside D) (status : Result Done Stop) : Type 0 where
     pub printed : List ℕ
     pub end : Option Stop
     pub ran : DiskRun bundle.decls bundle.steps before.disk after.disk printed end
@@ -194,27 +193,27 @@ module _ {D : Type 0} (meaning : DiskMeaning D) where
 
   -- The journal was not opened, for this cause, which is in the bytes that the disk gave, and the sink took nothing.
   -- Unless the disk failed it is as it was, or holds the journal with its gate.
-  pub record IsUnopened (bundle : Bundle) (before after : Outside D) (end : Stop) : Type 0 where
+  pub record IsUnopened (bundle : ScriptedBundle) (before after : Outside D) (end : Stop) : Type 0 where
     pub cause : IsRefusedBecause meaning bundle.decls before.disk after.disk end
     pub refused : IsRefused meaning bundle.decls before.disk after.disk end
     pub opening : LeavesOnly meaning before.disk after.disk (MayBeOpening meaning bundle.decls before.disk)
     pub same : after.held ≡ before.held
 
   -- how the run of a bundle ended, by its status
-  abbrev pub EndsOver : Bundle → Outside D → Outside D → Result Done Stop → Type 0
+  abbrev pub EndsOver : ScriptedBundle → Outside D → Outside D → Result Done Stop → Type 0
   EndsOver bundle before after (Ok done) = BundleRun bundle before after (Ok done)
   EndsOver bundle before after (Err ending.WriteFault) = BundleRun bundle before after (Err ending.WriteFault)
   EndsOver bundle before after (Err end) = IsUnopened bundle before after end ⊎ BundleRun bundle before after (Err end)
 
   -- the source gave a bundle, whose run ended so
   pub record WholeRun (before after : Outside D) (status : Result Done Stop) : Type 0 where
-    pub bundle : Bundle
+    pub bundle : ScriptedBundle
     pub gives : GivesBundle before.left after.left bundle
     pub ends : EndsOver bundle before after status
 
   -- the source gave a bundle, whose check ended so, and nothing was done to the disk
   pub record WholeCheck (before after : Outside D) (status : Result Done Stop) : Type 0 where
-    pub bundle : Bundle
+    pub bundle : ScriptedBundle
     pub gives : GivesBundle before.left after.left bundle
     pub ends : EndsCheck bundle before.held after.held status
     pub disk_is : after.disk ≡ before.disk
@@ -222,7 +221,7 @@ module _ {D : Type 0} (meaning : DiskMeaning D) where
   -- The source gave a bundle, and the run of its declarations with `history` as the one step ended so. No step of its
   -- own script was done.
   pub record WholeHistory (before after : Outside D) (status : Result Done Stop) : Type 0 where
-    pub bundle : Bundle
+    pub bundle : ScriptedBundle
     pub gives : GivesBundle before.left after.left bundle
     pub ends : EndsOver (asking_history bundle) before after status
 

@@ -9,10 +9,10 @@ use Rattle.orc_journal.specs.declared.entry.Entry.TheVariants.{Intent, Decide, A
 use Rattle.orc_path.specs.declared.limits.TheConstants.{NAME_LEN, PATH_STEPS, STEP_KEYS, PATH_LEN, VALUE_LEN}
 use Rattle.orc_lines.specs.declared.lines.TheConstants.{LARGEST_BUNDLE, LONGEST_LINE}
 use Rattle.orc_script.specs.declared.script.TheConstants.{MOST_CALLERS, MOST_STEPS}
-use Rattle.orc_state.specs.declared.declarations.TheConstants.{MOST_DEVICES}
-use Rattle.orc_state.specs.declared.lawful.TheConstants.{MOST_WRITES}
+use Rattle.orc_decls.specs.declared.declarations.TheConstants.{MOST_DEVICES}
+use Rattle.orc_decls.specs.declared.lawful.TheConstants.{MOST_WRITES}
 use Rattle.orc_run.specs.declared.opening.TheConstants.{LARGEST_JOURNAL}
-use Rattle.orc_state.specs.declared.declarations.Decls.{Decls}
+use Rattle.orc_decls.specs.declared.declarations.Decls.{Decls}
 use Rattle.orc_run.specs.Views.{Decodes, HasHistory}
 
 -- A file tells one history. So a recovery learns the very history that the clauses on stops and crashes say is in the

@@ -13,8 +13,8 @@ use Rattle.orc_journal.specs.declared.entry.Entry.TheVariants.{Decide}
 use Rattle.orc_journal.specs.declared.fault.OpenFault.{OpenFault}
 use Rattle.orc_journal.specs.declared.fault.OpenFault.TheVariants as fault
 use Rattle.orc_call.specs.declared.call.Call.{Call}
-use Rattle.orc_state.specs.Legal.{IsLegal}
-use Rattle.orc_state.specs.declared.declarations.Decls.{Decls}
+use Rattle.orc_datastore.specs.Legal.{IsLegal}
+use Rattle.orc_decls.specs.declared.declarations.Decls.{Decls}
 use Rattle.orc_disk.specs.Meanings.{DiskMeaning}
 use Rattle.orc_disk.specs.Stops.{Stopping, inside}
 use Rattle.orc_run.specs.declared.opening.TheConstants.{LARGEST_JOURNAL}

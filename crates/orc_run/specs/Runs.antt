@@ -3,7 +3,7 @@ use Rattle.std.specs.Prelude.{◌≡◌, ℕ, List, [], ◌∷◌, ◌++◌}
 use Rattle.orc_disk.specs.Meanings.{DiskMeaning}
 use Rattle.orc_run.specs.Views.{View, Outlives}
 use Rattle.orc_run.specs.Steps.{Does, Breaks, EndsBecause, FailsToRecover}
-use Rattle.orc_state.specs.declared.declarations.Decls.{Decls}
+use Rattle.orc_decls.specs.declared.declarations.Decls.{Decls}
 use Rattle.orc_script.specs.declared.step.ScriptStep.{ScriptStep}
 use Rattle.orc_script.specs.declared.step.ScriptStep.TheVariants.{Recover}
 use Rattle.orc_run.specs.declared.stop.Stop.{Stop}

@@ -9,10 +9,11 @@ use Rattle.orc_json.specs.Written.{HasJson}
 use Rattle.orc_call.specs.declared.call.Call.{Call}
 use Rattle.orc_call.specs.declared.answer.Answer.{Answer}
 use Rattle.orc_call.specs.declared.answer.Answer.TheVariants.{Down}
-use Rattle.orc_state.specs.States.{tree_due, name_of}
-use Rattle.orc_state.specs.Calls.{schema_named}
-use Rattle.orc_state.specs.Legal.{state_of, AnswersAtOnce, IsDue, IsLegal}
-use Rattle.orc_state.specs.Metas.{IsMeta}
+use Rattle.orc_datastore.specs.States.{tree_due, Datastore}
+use Rattle.orc_decls.specs.Devices.{name_of}
+use Rattle.orc_decls.specs.Calls.{schema_named}
+use Rattle.orc_datastore.specs.Legal.{state_of, AnswersAtOnce, IsDue, IsLegal}
+use Rattle.orc_datastore.specs.Metas.{IsMeta}
 use Rattle.orc_print.specs.Printed.{IsJsonGroup, meta_group, tree_text, data_text, answer_line, history_text, recovered_line}
 use Rattle.orc_disk.specs.Meanings.{DiskMeaning}
 use Rattle.orc_run.specs.Opening.{IsOpenedAs, IsRefused}
@@ -22,8 +23,7 @@ use Rattle.orc_run.specs.declared.commit.Stage.TheVariants.{Settled}
 use Rattle.orc_append.specs.declared.outcome.Appended.{Appended}
 use Rattle.orc_append.specs.declared.outcome.Appended.TheVariants.{Stopped}
 use Rattle.orc_run.specs.Views.{View, HasHistory, IsUntold}
-use Rattle.orc_state.specs.declared.declarations.Decls.{Decls}
-use Rattle.orc_state.specs.States.{State}
+use Rattle.orc_decls.specs.declared.declarations.Decls.{Decls}
 use Rattle.orc_script.specs.declared.step.ScriptStep.{ScriptStep}
 use Rattle.orc_script.specs.declared.step.ScriptStep.TheVariants as step
 use Rattle.orc_run.specs.declared.stop.Stop.{Stop}
@@ -73,12 +73,12 @@ abbrev pub device_schema : Decls → ℕ → SchemaTable
 device_schema decls device = schema_named decls.schemas decls.devices (name_of decls.names device)
 
 -- The tree that is due on a device has a JSON value under the device's schema, and this is printed of it.
-abbrev pub PrintsJson : Decls → State → ℕ → List ℕ → Type 0
+abbrev pub PrintsJson : Decls → Datastore → ℕ → List ℕ → Type 0
 PrintsJson decls state device text = HasJson (device_schema decls device) (tree_due state device)
     × IsJsonGroup (name_of decls.names device) (device_schema decls device) (tree_due state device) text
 
 -- What is known of a path of a device is printed where the controller is up, and else that it is down.
-abbrev pub PrintsMeta : Bool → Decls → State → ℕ → List PathStep → List ℕ → Type 0
+abbrev pub PrintsMeta : Bool → Decls → Datastore → ℕ → List PathStep → List ℕ → Type 0
 PrintsMeta true decls state device path text = (meta : Option Meta) × IsMeta state device path meta
     × (text ≡ meta_group (name_of decls.names device) path meta)
 PrintsMeta false decls state device path text = text ≡ codes "down\n"
@@ -91,9 +91,9 @@ Does meaning decls old (step.Json device) text new =
     PrintsJson decls (state_of decls old.known) device text × (new ≡ old)
 Does meaning decls old (step.Meta device path) text new =
     PrintsMeta old.up decls (state_of decls old.known) device path text × (new ≡ old)
-Does meaning decls old step.Data text new =
+Does meaning decls old step.ShowData text new =
     (text ≡ (if old.up then data_text (state_of decls old.known).data else codes "down\n")) × (new ≡ old)
-Does meaning decls old (step.Serve call) text new = Serves meaning decls old call text new
+Does meaning decls old (step.Call call) text new = Serves meaning decls old call text new
 Does meaning decls old step.Settle text new = (text ≡ []) × (new ≡ old)
 Does meaning decls old step.Stop text new = (text ≡ codes "stopped\n") × (new ≡ record old { up = false })
 Does meaning decls old (step.StopAt op bytes) text new =
@@ -112,11 +112,11 @@ pub data Breaks {D : Type 0} (meaning : DiskMeaning D) (decls : Decls) (old : Vi
   recovering : (end : Stop) (new : View D) → Stays old new → Breaks meaning decls old step.Recover [] end new
   commits : (call : Call) (stage : Stage) (outcome : Appended) (end : Stop) (new : View D) → old.up ≡ true
       → IsDue decls old.known call → Commits meaning decls old call stage outcome new → commit_end outcome ≡ Some end
-      → Breaks meaning decls old (step.Serve call)
+      → Breaks meaning decls old (step.Call call)
       (commit_text decls.names call stage outcome (length new.known)) end new
   stopped : (call : Call) (stage : Stage) (new : View D) → old.up ≡ true → IsDue decls old.known call
       → stage ≢ Settled → Commits meaning decls old call stage Stopped new
-      → Breaks meaning decls old (step.Serve call) (codes "stopped\n") ending.Memory new
+      → Breaks meaning decls old (step.Call call) (codes "stopped\n") ending.Memory new
 
 module _ {D : Type 0} (meaning : DiskMeaning D) where
   -- Why a run ends at a step, from a view before it to one behind it. Want of memory is free. Of Full this says only
@@ -125,7 +125,7 @@ module _ {D : Type 0} (meaning : DiskMeaning D) where
   -- Damaged.
   abbrev pub EndsBecause : Decls → View D → ScriptStep → Stop → View D → Type 0
   EndsBecause decls old at ending.JournalFault new = Rose (meaning.faults old.disk) (meaning.faults new.disk)
-  EndsBecause decls old at (ending.Full len) new = ((call : Call) × (at ≡ step.Serve call)) ⊎ IsUntold meaning old
+  EndsBecause decls old at (ending.Full len) new = ((call : Call) × (at ≡ step.Call call)) ⊎ IsUntold meaning old
   EndsBecause decls old at ending.Memory new = Unit {0}
   EndsBecause decls old at (ending.Foreign place) new = (at ≡ step.Recover) × IsUntold meaning old
   EndsBecause decls old at ending.NotJournal new = (at ≡ step.Recover) × IsUntold meaning old

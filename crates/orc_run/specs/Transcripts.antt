@@ -4,8 +4,8 @@ use Rattle.std.specs.declared.option.Option.TheVariants.{None, Some}
 use Rattle.std.specs.List.{list_all}
 use Rattle.orc_call.specs.declared.call.Call.{Call}
 use Rattle.orc_disk.specs.Meanings.{DiskMeaning}
-use Rattle.orc_state.specs.Legal.{AreDistinct}
-use Rattle.orc_state.specs.declared.declarations.Decls.{Decls}
+use Rattle.orc_datastore.specs.Legal.{AreDistinct}
+use Rattle.orc_decls.specs.declared.declarations.Decls.{Decls}
 use Rattle.orc_script.specs.declared.step.ScriptStep.{ScriptStep}
 use Rattle.orc_script.specs.declared.step.ScriptStep.TheVariants.{StopAt}
 use Rattle.orc_run.specs.Views.{View}

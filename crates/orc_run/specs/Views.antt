@@ -8,8 +8,8 @@ use Rattle.orc_journal.specs.Committed.{history_of}
 use Rattle.orc_journal.specs.Opening.{AreEntriesOf}
 use Rattle.orc_journal.specs.declared.entry.Entry.{Entry}
 use Rattle.orc_disk.specs.Meanings.{DiskMeaning}
-use Rattle.orc_state.specs.Legal.{IsLegal}
-use Rattle.orc_state.specs.declared.declarations.Decls.{Decls}
+use Rattle.orc_datastore.specs.Legal.{IsLegal}
+use Rattle.orc_decls.specs.declared.declarations.Decls.{Decls}
 
 -- the disk, the entries that the controller knows in the journal, the calls that it knows as committed, the call that
 -- it was committing as it stopped, if one, whether it is up, which operation of the disk from now on stops it, 0 where

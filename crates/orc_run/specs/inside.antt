@@ -1,6 +1,5 @@
 pub mod Inputs
 pub mod Transactions
-pub mod Numbered
 pub mod Pasts
 pub mod Serving
 pub mod Controllers

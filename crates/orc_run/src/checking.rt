@@ -5,7 +5,7 @@ ghost use Rattle.orc_run.specs.Checks.{EndsCheck, checked_line};
 ghost use Rattle.orc_run.specs.declared.stop.Stop.{Stop};
 
 use crate::{Done, Stop};
-use orc_bundle::Bundle;
+use orc_bundle::ScriptedBundle;
 use orc_io::{Sink, write_whole};
 use orc_text::Memory;
 use std::alloc::Global;
@@ -13,7 +13,7 @@ use std::alloc::Global;
 /// Writes how many devices and steps a bundle has.
 pub(crate) fn check_bundle<K: Sink>(
     alloc: Global,
-    bundle: &Bundle,
+    bundle: &ScriptedBundle,
     sink: &mut K,
 ) -> Result<Done, Stop>
     ensures ends { EndsCheck bundle.now (K.sink.held sink.old) (K.sink.held sink.new) result }
@@ -30,11 +30,11 @@ pub(crate) fn check_bundle<K: Sink>(
 }
 
 // How many devices and steps the bundle has.
-fn checked_line(alloc: Global, bundle: &Bundle) -> Result<Vec<u8>, Memory>
+fn checked_line(alloc: Global, bundle: &ScriptedBundle) -> Result<Vec<u8>, Memory>
     ensures { IfOk result (λ bytes. bytes.items ≡ checked_line bundle.now) }
 {
     let mut out = String::from_str(alloc, "ok ")?;
-    out.push_str(bundle.decls.devices.len().to_string(alloc)?.as_str())?;
+    out.push_str(bundle.decls.devices().len().to_string(alloc)?.as_str())?;
     out.push_str(" ")?;
     out.push_str(bundle.steps.len().to_string(alloc)?.as_str())?;
     out.push_str("\n")?;

@@ -9,8 +9,8 @@ use orc_call::Call;
 use orc_disk::Disk;
 use orc_text::Row;
 
-/// The controller of a run. Its history has the calls that it knows as committed, and behind them,
-/// where it stopped while it was committing one, that one.
+/// The controller of a run. It knows the first so many calls of its history as committed; the one that
+/// may come after them is being committed.
 #[derive(Drop)]
 pub struct Controller<D: Disk> {
     pub journal: StopJournal<D>,
@@ -30,10 +30,10 @@ pub struct LastStep<D: Disk> {
 impl<D: Disk> Controller<D> {
     /// The calls that the controller knows as committed.
     pub(crate) fn known_calls(&self) -> &[Call]
-        requires within { self.now.known ≤ length self.now.past.history }
+        requires within { self.now.known ≤ length self.now.past.state.history }
         ensures { result.now ≡ known_of self.now }
     {
-        &self.past.history.as_slice()[..self.known]
+        &self.past.state.history()[..self.known]
     }
 
     /// Ends the controller, and gives back the disk of its journal.

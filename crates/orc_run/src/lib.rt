@@ -6,7 +6,6 @@ mod checking;
 mod commit;
 mod controller;
 mod decision;
-mod history;
 mod laws;
 mod numbers;
 mod opening;
@@ -21,6 +20,6 @@ mod top;
 pub use laws::{
     acknowledged_stays, bytes_decide, file_tells_one_history, has_these_numbers, one_transcript,
 };
-pub use orc_state::Rule;
+pub use orc_decls::Rule;
 pub use stop::{Done, Ended, Stop, status};
 pub use top::orchestrate;

@@ -5,7 +5,7 @@ ghost use Rattle.orc_disk.specs.Moments.{LeavesOnly};
 ghost use Rattle.orc_journal.specs.Orders.{is_ordered};
 ghost use Rattle.orc_journal.specs.Committed.{history_of};
 ghost use Rattle.orc_journal.specs.Opened.{Holds};
-ghost use Rattle.orc_state.specs.Declarations.{AreDecls};
+ghost use Rattle.orc_decls.specs.Declarations.{AreDecls};
 ghost use Rattle.orc_run.specs.declared.opening.TheConstants.{LARGEST_JOURNAL};
 ghost use Rattle.orc_run.specs.Views.{HasHistory};
 ghost use Rattle.orc_run.specs.inside.Controllers.{known_of, pending_of, Knows, Opens};
@@ -15,9 +15,9 @@ use crate::Stop;
 use crate::controller::Controller;
 use crate::past::{Past, PastFault};
 use orc_append::StopJournal;
+use orc_decls::Decls;
 use orc_disk::Disk;
 use orc_journal::{Entry, OpenFault};
-use orc_state::Decls;
 use std::alloc::Global;
 
 /// The most bytes that a journal may have.
@@ -45,7 +45,7 @@ impl<D: Disk> Controller<D> {
             (λ c. is_some (D.disk.content c.journal.disk.inner) ≡ is_some (D.disk.content disk))
             (λ refused. is_some (D.disk.content refused.1) ≡ is_some (D.disk.content disk)) }
     {
-        match StopJournal::open(alloc, disk, decls.text.as_slice(), LARGEST_JOURNAL) {
+        match StopJournal::open(alloc, disk, decls.text(), LARGEST_JOURNAL) {
             Ok((journal, entries)) => Controller::learn(alloc, decls, journal, &entries),
             Err((fault, disk)) => Err((stop_of(fault), disk)),
         }
@@ -73,7 +73,7 @@ impl<D: Disk> Controller<D> {
             Ok(past) => Ok(Controller {
                 journal,
                 up: true,
-                known: past.history.len(),
+                known: past.state.history().len(),
                 past,
             }),
             Err(PastFault::Illegal { place }) => {

@@ -1,31 +1,31 @@
-//! What the entries of a journal say of the past: the history, and the state behind it.
-ghost use Rattle.std.specs.Prelude.{◌≡◌, ◌++◌, ◌∷◌, [], ◌≢◌, ℕ, true, false, Ok, None, take, IfOk, IfSome, IsErrOf, IsTrue, MatchOption, Some, slice_get};
-ghost use Rattle.orc_call.specs.declared.call.Call.{Call};
-ghost use Rattle.orc_state.specs.declared.declarations.Decls.{Decls};
+//! What the entries of a journal say of the past: the state, with the history that makes it.
+ghost use Rattle.std.specs.Prelude.{◌≡◌, ◌++◌, ◌∷◌, [], ◌≢◌, ℕ, true, false, Ok, None, IfOk, IfSome, IsErrOf, IsTrue};
 ghost use Rattle.orc_journal.specs.Committed.{history_of};
 ghost use Rattle.orc_journal.specs.declared.entry.Entry.{Entry};
-ghost use Rattle.orc_state.specs.Calls.{is_call};
-ghost use Rattle.orc_state.specs.Legal.{AnswersAtOnce, IsDue, IsLegal, IsNew, IsSame};
-ghost use Rattle.orc_state.specs.Declarations.{AreDecls};
-ghost use Rattle.orc_state.specs.Touched.{touched_devices};
+ghost use Rattle.orc_decls.specs.Calls.{is_call};
+ghost use Rattle.orc_datastore.specs.Legal.{AnswersAtOnce, IsDue, IsLegal};
+ghost use Rattle.orc_decls.specs.Declarations.{AreDecls};
+ghost use Rattle.orc_datastore.specs.Touched.{touched_devices};
+ghost use Rattle.orc_state.specs.States.{IsStateUnder};
 ghost use Rattle.orc_run.specs.inside.Pasts.{IsBehind, IsPast};
 ghost use Rattle.orc_run.specs.Opening.{IsIllegalAt};
 
-use crate::history::History;
 use crate::numbers::Numbers;
 use orc_call::{Answer, Call};
+use orc_decls::{Decls, is_call};
 use orc_journal::{Entry, committed_by};
-use orc_state::{Decls, State, is_call};
+use orc_state::State;
 use orc_text::{Memory, Row};
 use std::alloc::Global;
 
-/// The numbers that transactions have; the calls that were committed, in order, and behind them the
-/// one that is being committed, where there is one; and the state by which calls are answered.
+/// The numbers that transactions have; the state by which calls are answered, whose history is the calls
+/// that were committed, in order, and after them the one that is being committed, where there is one; and
+/// the call whose intent the journal has, while it isn't known whether it is decided.
 #[derive(Drop)]
 pub struct Past {
     pub numbers: Numbers,
-    pub history: History,
     pub state: State,
+    pub pending: Row<Call>,
 }
 
 /// Why entries have no past.
@@ -58,8 +58,8 @@ impl Past {
     {
         let mut past = Past {
             numbers: Numbers::new(alloc),
-            history: History::new(alloc),
-            state: State::open(alloc, decls)?,
+            state: State::start(alloc, decls)?,
+            pending: Row::new(alloc),
         };
         for (place, entry) in entries.iter().enumerate() {
             if !past.take(alloc, decls, &entries[..place], entry)? {
@@ -90,40 +90,28 @@ impl Past {
         }
     }
 
-    /// Takes the calls behind the first so many out of the history.
-    pub(crate) fn forget(&mut self, count: usize)
-        ensures { self.new ≡ record self.old { history = take count self.old.history } }
-    {
-        self.history.truncate(count);
-    }
-
     // Commits a call, and says whether the history is still legal; if not, it is as it was.
     fn commit(&mut self, alloc: Global, decls: &Decls, call: &Call) -> Result<bool, Memory>
         requires decls { AreDecls decls.now }
-        requires behind { IsBehind decls.now self.old self.old.history }
+        requires state { IsStateUnder decls.now self.old.state }
         ensures legal { result ≡ Ok true → IsTrue (is_call decls.now call.now)
-            × IsDue decls.now self.old.history call.now }
-        ensures history { result ≡ Ok true → self.new.history ≡ self.old.history ++ call.now ∷ [] }
-        ensures behind { result ≡ Ok true → IsBehind decls.now self.new self.new.history }
+            × IsDue decls.now self.old.state.history call.now }
+        ensures behind { result ≡ Ok true
+            → IsBehind decls.now self.new (self.old.state.history ++ call.now ∷ []) }
         ensures illegal { result ≡ Ok false → IsTrue (is_call decls.now call.now)
-            → IsDue decls.now self.old.history call.now → ⊥ }
-        ensures numbers { self.new.numbers ≡ self.old.numbers }
+            → IsDue decls.now self.old.state.history call.now → ⊥ }
+        ensures rest { self.new ≡ record self.old { state = self.new.state } }
     {
         if !is_call(alloc, decls, call)? {
             return Ok(false);
         }
-        let mut devices = Row::new(alloc);
-        if self
-            .answer_or_apply(alloc, decls, call, &mut devices)?
-            .is_some()
-        {
-            return Ok(false);
+        match self.state.replay(alloc, decls, call)? {
+            Ok(_) => Ok(true),
+            Err(_) => Ok(false),
         }
-        self.history.push(alloc, call.copy(alloc)?)?;
-        Ok(true)
     }
 
-    /// The answer that a call gets at once behind the history. Where there is none, the state does
+    /// The answer that a call gets at once on the present state. Where there is none, the state does
     /// the call, and the devices that it touches take the place of those handed in.
     pub(crate) fn answer_or_apply(
         &mut self,
@@ -133,41 +121,23 @@ impl Past {
         devices: &mut Row<u32>,
     ) -> Result<Option<Answer>, Memory>
         requires decls { AreDecls decls.now }
-        requires behind { IsBehind decls.now self.old self.old.history }
+        requires state { IsStateUnder decls.now self.old.state }
         requires call { IsTrue (is_call decls.now call.now) }
-        ensures answer { IfOk result (λ found. IfSome found (AnswersAtOnce decls.now self.old.history call.now)) }
-        ensures due { result ≡ Ok None → IsDue decls.now self.old.history call.now }
-        ensures done { result ≡ Ok None → IsBehind decls.now self.new (self.old.history ++ call.now ∷ []) }
+        ensures answer { IfOk result (λ found. IfSome found (AnswersAtOnce decls.now self.old.state.history call.now)) }
+        ensures due { result ≡ Ok None → IsDue decls.now self.old.state.history call.now }
+        ensures done { result ≡ Ok None
+            → IsBehind decls.now self.new (self.old.state.history ++ call.now ∷ []) }
         ensures kept { result ≢ Ok None → self.new ≡ self.old }
         ensures rest { self.new ≡ record self.old { state = self.new.state } }
-        ensures touched { result ≡ Ok None → devices.new ≡ touched_devices decls.now self.old.state call.now }
+        ensures touched { result ≡ Ok None
+            → devices.new ≡ touched_devices decls.now self.old.state.datastore call.now }
     {
-        match self.repeated(alloc, call)? {
-            Some(answer) => Ok(Some(answer)),
-            None => self.state.next_touching(alloc, decls, call, devices),
+        match self.state.replay(alloc, decls, call)? {
+            Ok(plan) => {
+                *devices = plan.held.devices;
+                Ok(None)
+            }
+            Err(answer) => Ok(Some(answer)),
         }
     }
-
-    // The answer to a call whose caller and number the history has.
-    fn repeated(&self, alloc: Global, call: &Call) -> Result<Option<Answer>, Memory>
-        ensures { IfOk result (λ found. MatchOption found (IsNew self.now.history call.now)
-            (λ answer. (decls : Decls) → AnswersAtOnce decls self.now.history call.now answer)) }
-    {
-        match self.history.place_of(alloc, call)? {
-            Some(place) => Ok(Some(answer_at(self.history.as_slice(), place, call))),
-            None => Ok(None),
-        }
-    }
-}
-
-// The answer to a call whose caller and number the call at a place of the history has.
-fn answer_at(history: &[Call], place: usize, call: &Call) -> Answer
-    requires { (entry : Call) × (slice_get history.now place ≡ Some entry) × IsSame entry call.now }
-    ensures { (decls : Decls) → AnswersAtOnce decls history.now call.now result }
-{
-    let entry = place as u64 + 1;
-    if history[place] == *call {
-        return Answer::Committed(entry);
-    }
-    Answer::Reused(entry)
 }

@@ -8,9 +8,9 @@ ghost use Rattle.orc_run.specs.declared.stop.Stop.{Stop};
 use crate::controller::Controller;
 use crate::{Done, Ended, Stop};
 use orc_bundle::ScriptStep;
+use orc_decls::Decls;
 use orc_disk::Disk;
 use orc_io::{Sink, write_whole};
-use orc_state::Decls;
 use std::alloc::Global;
 
 /// Does the steps in order, and writes what each prints as it is done.

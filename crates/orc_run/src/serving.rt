@@ -1,11 +1,11 @@
 //! Serving a call: its answer at once, or its commit in the journal.
-ghost use Rattle.std.specs.Prelude.{◌≡◌, ◌≤◌, true, None, List, length, take, IsTrue};
+ghost use Rattle.std.specs.Prelude.{◌≡◌, ◌≤◌, [], true, None, List, length, IsTrue};
 ghost use Rattle.orc_append.specs.declared.outcome.Appended.{Appended};
 ghost use Rattle.orc_journal.specs.Entries.{AreDevices};
-ghost use Rattle.orc_state.specs.Touched.{touched_devices};
-ghost use Rattle.orc_state.specs.Calls.{is_call};
-ghost use Rattle.orc_state.specs.Legal.{IsLegal, state_of};
-ghost use Rattle.orc_state.specs.Declarations.{AreDecls};
+ghost use Rattle.orc_datastore.specs.Touched.{touched_devices};
+ghost use Rattle.orc_decls.specs.Calls.{is_call};
+ghost use Rattle.orc_datastore.specs.Legal.{IsLegal, state_of};
+ghost use Rattle.orc_decls.specs.Declarations.{AreDecls};
 ghost use Rattle.orc_run.specs.Commits.{commit_end};
 ghost use Rattle.orc_run.specs.inside.Pasts.{IsBehind};
 ghost use Rattle.orc_run.specs.inside.Serving.{up_behind, ComesBehind, EndsBehind};
@@ -19,8 +19,8 @@ use crate::decision::{begin, state_behind};
 use crate::printing::{CommitLines, answered};
 use orc_append::Appended;
 use orc_call::{Answer, Call};
+use orc_decls::Decls;
 use orc_disk::Disk;
-use orc_state::Decls;
 use orc_template::faults_are_named;
 use orc_text::{Memory, Row};
 use std::alloc::Global;
@@ -47,12 +47,12 @@ impl<D: Disk> Controller<D> {
             → LeadsTo D.disk decls.now (view_of self.old sound.0) call.now result self.new }
     {
         if !self.up {
-            return answered(alloc, decls.names.as_slice(), call, &Answer::Down);
+            return answered(alloc, decls.names(), call, &Answer::Down);
         }
         faults_are_named();
         let mut devices = Row::new(alloc);
         match self.past.answer_or_apply(alloc, decls, call, &mut devices)? {
-            Some(answer) => answered(alloc, decls.names.as_slice(), call, &answer),
+            Some(answer) => answered(alloc, decls.names(), call, &answer),
             None => self.commit(alloc, decls, call, devices),
         }
     }
@@ -75,8 +75,7 @@ impl<D: Disk> Controller<D> {
         ensures { (entries : List Entry) → IsCommitting D.disk decls.now call.now entries self.old
             → LeadsTo D.disk decls.now (view_of self.old entries) call.now result self.new }
     {
-        let known = self.past.history.len();
-        let lines = CommitLines::new(alloc, decls.names.as_slice(), call, known)?;
+        let lines = CommitLines::new(alloc, decls.names(), call, self.known)?;
         let (t, intent) = begin(alloc, &mut self.past, call, devices)?;
         let reached = append_commit(alloc, &mut self.journal, &intent, t);
         let end = self.come(alloc, decls, reached);
@@ -87,19 +86,19 @@ impl<D: Disk> Controller<D> {
     }
 
     // The controller behind a commit, by how far that came, and why the run ends there, if it does.
-    // The controller knows a decided call, and forgets one whose intent was not appended.
+    // The controller knows a decided call, and one whose intent was not appended is pending no longer.
     fn come(&mut self, alloc: Global, decls: &Decls, reached: Reached) -> Option<Stop>
         requires decls { AreDecls decls.now }
         requires running { self.old.up ≡ true }
-        requires within { self.old.known ≤ length self.old.past.history }
-        requires legal { IsLegal decls.now (take self.old.known self.old.past.history) }
+        requires within { self.old.known ≤ length self.old.past.state.history }
+        requires legal { IsLegal decls.now (known_of self.old) }
         ensures { ComesBehind decls.now reached.stage reached.outcome self.old result self.new }
     {
         match reached.stage {
-            Stage::Settled => self.settle(reached.outcome),
+            Stage::Settled => self.settle(alloc, reached.outcome),
             Stage::Decide => self.fall_back(alloc, decls, reached.outcome),
             Stage::Intent => {
-                self.past.forget(self.known);
+                self.past.pending = Row::new(alloc);
                 self.fall_back(alloc, decls, reached.outcome)
             }
         }
@@ -107,12 +106,16 @@ impl<D: Disk> Controller<D> {
 
     // The controller behind a decided call, which it knows as committed, and why the run ends there, if
     // it does.
-    fn settle(&mut self, outcome: Appended) -> Option<Stop>
+    fn settle(&mut self, alloc: Global, outcome: Appended) -> Option<Stop>
         ensures end { result ≡ commit_end outcome }
-        ensures state { self.new
-            ≡ record self.old { up = up_behind outcome self.old.up; known = length self.old.past.history } }
+        ensures state { self.new ≡ record self.old {
+          up = up_behind outcome self.old.up;
+          past = record self.old.past { pending = [] };
+          known = length self.old.past.state.history;
+        } }
     {
-        self.known = self.past.history.len();
+        self.known = self.past.state.history().len();
+        self.past.pending = Row::new(alloc);
         self.go_on(outcome)
     }
 
@@ -121,15 +124,16 @@ impl<D: Disk> Controller<D> {
     fn fall_back(&mut self, alloc: Global, decls: &Decls, outcome: Appended) -> Option<Stop>
         requires decls { AreDecls decls.now }
         requires running { self.old.up ≡ true }
-        requires within { self.old.known ≤ length self.old.past.history }
-        requires legal { IsLegal decls.now (take self.old.known self.old.past.history) }
+        requires within { self.old.known ≤ length self.old.past.state.history }
+        requires legal { IsLegal decls.now (known_of self.old) }
         ensures end { EndsBehind outcome result }
         ensures rest { self.new ≡ record self.old {
           up = up_behind outcome self.old.up;
           past = record self.old.past { state = self.new.past.state };
         } }
-        ensures behind { outcome ≡ Appended.Stopped → result ≡ None → IsBehind decls.now self.new.past
-            (take self.old.known self.old.past.history) }
+        ensures known { known_of self.new ≡ known_of self.old }
+        ensures behind { outcome ≡ Appended.Stopped → result ≡ None
+            → IsBehind decls.now self.new.past (known_of self.old) }
     {
         let end = self.go_on(outcome);
         if self.up {

@@ -1,11 +1,12 @@
 //! The steps of a script, as the controller does them.
 ghost use Rattle.std.specs.Prelude.{[], Ok, ◌≡◌, ◌<◌, ◌≤◌, ◌^◌, false, length, codes, All, IfOk, IsTrue, MatchResult, if◌then◌else◌};
 ghost use Rattle.orc_schema.specs.Sound as schema;
-ghost use Rattle.orc_state.specs.States.{tree_due, name_of};
-ghost use Rattle.orc_state.specs.Calls.{is_call};
-ghost use Rattle.orc_state.specs.Legal.{state_of};
-ghost use Rattle.orc_state.specs.Declarations.{AreDecls};
-ghost use Rattle.orc_state.specs.declared.declarations.Decls.{Decls};
+ghost use Rattle.orc_datastore.specs.States.{tree_due};
+ghost use Rattle.orc_decls.specs.Devices.{name_of};
+ghost use Rattle.orc_decls.specs.Calls.{is_call};
+ghost use Rattle.orc_datastore.specs.Legal.{state_of};
+ghost use Rattle.orc_decls.specs.Declarations.{AreDecls};
+ghost use Rattle.orc_decls.specs.declared.declarations.Decls.{Decls};
 ghost use Rattle.orc_print.specs.Printed.{data_text, history_text, tree_text};
 ghost use Rattle.orc_run.specs.Steps.{PrintsJson, PrintsMeta, device_schema};
 ghost use Rattle.orc_run.specs.inside.Controllers.{known_of, CanDo, GoesOn, IsSound, StepsFrom, Wants};
@@ -17,12 +18,13 @@ use crate::printing::recovered_text;
 use crate::serving::CallOutcome;
 use orc_bundle::ScriptStep;
 use orc_call::Call;
+use orc_datastore::{tree_is_configuration, tree_is_typed};
+use orc_decls::{Decls, device_name};
 use orc_disk::Disk;
 use orc_json::typed_has_json;
 use orc_path::Path;
 use orc_print::{data, down, history, json, meta, show, stopped};
 use orc_schema::Schema;
-use orc_state::{Decls, device_name, tree_is_configuration, tree_is_typed};
 use orc_text::{Memory, Row};
 use std::alloc::Global;
 
@@ -39,8 +41,8 @@ impl<D: Disk> Controller<D> {
             ScriptStep::Show(device) => self.show(alloc, decls, *device),
             ScriptStep::Json(device) => self.json(alloc, decls, *device),
             ScriptStep::Meta(device, path) => self.meta(alloc, decls, *device, path),
-            ScriptStep::Data => self.data(alloc),
-            ScriptStep::Serve(call) => self.answer(alloc, decls, call),
+            ScriptStep::ShowData => self.data(alloc),
+            ScriptStep::Call(call) => self.answer(alloc, decls, call),
             ScriptStep::Settle => self.settled(alloc),
             ScriptStep::Stop => self.stop(alloc),
             ScriptStep::StopAt(op, bytes) => self.stop_at(alloc, *op, *bytes),
@@ -66,8 +68,8 @@ impl<D: Disk> Controller<D> {
         ensures { IfOk result (λ text. text ≡ tree_text (name_of decls.now.names device)
             (tree_due (state_of decls.now (known_of self.now)) device)) }
     {
-        let tree = self.past.state.tree_due(device);
-        let name = device_name(decls.names.as_slice(), device);
+        let tree = self.past.state.tree(device);
+        let name = device_name(decls.names(), device);
         Ok(Row::from_vec(show(alloc, name, tree)?))
     }
 
@@ -96,8 +98,8 @@ impl<D: Disk> Controller<D> {
         tree_is_configuration();
         tree_is_typed();
         typed_has_json();
-        let tree = self.past.state.tree_due(device);
-        let name = device_name(decls.names.as_slice(), device);
+        let tree = self.past.state.tree(device);
+        let name = device_name(decls.names(), device);
         let schema = schema_of(decls, device);
         Ok(Row::from_vec(json(alloc, name, schema, tree)?))
     }
@@ -129,13 +131,13 @@ impl<D: Disk> Controller<D> {
             return Ok(Row::from_vec(down(alloc)?));
         }
         let known = self.past.state.meta(device, path);
-        let name = device_name(decls.names.as_slice(), device);
+        let name = device_name(decls.names(), device);
         Ok(Row::from_vec(meta(alloc, name, path, known.as_ref())?))
     }
 
     // Prints the data.
     fn data(self, alloc: Global) -> StepResult<D>
-        ensures { (decls : Decls) → StepsFrom D.disk decls self ScriptStep.Data result }
+        ensures { (decls : Decls) → StepsFrom D.disk decls self ScriptStep.ShowData result }
     {
         let text = self.data_text(alloc);
         self.printing(alloc, text)
@@ -144,17 +146,17 @@ impl<D: Disk> Controller<D> {
     // The group of the data, or that the controller is down.
     fn data_text(&self, alloc: Global) -> Result<Row<u8>, Memory>
         ensures { IfOk result (λ text. text
-            ≡ (if self.now.up then data_text self.now.past.state.data else codes "down\n")) }
+            ≡ (if self.now.up then data_text self.now.past.state.datastore.data else codes "down\n")) }
     {
         if self.up {
-            return Ok(Row::from_vec(data(alloc, self.past.state.data())?));
+            return Ok(Row::from_vec(data(alloc, self.past.state.data_tree())?));
         }
         Ok(Row::from_vec(down(alloc)?))
     }
 
     // Prints the history.
     fn history(self, alloc: Global) -> StepResult<D>
-        requires within { self.known ≤ length self.past.history }
+        requires within { self.known ≤ length self.past.state.history }
         ensures { (decls : Decls) → StepsFrom D.disk decls self ScriptStep.History result }
     {
         let text = self.history_text(alloc);
@@ -163,7 +165,7 @@ impl<D: Disk> Controller<D> {
 
     // The group of the history, or that the controller is down.
     fn history_text(&self, alloc: Global) -> Result<Row<u8>, Memory>
-        requires within { self.now.known ≤ length self.now.past.history }
+        requires within { self.now.known ≤ length self.now.past.state.history }
         ensures { IfOk result (λ text. text ≡ (if self.now.up then history_text
             (known_of self.now) else codes "down\n")) }
     {
@@ -229,7 +231,7 @@ impl<D: Disk> Controller<D> {
         requires decls { AreDecls decls.now }
         requires sound { IsSound D.disk decls.now self }
         requires call { IsTrue (is_call decls.now call.now) }
-        ensures { StepsFrom D.disk decls.now self (ScriptStep.Serve call.now) result }
+        ensures { StepsFrom D.disk decls.now self (ScriptStep.Call call.now) result }
     {
         match self.serve(alloc, decls, call) {
             Ok(served) => self.went(served),
@@ -280,6 +282,6 @@ fn schema_of(decls: &Decls, device: u32) -> &Schema
     requires device { device < length decls.now.names }
     ensures { result.now ≡ device_schema decls.now device }
 {
-    let place = decls.devices.as_slice()[device as usize].schema;
-    &decls.schemas.as_slice()[place as usize]
+    let place = decls.devices()[device as usize].schema;
+    &decls.schemas()[place as usize]
 }

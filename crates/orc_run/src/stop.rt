@@ -2,8 +2,8 @@
 ghost use Rattle.std.specs.Prelude.{◌≡◌, Err};
 ghost use Rattle.orc_run.specs.Statuses.{status_of, stop_status};
 
+use orc_decls::Rule;
 use orc_disk::Disk;
-use orc_state::Rule;
 use thiserror::Error;
 
 /// The command did all that it is to do.

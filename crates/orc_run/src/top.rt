@@ -4,23 +4,23 @@ ghost use Rattle.std.specs.String.{string_bytes};
 ghost use Rattle.orc_io.specs.Counts.{Rose};
 ghost use Rattle.orc_io.specs.Pieces.{GivesUpTo};
 ghost use Rattle.orc_lines.specs.declared.lines.TheConstants.{LARGEST_BUNDLE};
-ghost use Rattle.orc_bundle.specs.Bundles.{IsBundle};
+ghost use Rattle.orc_bundle.specs.Bundles.{IsScripted};
 ghost use Rattle.orc_words.specs.Words.{command_of};
 ghost use Rattle.orc_run.specs.inside.Controllers.{CanRun, IsSound};
 ghost use Rattle.orc_run.specs.Ends.{EndsBy, EndsOver, GivesBundle, GivesFault};
 ghost use Rattle.orc_run.specs.inside.Inputs.{IsInputStop, IsRunStop};
 ghost use Rattle.orc_run.specs.inside.Halts.{greeting, GreetsAndFinishes};
-ghost use Rattle.orc_state.specs.declared.rule.Rule.{Rule};
+ghost use Rattle.orc_decls.specs.declared.rule.Rule.{Rule};
 
 use crate::checking::check_bundle;
 use crate::controller::Controller;
 use crate::printing::recovered_text;
 use crate::run::run_steps;
 use crate::{Ended, Stop};
-use orc_bundle::{Bundle, LARGEST_BUNDLE, ScriptStep, read_bundle};
+use orc_bundle::{LARGEST_BUNDLE, ScriptStep, ScriptedBundle, read_scripted};
+use orc_decls::{BundleFault, Decls};
 use orc_disk::Disk;
 use orc_io::{Sink, Source, WholeFault, read_whole, write_whole};
-use orc_state::{BundleFault, Decls};
 use orc_text::{Memory, Row};
 use orc_words::{Command, WordsFault, command_of};
 use std::alloc::Global;
@@ -73,9 +73,9 @@ pub fn orchestrate<S: Source, K: Sink, D: Disk>(
 }
 
 // The bundle that the source gives.
-fn read_input<S: Source>(alloc: Global, source: &mut S) -> Result<Bundle, Stop>
+fn read_input<S: Source>(alloc: Global, source: &mut S) -> Result<ScriptedBundle, Stop>
     ensures gives { IfOk result (λ bundle. GivesBundle (S.source.left source.old) (S.source.left source.new) bundle) }
-    ensures lawful { IfOk result IsBundle }
+    ensures lawful { IfOk result IsScripted }
     ensures short { IfOk result (λ bundle. length bundle.decls.text < 2 ^ 32) }
     ensures fault { (line : ℕ) (rule : Rule) → IsErrOf result (Stop.Bundle line rule)
         → GivesFault (S.source.left source.old) (S.source.left source.new) line rule }
@@ -88,7 +88,7 @@ fn read_input<S: Source>(alloc: Global, source: &mut S) -> Result<Bundle, Stop>
         Err(WholeFault::Failed) => return Err(Stop::ReadFault),
         Err(WholeFault::Memory) => return Err(Stop::Memory),
     };
-    match read_bundle(alloc, bytes.as_slice()) {
+    match read_scripted(alloc, bytes.as_slice()) {
         Ok(bundle) => Ok(bundle),
         Err(BundleFault::At { line, rule }) => Err(Stop::Bundle { line, rule }),
         Err(BundleFault::Memory) => Err(Stop::Memory),
@@ -103,7 +103,7 @@ fn run_over<K: Sink, D: Disk>(
     sink: &mut K,
     disk: D,
 ) -> Ended<D>
-    requires bundle { IsBundle (record { decls = decls.now; steps = steps.now }) }
+    requires bundle { IsScripted (record { decls = decls.now; steps = steps.now }) }
     requires short { length decls.now.text < 2 ^ 32 }
     ensures ends { (before after : Option (List ℕ)) → EndsOver D.disk (record { decls = decls.now; steps = steps.now })
         (record { left = before; held = K.sink.held sink.old; disk = disk })

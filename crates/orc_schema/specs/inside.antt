@@ -1,3 +1,4 @@
 -- What private contracts and proofs alone speak of.
 pub mod Carried
 pub mod Indexes
+pub mod Shared

@@ -218,7 +218,10 @@ fn table_by(
     };
     match first_link_fault(alloc, drafts, &nodes) {
         Err(fault) => Err(fault),
-        Ok(()) => Ok(Schema::of_lines(whole_lines(alloc, drafts, &nodes)?)),
+        Ok(()) => {
+            let lines = whole_lines(alloc, drafts, &nodes)?;
+            Ok(Schema::of_lines(alloc, lines)?)
+        }
     }
 }
 

@@ -6,13 +6,14 @@ use crate::line::SchemaLine;
 use orc_text::{Copied, Memory, Row};
 use std::alloc::Global;
 use std::marker::Model;
+use std::sync::Arc;
 
 /// What may stand in a configuration: one line for each node, in the order of their names. A plain
-/// schema has no line, and every configuration is valid for it.
+/// schema has no line, and every configuration is valid for it. Copies of a schema share its lines.
 #[derive(Drop)]
 pub struct Schema {
-    plain: bool,
-    lines: Row<SchemaLine>,
+    // A plain schema has none.
+    lines: Option<Arc<Row<SchemaLine>>>,
 }
 
 impl Model for Schema {
@@ -20,40 +21,36 @@ impl Model for Schema {
 
     ghost Value = { SchemaTable };
 
-    ghost view = { λ schema. record { plain = schema.plain; lines = schema.lines } };
+    ghost use Rattle.orc_schema.specs.inside.Shared.{shared_table};
 
-    ghost invariant = { λ schema. Ascends schema.lines };
+    ghost view = { λ schema. shared_table schema.lines };
 
-    ghost inverse = { λ table. record { plain = table.plain; lines = table.lines } };
+    ghost invariant = { λ schema. Ascends (shared_table schema.lines).lines };
 }
 
 impl Schema {
-    /// The schema of a device without modules.
-    pub fn plain(alloc: Global) -> Schema
+    /// The schema of a device without modules. It takes no memory.
+    pub fn plain(_alloc: Global) -> Schema
         ensures { result ≡ plain_table }
     {
-        Schema {
-            plain: true,
-            lines: Row::new(alloc),
-        }
+        Schema { lines: None }
     }
 
     /// The schema of these lines, which are in the order of their names.
-    pub(crate) fn of_lines(lines: Row<SchemaLine>) -> Schema
+    pub(crate) fn of_lines(alloc: Global, lines: Row<SchemaLine>) -> Result<Schema, Memory>
         requires { Ascends lines }
-        ensures { result ≡ record { plain = false; lines = lines } }
+        ensures { IfOk result (λ schema. schema ≡ record { plain = false; lines = lines }) }
     {
-        Schema {
-            plain: false,
-            lines,
-        }
+        Ok(Schema {
+            lines: Some(Arc::new(alloc, lines)?),
+        })
     }
 
     /// Whether it is a plain one.
     pub fn is_plain(&self) -> bool
         ensures { result ≡ self.now.plain }
     {
-        self.plain
+        self.lines.is_none()
     }
 
     /// Its nodes, in the order of their names.
@@ -61,17 +58,22 @@ impl Schema {
         ensures lines { result.now ≡ self.now.lines }
         ensures order { Ascends self.now.lines }
     {
-        self.lines.as_slice()
+        match &self.lines {
+            Some(lines) => lines.as_slice(),
+            None => &[],
+        }
     }
 
-    /// An equal schema.
-    pub fn copy(&self, alloc: Global) -> Result<Schema, Memory>
+    /// An equal schema, which shares the lines. It costs a counter.
+    pub fn copy(&self, _alloc: Global) -> Result<Schema, Memory>
         ensures { IfOk result (λ copy. copy ≡ self.now) }
     {
-        Ok(Schema {
-            plain: self.plain,
-            lines: self.lines.copy(alloc)?,
-        })
+        match &self.lines {
+            Some(lines) => Ok(Schema {
+                lines: Some(Arc::try_clone(lines)?),
+            }),
+            None => Ok(Schema { lines: None }),
+        }
     }
 }
 

@@ -8,12 +8,15 @@ use Rattle.std.proofs.lemmas.Bool.{or_from, or_parts}
 use Rattle.orc_call.specs.declared.call.Action.{Action}
 use Rattle.orc_call.specs.declared.call.Action.TheVariants.{Literal}
 use Rattle.orc_call.specs.declared.call.TheConstants.{MOST_ACTIONS}
-use Rattle.orc_state.specs.Actions.{is_service_among, service_of, services_once}
-use Rattle.orc_state.specs.States.{is_same_text}
-use Rattle.orc_state.specs.Calls.{is_action, is_lawful_name, is_write}
-use Rattle.orc_state.specs.declared.declarations.Decls.{Decls}
-use Rattle.orc_state.specs.declared.lawful.TheConstants.{MOST_WRITES}
-use Rattle.orc_script.specs.Scripts.{is_call_full, with_literal}
+use Rattle.orc_decls.specs.Calls.{is_service_among, service_of, services_once}
+use Rattle.orc_decls.specs.Devices.{is_same_text}
+use Rattle.orc_call.specs.declared.call.Put.{Put}
+use Rattle.orc_decls.specs.Calls.{has_body, is_action, is_lawful_name, is_service, is_write}
+use Rattle.orc_decls.specs.declared.declarations.Decls.{Decls}
+use Rattle.orc_decls.specs.declared.lawful.TheConstants.{MOST_WRITES}
+use Rattle.orc_lines.specs.declared.keyword.Keyword.{Keyword}
+use Rattle.orc_lines.specs.declared.keyword.Keyword.TheVariants as keyword
+use Rattle.orc_script.specs.Scripts.{is_call_full, bodied_action, with_literal}
 use Rattle.orc_script.specs.inside.Lawful.{AreSteps, are_begun, has_caller, is_literal_begun, is_open}
 use Rattle.orc_script.specs.declared.script.Part.{Part}
 use Rattle.orc_script.specs.declared.script.Part.TheVariants as part
@@ -78,6 +81,17 @@ once_more (x ∷ xs) a once none =
     both (option_map_or (λ id. not (is_service_among (xs ++ a ∷ []) id)) (service_of x) true) (services_once (xs ++ a ∷ []))
     (head_once xs a (service_of x) (first_so head (services_once xs) once) (differ_back (service_of a) (service_of x) (first_other x xs (service_of a) none)))
     (once_more xs a (second_so head (services_once xs) once) (later_other x xs (service_of a) none))
+
+-- a service that is made or modified
+
+pub made_lawful : (decls : Decls) (word : Keyword) (id : List ℕ) (body : List Put) → (is_service decls id && has_body decls id body) ≡ true
+    → is_action decls (bodied_action word id body) ≡ true
+made_lawful decls keyword.Modify id body h = h
+made_lawful decls _ id body h = h
+
+pub made_new : (xs : List Action) (word : Keyword) (id : List ℕ) (body : List Put) → is_service_among xs id ≡ false → NoneNames xs (service_of (bodied_action word id body))
+made_new xs keyword.Modify id body h = h
+made_new xs _ id body h = h
 
 -- an action more
 

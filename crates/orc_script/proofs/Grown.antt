@@ -3,14 +3,15 @@ use Rattle.std.proofs.Common.{◌≡◌, ℕ, ◌≤◌, ◌<◌, ◌+◌, Bool,
 use Rattle.std.specs.List.{list_any}
 use Rattle.std.proofs.lemmas.Bool.{false≢true, and_from, leb-false}
 use Rattle.orc_call.specs.declared.call.Call.{Call}
-use Rattle.orc_lines.specs.declared.declared.Declared.{Declared}
+use Rattle.orc_decls.specs.declared.declarations.Decls.{Decls}
 use Rattle.orc_script.specs.Steps.{are_settled, begins_settled, callers_behind}
 use Rattle.orc_script.specs.Scripts.{script_steps, is_caller_more, is_full, no_steps, scripted_at}
 use Rattle.orc_lines.specs.Lines.{is_end, is_settled, is_skipped, text_of}
 use Rattle.orc_lines.specs.Names.{is_among, with_name}
 use Rattle.orc_lines.specs.Words.{is_text}
 use Rattle.orc_script.specs.declared.step.ScriptStep.{ScriptStep}
-use Rattle.orc_script.specs.declared.step.ScriptStep.TheVariants.{Show, Json, Meta, Data, Serve, Settle, Stop, StopAt, Recover, History}
+use Rattle.orc_script.specs.declared.step.ScriptStep.TheVariants.{Show, Json, Meta, ShowData, Settle, Stop, StopAt, Recover, History}
+use Rattle.orc_script.specs.declared.step.ScriptStep.TheVariants as script_step
 use Rattle.orc_script.specs.declared.script.Script.{Script}
 use Rattle.orc_script.specs.declared.script.Part.{Part}
 use Rattle.orc_script.specs.declared.script.Part.TheVariants as part
@@ -31,7 +32,7 @@ pub record Rests (s : Script) (lines : List (List ℕ)) (steps : List ScriptStep
 pub record Serves (s : Script) (steps : List ScriptStep) : Type 0 where
   pub call : Call
   pub more : List ScriptStep
-  pub is : steps ≡ s.steps ++ Serve call ∷ more
+  pub is : steps ≡ s.steps ++ script_step.Call call ∷ more
   pub caller : call.caller ≡ s.caller
   pub settled : are_settled more ≡ true
   pub begins : begins_settled more ≡ true
@@ -52,11 +53,11 @@ both_sides : (p : Part) → is_resting p ≡ true → is_resting p ≡ false →
 both_sides p here not_here = false≢true (sym not_here ∙ here)
 
 settled_plain : (step : ScriptStep) (more : List ScriptStep) → is_plain step ≡ true → are_settled (step ∷ more) ≡ are_settled more
-settled_plain (Serve call) more h = absurd (false≢true h)
+settled_plain (script_step.Call call) more h = absurd (false≢true h)
 settled_plain (Show device) more h = refl
 settled_plain (Json device) more h = refl
 settled_plain (Meta device path) more h = refl
-settled_plain Data more h = refl
+settled_plain ShowData more h = refl
 settled_plain Settle more h = refl
 settled_plain Stop more h = refl
 settled_plain (StopAt count bytes) more h = refl
@@ -64,11 +65,11 @@ settled_plain Recover more h = refl
 settled_plain History more h = refl
 
 callers_plain : (callers : List (List ℕ)) (step : ScriptStep) (more : List ScriptStep) → is_plain step ≡ true → callers_behind callers (step ∷ more) ≡ callers_behind callers more
-callers_plain callers (Serve call) more h = absurd (false≢true h)
+callers_plain callers (script_step.Call call) more h = absurd (false≢true h)
 callers_plain callers (Show device) more h = refl
 callers_plain callers (Json device) more h = refl
 callers_plain callers (Meta device path) more h = refl
-callers_plain callers Data more h = refl
+callers_plain callers ShowData more h = refl
 callers_plain callers Settle more h = refl
 callers_plain callers Stop more h = refl
 callers_plain callers (StopAt count bytes) more h = refl
@@ -96,7 +97,7 @@ settled_here line later h = rw h refl
 end_behind : (line : List ℕ) (later : List (List ℕ)) → is_text (text_of line) (codes "end") ≡ false → list_any is_end (line ∷ later) ≡ list_any is_end later
 end_behind line later h = rw h refl
 
-module _ (d : Declared) where
+module _ (d : Decls) where
   abbrev pub Grown : List (List ℕ) → Type 0
   Grown lines = (s : Script) (at n : ℕ) (steps : List ScriptStep) → script_steps d s at n lines ≡ Ok steps → IsKept s → Grows s lines steps
 
@@ -153,8 +154,8 @@ module _ (d : Declared) where
         let v = (grown t at n steps reads now).serves (ap is_resting m.open_now) m.ends in
         record {
           rests = λ _. record {
-            more = Serve v.call ∷ v.more;
-            is = v.is ∙ ap (λ (x : List ScriptStep). x ++ Serve v.call ∷ v.more) m.steps;
+            more = script_step.Call v.call ∷ v.more;
+            is = v.is ∙ ap (λ (x : List ScriptStep). x ++ script_step.Call v.call ∷ v.more) m.steps;
             settled = and_from (begins_settled v.more) (are_settled v.more) v.begins v.settled;
             begins = λ h. absurd (false≢true (sym m.other ∙ sym (settled_here line later m.kept) ∙ h));
             few = v.few;
@@ -176,7 +177,7 @@ module _ (d : Declared) where
           serves = λ _ h. (let v = all.serves m.open_now (sym (end_behind line later m.other) ∙ h) in record {
             call = v.call;
             more = v.more;
-            is = v.is ∙ ap (λ (x : List ScriptStep). x ++ Serve v.call ∷ v.more) m.steps;
+            is = v.is ∙ ap (λ (x : List ScriptStep). x ++ script_step.Call v.call ∷ v.more) m.steps;
             caller = v.caller ∙ m.caller;
             settled = v.settled;
             begins = v.begins;
@@ -188,7 +189,7 @@ module _ (d : Declared) where
     of_end : Ended s (text_of line) later t → Grows s (line ∷ later) steps
     of_end m =
         let room = kept.room m.was_open in
-        let size = length-append s.steps (Serve m.call ∷ []) in
+        let size = length-append s.steps (script_step.Call m.call ∷ []) in
         let now : IsKept t = record {
           few = subst (λ (x : List ScriptStep). length x ≤ MOST_STEPS) (sym m.steps) (omega arith);
           room = λ open_now. absurd (both_sides t.part (ap is_resting m.resting) open_now);
@@ -200,7 +201,7 @@ module _ (d : Declared) where
           serves = λ _ _. record {
             call = m.call;
             more = r.more;
-            is = r.is ∙ ap (λ (x : List ScriptStep). x ++ r.more) m.steps ∙ append_assoc s.steps (Serve m.call ∷ []) r.more;
+            is = r.is ∙ ap (λ (x : List ScriptStep). x ++ r.more) m.steps ∙ append_assoc s.steps (script_step.Call m.call ∷ []) r.more;
             caller = m.caller;
             settled = r.settled;
             begins = r.begins m.followed;
@@ -235,7 +236,7 @@ module _ (d : Declared) where
       of_any line later (grown later) s (at + length line) (n + 1) steps found.0 found.1.1 kept (makes d s at line later found.0 found.1.0)
 
 -- a whole script
-pub settled_script : (d : Declared) (at n : ℕ) (lines : List (List ℕ)) (steps : List ScriptStep) → script_steps d no_steps at n lines ≡ Ok steps
+pub settled_script : (d : Decls) (at n : ℕ) (lines : List (List ℕ)) (steps : List ScriptStep) → script_steps d no_steps at n lines ≡ Ok steps
     → (are_settled steps ≡ true) × (length steps ≤ MOST_STEPS) × (length (callers_behind [] steps) ≤ MOST_CALLERS)
 settled_script d at n lines steps h =
     let first : IsKept no_steps = record { few = omega arith; room = λ none. absurd (false≢true (sym none)); callers = omega arith } in

@@ -1,18 +1,19 @@
 -- The steps stay lawful.
-use Rattle.std.proofs.Common.{◌≡◌, ◌+◌, ℕ, List, [], ◌∷◌, ◌++◌, Bool, true, false, not, cond, ◌&&◌, ◌||◌, nat_lt, length, Some, is_some, length-append, refl, ap, sym, ◌∙◌, subst, arith, IsTrue}
+use Rattle.std.proofs.Common.{◌≡◌, ◌≤◌, ◌+◌, ℕ, List, [], ◌∷◌, ◌++◌, Bool, true, false, not, cond, ◌&&◌, ◌||◌, nat_lt, length, Some, is_some, length-append, refl, ap, sym, ◌∙◌, subst, arith, IsTrue}
 use Rattle.std.specs.List.{list_all}
 use Rattle.std.specs.Cmp.{first_so, second_so}
+use Rattle.std.proofs.lemmas.List.{length-map}
+use Rattle.orc_decls.specs.declared.declarations.TheConstants.{MOST_DEVICES}
 use Rattle.orc_call.specs.declared.call.TheConstants.{MOST_ACTIONS}
 use Rattle.orc_path.specs.Steps.{PathStep}
-use Rattle.orc_state.specs.Actions.{is_service_among}
+use Rattle.orc_decls.specs.Calls.{is_service_among}
 use Rattle.orc_call.specs.declared.call.DevicePut.{DevicePut}
-use Rattle.orc_state.specs.States.{is_same_text, names_of}
-use Rattle.orc_state.specs.Calls.{device_named, is_base_path, is_lawful_name, is_path_under, is_put, is_write, schema_named}
-use Rattle.orc_state.specs.declared.declarations.Decls.{Decls}
-use Rattle.orc_state.specs.declared.declarations.Device.{Device}
-use Rattle.orc_lines.specs.declared.declared.Declared.{Declared}
+use Rattle.orc_decls.specs.Devices.{is_same_text, names_of}
+use Rattle.orc_decls.specs.Calls.{device_named, is_base_path, is_lawful_name, is_path_under, is_put, is_write, schema_named}
+use Rattle.orc_decls.specs.declared.declarations.Decls.{Decls}
+use Rattle.orc_decls.specs.declared.declarations.Device.{Device}
 use Rattle.orc_lines.specs.Names.{is_among}
-use Rattle.orc_lines.specs.Lawful.{AreDeclared, decls_in}
+use Rattle.orc_decls.specs.Declarations.{AreDecls}
 use Rattle.orc_script.specs.inside.Lawful.{AreSteps, are_begun, has_caller, is_literal_begun, is_open}
 use Rattle.orc_script.specs.declared.script.Script.{Script}
 use Rattle.orc_script.specs.declared.script.Part.{Part}
@@ -34,20 +35,24 @@ named_same name (d ∷ ds) = on (is_same_text name d.name) (named_same name ds) 
   on true h = refl
   on false h = h
 
+-- there are as few names as devices
+pub few_names : (d : Decls) → AreDecls d → length d.names ≤ MOST_DEVICES
+few_names d known = let all = ap length known.named ∙ length-map d.devices (λ device. device.name) in let few = known.few in omega arith
+
 -- a device of a name that stands there is declared
-device_there : (d : Declared) (name : List ℕ) → AreDeclared d → is_among d.names name ≡ true → is_some (device_named d.devices name) ≡ true
+device_there : (d : Decls) (name : List ℕ) → AreDecls d → is_among d.names name ≡ true → is_some (device_named d.devices name) ≡ true
 device_there d name known named = named_same name d.devices ∙ ap (λ (ns : List (List ℕ)). is_among ns name) (sym known.named) ∙ named
 
 -- an item of a declared device
-pub item_there : (d : Declared) (w : DevicePut) → AreDeclared d → is_among d.names w.device ≡ true
-    → IsTrue (is_put (schema_named d.schemas d.devices w.device) (record { path = w.path; item = w.item })) → is_write (decls_in d) w ≡ true
+pub item_there : (d : Decls) (w : DevicePut) → AreDecls d → is_among d.names w.device ≡ true
+    → IsTrue (is_put (schema_named d.schemas d.devices w.device) (record { path = w.path; item = w.item })) → is_write d w ≡ true
 item_there d w known named item =
     both (is_some (device_named d.devices w.device)) (is_put (schema_named d.schemas d.devices w.device) (record { path = w.path; item = w.item }))
     (device_there d w.device known named) item
 
 -- a path of one that can carry an item
-pub path_there : (d : Declared) (name : List ℕ) (path : List PathStep) → AreDeclared d → is_among d.names name ≡ true
-    → is_path_under (schema_named d.schemas d.devices name) path ≡ true → is_base_path (decls_in d) name path ≡ true
+pub path_there : (d : Decls) (name : List ℕ) (path : List PathStep) → AreDecls d → is_among d.names name ≡ true
+    → is_path_under (schema_named d.schemas d.devices name) path ≡ true → is_base_path d name path ≡ true
 path_there d name path known named under =
     both (is_some (device_named d.devices name)) (is_path_under (schema_named d.schemas d.devices name) path) (device_there d name known named) under
 

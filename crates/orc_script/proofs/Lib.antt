@@ -1,10 +1,9 @@
 mod BasePaths
 mod BodyTexts
 pub mod CallLines
-mod Costs
 pub mod Grown
 pub mod Lawful
 mod Services
 mod Placed
+mod WholeScripts
 pub mod ScriptLines
-pub mod StepsLawful

@@ -7,10 +7,10 @@ use Rattle.orc_path.specs.Alphabet.{is_identifier}
 use Rattle.orc_path.specs.Limits.{is_long_name}
 use Rattle.orc_call.specs.declared.call.Action.TheVariants as action
 use Rattle.orc_call.specs.declared.call.Call.{Call}
-use Rattle.orc_state.specs.Calls.{schema_named}
-use Rattle.orc_state.specs.declared.rule.Rule.{Rule}
-use Rattle.orc_state.specs.declared.rule.Rule.TheVariants as rule
-use Rattle.orc_lines.specs.declared.declared.Declared.{Declared}
+use Rattle.orc_decls.specs.Calls.{schema_named}
+use Rattle.orc_decls.specs.declared.rule.Rule.{Rule}
+use Rattle.orc_decls.specs.declared.rule.Rule.TheVariants as rule
+use Rattle.orc_decls.specs.declared.declarations.Decls.{Decls}
 use Rattle.orc_path.specs.Reading.{path_of}
 use Rattle.orc_path.specs.Steps.{PathStep}
 use Rattle.orc_lines.specs.Items.{data_path_of, is_past_path, kept_path_of, put_of}
@@ -19,16 +19,16 @@ use Rattle.orc_lines.specs.Keywords.{keyword_of}
 use Rattle.orc_lines.specs.Lines.{is_end, is_large, is_settled, is_skipped, text_of}
 use Rattle.orc_lines.specs.Names.{place_of, with_name}
 use Rattle.orc_lines.specs.Rules.{on_ok, or_rule}
-use Rattle.orc_script.specs.Scripts.{a_step, after_bare, after_base_put, after_base_remove, after_call, after_delete, after_end, after_json, after_literal, after_meta, after_set, after_show, after_step, after_stop, after_unset, after_write, an_action, bare_step, behind_literal, call_end, call_words, is_call_full, is_caller_more, is_followed, is_full, scripted_at, step_name_of, new_name_of, named_or_listed, with_literal_open, step_words, stop_words, with_action, with_call, with_literal, with_step, with_write, word_at, words_at, after_create, after_modify, after_redeploy, service_body_of, service_id_of}
+use Rattle.orc_script.specs.Scripts.{a_step, after_bare, after_base_put, after_base_remove, after_call, after_delete, after_end, after_json, after_literal, after_meta, after_set, after_show, after_step, after_stop, after_unset, after_write, an_action, bare_step, behind_literal, call_end, call_words, is_call_full, is_caller_more, is_followed, is_full, scripted_at, step_name_of, new_name_of, named_or_listed, with_literal_open, step_words, stop_words, with_action, with_call, with_literal, with_step, with_write, word_at, words_at, after_bodied, after_redeploy, service_body_of, service_id_of}
 use Rattle.orc_lines.specs.Words.{cut_at, first_word, is_text, number_in, word_before}
 use Rattle.orc_script.specs.declared.step.ScriptStep.{ScriptStep}
-use Rattle.orc_script.specs.declared.step.ScriptStep.TheVariants.{Show, Json, Meta, Data, Serve, Settle, Stop, StopAt, Recover, History}
+use Rattle.orc_script.specs.declared.step.ScriptStep.TheVariants.{Show, Json, Meta, ShowData, Settle, Stop, StopAt, Recover, History}
+use Rattle.orc_script.specs.declared.step.ScriptStep.TheVariants as script_step
 use Rattle.orc_lines.specs.declared.keyword.Keyword.{Keyword}
 use Rattle.orc_lines.specs.declared.keyword.Keyword.TheVariants as keyword
 use Rattle.orc_script.specs.declared.script.Script.{Script}
 use Rattle.orc_script.specs.declared.script.Part.{Part}
 use Rattle.orc_script.specs.declared.script.Part.TheVariants as part
-use Rattle.orc_script.specs.inside.Costs.{step_looks_at}
 use Rattle.orc_lines.proofs.Keywords.{end_known, end_word, is_end_word, is_settle_word, settle_word}
 use Rattle.orc_lines.proofs.Rules.{ok, or_rule_ok, on_ok_ok, passed, same_ok, so, no_ok}
 use Rattle.orc_call.specs.declared.call.Put.{Put}
@@ -36,7 +36,7 @@ use Rattle.orc_call.specs.declared.call.Action.{Action}
 
 -- a step that is no call
 abbrev pub is_plain : ScriptStep → Bool
-is_plain (Serve call) = false
+is_plain (script_step.Call call) = false
 is_plain _ = true
 
 -- no call is open
@@ -53,7 +53,6 @@ pub record Stepped (s : Script) (text : List ℕ) (later : List (List ℕ)) (t :
   pub is : t ≡ with_step s step
   pub plain : is_plain step ≡ true
   pub settles : is_text text (codes "settle") ≡ true → step ≡ Settle
-  pub unlooked : step_looks_at (keyword_of (first_word text)) later ≡ 0
 
 -- a call is open
 pub record Called (s : Script) (text : List ℕ) (later : List (List ℕ)) (t : Script) : Type 0 where
@@ -66,7 +65,6 @@ pub record Called (s : Script) (text : List ℕ) (later : List (List ℕ)) (t : 
   pub callers : t.callers ≡ with_name s.callers t.caller
   pub other : is_text text (codes "settle") ≡ false
   pub ends : list_any is_end later ≡ true
-  pub looked : keyword_of (first_word text) ≡ keyword.Call
 
 -- the call stays open
 pub record Stays (s : Script) (text : List ℕ) (later : List (List ℕ)) (t : Script) : Type 0 where
@@ -77,7 +75,6 @@ pub record Stays (s : Script) (text : List ℕ) (later : List (List ℕ)) (t : S
   pub callers : t.callers ≡ s.callers
   pub caller : t.caller ≡ s.caller
   pub other : is_text text (codes "end") ≡ false
-  pub unlooked : step_looks_at (keyword_of (first_word text)) later ≡ 0
 
 -- the call is a step
 pub record Ended (s : Script) (text : List ℕ) (later : List (List ℕ)) (t : Script) : Type 0 where
@@ -85,12 +82,11 @@ pub record Ended (s : Script) (text : List ℕ) (later : List (List ℕ)) (t : S
   pub kept : is_skipped text ≡ false
   pub was_open : is_resting s.part ≡ false
   pub resting : t.part ≡ part.Steps
-  pub steps : t.steps ≡ s.steps ++ Serve call ∷ []
+  pub steps : t.steps ≡ s.steps ++ script_step.Call call ∷ []
   pub callers : t.callers ≡ s.callers
   pub caller : call.caller ≡ s.caller
   pub ends : is_text text (codes "end") ≡ true
   pub followed : is_settled later ≡ true
-  pub looked : keyword_of (first_word text) ≡ keyword.End
 
 pub data MakesOf (s : Script) (text : List ℕ) (later : List (List ℕ)) (t : Script) : Type 0 where
   over : is_skipped text ≡ true → s ≡ t → MakesOf s text later t
@@ -104,7 +100,7 @@ not_so false h = refl
 not_so true h = absurd (h refl)
 
 -- a line that is not skipped, with its first word
-module _ (d : Declared) (s : Script) (text : List ℕ) (later : List (List ℕ)) (t : Script) (kept : is_skipped text ≡ false) where
+module _ (d : Decls) (s : Script) (text : List ℕ) (later : List (List ℕ)) (t : Script) (kept : is_skipped text ≡ false) where
   abbrev word : Keyword
   word = keyword_of (first_word text)
 
@@ -115,14 +111,11 @@ module _ (d : Declared) (s : Script) (text : List ℕ) (later : List (List ℕ))
   no_end : (k : Keyword) → word ≡ k → is_end_word k ≡ false → is_text text (codes "end") ≡ false
   no_end k is other = not_so (is_text text (codes "end")) (λ h. false≢true (sym other ∙ ap is_end_word (sym is ∙ end_word text h)))
 
-  unlooked_at : (k : Keyword) → word ≡ k → step_looks_at k later ≡ 0 → step_looks_at word later ≡ 0
-  unlooked_at k is none = ap (λ (x : Keyword). step_looks_at x later) is ∙ none
-
   -- steps
   module _ (resting : s.part ≡ part.Steps) where
-    a_bare : (step : ScriptStep) → is_plain step ≡ true → (is_text text (codes "settle") ≡ true → step ≡ Settle) → step_looks_at word later ≡ 0
+    a_bare : (step : ScriptStep) → is_plain step ≡ true → (is_text text (codes "settle") ≡ true → step ≡ Settle)
         → after_bare s step ≡ Ok t → MakesOf s text later t
-    a_bare step plain settles unlooked h =
+    a_bare step plain settles h =
         let p = passed (is_full s) rule.Size (Ok (with_step s step)) t h in
         stepped (record {
           step = step;
@@ -132,16 +125,15 @@ module _ (d : Declared) (s : Script) (text : List ℕ) (later : List (List ℕ))
           is = sym (same_ok (with_step s step) t p.1);
           plain = plain;
           settles = settles;
-          unlooked = unlooked;
         })
 
     one_word : (k : Keyword) → word ≡ k → bare_step k s ≡ Ok t → MakesOf s text later t
-    unfolding bare_step step_looks_at
-    one_word keyword.Settle is h = a_bare Settle refl (λ e. refl) (unlooked_at keyword.Settle is refl) h
-    one_word keyword.Stop is h = a_bare Stop refl (λ e. absurd (no_settle keyword.Stop is refl e)) (unlooked_at keyword.Stop is refl) h
-    one_word keyword.Recover is h = a_bare Recover refl (λ e. absurd (no_settle keyword.Recover is refl e)) (unlooked_at keyword.Recover is refl) h
-    one_word keyword.History is h = a_bare History refl (λ e. absurd (no_settle keyword.History is refl e)) (unlooked_at keyword.History is refl) h
-    one_word keyword.Data is h = a_bare Data refl (λ e. absurd (no_settle keyword.Data is refl e)) (unlooked_at keyword.Data is refl) h
+    unfolding bare_step
+    one_word keyword.Settle is h = a_bare Settle refl (λ e. refl) h
+    one_word keyword.Stop is h = a_bare Stop refl (λ e. absurd (no_settle keyword.Stop is refl e)) h
+    one_word keyword.Recover is h = a_bare Recover refl (λ e. absurd (no_settle keyword.Recover is refl e)) h
+    one_word keyword.History is h = a_bare History refl (λ e. absurd (no_settle keyword.History is refl e)) h
+    one_word keyword.Data is h = a_bare ShowData refl (λ e. absurd (no_settle keyword.Data is refl e)) h
     one_word _ is h = absurd (no_ok rule.Line t h)
 
     -- a step that names a device has room
@@ -152,7 +144,7 @@ module _ (d : Declared) (s : Script) (text : List ℕ) (later : List (List ℕ))
         (or_parts (is_long_name rest) (is_full s) two.0).1
 
     shown : (rest : List ℕ) → word ≡ keyword.Show → after_show d s rest ≡ Ok t → MakesOf s text later t
-    unfolding after_show step_looks_at
+    unfolding after_show
     shown rest is h =
         let named = on_ok_ok (step_name_of s rest) _ t h in
         let found = or_rule_ok (place_of d.names named.0) rule.Unknown (λ n. Ok (with_step s (Show n))) t named.1.1 in
@@ -165,11 +157,10 @@ module _ (d : Declared) (s : Script) (text : List ℕ) (later : List (List ℕ))
           is = sym (same_ok (with_step s step) t found.1.1);
           plain = refl;
           settles = λ e. absurd (no_settle keyword.Show is refl e);
-          unlooked = unlooked_at keyword.Show is refl;
         })
 
     printed : (rest : List ℕ) → word ≡ keyword.Json → after_json d s rest ≡ Ok t → MakesOf s text later t
-    unfolding after_json step_looks_at
+    unfolding after_json
     printed rest is h =
         let named = on_ok_ok (step_name_of s rest) _ t h in
         let typed = passed (schema_named d.schemas d.devices named.0).plain rule.Unknown _ t named.1.1 in
@@ -182,7 +173,6 @@ module _ (d : Declared) (s : Script) (text : List ℕ) (later : List (List ℕ))
           is = sym (same_ok (with_step s (Json found.0)) t found.1.1);
           plain = refl;
           settles = λ e. absurd (no_settle keyword.Json is refl e);
-          unlooked = unlooked_at keyword.Json is refl;
         })
 
     -- a step `meta` has room
@@ -202,7 +192,7 @@ module _ (d : Declared) (s : Script) (text : List ℕ) (later : List (List ℕ))
           (or_parts (is_long_name words.0) full (or_parts long past three.0).0).1
 
     told : (rest : List ℕ) → word ≡ keyword.Meta → after_meta d s rest ≡ Ok t → MakesOf s text later t
-    unfolding after_meta step_looks_at
+    unfolding after_meta
     told rest is h =
         let found = on_ok_ok (device_node_of d (is_full s) rest) (λ node. Ok (with_step s (Meta node.0 node.1))) t h in
         let step = Meta found.0.0 found.0.1 in
@@ -214,16 +204,14 @@ module _ (d : Declared) (s : Script) (text : List ℕ) (later : List (List ℕ))
           is = sym (same_ok (with_step s step) t found.1.1);
           plain = refl;
           settles = λ e. absurd (no_settle keyword.Meta is refl e);
-          unlooked = unlooked_at keyword.Meta is refl;
         })
 
     stops : (o : Option (List ℕ × List ℕ)) → word ≡ keyword.Stop → stop_words s o ≡ Ok t → MakesOf s text later t
-    unfolding step_looks_at
     stops None is h = absurd (no_ok rule.Line t h)
     stops (Some words) is h =
         let one = or_rule_ok (number_in words.0) rule.Line (λ count. or_rule (number_in words.1) rule.Line (λ bytes. after_bare s (StopAt count bytes))) t h in
         let two = or_rule_ok (number_in words.1) rule.Line (λ bytes. after_bare s (StopAt one.0 bytes)) t one.1.1 in
-        a_bare (StopAt one.0 two.0) refl (λ e. absurd (no_settle keyword.Stop is refl e)) (unlooked_at keyword.Stop is refl) two.1.1
+        a_bare (StopAt one.0 two.0) refl (λ e. absurd (no_settle keyword.Stop is refl e)) two.1.1
 
     calls : (o : Option (List ℕ × List ℕ)) (followed : Bool) → word ≡ keyword.Call → is_followed word later ≡ followed → call_words s followed o ≡ Ok t → MakesOf s text later t
     unfolding is_followed
@@ -249,7 +237,6 @@ module _ (d : Declared) (s : Script) (text : List ℕ) (later : List (List ℕ))
           callers = sym (ap (λ (x : Script). x.callers) same) ∙ ap (with_name s.callers) name;
           other = not_so (is_text text (codes "settle")) (no_settle keyword.Call is refl);
           ends = sym (ap (λ (x : Keyword). is_followed x later) is) ∙ follows ∙ so followed three.0;
-          looked = is;
         })
 
     more_words : (k : Keyword) (rest : List ℕ) (followed : Bool) → word ≡ k → is_followed word later ≡ followed → a_step k d s rest followed ≡ Ok t → MakesOf s text later t
@@ -263,9 +250,9 @@ module _ (d : Declared) (s : Script) (text : List ℕ) (later : List (List ℕ))
 
   -- within a call
   module _ (was_open : is_resting s.part ≡ false) where
-    goes_on : (k : Keyword) → word ≡ k → is_end_word k ≡ false → step_looks_at k later ≡ 0 → (u : Script) → ok Script Rule u ≡ Ok t
+    goes_on : (k : Keyword) → word ≡ k → is_end_word k ≡ false → (u : Script) → ok Script Rule u ≡ Ok t
         → is_resting u.part ≡ false → u.steps ≡ s.steps → u.callers ≡ s.callers → u.caller ≡ s.caller → MakesOf s text later t
-    goes_on k is other none u h open_now steps callers caller =
+    goes_on k is other u h open_now steps callers caller =
         let same = same_ok u t h in
         stays (record {
           kept = kept;
@@ -275,67 +262,66 @@ module _ (d : Declared) (s : Script) (text : List ℕ) (later : List (List ℕ))
           callers = subst (λ (x : Script). x.callers ≡ s.callers) same callers;
           caller = subst (λ (x : Script). x.caller ≡ s.caller) same caller;
           other = no_end k is other;
-          unlooked = unlooked_at k is none;
         })
 
     writes : (rest : List ℕ) → word ≡ keyword.Write → after_write d s rest ≡ Ok t → MakesOf s text later t
-    unfolding after_write step_looks_at
+    unfolding after_write
     writes rest is h =
         let found = on_ok_ok (device_item_of d rest) (λ write. Ok (with_write s write)) t h in
-        goes_on keyword.Write is refl refl (with_write s found.0) found.1.1 was_open refl refl refl
+        goes_on keyword.Write is refl (with_write s found.0) found.1.1 was_open refl refl refl
 
     -- behind the actions so far, where an open literal is one of them
     module _ (u : Script) (open_yet : is_resting u.part ≡ false) (steps : u.steps ≡ s.steps) (callers : u.callers ≡ s.callers) (caller : u.caller ≡ s.caller) where
       sets : (rest : List ℕ) → word ≡ keyword.Set → after_set d u rest ≡ Ok t → MakesOf s text later t
-      unfolding after_set step_looks_at
+      unfolding after_set
       sets rest is h =
           let one = passed (is_call_full u) rule.Line _ t h in
           let found = on_ok_ok (put_of (Some d.services) d.data_schema false rest) (λ put. Ok (with_action u (action.Set put))) t one.1 in
-          goes_on keyword.Set is refl refl (with_action u (action.Set found.0)) found.1.1 open_yet steps callers caller
+          goes_on keyword.Set is refl (with_action u (action.Set found.0)) found.1.1 open_yet steps callers caller
 
       unsets : (rest : List ℕ) → word ≡ keyword.Unset → after_unset d u rest ≡ Ok t → MakesOf s text later t
-      unfolding after_unset step_looks_at
+      unfolding after_unset
       unsets rest is h =
           let one = passed (is_call_full u || is_some (cut_at 32 rest)) rule.Line _ t h in
           let found = on_ok_ok (data_path_of d.services d.data_schema rest) (λ path. Ok (with_action u (action.Unset path))) t one.1 in
-          goes_on keyword.Unset is refl refl (with_action u (action.Unset found.0)) found.1.1 open_yet steps callers caller
+          goes_on keyword.Unset is refl (with_action u (action.Unset found.0)) found.1.1 open_yet steps callers caller
 
       puts_base : (rest : List ℕ) → word ≡ keyword.Base → after_base_put d u rest ≡ Ok t → MakesOf s text later t
-      unfolding after_base_put step_looks_at
+      unfolding after_base_put
       puts_base rest is h =
           let one = passed (is_call_full u) rule.Line _ t h in
           let found = on_ok_ok (device_item_of d rest) (λ put. Ok (with_action u (action.BasePut put))) t one.1 in
-          goes_on keyword.Base is refl refl (with_action u (action.BasePut found.0)) found.1.1 open_yet steps callers caller
+          goes_on keyword.Base is refl (with_action u (action.BasePut found.0)) found.1.1 open_yet steps callers caller
 
       removes_base : (rest : List ℕ) → word ≡ keyword.Unbase → after_base_remove d u rest ≡ Ok t → MakesOf s text later t
-      unfolding after_base_remove step_looks_at
+      unfolding after_base_remove
       removes_base rest is h =
           let one = passed (is_call_full u) rule.Line _ t h in
           let found = on_ok_ok (device_path_of d rest) (λ named. Ok (with_action u (action.BaseRemove named.0 named.1))) t one.1 in
-          goes_on keyword.Unbase is refl refl (with_action u (action.BaseRemove found.0.0 found.0.1)) found.1.1 open_yet steps callers caller
+          goes_on keyword.Unbase is refl (with_action u (action.BaseRemove found.0.0 found.0.1)) found.1.1 open_yet steps callers caller
 
       -- an action on a service, of this id
-      serves : (k : Keyword) → word ≡ k → is_end_word k ≡ false → step_looks_at k later ≡ 0 → (make : List ℕ → Action) (named : Result (List ℕ) Rule)
+      serves : (k : Keyword) → word ≡ k → is_end_word k ≡ false → (make : List ℕ → Action) (named : Result (List ℕ) Rule)
           → on_ok named (λ id. ok Script Rule (with_action u (make id))) ≡ Ok t → MakesOf s text later t
-      serves k is other none make named h =
+      serves k is other make named h =
           let found = on_ok_ok named (λ id. Ok (with_action u (make id))) t h in
-          goes_on k is other none (with_action u (make found.0)) found.1.1 open_yet steps callers caller
+          goes_on k is other (with_action u (make found.0)) found.1.1 open_yet steps callers caller
 
-      bodied : (k : Keyword) → word ≡ k → is_end_word k ≡ false → step_looks_at k later ≡ 0 → (make : List ℕ → List Put → Action) (rest : List ℕ)
+      bodied : (k : Keyword) → word ≡ k → is_end_word k ≡ false → (make : List ℕ → List Put → Action) (rest : List ℕ)
           → on_ok (service_body_of d u rest) (λ made. ok Script Rule (with_action u (make made.0 made.1))) ≡ Ok t → MakesOf s text later t
-      bodied k is other none make rest h =
+      bodied k is other make rest h =
           let found = on_ok_ok (service_body_of d u rest) (λ made. Ok (with_action u (make made.0 made.1))) t h in
-          goes_on k is other none (with_action u (make found.0.0 found.0.1)) found.1.1 open_yet steps callers caller
+          goes_on k is other (with_action u (make found.0.0 found.0.1)) found.1.1 open_yet steps callers caller
 
       acts : (k : Keyword) (rest : List ℕ) → word ≡ k → an_action k d u rest ≡ Ok t → MakesOf s text later t
-      unfolding an_action after_literal after_create after_modify after_redeploy after_delete step_looks_at
+      unfolding an_action after_literal after_bodied after_redeploy after_delete
       acts keyword.Literal rest is h =
           let found = on_ok_ok (new_name_of u rest) (λ name. Ok (with_literal_open u name)) t h in
-          goes_on keyword.Literal is refl refl (with_literal_open u found.0) found.1.1 refl steps callers caller
-      acts keyword.Create rest is h = bodied keyword.Create is refl refl action.Create rest h
-      acts keyword.Modify rest is h = bodied keyword.Modify is refl refl action.Modify rest h
-      acts keyword.Redeploy rest is h = serves keyword.Redeploy is refl refl action.Redeploy (service_id_of d u rest) h
-      acts keyword.Delete rest is h = serves keyword.Delete is refl refl action.Delete (named_or_listed d u rest) h
+          goes_on keyword.Literal is refl (with_literal_open u found.0) found.1.1 refl steps callers caller
+      acts keyword.Create rest is h = bodied keyword.Create is refl action.Create rest h
+      acts keyword.Modify rest is h = bodied keyword.Modify is refl action.Modify rest h
+      acts keyword.Redeploy rest is h = serves keyword.Redeploy is refl action.Redeploy (service_id_of d u rest) h
+      acts keyword.Delete rest is h = serves keyword.Delete is refl action.Delete (named_or_listed d u rest) h
       acts keyword.Set rest is h = sets rest is h
       acts keyword.Unset rest is h = unsets rest is h
       acts keyword.Base rest is h = puts_base rest is h
@@ -354,12 +340,11 @@ module _ (d : Declared) (s : Script) (text : List ℕ) (later : List (List ℕ))
             kept = kept;
             was_open = was_open;
             resting = sym (ap (λ (x : Script). x.part) same);
-            steps = sym (ap (λ (x : Script). x.steps) same) ∙ ap (λ (x : List ScriptStep). x ++ Serve call ∷ []) steps;
+            steps = sym (ap (λ (x : Script). x.steps) same) ∙ ap (λ (x : List ScriptStep). x ++ script_step.Call call ∷ []) steps;
             callers = sym (ap (λ (x : Script). x.callers) same) ∙ callers;
             caller = caller;
             ends = end_known text (ap (λ (o : Option (List ℕ × List ℕ)). keyword_of (word_before text o)) (sym alone) ∙ is);
             followed = sym (ap (λ (x : Keyword). is_followed x later) is) ∙ follows ∙ so followed one.0;
-            looked = is;
           })
       ends _ followed alone is follows h = absurd (no_ok rule.Line t h)
 
@@ -389,7 +374,7 @@ module _ (d : Declared) (s : Script) (text : List ℕ) (later : List (List ℕ))
   unfolding after_step
   of_step h = of_cut (cut_at 32 text) refl (is_followed word later) refl h
 
-pub makes : (d : Declared) (s : Script) (at : ℕ) (line : List ℕ) (later : List (List ℕ)) (t : Script)
+pub makes : (d : Decls) (s : Script) (at : ℕ) (line : List ℕ) (later : List (List ℕ)) (t : Script)
     → scripted_at d s at line later ≡ Ok t → MakesOf s (text_of line) later t
 unfolding scripted_at
 makes d s at line later t h =

@@ -12,13 +12,14 @@ use Rattle.orc_schema.specs.Schemas.{SchemaTable}
 use Rattle.orc_json.specs.Readings.{outcome, reading, rows_below}
 use Rattle.orc_template.specs.Said.{json_value}
 use Rattle.orc_call.specs.declared.call.Put.{Put}
-use Rattle.orc_state.specs.Calls.{is_body}
-use Rattle.orc_state.specs.declared.lawful.TheConstants.{MOST_WRITES}
-use Rattle.orc_state.specs.declared.rule.Rule.{Rule}
-use Rattle.orc_state.specs.declared.rule.Rule.TheVariants as rule
+use Rattle.orc_decls.specs.Calls.{is_body}
+use Rattle.orc_decls.specs.declared.lawful.TheConstants.{MOST_WRITES}
+use Rattle.orc_decls.specs.declared.rule.Rule.{Rule}
+use Rattle.orc_decls.specs.declared.rule.Rule.TheVariants as rule
 use Rattle.orc_lines.specs.Rules.{checked, or_rule}
 use Rattle.orc_lines.specs.Items.{is_long_item}
 
+-- rows of a configuration as items
 abbrev pub puts_of : List (List PathStep × Item) → List Put
 puts_of rows = map (λ row. record { path = row.0; item = row.1 }) rows
 

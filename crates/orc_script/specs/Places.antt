@@ -8,28 +8,28 @@ use Rattle.orc_path.specs.Steps.{PathStep, is_path}
 use Rattle.orc_schema.specs.Schemas.{SchemaTable}
 use Rattle.orc_typed.specs.Typed.{are_canonical_steps, canonical_path, stand}
 use Rattle.orc_call.specs.declared.call.DevicePut.{DevicePut}
-use Rattle.orc_state.specs.Calls.{blank_item, is_path_under, schema_named}
-use Rattle.orc_state.specs.declared.rule.Rule.{Rule}
-use Rattle.orc_state.specs.declared.rule.Rule.TheVariants as rule
+use Rattle.orc_decls.specs.Calls.{blank_item, is_path_under, schema_named}
+use Rattle.orc_decls.specs.declared.rule.Rule.{Rule}
+use Rattle.orc_decls.specs.declared.rule.Rule.TheVariants as rule
 use Rattle.orc_lines.specs.Rules.{checked, or_rule, on_ok}
 use Rattle.orc_lines.specs.Words.{cut_at}
 use Rattle.orc_lines.specs.Names.{is_among, place_of}
 use Rattle.orc_lines.specs.Items.{can_carry, kept_path_of, names_list, put_of}
-use Rattle.orc_lines.specs.declared.declared.Declared.{Declared}
+use Rattle.orc_decls.specs.declared.declarations.Decls.{Decls}
 
 -- items
 
 -- `D ITEM`, an item of a declared device
-abbrev pub device_item_words : Declared → Option (List ℕ × List ℕ) → Result DevicePut Rule
-device_item_words declared None = Err rule.Line
-device_item_words declared (Some words) =
+abbrev pub device_item_words : Decls → Option (List ℕ × List ℕ) → Result DevicePut Rule
+device_item_words decls None = Err rule.Line
+device_item_words decls (Some words) =
     checked ((not (is_identifier words.0), rule.Line) ∷ [])
-    (on_ok (put_of None (schema_named declared.schemas declared.devices words.0) (is_long_name words.0) words.1) (λ put.
-    checked ((not (is_among declared.names words.0), rule.Unknown) ∷ [])
+    (on_ok (put_of None (schema_named decls.schemas decls.devices words.0) (is_long_name words.0) words.1) (λ put.
+    checked ((not (is_among decls.names words.0), rule.Unknown) ∷ [])
     (Ok (record { device = words.0; path = put.path; item = put.item }))))
 
-unfoldable pub device_item_of : Declared → List ℕ → Result DevicePut Rule
-device_item_of declared text = device_item_words declared (cut_at 32 text)
+unfoldable pub device_item_of : Decls → List ℕ → Result DevicePut Rule
+device_item_of decls text = device_item_words decls (cut_at 32 text)
 
 -- paths that can carry an item
 
@@ -52,16 +52,16 @@ base_path_of schema is_long word =
     (stored_base_path schema (canonical_path schema path))))
 
 -- `D PATH`, such a path of a declared device
-abbrev pub device_path_words : Declared → Option (List ℕ × List ℕ) → Result (List ℕ × List PathStep) Rule
-device_path_words declared None = Err rule.Line
-device_path_words declared (Some words) =
+abbrev pub device_path_words : Decls → Option (List ℕ × List ℕ) → Result (List ℕ × List PathStep) Rule
+device_path_words decls None = Err rule.Line
+device_path_words decls (Some words) =
     checked ((not (is_identifier words.0), rule.Line) ∷ [])
-    (on_ok (base_path_of (schema_named declared.schemas declared.devices words.0) (is_long_name words.0) words.1)
-    (λ path. checked ((not (is_among declared.names words.0), rule.Unknown) ∷ [])
+    (on_ok (base_path_of (schema_named decls.schemas decls.devices words.0) (is_long_name words.0) words.1)
+    (λ path. checked ((not (is_among decls.names words.0), rule.Unknown) ∷ [])
     (Ok (words.0, path))))
 
-unfoldable pub device_path_of : Declared → List ℕ → Result (List ℕ × List PathStep) Rule
-device_path_of declared text = device_path_words declared (cut_at 32 text)
+unfoldable pub device_path_of : Decls → List ℕ → Result (List ℕ × List PathStep) Rule
+device_path_of decls text = device_path_words decls (cut_at 32 text)
 
 -- paths of nodes
 
@@ -89,13 +89,13 @@ node_path_of schema is_long word =
     (stored_node_path schema (canonical_path schema path))))
 
 -- `D PATH`, any one of a declared device, which is told by its number; there may be no room for a step more
-abbrev pub device_node_words : Declared → Bool → Option (List ℕ × List ℕ) → Result (ℕ × List PathStep) Rule
-device_node_words declared is_full None = Err rule.Line
-device_node_words declared is_full (Some words) =
+abbrev pub device_node_words : Decls → Bool → Option (List ℕ × List ℕ) → Result (ℕ × List PathStep) Rule
+device_node_words decls is_full None = Err rule.Line
+device_node_words decls is_full (Some words) =
     checked ((not (is_identifier words.0), rule.Line) ∷ [])
     (on_ok
-    (node_path_of (schema_named declared.schemas declared.devices words.0) (is_long_name words.0 || is_full) words.1)
-    (λ path. or_rule (place_of declared.names words.0) rule.Unknown (λ device. Ok (device, path))))
+    (node_path_of (schema_named decls.schemas decls.devices words.0) (is_long_name words.0 || is_full) words.1)
+    (λ path. or_rule (place_of decls.names words.0) rule.Unknown (λ device. Ok (device, path))))
 
-unfoldable pub device_node_of : Declared → Bool → List ℕ → Result (ℕ × List PathStep) Rule
-device_node_of declared is_full text = device_node_words declared is_full (cut_at 32 text)
+unfoldable pub device_node_of : Decls → Bool → List ℕ → Result (ℕ × List PathStep) Rule
+device_node_of decls is_full text = device_node_words decls is_full (cut_at 32 text)

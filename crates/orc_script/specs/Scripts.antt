@@ -1,5 +1,5 @@
 -- What each form of a script's line makes of the steps so far, behind declarations.
-use Rattle.std.specs.Prelude.{ℕ, Bool, true, false, not, ◌&&◌, ◌||◌, ◌==◌, nat_eq, nat_le, List, [], ◌∷◌, ◌++◌, length, Option, is_some, Result, if◌then◌else◌, ◌+◌}
+use Rattle.std.specs.Prelude.{ℕ, Bool, true, false, not, ◌&&◌, ◌||◌, ◌==◌, nat_eq, nat_le, List, [], ◌∷◌, ◌++◌, drop, length, Option, is_some, Result, if◌then◌else◌, ◌+◌}
 use Rattle.std.specs.declared.option.Option.TheVariants.{None, Some}
 use Rattle.std.specs.declared.result.Result.TheVariants.{Ok, Err}
 use Rattle.std.specs.List.{list_any}
@@ -14,18 +14,18 @@ use Rattle.orc_path.specs.Texts.{path_text}
 use Rattle.std.specs.Option.{option_map_or}
 use Rattle.orc_script.specs.Bodies.{body_of, is_long_body, kept_body}
 use Rattle.orc_call.specs.declared.call.TheConstants.{MOST_ACTIONS}
-use Rattle.orc_state.specs.Actions.{is_service_among}
-use Rattle.orc_state.specs.Calls.{schema_named}
-use Rattle.orc_state.specs.declared.rule.Rule.{Rule}
-use Rattle.orc_state.specs.declared.rule.Rule.TheVariants as rule
+use Rattle.orc_decls.specs.Calls.{is_service_among}
+use Rattle.orc_decls.specs.Calls.{schema_named}
+use Rattle.orc_decls.specs.declared.rule.Rule.{Rule}
+use Rattle.orc_decls.specs.declared.rule.Rule.TheVariants as rule
 use Rattle.orc_lines.specs.Rules.{checked, or_rule, on_ok}
-use Rattle.orc_lines.specs.Lines.{is_end, is_large, is_settled, is_skipped, text_of}
+use Rattle.orc_lines.specs.Lines.{is_end, is_large, is_settled, is_skipped, lines_of, seen, text_of}
 use Rattle.orc_lines.specs.Words.{cut_at, first_word, number_in}
 use Rattle.orc_lines.specs.Keywords.{keyword_of}
 use Rattle.orc_lines.specs.Names.{is_among, place_of, with_name}
 use Rattle.orc_lines.specs.Items.{data_path_of, put_of, service_path_of}
 use Rattle.orc_script.specs.Places.{device_item_of, device_node_of, device_path_of}
-use Rattle.orc_lines.specs.declared.declared.Declared.{Declared}
+use Rattle.orc_decls.specs.declared.declarations.Decls.{Decls}
 use Rattle.orc_script.specs.declared.step.ScriptStep.{ScriptStep}
 use Rattle.orc_script.specs.declared.step.ScriptStep.TheVariants as step
 use Rattle.orc_lines.specs.declared.keyword.Keyword.{Keyword}
@@ -55,6 +55,7 @@ no_steps = record {
 abbrev pub is_full : Script → Bool
 is_full script = nat_le MOST_STEPS (length script.steps)
 
+-- a step more
 abbrev pub with_step : Script → ScriptStep → Script
 with_step script step = record script { steps = script.steps ++ step ∷ [] }
 
@@ -68,22 +69,22 @@ step_name_of script rest =
     checked ((not (is_identifier rest), rule.Line) ∷ (is_long_name rest || is_full script, rule.Size) ∷ []) (Ok rest)
 
 -- `show D`, behind these declarations
-unfoldable pub after_show : Declared → Script → List ℕ → Result Script Rule
-after_show declared script rest =
+unfoldable pub after_show : Decls → Script → List ℕ → Result Script Rule
+after_show decls script rest =
     on_ok (step_name_of script rest) (λ name.
-    or_rule (place_of declared.names name) rule.Unknown (λ device. Ok (with_step script (step.Show device))))
+    or_rule (place_of decls.names name) rule.Unknown (λ device. Ok (with_step script (step.Show device))))
 
 -- `json D`, of a device with a type
-unfoldable pub after_json : Declared → Script → List ℕ → Result Script Rule
-after_json declared script rest =
+unfoldable pub after_json : Decls → Script → List ℕ → Result Script Rule
+after_json decls script rest =
     on_ok (step_name_of script rest) (λ name.
-    checked (((schema_named declared.schemas declared.devices name).plain, rule.Unknown) ∷ [])
-    (or_rule (place_of declared.names name) rule.Unknown (λ device. Ok (with_step script (step.Json device)))))
+    checked (((schema_named decls.schemas decls.devices name).plain, rule.Unknown) ∷ [])
+    (or_rule (place_of decls.names name) rule.Unknown (λ device. Ok (with_step script (step.Json device)))))
 
 -- `meta D PATH`
-unfoldable pub after_meta : Declared → Script → List ℕ → Result Script Rule
-after_meta declared script rest =
-    on_ok (device_node_of declared (is_full script) rest) (λ node. Ok (with_step script (step.Meta node.0 node.1)))
+unfoldable pub after_meta : Decls → Script → List ℕ → Result Script Rule
+after_meta decls script rest =
+    on_ok (device_node_of decls (is_full script) rest) (λ node. Ok (with_step script (step.Meta node.0 node.1)))
 
 -- `stop K B`
 abbrev pub stop_words : Script → Option (List ℕ × List ℕ) → Result Script Rule
@@ -157,16 +158,16 @@ abbrev pub with_action : Script → Action → Script
 with_action script action = record script { actions = script.actions ++ action ∷ [] }
 
 -- `PATH`, the entry of a service: its id is the path's text
-abbrev pub service_id_of : Declared → Script → List ℕ → Result (List ℕ) Rule
-service_id_of declared script rest =
+abbrev pub service_id_of : Decls → Script → List ℕ → Result (List ℕ) Rule
+service_id_of decls script rest =
     checked ((is_call_full script || is_some (cut_at 32 rest), rule.Line) ∷ [])
-    (on_ok (service_path_of declared.services declared.data_schema rest) (λ path.
+    (on_ok (service_path_of decls.services decls.data_schema rest) (λ path.
     on_service script (path_text path) (Ok (path_text path))))
 
 -- `redeploy PATH`
-unfoldable pub after_redeploy : Declared → Script → List ℕ → Result Script Rule
-after_redeploy declared script rest =
-    on_ok (service_id_of declared script rest) (λ id. Ok (with_action script (action.Redeploy id)))
+unfoldable pub after_redeploy : Decls → Script → List ℕ → Result Script Rule
+after_redeploy decls script rest =
+    on_ok (service_id_of decls script rest) (λ id. Ok (with_action script (action.Redeploy id)))
 
 -- the text begins as that of a path does, and a name doesn't
 abbrev pub begins_as_path : List ℕ → Bool
@@ -174,66 +175,66 @@ begins_as_path [] = false
 begins_as_path (b ∷ bs) = b == 47
 
 -- `NAME` and `PATH`, the id of any service
-abbrev pub named_or_listed : Declared → Script → List ℕ → Result (List ℕ) Rule
-named_or_listed declared script rest =
-    if begins_as_path rest then service_id_of declared script rest else new_name_of script rest
+abbrev pub named_or_listed : Decls → Script → List ℕ → Result (List ℕ) Rule
+named_or_listed decls script rest =
+    if begins_as_path rest then service_id_of decls script rest else new_name_of script rest
 
 -- `delete NAME` and `delete PATH`
-unfoldable pub after_delete : Declared → Script → List ℕ → Result Script Rule
-after_delete declared script rest =
-    on_ok (named_or_listed declared script rest) (λ id. Ok (with_action script (action.Delete id)))
+unfoldable pub after_delete : Decls → Script → List ℕ → Result Script Rule
+after_delete decls script rest =
+    on_ok (named_or_listed decls script rest) (λ id. Ok (with_action script (action.Delete id)))
 
 -- `PATH JSON`, the entry of a service and its body. A limit goes before a service that is named twice; a body that is
 -- none passes no limit.
-abbrev pub body_words : Declared → Script → Option (List ℕ × List ℕ) → Result (List ℕ × List Put) Rule
-body_words declared script None = Err rule.Line
-body_words declared script (Some words) =
+abbrev pub body_words : Decls → Script → Option (List ℕ × List ℕ) → Result (List ℕ × List Put) Rule
+body_words decls script None = Err rule.Line
+body_words decls script (Some words) =
     checked ((nat_eq (length words.1) 0, rule.Line) ∷ [])
-    (on_ok (service_path_of declared.services declared.data_schema words.0) (λ path.
-    checked ((option_map_or is_long_body (body_of declared.data_schema path words.1) false, rule.Size) ∷ [])
+    (on_ok (service_path_of decls.services decls.data_schema words.0) (λ path.
+    checked ((option_map_or is_long_body (body_of decls.data_schema path words.1) false, rule.Size) ∷ [])
     (on_service script (path_text path)
-    (on_ok (kept_body declared.data_schema path (body_of declared.data_schema path words.1)) (λ body.
+    (on_ok (kept_body decls.data_schema path (body_of decls.data_schema path words.1)) (λ body.
     Ok (path_text path, body))))))
 
-abbrev pub service_body_of : Declared → Script → List ℕ → Result (List ℕ × List Put) Rule
-service_body_of declared script rest =
-    checked ((is_call_full script, rule.Line) ∷ []) (body_words declared script (cut_at 32 rest))
+abbrev pub service_body_of : Decls → Script → List ℕ → Result (List ℕ × List Put) Rule
+service_body_of decls script rest =
+    checked ((is_call_full script, rule.Line) ∷ []) (body_words decls script (cut_at 32 rest))
 
--- `create PATH JSON`
-unfoldable pub after_create : Declared → Script → List ℕ → Result Script Rule
-after_create declared script rest =
-    on_ok (service_body_of declared script rest) (λ made. Ok (with_action script (action.Create made.0 made.1)))
+-- the action of a line with this first word that names a service and its body
+abbrev pub bodied_action : Keyword → List ℕ → List Put → Action
+bodied_action keyword.Modify id body = action.Modify id body
+bodied_action _ id body = action.Create id body
 
--- `modify PATH JSON`
-unfoldable pub after_modify : Declared → Script → List ℕ → Result Script Rule
-after_modify declared script rest =
-    on_ok (service_body_of declared script rest) (λ made. Ok (with_action script (action.Modify made.0 made.1)))
+-- `create PATH JSON` and `modify PATH JSON`, by their first word
+unfoldable pub after_bodied : Keyword → Decls → Script → List ℕ → Result Script Rule
+after_bodied word decls script rest =
+    on_ok (service_body_of decls script rest) (λ made. Ok (with_action script (bodied_action word made.0 made.1)))
 
 -- `set ITEM`
-unfoldable pub after_set : Declared → Script → List ℕ → Result Script Rule
-after_set declared script rest =
+unfoldable pub after_set : Decls → Script → List ℕ → Result Script Rule
+after_set decls script rest =
     checked ((is_call_full script, rule.Line) ∷ [])
-    (on_ok (put_of (Some declared.services) declared.data_schema false rest) (λ put.
+    (on_ok (put_of (Some decls.services) decls.data_schema false rest) (λ put.
     Ok (with_action script (action.Set put))))
 
 -- `unset PATH`
-unfoldable pub after_unset : Declared → Script → List ℕ → Result Script Rule
-after_unset declared script rest =
+unfoldable pub after_unset : Decls → Script → List ℕ → Result Script Rule
+after_unset decls script rest =
     checked ((is_call_full script || is_some (cut_at 32 rest), rule.Line) ∷ [])
-    (on_ok (data_path_of declared.services declared.data_schema rest) (λ path.
+    (on_ok (data_path_of decls.services decls.data_schema rest) (λ path.
     Ok (with_action script (action.Unset path))))
 
 -- `base D ITEM`
-unfoldable pub after_base_put : Declared → Script → List ℕ → Result Script Rule
-after_base_put declared script rest =
+unfoldable pub after_base_put : Decls → Script → List ℕ → Result Script Rule
+after_base_put decls script rest =
     checked ((is_call_full script, rule.Line) ∷ [])
-    (on_ok (device_item_of declared rest) (λ put. Ok (with_action script (action.BasePut put))))
+    (on_ok (device_item_of decls rest) (λ put. Ok (with_action script (action.BasePut put))))
 
 -- `unbase D PATH`
-unfoldable pub after_base_remove : Declared → Script → List ℕ → Result Script Rule
-after_base_remove declared script rest =
+unfoldable pub after_base_remove : Decls → Script → List ℕ → Result Script Rule
+after_base_remove decls script rest =
     checked ((is_call_full script, rule.Line) ∷ [])
-    (on_ok (device_path_of declared rest) (λ named. Ok (with_action script (action.BaseRemove named.0 named.1))))
+    (on_ok (device_path_of decls rest) (λ named. Ok (with_action script (action.BaseRemove named.0 named.1))))
 
 -- the open literal gets its writes: the call has it as an action
 abbrev pub with_literal : Script → Script
@@ -249,15 +250,15 @@ abbrev pub with_write : Script → DevicePut → Script
 with_write script write = record script { writes = script.writes ++ write ∷ [] }
 
 -- `write D ITEM`
-unfoldable pub after_write : Declared → Script → List ℕ → Result Script Rule
-after_write declared script rest = on_ok (device_item_of declared rest) (λ write. Ok (with_write script write))
+unfoldable pub after_write : Decls → Script → List ℕ → Result Script Rule
+after_write decls script rest = on_ok (device_item_of decls rest) (λ write. Ok (with_write script write))
 
 -- the call with its actions is a step
 abbrev pub with_call : Script → Script
 with_call script = record script {
   part = part.Steps;
   steps = script.steps
-      ++ step.Serve (record { caller = script.caller; number = script.number; actions = script.actions }) ∷ [];
+      ++ step.Call (record { caller = script.caller; number = script.number; actions = script.actions }) ∷ [];
   caller = [];
   actions = [];
 }
@@ -270,13 +271,13 @@ after_end script followed =
 -- which forms stand where
 
 -- of more than one word, where no call is open
-unfoldable pub a_step : Keyword → Declared → Script → List ℕ → Bool → Result Script Rule
-a_step keyword.Show declared script rest followed = after_show declared script rest
-a_step keyword.Json declared script rest followed = after_json declared script rest
-a_step keyword.Meta declared script rest followed = after_meta declared script rest
-a_step keyword.Stop declared script rest followed = after_stop script rest
-a_step keyword.Call declared script rest followed = after_call script rest followed
-a_step _ declared script rest followed = Err rule.Line
+unfoldable pub a_step : Keyword → Decls → Script → List ℕ → Bool → Result Script Rule
+a_step keyword.Show decls script rest followed = after_show decls script rest
+a_step keyword.Json decls script rest followed = after_json decls script rest
+a_step keyword.Meta decls script rest followed = after_meta decls script rest
+a_step keyword.Stop decls script rest followed = after_stop script rest
+a_step keyword.Call decls script rest followed = after_call script rest followed
+a_step _ decls script rest followed = Err rule.Line
 
 -- of one word
 unfoldable pub bare_step : Keyword → Script → Result Script Rule
@@ -284,26 +285,26 @@ bare_step keyword.Settle script = after_bare script step.Settle
 bare_step keyword.Stop script = after_bare script step.Stop
 bare_step keyword.Recover script = after_bare script step.Recover
 bare_step keyword.History script = after_bare script step.History
-bare_step keyword.Data script = after_bare script step.Data
+bare_step keyword.Data script = after_bare script step.ShowData
 bare_step _ script = Err rule.Line
 
 -- an action of the open call
-unfoldable pub an_action : Keyword → Declared → Script → List ℕ → Result Script Rule
-an_action keyword.Create declared script rest = after_create declared script rest
-an_action keyword.Modify declared script rest = after_modify declared script rest
-an_action keyword.Redeploy declared script rest = after_redeploy declared script rest
-an_action keyword.Literal declared script rest = after_literal script rest
-an_action keyword.Delete declared script rest = after_delete declared script rest
-an_action keyword.Set declared script rest = after_set declared script rest
-an_action keyword.Unset declared script rest = after_unset declared script rest
-an_action keyword.Base declared script rest = after_base_put declared script rest
-an_action keyword.Unbase declared script rest = after_base_remove declared script rest
-an_action _ declared script rest = Err rule.Line
+unfoldable pub an_action : Keyword → Decls → Script → List ℕ → Result Script Rule
+an_action keyword.Create decls script rest = after_bodied keyword.Create decls script rest
+an_action keyword.Modify decls script rest = after_bodied keyword.Modify decls script rest
+an_action keyword.Redeploy decls script rest = after_redeploy decls script rest
+an_action keyword.Literal decls script rest = after_literal script rest
+an_action keyword.Delete decls script rest = after_delete decls script rest
+an_action keyword.Set decls script rest = after_set decls script rest
+an_action keyword.Unset decls script rest = after_unset decls script rest
+an_action keyword.Base decls script rest = after_base_put decls script rest
+an_action keyword.Unbase decls script rest = after_base_remove decls script rest
+an_action _ decls script rest = Err rule.Line
 
 -- a line of a literal, or the action behind it
-unfoldable pub behind_literal : Keyword → Declared → Script → List ℕ → Result Script Rule
-behind_literal keyword.Write declared script rest = after_write declared script rest
-behind_literal word declared script rest = an_action word declared (with_literal script) rest
+unfoldable pub behind_literal : Keyword → Decls → Script → List ℕ → Result Script Rule
+behind_literal keyword.Write decls script rest = after_write decls script rest
+behind_literal word decls script rest = an_action word decls (with_literal script) rest
 
 -- the line that ends the open call
 unfoldable pub call_end : Keyword → Script → Bool → Result Script Rule
@@ -311,10 +312,10 @@ call_end keyword.End script followed = after_end script followed
 call_end _ script followed = Err rule.Line
 
 -- a line of more than one word
-unfoldable pub words_at : Part → Keyword → Declared → Script → List ℕ → Bool → Result Script Rule
-words_at part.Steps word declared script rest followed = a_step word declared script rest followed
-words_at part.Call word declared script rest followed = an_action word declared script rest
-words_at part.Literal word declared script rest followed = behind_literal word declared script rest
+unfoldable pub words_at : Part → Keyword → Decls → Script → List ℕ → Bool → Result Script Rule
+words_at part.Steps word decls script rest followed = a_step word decls script rest followed
+words_at part.Call word decls script rest followed = an_action word decls script rest
+words_at part.Literal word decls script rest followed = behind_literal word decls script rest
 
 -- a line of one word
 unfoldable pub word_at : Part → Keyword → Script → Bool → Result Script Rule
@@ -323,25 +324,29 @@ word_at part.Call word script followed = call_end word script followed
 word_at part.Literal word script followed = call_end word (with_literal script) followed
 
 -- a line with this first word
-abbrev pub step_words : Declared → Script → Keyword → Bool → Option (List ℕ × List ℕ) → Result Script Rule
-step_words declared script word followed None = word_at script.part word script followed
-step_words declared script word followed (Some words) = words_at script.part word declared script words.1 followed
+abbrev pub step_words : Decls → Script → Keyword → Bool → Option (List ℕ × List ℕ) → Result Script Rule
+step_words decls script word followed None = word_at script.part word script followed
+step_words decls script word followed (Some words) = words_at script.part word decls script words.1 followed
 
 -- a line that is not skipped, with the lines behind it
-unfoldable pub after_step : Declared → Script → List ℕ → List (List ℕ) → Result Script Rule
-after_step declared script text later =
-    step_words declared script (keyword_of (first_word text)) (is_followed (keyword_of (first_word text)) later)
+unfoldable pub after_step : Decls → Script → List ℕ → List (List ℕ) → Result Script Rule
+after_step decls script text later =
+    step_words decls script (keyword_of (first_word text)) (is_followed (keyword_of (first_word text)) later)
     (cut_at 32 text)
 
 -- a line with the lines behind it; so many bytes stand in front of it
-unfoldable pub scripted_at : Declared → Script → ℕ → List ℕ → List (List ℕ) → Result Script Rule
-scripted_at declared script at line later =
+unfoldable pub scripted_at : Decls → Script → ℕ → List ℕ → List (List ℕ) → Result Script Rule
+scripted_at decls script at line later =
     checked ((is_large at line, rule.Size) ∷ (not (is_utf8 (text_of line)), rule.Utf8) ∷ [])
-    (if is_skipped (text_of line) then Ok script else after_step declared script (text_of line) later)
+    (if is_skipped (text_of line) then Ok script else after_step decls script (text_of line) later)
 
 -- the steps in lines, behind these declarations
-abbrev pub script_steps : Declared → Script → ℕ → ℕ → List (List ℕ) → Result (List ScriptStep) (ℕ × Rule)
-script_steps declared script at number [] = Ok script.steps
-script_steps declared script at number (line ∷ later) =
-    on_line (number + 1) (scripted_at declared script at line later) (λ new.
-    script_steps declared new (at + length line) (number + 1) later)
+abbrev pub script_steps : Decls → Script → ℕ → ℕ → List (List ℕ) → Result (List ScriptStep) (ℕ × Rule)
+script_steps decls script at number [] = Ok script.steps
+script_steps decls script at number (line ∷ later) =
+    on_line (number + 1) (scripted_at decls script at line later) (λ new.
+    script_steps decls new (at + length line) (number + 1) later)
+
+-- the script of a bundle: the steps in the lines behind so many bytes and so many lines of what is seen of its text
+abbrev pub script_of : Decls → List ℕ → ℕ → ℕ → Result (List ScriptStep) (ℕ × Rule)
+script_of decls bytes rest number = script_steps decls no_steps rest number (lines_of (drop rest (seen bytes)))

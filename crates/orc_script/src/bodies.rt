@@ -4,15 +4,15 @@ ghost use Rattle.std.specs.List.{list_any};
 ghost use Rattle.std.specs.Option.{option_map_or};
 ghost use Rattle.orc_lines.specs.Answers.{ReadsLine};
 ghost use Rattle.orc_script.specs.Bodies.{body_of, is_long_body, is_long_put, kept_body, puts_of};
-ghost use Rattle.orc_state.specs.Calls.{is_body};
+ghost use Rattle.orc_decls.specs.Calls.{is_body};
 ghost use Rattle.orc_script.specs.Scripts.{begins_as_path};
 
 use orc_call::Put;
+use orc_decls::{MOST_WRITES, Rule, is_body};
 use orc_json::{JsonFault, read_entry};
 use orc_lines::{LineFault, breaks, is_long_item};
 use orc_path::{Item, Path};
 use orc_schema::Schema;
-use orc_state::{MOST_WRITES, Rule, is_body};
 use orc_text::{Memory, Row};
 use std::alloc::Global;
 

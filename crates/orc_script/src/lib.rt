@@ -9,6 +9,6 @@ mod read;
 mod script;
 mod step;
 
-pub use read::read_steps;
+pub use read::read_script;
 pub use script::{MOST_CALLERS, MOST_STEPS};
 pub use step::ScriptStep;

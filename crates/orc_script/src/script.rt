@@ -5,29 +5,25 @@ ghost use Rattle.orc_lines.specs.Lines.{lines_of};
 ghost use Rattle.orc_lines.specs.Words.{first_word};
 ghost use Rattle.orc_script.specs.Scripts.{no_steps, is_full, is_caller_more, after_bare, after_show, after_json, after_meta, after_stop, after_call, after_step, a_step, bare_step, is_followed, step_name_of, words_at, word_at, scripted_at};
 ghost use Rattle.orc_lines.specs.Answers.{ReadsLine, Takes};
-ghost use Rattle.orc_lines.specs.Work.{work_on};
-ghost use Rattle.orc_script.specs.inside.Costs.{scripted_looks_at, step_looks_at};
-ghost use Rattle.orc_lines.specs.Lawful.{AreDeclared, decls_in};
+ghost use Rattle.orc_decls.specs.Declarations.{AreDecls};
 ghost use Rattle.orc_script.specs.inside.Lawful.{AreSteps, StaysAnywhere, StaysLawful};
-ghost use Rattle.orc_state.specs.declared.declarations.Decls.{Decls};
+ghost use Rattle.orc_decls.specs.declared.declarations.Decls.{Decls};
 ghost use Rattle.orc_script.specs.Steps.{is_step};
-ghost use Rattle.orc_state.specs.declared.lawful.TheConstants.{MOST_WRITES};
+ghost use Rattle.orc_decls.specs.declared.lawful.TheConstants.{MOST_WRITES};
 ghost use Rattle.orc_lines.specs.declared.lines.TheConstants.{LARGEST_BUNDLE};
 
-use crate::places::read_device_node;
+use crate::places::{device_number, read_device_node};
 use crate::step::ScriptStep;
 use orc_call::{Action, DevicePut};
-use orc_io::Steps;
+use orc_decls::{Decls, Rule};
 use orc_lines::{
-    Declared, Keyword, LineFault, Names, breaks, cut, ends_later, first_word, is_large, is_settled,
+    Keyword, LineFault, Names, breaks, cut, ends_later, first_word, is_large, is_settled,
     is_skipped, keyword_of, line_text, number_of, read_text,
 };
-use orc_path::{is_identifier_counted, is_long_name};
+use orc_path::{is_identifier, is_long_name};
 use orc_schema::Schema;
-use orc_state::Rule;
 use orc_text::{Row, Text};
 use std::alloc::Global;
-use std::sync::ledger::Ledger;
 
 /// The most callers of a script.
 pub const MOST_CALLERS: usize = 256;
@@ -62,14 +58,13 @@ pub struct Script {
 }
 
 // Whether the lines behind are as the line with this first word wants them.
-#[tactic(auto, unfolding(crate::specs::Scripts::is_followed, crate::specs::inside::Costs::step_looks_at))]
-fn is_followed<L: Ledger>(word: Keyword, later: &[u8], steps: &mut Steps<L>) -> bool
-    ensures followed { result ≡ is_followed word (lines_of later.now) }
-    ensures cost { steps.new ≡ steps.old + step_looks_at word (lines_of later.now) }
+#[tactic(auto, unfolding(crate::specs::Scripts::is_followed))]
+fn is_followed(word: Keyword, later: &[u8]) -> bool
+    ensures { result ≡ is_followed word (lines_of later.now) }
 {
     match word {
-        Keyword::Call => ends_later(later, steps),
-        Keyword::End => is_settled(later, steps),
+        Keyword::Call => ends_later(later),
+        Keyword::End => is_settled(later),
         _ => true,
     }
 }
@@ -112,16 +107,10 @@ impl Script {
     }
 
     // `D`, the name of a device, in a step more.
-    fn read_step_name<L: Ledger>(
-        &self,
-        alloc: Global,
-        rest: &str,
-        work: &mut Steps<L>,
-    ) -> Result<Text, LineFault>
-        ensures reads { ReadsLine (step_name_of self.now rest.now) result }
-        ensures worked { work.new ≤ work.old + work_on rest.now }
+    fn read_step_name(&self, alloc: Global, rest: &str) -> Result<Text, LineFault>
+        ensures { ReadsLine (step_name_of self.now rest.now) result }
     {
-        if !is_identifier_counted(rest, work) {
+        if !is_identifier(rest) {
             return breaks(Rule::Line);
         }
         if is_long_name(rest) || self.is_full() {
@@ -132,67 +121,46 @@ impl Script {
 
     // `show D`.
     #[tactic(auto, unfolding(crate::specs::Scripts::after_show))]
-    fn take_show<L: Ledger>(
-        &mut self,
-        alloc: Global,
-        declared: &Declared,
-        rest: &str,
-        work: &mut Steps<L>,
-    ) -> Result<(), LineFault>
-        requires { AreDeclared declared.now }
-        ensures takes { Takes (after_show declared.now self.old rest.now) self.new result }
-        ensures lawful { StaysLawful (decls_in declared.now) self.old self.new result }
-        ensures worked { work.new ≤ work.old + work_on rest.now }
+    fn take_show(&mut self, alloc: Global, decls: &Decls, rest: &str) -> Result<(), LineFault>
+        requires { AreDecls decls.now }
+        ensures takes { Takes (after_show decls.now self.old rest.now) self.new result }
+        ensures lawful { StaysLawful decls.now self.old self.new result }
     {
-        let name = self.read_step_name(alloc, rest, work)?;
-        let Some(n) = declared.names.place(&name) else {
+        let name = self.read_step_name(alloc, rest)?;
+        let Some(n) = device_number(decls, &name) else {
             return breaks(Rule::Unknown);
         };
-        self.steps.push(ScriptStep::Show(n as u32))?;
+        self.steps.push(ScriptStep::Show(n))?;
         Ok(())
     }
 
     // `json D`.
     #[tactic(auto, unfolding(crate::specs::Scripts::after_json))]
-    fn take_json<L: Ledger>(
-        &mut self,
-        alloc: Global,
-        declared: &Declared,
-        rest: &str,
-        work: &mut Steps<L>,
-    ) -> Result<(), LineFault>
-        requires { AreDeclared declared.now }
-        ensures takes { Takes (after_json declared.now self.old rest.now) self.new result }
-        ensures lawful { StaysLawful (decls_in declared.now) self.old self.new result }
-        ensures worked { work.new ≤ work.old + work_on rest.now }
+    fn take_json(&mut self, alloc: Global, decls: &Decls, rest: &str) -> Result<(), LineFault>
+        requires { AreDecls decls.now }
+        ensures takes { Takes (after_json decls.now self.old rest.now) self.new result }
+        ensures lawful { StaysLawful decls.now self.old self.new result }
     {
-        let name = self.read_step_name(alloc, rest, work)?;
+        let name = self.read_step_name(alloc, rest)?;
         let plain = Schema::plain(alloc);
-        if declared.schema_named(&name, &plain).is_plain() {
+        if decls.schema_named(&name, &plain).is_plain() {
             return breaks(Rule::Unknown);
         }
-        let Some(n) = declared.names.place(&name) else {
+        let Some(n) = device_number(decls, &name) else {
             return breaks(Rule::Unknown);
         };
-        self.steps.push(ScriptStep::Json(n as u32))?;
+        self.steps.push(ScriptStep::Json(n))?;
         Ok(())
     }
 
     // `meta D PATH`.
     #[tactic(auto, unfolding(crate::specs::Scripts::after_meta))]
-    fn take_meta<L: Ledger>(
-        &mut self,
-        alloc: Global,
-        declared: &Declared,
-        rest: &str,
-        work: &mut Steps<L>,
-    ) -> Result<(), LineFault>
-        requires { AreDeclared declared.now }
-        ensures takes { Takes (after_meta declared.now self.old rest.now) self.new result }
-        ensures lawful { StaysLawful (decls_in declared.now) self.old self.new result }
-        ensures worked { work.new ≤ work.old + work_on rest.now }
+    fn take_meta(&mut self, alloc: Global, decls: &Decls, rest: &str) -> Result<(), LineFault>
+        requires { AreDecls decls.now }
+        ensures takes { Takes (after_meta decls.now self.old rest.now) self.new result }
+        ensures lawful { StaysLawful decls.now self.old self.new result }
     {
-        let node = read_device_node(alloc, declared, self.is_full(), rest, work)?;
+        let node = read_device_node(alloc, decls, self.is_full(), rest)?;
         self.steps.push(ScriptStep::Meta(node.0, node.1))?;
         Ok(())
     }
@@ -224,16 +192,9 @@ impl Script {
 
     // `call C N`, followed or not.
     #[tactic(auto, unfolding(crate::specs::Scripts::after_call))]
-    fn take_call<L: Ledger>(
-        &mut self,
-        alloc: Global,
-        rest: &str,
-        followed: bool,
-        work: &mut Steps<L>,
-    ) -> Result<(), LineFault>
+    fn take_call(&mut self, alloc: Global, rest: &str, followed: bool) -> Result<(), LineFault>
         ensures takes { Takes (after_call self.old rest.now followed) self.new result }
         ensures lawful { (decls : Decls) → StaysLawful decls self.old self.new result }
-        ensures worked { work.new ≤ work.old + work_on rest.now }
     {
         let Some((caller, number)) = cut(rest) else {
             return breaks(Rule::Line);
@@ -241,7 +202,7 @@ impl Script {
         let Some(number) = number_of(number) else {
             return breaks(Rule::Line);
         };
-        if !is_identifier_counted(caller, work) {
+        if !is_identifier(caller) {
             return breaks(Rule::Line);
         }
         let name = Text::from_str(alloc, caller)?;
@@ -261,26 +222,24 @@ impl Script {
 
     // A step of more than one word.
     #[tactic(auto, unfolding(crate::specs::Scripts::a_step))]
-    fn take_step<L: Ledger>(
+    fn take_step(
         &mut self,
         alloc: Global,
-        declared: &Declared,
+        decls: &Decls,
         word: Keyword,
         rest: &str,
         followed: bool,
-        work: &mut Steps<L>,
     ) -> Result<(), LineFault>
-        requires { AreDeclared declared.now }
-        ensures takes { Takes (a_step word declared.now self.old rest.now followed) self.new result }
-        ensures lawful { StaysLawful (decls_in declared.now) self.old self.new result }
-        ensures worked { work.new ≤ work.old + work_on rest.now }
+        requires { AreDecls decls.now }
+        ensures takes { Takes (a_step word decls.now self.old rest.now followed) self.new result }
+        ensures lawful { StaysLawful decls.now self.old self.new result }
     {
         match word {
-            Keyword::Show => self.take_show(alloc, declared, rest, work),
-            Keyword::Json => self.take_json(alloc, declared, rest, work),
-            Keyword::Meta => self.take_meta(alloc, declared, rest, work),
+            Keyword::Show => self.take_show(alloc, decls, rest),
+            Keyword::Json => self.take_json(alloc, decls, rest),
+            Keyword::Meta => self.take_meta(alloc, decls, rest),
             Keyword::Stop => self.take_stop(rest),
-            Keyword::Call => self.take_call(alloc, rest, followed, work),
+            Keyword::Call => self.take_call(alloc, rest, followed),
             _ => breaks(Rule::Line),
         }
     }
@@ -296,33 +255,31 @@ impl Script {
             Keyword::Stop => self.take_bare(ScriptStep::Stop),
             Keyword::Recover => self.take_bare(ScriptStep::Recover),
             Keyword::History => self.take_bare(ScriptStep::History),
-            Keyword::Data => self.take_bare(ScriptStep::Data),
+            Keyword::Data => self.take_bare(ScriptStep::ShowData),
             _ => breaks(Rule::Line),
         }
     }
 
     // A line of more than one word.
     #[tactic(auto, unfolding(crate::specs::Scripts::words_at))]
-    fn take_words<L: Ledger>(
+    fn take_words(
         &mut self,
         alloc: Global,
-        declared: &Declared,
+        decls: &Decls,
         word: Keyword,
         rest: &str,
         followed: bool,
-        work: &mut Steps<L>,
     ) -> Result<(), LineFault>
-        requires { AreDeclared declared.now }
+        requires { AreDecls decls.now }
         ensures takes { Takes
-            (words_at self.old.part word declared.now self.old rest.now followed)
+            (words_at self.old.part word decls.now self.old rest.now followed)
             self.new result }
-        ensures lawful { StaysAnywhere (decls_in declared.now) self.old self.new result }
-        ensures worked { work.new ≤ work.old + work_on rest.now }
+        ensures lawful { StaysAnywhere decls.now self.old self.new result }
     {
         match self.part {
-            Part::Steps => self.take_step(alloc, declared, word, rest, followed, work),
-            Part::Call => self.take_action(alloc, declared, word, rest, work),
-            Part::Literal => self.take_behind_literal(alloc, declared, word, rest, work),
+            Part::Steps => self.take_step(alloc, decls, word, rest, followed),
+            Part::Call => self.take_action(alloc, decls, word, rest),
+            Part::Literal => self.take_behind_literal(alloc, decls, word, rest),
         }
     }
 
@@ -345,49 +302,40 @@ impl Script {
 
     // A line that is not skipped, with the bytes behind it.
     #[tactic(auto, unfolding(crate::specs::Scripts::after_step))]
-    fn take_text<L: Ledger, M: Ledger>(
+    fn take_text(
         &mut self,
         alloc: Global,
-        declared: &Declared,
+        decls: &Decls,
         text: &str,
         later: &[u8],
-        steps: &mut Steps<L>,
-        work: &mut Steps<M>,
     ) -> Result<(), LineFault>
-        requires { AreDeclared declared.now }
-        ensures takes { Takes (after_step declared.now self.old text.now (lines_of later.now)) self.new result }
-        ensures lawful { StaysAnywhere (decls_in declared.now) self.old self.new result }
-        ensures cost { steps.new ≡ steps.old + step_looks_at (keyword_of (first_word text.now)) (lines_of later.now) }
-        ensures worked { work.new ≤ work.old + work_on text.now }
+        requires { AreDecls decls.now }
+        ensures takes { Takes (after_step decls.now self.old text.now (lines_of later.now)) self.new result }
+        ensures lawful { StaysAnywhere decls.now self.old self.new result }
     {
         let word = keyword_of(first_word(text));
-        let followed = is_followed(word, later, steps);
+        let followed = is_followed(word, later);
         match cut(text) {
-            Some((_, rest)) => self.take_words(alloc, declared, word, rest, followed, work),
+            Some((_, rest)) => self.take_words(alloc, decls, word, rest, followed),
             None => self.take_word(alloc, word, followed),
         }
     }
 
     /// A line, with the bytes behind it. So many bytes stand in front of it.
     #[tactic(auto, unfolding(crate::specs::Scripts::scripted_at))]
-    pub(crate) fn take<L: Ledger, M: Ledger>(
+    pub(crate) fn take(
         &mut self,
         alloc: Global,
-        declared: &Declared,
+        decls: &Decls,
         at: u64,
         line: &[u8],
         later: &[u8],
-        steps: &mut Steps<L>,
-        work: &mut Steps<M>,
     ) -> Result<(), LineFault>
         requires room { at + length line.now < 2 ^ 63 }
-        requires declared { AreDeclared declared.now }
-        ensures takes { Takes (scripted_at declared.now self.old at line.now (lines_of later.now)) self.new result }
-        ensures lawful { StaysAnywhere (decls_in declared.now) self.old self.new result }
+        requires decls { AreDecls decls.now }
+        ensures takes { Takes (scripted_at decls.now self.old at line.now (lines_of later.now)) self.new result }
+        ensures lawful { StaysAnywhere decls.now self.old self.new result }
         ensures small { OnOk result (at + length line.now ≤ LARGEST_BUNDLE) }
-        ensures counts { steps.old ≤ steps.new }
-        ensures cost { steps.new ≤ steps.old + scripted_looks_at line.now (lines_of later.now) }
-        ensures worked { work.new ≤ work.old + work_on line.now }
     {
         if is_large(at, line) {
             return breaks(Rule::Size);
@@ -398,6 +346,6 @@ impl Script {
         if is_skipped(text.as_bytes()) {
             return Ok(());
         }
-        self.take_text(alloc, declared, text, later, steps, work)
+        self.take_text(alloc, decls, text, later)
     }
 }

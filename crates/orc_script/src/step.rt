@@ -13,9 +13,9 @@ pub enum ScriptStep {
     /// what the device's base has there.
     Meta(u32, Path),
     /// Print the data.
-    Data,
+    ShowData,
     /// Submit a call.
-    Serve(Call),
+    Call(Call),
     /// Bring all that is in flight to its end. Nothing is, behind a call.
     Settle,
     /// Stop the controller.

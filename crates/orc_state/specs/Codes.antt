@@ -1,26 +1,17 @@
--- The codes of a service, of a state and of a snapshot, which a model that is made of them needs.
-use Rattle.std.specs.Prelude.{ℕ, List, refl}
-use Rattle.std.specs.Coded.{Coded, code_by, coded×, coded_ℕ, coded_list}
-use Rattle.orc_path.specs.Codes.{config_code}
-use Rattle.orc_path.specs.Configurations.{Config}
-use Rattle.orc_state.specs.Snapshots.{Snapshot}
+-- The code of a state with its history, which its model needs.
+use Rattle.std.specs.Prelude.{List, refl}
+use Rattle.std.specs.Coded.{Coded, code_by, coded×, coded_list}
+use Rattle.orc_path.specs.declared.item.Write.{Write}
+use Rattle.orc_path.specs.contracts.item.Write as write
+use Rattle.orc_call.specs.declared.call.Call.{Call}
+use Rattle.orc_call.specs.contracts.call.Call as call
+use Rattle.orc_datastore.specs.Codes.{datastore_code}
+use Rattle.orc_datastore.specs.States.{Datastore}
 use Rattle.orc_state.specs.States.{State}
-use Rattle.orc_state.specs.declared.state.Service.{Service}
-
-abbrev pub service_code : Coded Service
-service_code =
-    code_by (List ℕ × List Config) (coded× (coded_list coded_ℕ) (coded_list config_code))
-    (λ service. (service.id, service.parts)) (λ pair. record { id = pair.0; parts = pair.1 }) (λ _. refl)
 
 abbrev pub state_code : Coded State
 state_code =
-    code_by (Config × (List Config × List Service))
-    (coded× config_code (coded× (coded_list config_code) (coded_list service_code)))
-    (λ state. (state.data, (state.bases, state.live)))
-    (λ parts. record { «data» = parts.0; bases = parts.1.0; live = parts.1.1 }) (λ _. refl)
-
-abbrev pub snapshot_code : Coded Snapshot
-snapshot_code =
-    code_by (ℕ × (Config × Config)) (coded× coded_ℕ (coded× config_code config_code))
-    (λ snapshot. (snapshot.front, (snapshot.data, snapshot.known)))
-    (λ parts. record { front = parts.0; «data» = parts.1.0; known = parts.1.1 }) (λ _. refl)
+    code_by (Datastore × (List Call × List (List Write)))
+    (coded× datastore_code (coded× (coded_list call.the_row.coded) (coded_list (coded_list write.the_row.coded))))
+    (λ state. (state.datastore, (state.history, state.writes)))
+    (λ parts. record { datastore = parts.0; history = parts.1.0; writes = parts.1.1 }) (λ _. refl)

@@ -1,43 +1,48 @@
--- What users and the crates above rely on, over whole histories.
-use Rattle.std.specs.Prelude.{◌≡◌, ℕ, List, All, IsTrue}
-use Rattle.std.specs.declared.option.Option.TheVariants.{Some}
+-- What plans rest on while the history grows.
+use Rattle.std.specs.Prelude.{◌≡◌, ℕ, ◌≤◌, List, ◌++◌, length, IfOk, Result}
 use Rattle.std.specs.declared.result.Result.TheVariants.{Ok}
-use Rattle.std.specs.FinMap.{get}
-use Rattle.orc_path.specs.Steps.{PathStep}
-use Rattle.orc_path.specs.Configurations.{Config, IsConfig}
-use Rattle.orc_path.specs.declared.item.Item.{Item}
-use Rattle.orc_state.specs.States.{expansion, name_of, tree_due}
-use Rattle.orc_template.specs.Expansions.{Expanding}
-use Rattle.orc_services.specs.Expanded.{writes_of}
-use Rattle.orc_services.specs.Services.{Instance, expansion_at}
-use Rattle.orc_state.specs.Next.{serving_on}
-use Rattle.orc_typed.specs.Typed.{is_typed}
-use Rattle.orc_state.specs.Declarations.{AreDecls}
-use Rattle.orc_state.specs.Calls.{is_action, schema_named}
-use Rattle.orc_state.specs.Legal.{state_of}
-use Rattle.orc_state.specs.declared.declarations.Decls.{Decls}
+use Rattle.orc_path.specs.declared.item.Write.{Write}
+use Rattle.orc_call.specs.declared.answer.Answer.{Answer}
 use Rattle.orc_call.specs.declared.call.Call.{Call}
+use Rattle.orc_tree.specs.declared.change.ChangeSet.{ChangeSet}
+use Rattle.orc_datastore.specs.Legal.{IsNew}
+use Rattle.orc_datastore.specs.Plans.{planned}
+use Rattle.orc_decls.specs.declared.declarations.Decls.{Decls}
+use Rattle.orc_datastore.specs.declared.plan.Plan.{Plan}
+use Rattle.orc_state.specs.Checks.{Checks, IsConflict, CanCommit, IsUnread}
+use Rattle.orc_datastore.specs.Snapshots.{Snapshot}
+use Rattle.orc_state.specs.States.{IsPlanAt, IsSnapshotAt, state_at}
 
--- each action of the calls of a history is one that call blocks can give
-abbrev pub AreActions : Decls → List Call → Type 0
-AreActions decls history = All (λ call. All (λ action. IsTrue (is_action decls action)) call.actions) history
+-- A snapshot at a front of a history is one at that front, whatever is committed.
+abbrev pub SnapshotStaysAtFront : Type 0
+SnapshotStaysAtFront =
+    (decls : Decls) (history more : List Call) (snapshot : Snapshot) → IsSnapshotAt decls history snapshot
+    → IsSnapshotAt decls (history ++ more) snapshot
 
--- Where the actions of a history are ones that call blocks can give, the tree of each device is a configuration.
-abbrev pub TreeIsConfiguration : Type 0
-TreeIsConfiguration =
-    (decls : Decls) (history : List Call) (device : ℕ)
-    → AreDecls decls → AreActions decls history → IsConfig (tree_due (state_of decls history) device)
+-- What is planned at a front of a history is a plan at that front.
+abbrev pub PlanIsAtFront : Type 0
+PlanIsAtFront =
+    (decls : Decls) (history : List Call) (front : ℕ) (call : Call) (plan : Plan) → front ≤ length history
+    → planned decls (state_at decls history front) front call ≡ Ok plan → IsPlanAt decls history call plan
 
--- Each item of it may stand there under the device's schema.
-abbrev pub TreeIsTyped : Type 0
-TreeIsTyped =
-    (decls : Decls) (history : List Call) (device : ℕ) → AreDecls decls → AreActions decls history
-    → (path : List PathStep) (item : Item) → get (tree_due (state_of decls history) device) path ≡ Some item
-    → IsTrue (is_typed (schema_named decls.schemas decls.devices (name_of decls.names device)) path item)
+-- And it stays one, whatever is committed.
+abbrev pub PlanStaysAtFront : Type 0
+PlanStaysAtFront =
+    (decls : Decls) (history more : List Call) (call : Call) (plan : Plan) → IsPlanAt decls history call plan
+    → IsPlanAt decls (history ++ more) call plan
 
--- The literal service that an expanded action comes to holds on each device what the expansion wrote there.
-abbrev pub LiteralIsExpansion : Type 0
-LiteralIsExpansion =
-    (decls : Decls) (config : Config) (it : Instance) (e : Expanding) → AreDecls decls
-    → expansion_at (serving_on decls config) it ≡ Ok e
-    → expansion decls.names (writes_of decls.names e.written) ≡ e.written
+-- An entry that wrote what a plan read, and none that did, exclude one another; and the first such entry is one.
+abbrev pub ConflictIsOne : Type 0
+ConflictIsOne =
+    (decls : Decls) (history : List Call) (plan : Plan) (place : ℕ) (write : Write)
+    → IsConflict decls history plan place write
+    → (IsUnread decls history plan → ⊥)
+    × ((other : ℕ) (another : Write) → IsConflict decls history plan other another → place ≡ other)
+
+-- A new call that passes the check may be committed.
+abbrev pub PassedCanCommit : Type 0
+PassedCanCommit =
+    (decls : Decls) (history : List Call) (call : Call) (plan : Plan)
+    (answer : Result (List (ℕ × ChangeSet)) Answer)
+    → Checks decls history call plan answer → IsNew history call
+    → IfOk answer (λ sets. CanCommit decls history call plan)

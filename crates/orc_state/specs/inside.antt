@@ -1,8 +1,4 @@
-pub mod Behind
-pub mod Orders
-pub mod Placed
-pub mod Touching
-pub mod Known
-pub mod Turns
-pub mod Keeping
-pub mod Sights
+pub mod Numbered
+pub mod Firsts
+pub mod Making
+pub mod Entering

@@ -1,27 +1,28 @@
-//! What users and the crates above rely on, over whole histories. Each function does nothing: its
-//! contract is the law. The laws that no code cites stand in `orc_laws`.
-ghost use Rattle.orc_state.specs.Laws.{TreeIsConfiguration, TreeIsTyped, LiteralIsExpansion};
+//! What plans rest on while the history grows. Each function does nothing: its contract is the law.
+ghost use Rattle.orc_state.specs.Laws.{ConflictIsOne, PassedCanCommit, PlanIsAtFront, PlanStaysAtFront, SnapshotStaysAtFront};
 
-use orc_template::written_is_typed;
+/// A snapshot at a front of the history is one at that front, whatever is committed.
+pub fn snapshot_stays_at_front()
+    ensures { SnapshotStaysAtFront }
+{}
 
-/// The tree of each device is a configuration: every entry on the way to an item is there.
-pub fn tree_is_configuration()
-    ensures { TreeIsConfiguration }
-{
-    written_is_typed();
-}
+/// What is planned at a front of the history is a plan at that front.
+pub fn plan_is_at_front()
+    ensures { PlanIsAtFront }
+{}
 
-/// Each item of the tree of each device may stand at its path under the device's schema.
-pub fn tree_is_typed()
-    ensures { TreeIsTyped }
-{
-    written_is_typed();
-}
+/// And it stays one, whatever is committed.
+pub fn plan_stays_at_front()
+    ensures { PlanStaysAtFront }
+{}
 
-/// The literal service that an expanded action comes to holds on each device what the expansion wrote
-/// there.
-pub fn literal_is_expansion()
-    ensures { LiteralIsExpansion }
-{
-    written_is_typed();
-}
+/// The answer of a check is one: an entry that wrote what was read, and none that did, exclude one
+/// another, and the first such entry is one.
+pub fn conflict_is_one()
+    ensures { ConflictIsOne }
+{}
+
+/// A new call that passes the check may be committed.
+pub fn passed_can_commit()
+    ensures { PassedCanCommit }
+{}

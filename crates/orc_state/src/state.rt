@@ -1,326 +1,319 @@
-//! The state of the orchestrator, and what a call does to it.
-ghost use Rattle.std.specs.Prelude.{◌≡◌, ◌≢◌, ◌<◌, ◌^◌, [], IfOk, IsTrue, Ok, None, All, length, map};
-ghost use Rattle.orc_check.specs.Validity.{broken_of};
-ghost use Rattle.orc_revalidate.specs.Changes.{DiffersInside};
-ghost use Rattle.orc_services.specs.Fitting.{FitActions};
-ghost use Rattle.orc_state.specs.States.{IsComplete, declared_base, fits_puts, opening, part, tree_due};
-ghost use Rattle.orc_state.specs.Actions.{data_after, name_each_once, services_once};
-ghost use Rattle.orc_state.specs.Calls.{is_call};
-ghost use Rattle.orc_state.specs.Declarations.{AreDecls};
-ghost use Rattle.orc_state.specs.Metas.{IsMeta};
-ghost use Rattle.orc_state.specs.Plans.{call_targets};
-ghost use Rattle.orc_state.specs.Next.{IsStateOf, after, clash, refusal};
-ghost use Rattle.orc_state.specs.Snapshots.{IsSnapshotOf};
-ghost use Rattle.orc_state.specs.Touched.{touched_among, touched_devices};
-ghost use Rattle.orc_state.specs.inside.Behind.{IsDataBehind, changed_by};
-ghost use Rattle.orc_state.specs.inside.Keeping.{IsStoreFor};
-ghost use Rattle.orc_state.specs.inside.Sights.{service_key};
+//! The state with its history: planned calls are checked on it and committed.
+ghost use Rattle.std.specs.Prelude.{◌≡◌, ◌<◌, [], Ok, None, IfOk, IsTrue, length, take};
+ghost use Rattle.orc_decls.specs.Calls.{is_call};
+ghost use Rattle.orc_decls.specs.Declarations.{AreDecls};
+ghost use Rattle.orc_datastore.specs.Legal.{IsNew};
+ghost use Rattle.orc_datastore.specs.Metas.{IsMeta};
+ghost use Rattle.orc_datastore.specs.Next.{IsDataAfter, IsStateOf, expanded_call};
+ghost use Rattle.orc_datastore.specs.Snapshots.{IsSnapshotOf};
+ghost use Rattle.orc_datastore.specs.States.{tree_due};
+ghost use Rattle.orc_state.specs.Checks.{Checks, CanCommit, IsUnread, clash_of, refused_early};
+ghost use Rattle.orc_state.specs.Commits.{CommitsCall};
+ghost use Rattle.orc_decls.specs.declared.declarations.Decls.{Decls};
+ghost use Rattle.orc_state.specs.States.{IsPlanAt, IsSnapshotAt, IsStateUnder};
+ghost use Rattle.orc_state.specs.Writes.{AreWritesOf};
+ghost use Rattle.orc_state.specs.inside.Entering.{Enters};
+ghost use Rattle.orc_state.specs.inside.Firsts.{IsAnswerAt, IsWriteAt};
 
-use crate::base::declared_base;
-use crate::data::{data_behind, opening_data};
-use crate::expanding::expanded;
-use crate::known::known_behind;
-use crate::living::Living;
-use crate::stores::{place, stores_behind};
-use crate::touched::touched_among;
-use crate::turns::{comers, turn_ids, turns};
-use crate::{Decls, Device, Snapshot};
+use crate::conflict::first_conflict;
+use crate::history::History;
+use crate::literals::with_expansions;
+use crate::writes::writes;
 use orc_call::{Action, Answer, Call};
-use orc_path::Path;
-use orc_refs::{Meta, Refs, store_is_overlay};
-use orc_text::{Memory, Row, Text};
-use orc_tree::Tree;
+use orc_datastore::{Datastore, Plan, Snapshot};
+use orc_decls::Decls;
+use orc_path::{Path, Write};
+use orc_plans::{plan_is_enough, planned_stands, unread_plan_stands};
+use orc_refs::Meta;
+use orc_text::{Memory, Row};
+use orc_tree::{ChangeSet, Tree};
 use std::alloc::Global;
 use std::marker::Model;
 use std::mem;
 
-/// A living service and the items that it writes, on each device in the order of declaration.
-#[derive(Drop)]
-pub struct Service {
-    pub id: Text,
-    pub parts: Row<Tree>,
-}
-
-/// The data; the store of each device, which has its base and its tree; and the living services, once
-/// with what they write and once as a snapshot knows them.
+/// The data, the bases of the devices and the living services; the committed calls, which make these;
+/// and what each of the calls wrote.
 #[derive(Drop)]
 pub struct State {
-    pub(crate) data: Tree,
-    pub(crate) stores: Row<Refs>,
-    pub(crate) live: Living,
-    // What lives on which devices, as `live` tells it too, in pages that a snapshot shares.
-    pub(crate) known: Tree,
+    pub(crate) datastore: Datastore,
+    pub(crate) history: History,
+    pub(crate) writes: Row<Row<Write>>,
 }
 
 impl Model for State {
-    ghost use Rattle.std.specs.Prelude.{map};
     ghost use Rattle.orc_state.specs.Codes.{state_code};
-    ghost use Rattle.orc_state.specs.Snapshots.{KnowsLiving};
     ghost use Rattle.orc_state.specs.States.{State};
-    ghost use Rattle.orc_state.specs.inside.Keeping.{AreKept};
 
     ghost Value = { State };
 
     ghost coded = { state_code };
 
     ghost view = { λ state. record {
-      «data» = state.data;
-      bases = map (λ store. store.base) state.stores;
-      live = state.live;
+      datastore = state.datastore;
+      history = state.history;
+      writes = state.writes;
     } };
-
-    ghost invariant = { λ state. AreKept state.stores state.live × KnowsLiving state.live state.known };
-}
-
-impl Service {
-    /// What the service writes on a device.
-    pub fn part(&self, device: u32) -> &Tree
-        requires { device < length self.now.parts }
-        ensures { result.now ≡ part self.now device }
-    {
-        &self.parts.as_slice()[device as usize]
-    }
 }
 
 impl State {
-    /// The data.
-    pub fn data(&self) -> &Tree
-        ensures { result.now ≡ self.now.data }
-    {
-        &self.data
-    }
-
-    /// The declared data and bases, and no service.
-    pub fn open(alloc: Global, decls: &Decls) -> Result<State, Memory>
+    /// The state that is declared, and no history.
+    pub fn start(alloc: Global, decls: &Decls) -> Result<State, Memory>
         requires { AreDecls decls.now }
-        ensures opening { IfOk result (λ state. state ≡ opening decls.now) }
-        ensures kept { IfOk result (IsStateOf decls.now) }
+        ensures state { IfOk result (IsStateUnder decls.now) }
+        ensures none { IfOk result (λ state. state.history ≡ []) }
     {
-        let data = opening_data(alloc, decls.names.as_slice(), decls.data.as_slice())?;
-        let stores = idle_stores(alloc, decls.devices.as_slice())?;
         Ok(State {
-            data,
-            stores,
-            live: Living::new(alloc),
-            known: Tree::new(alloc),
+            datastore: Datastore::open(alloc, decls)?,
+            history: History::new(alloc),
+            writes: Row::new(alloc),
         })
     }
 
     /// The tree that is due on a device: its base overlaid with the items that living services write.
-    /// It is kept, and nothing is laid anew.
-    pub fn tree_due(&self, device: u32) -> &Tree
-        requires { device < length self.now.bases }
-        ensures { result.now ≡ tree_due self.now device }
+    pub fn tree(&self, device: u32) -> &Tree
+        requires { device < length self.now.datastore.bases }
+        ensures { result.now ≡ tree_due self.now.datastore device }
     {
-        store_is_overlay();
-        self.live.names_differ();
-        self.stores.as_slice()[device as usize].tree()
+        self.datastore.tree_due(device)
     }
 
-    /// What is known of a path of a device; none exactly where no living service writes it. It takes
-    /// no memory.
+    /// What is known of a path of a device; none exactly where no living service writes it. It takes no
+    /// memory.
     pub fn meta(&self, device: u32, path: &Path) -> Option<Meta<'_>>
-        requires { device < length self.now.bases }
-        ensures { IsMeta self.now device path.now result }
+        requires { device < length self.now.datastore.bases }
+        ensures { IsMeta self.now.datastore device path.now result }
     {
-        self.live.names_differ();
-        self.stores.as_slice()[device as usize].meta(path)
+        self.datastore.meta(device, path)
     }
 
-    /// A snapshot of the state, with the number that the caller gives of the calls committed by then.
-    /// It shares the pages of the data and of what lives, and costs the same however many there are.
-    pub fn snapshot(&self, alloc: Global, front: u64) -> Result<Snapshot, Memory>
-        ensures front { IfOk result (λ snapshot. snapshot.front ≡ front) }
-        ensures state { IfOk result (IsSnapshotOf self.now) }
+    /// The data.
+    pub fn data_tree(&self) -> &Tree
+        ensures { result.now ≡ self.now.datastore.data }
     {
-        Ok(Snapshot {
-            front,
-            data: self.data.copy(alloc)?,
-            known: self.known.copy(alloc)?,
-        })
+        self.datastore.data()
     }
 
-    /// Does a call, or answers why it is refused; then, and after want of memory, the state is as it
-    /// was. Its data actions are done first; then the services of lists that it creates, modifies or
-    /// redeploys are expanded on the new data. It looks at the services that the call names, at what
-    /// their templates read, at the devices that it touches, and at what is written there; not at the
-    /// other living services. Of the data it looks at what the change can break, and at all of it where
-    /// that may have taken away what a leafref elsewhere leads to, where a leafref came whose target is
-    /// not the one key of a list, and where the change is large (`revalidate` of `orc_revalidate`).
-    pub fn next(
-        &mut self,
-        alloc: Global,
-        decls: &Decls,
-        call: &Call,
-    ) -> Result<Option<Answer>, Memory>
-        requires decls { AreDecls decls.now }
-        requires call { IsTrue (is_call decls.now call.now) }
-        requires state { IsStateOf decls.now self.old }
-        ensures refusal { IfOk result (λ refused. refused ≡ refusal decls.now self.old call.now) }
-        ensures done { result ≡ Ok None → self.new ≡ after decls.now self.old call.now }
-        ensures refused { result ≢ Ok None → self.new ≡ self.old }
-        ensures kept { IsStateOf decls.now self.new }
+    /// The committed calls, in order. The first one is entry 1.
+    pub fn history(&self) -> &[Call]
+        ensures { result.now ≡ self.now.history }
     {
-        let mut touched = Row::new(alloc);
-        self.next_touching(alloc, decls, call, &mut touched)
+        self.history.as_slice()
     }
 
-    /// Does a call as `next` does. Of a call that is done it also puts the numbers of the devices that
-    /// the call touches, as `touched_devices` tells them of the state before it, in the place of those
-    /// handed in. The call is expanded once for both.
-    pub fn next_touching(
-        &mut self,
-        alloc: Global,
-        decls: &Decls,
-        call: &Call,
-        touched: &mut Row<u32>,
-    ) -> Result<Option<Answer>, Memory>
-        requires decls { AreDecls decls.now }
-        requires call { IsTrue (is_call decls.now call.now) }
-        requires state { IsStateOf decls.now self.old }
-        ensures refusal { IfOk result (λ refused. refused ≡ refusal decls.now self.old call.now) }
-        ensures done { result ≡ Ok None → self.new ≡ after decls.now self.old call.now }
-        ensures refused { result ≢ Ok None → self.new ≡ self.old }
-        ensures kept { IsStateOf decls.now self.new }
-        ensures touched { result ≡ Ok None → touched.new ≡ touched_devices decls.now self.old call.now }
-        ensures untouched { result ≢ Ok None → touched.new ≡ touched.old }
+    /// A snapshot of the present state, which tells its own front: how many calls are committed.
+    pub fn snapshot(&self, alloc: Global) -> Result<Snapshot, Memory>
+        ensures front { IfOk result (λ snapshot. snapshot.front ≡ length self.now.history) }
+        ensures state { IfOk result (IsSnapshotOf self.now.datastore) }
+        ensures at { (decls : Decls) → IsStateUnder decls self.now
+            → IfOk result (IsSnapshotAt decls self.now.history) }
     {
-        match self.data_behind(alloc, decls, call)? {
-            Ok(data) => self.go_on(alloc, decls, call, data, touched),
-            Err(found) => Ok(Some(found)),
-        }
+        self.datastore.snapshot(alloc, self.history.len() as u64)
     }
 
-    // The data behind a call, or why it is refused before services are looked at.
-    fn data_behind(
+    /// What a planned call is answered on the present state, by the first cause in this order: Exists or
+    /// Missing for its first action at fault; Invalid for the data with it; Conflict with the first entry
+    /// after the plan's front that wrote what the plan read, and the least such write; Clash. Where there
+    /// is none it is the set of what the call changes in the tree of each device that it touches, an empty
+    /// one where it changes nothing there. The plan is one that a snapshot of this state answered, however
+    /// many calls were committed since. No service is expanded, and nothing is changed.
+    pub fn check(
         &self,
         alloc: Global,
         decls: &Decls,
         call: &Call,
-    ) -> Result<Result<Tree, Answer>, Memory>
-        requires fit { FitActions call.now.actions }
-        requires keys { All (λ action. IsTrue (service_key action)) call.now.actions }
-        requires valid { broken_of decls.now.data_schema self.now.data ≡ None }
-        requires changed { DiffersInside (call_targets call.now.actions) self.now.data
-            (data_after call.now.actions self.now.data) }
-        ensures { IfOk result (IsDataBehind decls.now self.now call.now) }
+        plan: &Plan,
+    ) -> Result<Result<Row<(u32, ChangeSet)>, Answer>, Memory>
+        requires decls { AreDecls decls.now }
+        requires call { IsTrue (is_call decls.now call.now) }
+        requires state { IsStateUnder decls.now self.now }
+        requires plan { IsPlanAt decls.now self.now.history call.now plan.now }
+        ensures { IfOk result (Checks decls.now self.now.history call.now plan.now) }
     {
-        let actions = call.actions.as_slice();
-        data_behind(alloc, &decls.data_schema, &self.known, &self.data, actions)
+        match self.datastore.data_after(alloc, decls, call)? {
+            Ok(_) => self.check_reads(alloc, decls, call, plan),
+            Err(answer) => Ok(Err(answer)),
+        }
     }
 
-    // Goes on with the data behind a call: expands its services and does what its actions come to, or
-    // answers the first that can't be expanded or that clashes.
-    fn go_on(
-        &mut self,
+    // The same where the call has no action at fault and the data is valid with it.
+    fn check_reads(
+        &self,
         alloc: Global,
         decls: &Decls,
         call: &Call,
-        next_data: Tree,
-        touched: &mut Row<u32>,
-    ) -> Result<Option<Answer>, Memory>
-        requires fit { FitActions call.now.actions }
-        requires once { IsTrue (services_once call.now.actions) }
-        requires keys { All (λ action. IsTrue (service_key action)) call.now.actions }
-        requires state { IsStateOf decls.now self.old }
-        requires few { length decls.now.names < 2 ^ 32 }
-        requires behind { IsDataBehind decls.now self.old call.now (Ok next_data) }
-        ensures refusal { IfOk result (λ refused. refused ≡ refusal decls.now self.old call.now) }
-        ensures done { result ≡ Ok None → self.new ≡ after decls.now self.old call.now }
-        ensures refused { result ≢ Ok None → self.new ≡ self.old }
-        ensures touched { result ≡ Ok None → touched.new ≡ touched_devices decls.now self.old call.now }
-        ensures untouched { result ≢ Ok None → touched.new ≡ touched.old }
+        plan: &Plan,
+    ) -> Result<Result<Row<(u32, ChangeSet)>, Answer>, Memory>
+        requires decls { AreDecls decls.now }
+        requires call { IsTrue (is_call decls.now call.now) }
+        requires state { IsStateUnder decls.now self.now }
+        requires plan { IsPlanAt decls.now self.now.history call.now plan.now }
+        requires early { refused_early decls.now self.now.datastore call.now ≡ None }
+        ensures { IfOk result (Checks decls.now self.now.history call.now plan.now) }
     {
-        match expanded(alloc, decls, &next_data, call.actions.as_slice())? {
-            Ok(actions) => {
-                self.change(
-                    alloc,
-                    decls.names.as_slice(),
-                    actions.as_slice(),
-                    next_data,
-                    touched,
-                )
-            }
-            Err(fault) => Ok(Some(fault)),
+        match first_conflict(
+            &plan.held.reads,
+            self.writes.as_slice(),
+            plan.front as usize,
+        ) {
+            Some(at) => Ok(Err(self.conflict(alloc, at)?)),
+            None => self.check_stores(alloc, decls, call, plan),
         }
     }
 
-    // Changes the stores and the living services by expanded actions, takes the new data and puts the
-    // devices that they touch in the place of those handed in; or answers with which service a new one
-    // clashes.
-    fn change(
+    // The answer for the write at this place of this entry's.
+    fn conflict(&self, alloc: Global, at: (usize, usize)) -> Result<Answer, Memory>
+        requires { IsWriteAt self.now.writes at }
+        ensures { IfOk result (IsAnswerAt self.now.writes at) }
+    {
+        let write = &self.writes.as_slice()[at.0].as_slice()[at.1];
+        Ok(Answer::Conflict(at.0 as u64 + 1, write.copy(alloc)?))
+    }
+
+    // The same where nothing that the plan read was written.
+    fn check_stores(
+        &self,
+        alloc: Global,
+        decls: &Decls,
+        call: &Call,
+        plan: &Plan,
+    ) -> Result<Result<Row<(u32, ChangeSet)>, Answer>, Memory>
+        requires decls { AreDecls decls.now }
+        requires call { IsTrue (is_call decls.now call.now) }
+        requires state { IsStateUnder decls.now self.now }
+        requires plan { IsPlanAt decls.now self.now.history call.now plan.now }
+        requires early { refused_early decls.now self.now.datastore call.now ≡ None }
+        requires unread { IsUnread decls.now self.now.history plan.now }
+        ensures { IfOk result (Checks decls.now self.now.history call.now plan.now) }
+    {
+        planned_stands();
+        unread_plan_stands();
+        plan_is_enough();
+        let names = decls.names();
+        let actions = call.actions.as_slice();
+        let made = with_expansions(alloc, names, actions, plan.expansions.as_slice())?;
+        self.datastore
+            .change_sets(alloc, decls, call, made.as_slice())
+    }
+
+    /// Commits a call by its plan, and tells the number of its entry; or answers what is broken in the
+    /// data with it. It asks that the call is new, that its plan stands on the present state and that
+    /// nothing clashes, which is so of a new call that passes `check`, and of one that passed it before
+    /// calls were committed that fit it. No service is expanded. After a refusal or want of memory the
+    /// state is as it was.
+    pub fn commit(
         &mut self,
         alloc: Global,
-        names: &[Text],
-        actions: &[Action],
-        next_data: Tree,
-        devices: &mut Row<u32>,
-    ) -> Result<Option<Answer>, Memory>
-        requires fit { FitActions actions.now }
-        requires once { IsTrue (name_each_once actions.now) }
-        requires keys { All (λ action. IsTrue (service_key action)) actions.now }
-        requires few { length names.now < 2 ^ 32 }
-        requires bases { length self.old.bases ≡ length names.now }
-        requires complete { IsComplete self.old }
-        ensures clash { IfOk result (λ refused. refused ≡ clash names.now self.old.live actions.now) }
-        ensures done { result ≡ Ok None
-            → self.new ≡ changed_by names.now actions.now next_data self.old }
-        ensures refused { result ≢ Ok None → self.new ≡ self.old }
-        ensures touched { result ≡ Ok None → devices.new ≡ touched_among names.now self.old actions.now }
-        ensures untouched { result ≢ Ok None → devices.new ≡ devices.old }
+        decls: &Decls,
+        call: Call,
+        plan: &Plan,
+    ) -> Result<Result<u64, Answer>, Memory>
+        requires decls { AreDecls decls.now }
+        requires call { IsTrue (is_call decls.now call) }
+        requires state { IsStateUnder decls.now self.old }
+        requires ready { CanCommit decls.now self.old.history call plan.now }
+        ensures { CommitsCall decls.now self.old call result self.new }
     {
-        let turns = turns(alloc, names, actions)?;
-        let touched = touched_among(alloc, names, self, actions)?;
-        self.live.names_differ();
-        let found = stores_behind(
-            alloc,
-            names,
-            &self.live,
-            actions,
-            turns.as_slice(),
-            touched.as_slice(),
-            self.stores.as_slice(),
-        )?;
-        match found {
-            Ok(changes) => {
-                let ids = turn_ids(alloc, turns.as_slice())?;
-                let services = comers(alloc, turns)?;
-                let known = known_behind(alloc, &self.known, ids.as_slice(), services.as_slice())?;
-                self.live.exchange(alloc, ids.as_slice(), services)?;
-                let stores = mem::replace(&mut self.stores, Row::new(alloc)).into_vec();
-                self.stores = Row::from_vec(place(stores, changes.into_vec()));
-                self.data = next_data;
-                self.known = known;
-                *devices = touched;
-                Ok(None)
-            }
-            Err(answer) => Ok(Some(answer)),
+        match self.datastore.data_after(alloc, decls, &call)? {
+            Ok(next) => self.commit_data(alloc, decls, call, plan, next),
+            Err(answer) => Ok(Err(answer)),
         }
     }
-}
 
-// The store of a device on which no service writes.
-fn idle_store(alloc: Global, device: &Device) -> Result<Refs, Memory>
-    requires { IsTrue (fits_puts device.now.base) }
-    ensures base { IfOk result (λ store. store.base ≡ declared_base device.now) }
-    ensures idle { IfOk result (IsStoreFor [] 0) }
-{
-    let base = declared_base(alloc, device)?;
-    let store = Refs::new(alloc, base)?;
-    // Looked at, so that the proof knows that it is a store.
-    let _base = store.base();
-    Ok(store)
-}
-
-// The stores of devices on which no service writes.
-fn idle_stores(alloc: Global, devices: &[Device]) -> Result<Row<Refs>, Memory>
-    requires { All (λ device. IsTrue (fits_puts device.base)) devices.now }
-    ensures bases { IfOk result (λ stores. map (λ store. store.base) stores ≡ map declared_base devices.now) }
-    ensures idle { IfOk result (All (IsStoreFor [] 0)) }
-{
-    let mut stores = Row::new(alloc);
-    for device in devices {
-        stores.push(idle_store(alloc, device)?)?;
+    // The same where this is the data with the call.
+    fn commit_data(
+        &mut self,
+        alloc: Global,
+        decls: &Decls,
+        call: Call,
+        plan: &Plan,
+        next: Tree,
+    ) -> Result<Result<u64, Answer>, Memory>
+        requires decls { AreDecls decls.now }
+        requires call { IsTrue (is_call decls.now call) }
+        requires state { IsStateUnder decls.now self.old }
+        requires ready { CanCommit decls.now self.old.history call plan.now }
+        requires behind { IsDataAfter decls.now self.old.datastore call (Ok next) }
+        ensures { CommitsCall decls.now self.old call result self.new }
+    {
+        plan_is_enough();
+        let names = decls.names();
+        let made = with_expansions(
+            alloc,
+            names,
+            call.actions.as_slice(),
+            plan.expansions.as_slice(),
+        )?;
+        let row = writes(alloc, decls, &self.datastore, &call, plan, &next)?;
+        self.commit_made(alloc, decls, call, made.as_slice(), row, next)
     }
-    Ok(stores)
+
+    // The same where the call comes to these actions and writes this.
+    fn commit_made(
+        &mut self,
+        alloc: Global,
+        decls: &Decls,
+        call: Call,
+        made: &[Action],
+        row: Row<Write>,
+        next: Tree,
+    ) -> Result<Result<u64, Answer>, Memory>
+        requires decls { AreDecls decls.now }
+        requires call { IsTrue (is_call decls.now call) }
+        requires state { IsStateUnder decls.now self.old }
+        requires new { IsNew self.old.history call }
+        requires behind { IsDataAfter decls.now self.old.datastore call (Ok next) }
+        requires actions { expanded_call decls.now self.old.datastore call ≡ Ok made.now }
+        requires apart { clash_of decls.now self.old.datastore call ≡ None }
+        requires row { AreWritesOf self.old.datastore call row }
+        ensures { CommitsCall decls.now self.old call result self.new }
+    {
+        let count = self.history.len();
+        match self.enter(alloc, decls, call, made, row, next) {
+            Ok(()) => Ok(Ok(self.history.len() as u64)),
+            Err(Memory) => {
+                self.forget(alloc, count);
+                Err(Memory)
+            }
+        }
+    }
+
+    // Enters a call with its writes, and does it.
+    fn enter(
+        &mut self,
+        alloc: Global,
+        decls: &Decls,
+        call: Call,
+        made: &[Action],
+        row: Row<Write>,
+        next: Tree,
+    ) -> Result<(), Memory>
+        requires decls { AreDecls decls.now }
+        requires call { IsTrue (is_call decls.now call) }
+        requires kept { IsStateOf decls.now self.old.datastore }
+        requires count { length self.old.writes ≡ length self.old.history }
+        requires new { IsNew self.old.history call }
+        requires behind { IsDataAfter decls.now self.old.datastore call (Ok next) }
+        requires actions { expanded_call decls.now self.old.datastore call ≡ Ok made.now }
+        requires apart { clash_of decls.now self.old.datastore call ≡ None }
+        ensures { Enters decls.now self.old call row result self.new }
+    {
+        let place = self.history.len();
+        self.history.push(alloc, call)?;
+        self.writes.push(row)?;
+        let call = &self.history.as_slice()[place];
+        self.datastore.perform(alloc, decls, call, made, next)
+    }
+
+    // Keeps the first so many entries.
+    fn forget(&mut self, alloc: Global, count: usize)
+        ensures { self.new ≡ record self.old {
+          history = take count self.old.history;
+          writes = take count self.old.writes;
+        } }
+    {
+        self.history.truncate(count);
+        let mut rows = mem::replace(&mut self.writes, Row::new(alloc)).into_vec();
+        rows.truncate(count);
+        self.writes = Row::from_vec(rows);
+    }
 }

@@ -1,9 +1,8 @@
--- How many characters a text has, and whether they are plain.
-use Rattle.std.proofs.Common.{◌≡◌, ℕ, ◌<◌, ◌≤◌, true, false, List, [], ◌∷◌, ◌++◌, length, get_or, map, chars, IsUtf8, refl, sym, ap, ◌∙◌, subst}
+-- Whether the characters of a text are plain.
+use Rattle.std.proofs.Common.{◌≡◌, ℕ, ◌<◌, true, false, List, [], ◌∷◌, ◌++◌, length, get_or, map, chars, IsUtf8, refl, sym, ap, ◌∙◌}
 use Rattle.std.specs.List.{list_all}
 use Rattle.std.proofs.lemmas.Bool.{and_from}
 use Rattle.std.proofs.lemmas.List.Folds.{list_all-append, list_all-map, list_all_at}
-use Rattle.std.proofs.lemmas.Str.{encodes-chars, length-le-encodes}
 use Rattle.orc_text.specs.Characters.{is_plain_character, is_plain_text}
 use Rattle.orc_text.proofs.Plain.{is_plain_text-utf8, plain_from}
 
@@ -12,10 +11,6 @@ pub plain_more : (cs : List ℕ) (c : ℕ) → list_all is_plain_character cs �
 plain_more cs c h is = list_all-append is_plain_character cs (c ∷ []) ∙ and_from _ _ h (and_from _ _ (sym is) refl)
 
 module _ (text : List ℕ) (u : IsUtf8 text) where
-  -- a text has no more characters than bytes
-  pub chars_within : length (chars text) ≤ length text
-  chars_within = subst (λ (bs : List ℕ). length (chars text) ≤ length bs) (encodes-chars text u) (length-le-encodes (chars text))
-
   -- a character stands in it that isn't plain
   pub not_plain_at : (n c : ℕ) → n < length (chars text) → c ≡ get_or (chars text) n c → is_plain_character c ≡ false → is_plain_text text ≡ false
   not_plain_at n c lt at h = is_plain_text-utf8 text u ∙ list_all_at is_plain_character (chars text) n c lt (ap is_plain_character (sym at) ∙ h)

@@ -1,2 +1,3 @@
 pub mod Plain
 pub mod Characters
+pub mod Rows

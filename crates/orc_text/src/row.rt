@@ -1,5 +1,7 @@
 //! A row: a `Vec` that contracts see as the list of its items.
 ghost use Rattle.std.specs.Prelude.{◌≡◌, IfOk, OnOk, OnErr, ◌++◌, ◌∷◌, ◌==◌, [], length};
+ghost use Rattle.std.specs.Borrow.{sem};
+ghost use Rattle.orc_text.specs.Lends.{LendsItems};
 ghost use Rattle.std.specs.Cmp.Lexicographic.{pointwise, slice_cmp, slice_partial_cmp, lists_equiv, lists_agrees, lists_total, lists_ties, lists_per, lists_po};
 
 use crate::{Copied, Memory};
@@ -54,6 +56,14 @@ impl<T> Row<T> {
         ensures { result.now ≡ self.now }
     {
         self.items.as_slice()
+    }
+
+    /// The items, for change in place: what is written there is what the row has once the loan ends.
+    pub fn as_mut_slice(&mut self) -> &mut [T]
+        ensures* writes_back { sem 𝓛 (LendsItems T.row self.entry result) }
+        ensures value { result.now ≡ self.old }
+    {
+        self.items.as_mut_slice()
     }
 
     /// How many items there are.

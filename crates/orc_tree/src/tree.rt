@@ -8,6 +8,7 @@ ghost use Rattle.orc_path.specs.Items.{fits};
 ghost use Rattle.orc_path.specs.Configurations.{IsConfig, put_item, drop_item, overlay, is_entry_of};
 ghost use Rattle.orc_tree.specs.Changes.{applied, change_fits};
 ghost use Rattle.orc_tree.specs.Pages.{rows_of, pages_of, AreSized, AreFilled};
+ghost use Rattle.orc_tree.specs.Sameness.{equal_configs};
 
 use crate::change::{ChangeSet, apply_to};
 use crate::chapter::{Chapter, ChapterList, share_chapters};
@@ -186,7 +187,8 @@ impl Tree {
 
     /// Whether both trees have the same items at the same paths.
     pub fn equals(&self, other: &Tree) -> bool
-        ensures { IsTrue result ↔ (self.now ≡ other.now) }
+        ensures equal { IsTrue result ↔ (self.now ≡ other.now) }
+        ensures test { result ≡ equal_configs self.now other.now }
     {
         same_rows(chapters_in(&self.list), chapters_in(&other.list))
     }

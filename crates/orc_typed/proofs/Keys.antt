@@ -1,14 +1,10 @@
 -- Keys behind others.
-use Rattle.std.proofs.Common.{◌≡◌, ℕ, suc, ◌≤◌, ◌==◌, Bool, true, false, ◌&&◌, List, [], ◌∷◌, ◌++◌, length, map, refl, sym, ap, subst, ◌∙◌, append_assoc, arith}
-use Rattle.std.specs.Prelude.{Option, Some, None, Result, IfOk, option_map, option_and_then}
-use Rattle.std.specs.Option.{option_map_or}
+use Rattle.std.proofs.Common.{◌≡◌, ℕ, suc, ◌≤◌, ◌==◌, Bool, true, false, ◌&&◌, List, [], ◌∷◌, ◌++◌, length, map, refl, sym, ap, ◌∙◌, append_assoc, arith}
+use Rattle.std.specs.Prelude.{Option, Some, None, option_map, option_and_then}
 use Rattle.std.proofs.lemmas.Bool.{true≢false}
 use Rattle.std.proofs.lemmas.Bool.Decides.{nat_tests}
 use Rattle.orc_value.specs.declared.kind.Kind.{Kind}
-use Rattle.orc_schema.specs.Schemas.{SchemaTable, node_at}
-use Rattle.orc_schema.specs.declared.line.ListNode.{ListNode}
-use Rattle.orc_schema.specs.declared.line.Node.TheVariants.{List as ListOf}
-use Rattle.orc_typed.specs.Typed.{kind_of_names, step_kinds, kinds_at, canonical_text, canonical_keys, is_canonical_text, are_canonical_keys}
+use Rattle.orc_typed.specs.Typed.{canonical_text, canonical_keys, is_canonical_text, are_canonical_keys}
 
 -- a text that was read, in front of the later ones
 behind : (done : List (List ℕ)) (text : List ℕ) (later : Option (List (List ℕ)))
@@ -63,21 +59,3 @@ one_alone-test kind (key ∷ next ∷ later) h = by (is_canonical_text kind key)
     by : (first : Bool) → false ≡ (first && false)
     by true = refl
     by false = refl
-
-nothing_done : (keys : Option (List (List ℕ))) → option_map (λ later. [] ++ later) keys ≡ keys
-nothing_done None = refl
-nothing_done (Some texts) = refl
-
--- the keys of an entry of a list, behind none
-pub list_keys : {E : Type 0} (s : SchemaTable) (names : List (List ℕ)) (l : ListNode) (keys : List (List ℕ)) (made : Result (Option (List (List ℕ))) E)
-    → node_at s names ≡ Some (ListOf l) → (listed done : List (List ℕ)) → listed ≡ l.keys → done ≡ []
-    → IfOk made (λ found. found ≡ option_map (λ later. done ++ later) (canonical_keys (map (λ name. kind_of_names s (names ++ name ∷ [])) listed) keys))
-    → IfOk made (λ found. found ≡ canonical_keys (kinds_at s names) keys)
-list_keys s names l keys made node listed done all none h =
-    let kinds : List (List ℕ) → List (Option Kind) = map (λ name. kind_of_names s (names ++ name ∷ [])) in
-    let due : option_map (λ later. done ++ later) (canonical_keys (kinds listed) keys) ≡ canonical_keys (kinds_at s names) keys =
-    ap (λ front. option_map (λ later. front ++ later) (canonical_keys (kinds listed) keys)) none
-    ∙ nothing_done (canonical_keys (kinds listed) keys)
-    ∙ ap (λ ns. canonical_keys (kinds ns) keys) all
-    ∙ sym (ap (λ o. canonical_keys (option_map_or (step_kinds s names) o []) keys) node) in
-    subst (λ texts. IfOk made (λ found. found ≡ texts)) due h

@@ -1,3 +1,2 @@
 pub mod Typed
 pub mod Laws
-pub mod Sizes

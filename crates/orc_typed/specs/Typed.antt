@@ -60,6 +60,10 @@ is_carried s (first ∷ later) it = option_map_or (λ node. carries node it) (no
 abbrev pub is_in_schema : SchemaTable → List PathStep → Item → Bool
 is_in_schema s path it = s.plain || (stand s [] path && is_carried s path it)
 
+-- an entry, or a leaf's text, is one of the schema at a path
+abbrev pub has_place_in_schema : SchemaTable → List PathStep → Bool
+has_place_in_schema s path = is_in_schema s path item.Entry || is_in_schema s path (item.Leaf [])
+
 -- Canonical form ------------------------------------------------------------------------------------------------------
 
 -- the canonical text of a kind, where the text is of that kind
@@ -126,3 +130,8 @@ abbrev pub is_typed : SchemaTable → List PathStep → Item → Bool
 is_typed s path it =
     s.plain
     || (is_in_schema s path it && (are_canonical_steps s [] path && is_canonical_value (kind_at_path s path) it))
+
+-- Something may stand at a path of a configuration under the schema: an entry or a leaf, whatever its text, where each
+-- key is of its kind and canonical. Under a plain schema something may stand at each path.
+abbrev pub has_place : SchemaTable → List PathStep → Bool
+has_place s path = s.plain || (has_place_in_schema s path && are_canonical_steps s [] path)

@@ -8,12 +8,7 @@ mod laws;
 mod placed;
 mod typed;
 
-pub use canonical::{
-    canonical_item, canonical_item_counted, canonical_path, canonical_path_counted,
-};
+pub use canonical::{canonical_item, canonical_path};
 pub use laws::{canonical_is_typed, canonical_keeps, typed_is_canonical};
-pub use placed::{is_in_schema, is_in_schema_counted, stand_counted};
-pub use typed::{
-    are_canonical_steps_counted, has_canonical_keys, has_canonical_keys_counted,
-    is_canonical_value, is_typed,
-};
+pub use placed::{is_in_schema, stand};
+pub use typed::{are_canonical_steps, has_canonical_keys, has_place, is_canonical_value, is_typed};

@@ -1,19 +1,14 @@
 //! What may stand in a configuration under a schema.
-ghost use Rattle.std.specs.Prelude.{◌≡◌, ◌≤◌, ◌<◌, ◌+◌, ◌*◌, ◌++◌, ◌∷◌, [], Some, length, map, option_map};
-ghost use Rattle.std.specs.List.{flat_map};
-ghost use Rattle.orc_path.specs.Texts.{key_text, step_text};
+ghost use Rattle.std.specs.Prelude.{◌≡◌, ◌++◌, ◌∷◌, [], Some, map, option_map};
 ghost use Rattle.orc_schema.specs.Schemas.{path_names, kind_at_path};
-ghost use Rattle.orc_typed.specs.Typed.{kind_of_names, kinds_at, is_canonical_text, are_canonical_keys, has_canonical_keys, are_canonical_steps, is_canonical_value, is_typed};
+ghost use Rattle.orc_typed.specs.Typed.{kind_of_names, kinds_at, is_canonical_text, are_canonical_keys, has_canonical_keys, are_canonical_steps, is_canonical_value, is_typed, has_place};
 
 use crate::kinds::kind_below;
-use crate::placed::is_in_schema;
-use orc_io::Steps;
+use crate::placed::{has_place_in_schema, is_in_schema};
 use orc_path::{Item, Path, Step};
 use orc_schema::{Node, Schema};
 use orc_text::Text;
-use orc_value::{Kind, is_canonical, is_canonical_counted};
-use std::marker::Brand;
-use std::sync::ledger::{Blank, Ledger};
+use orc_value::{Kind, is_canonical};
 
 // Whether the text is of the kind, and canonical.
 fn is_canonical_text(kind: Option<&Kind>, text: &Text) -> bool
@@ -25,65 +20,30 @@ fn is_canonical_text(kind: Option<&Kind>, text: &Text) -> bool
     }
 }
 
-// The same, with its steps counted.
-fn is_text_counted<L: Ledger>(kind: Option<&Kind>, text: &Text, steps: &mut Steps<L>) -> bool
-    ensures value { result ≡ is_canonical_text (option_map (λ known. known.now) kind.entry) text.now }
-    ensures cost { steps.new ≤ steps.old + 4 * length text.now + 1 }
-{
-    match kind {
-        Some(known) => is_canonical_counted(known, text, steps),
-        None => false,
-    }
-}
-
-// Whether a key of an entry of the list at this path is, whose leaf has this name.
-fn is_list_key<L: Ledger>(
-    schema: &Schema,
-    path: &[Step],
-    name: &Text,
-    key: &Text,
-    steps: &mut Steps<L>,
-) -> bool
-    ensures value { result
-        ≡ is_canonical_text (kind_of_names schema.now (path_names path.now ++ name.now ∷ [])) key.now }
-    ensures cost { steps.new ≤ steps.old + 4 * length key.now + 2 }
-{
-    steps.tick();
-    is_text_counted(kind_below(schema, path, name), key, steps)
-}
-
-// Whether each key of an entry of the list at this path is.
-fn are_list_keys<L: Ledger>(
-    schema: &Schema,
-    path: &[Step],
-    names: &[Text],
-    keys: &[Text],
-    steps: &mut Steps<L>,
-) -> bool
-    ensures value { result ≡ are_canonical_keys
-        (map (λ name. kind_of_names schema.now (path_names path.now ++ name ∷ [])) names.now) keys.now }
-    ensures cost { steps.new ≤ steps.old + 4 * length (flat_map key_text keys.now) }
+// Whether each key of an entry of the list at these steps is.
+fn are_list_keys(schema: &Schema, steps: &[Step], names: &[Text], keys: &[Text]) -> bool
+    ensures { result ≡ are_canonical_keys
+        (map (λ name. kind_of_names schema.now (path_names steps.now ++ name ∷ [])) names.now) keys.now }
 {
     match keys {
         [] => true,
         [key, later @ ..] => match names {
             [] => false,
             [name, below @ ..] => {
-                is_list_key(schema, path, name, key, steps)
-                    && are_list_keys(schema, path, below, later, steps)
+                is_canonical_text(kind_below(schema, steps, name), key)
+                    && are_list_keys(schema, steps, below, later)
             }
         },
     }
 }
 
 // Whether the one key of an entry of a leaf-list is.
-fn is_value_key<L: Ledger>(kind: &Kind, keys: &[Text], steps: &mut Steps<L>) -> bool
-    ensures value { result ≡ are_canonical_keys (Some kind.now ∷ []) keys.now }
-    ensures cost { steps.new ≤ steps.old + 4 * length (flat_map key_text keys.now) }
+fn is_value_key(kind: &Kind, keys: &[Text]) -> bool
+    ensures { result ≡ are_canonical_keys (Some kind.now ∷ []) keys.now }
 {
     match keys {
         [] => true,
-        [key] => is_canonical_counted(kind, key, steps),
+        [key] => is_canonical(kind, key),
         _ => false,
     }
 }
@@ -95,86 +55,30 @@ fn has_no_key(keys: &[Text]) -> bool
     keys.is_empty()
 }
 
-// Whether each key of the last step of a path is, with the steps counted.
-fn are_keys<L: Ledger>(schema: &Schema, path: &[Step], keys: &[Text], steps: &mut Steps<L>) -> bool
-    ensures value { result ≡ are_canonical_keys (kinds_at schema.now (path_names path.now)) keys.now }
-    ensures cost { steps.new ≤ steps.old + 1 + 4 * length (flat_map key_text keys.now) }
+/// Whether each key of a step is the canonical text of a value of its leaf's type; `steps` are those
+/// down to it and with it. It takes no memory.
+pub fn has_canonical_keys(schema: &Schema, steps: &[Step], step: &Step) -> bool
+    ensures { result ≡ has_canonical_keys schema.now (path_names steps.now) step.now }
 {
-    steps.tick();
-    match schema.node(path) {
-        Some(Node::List(list)) => are_list_keys(schema, path, list.keys.as_slice(), keys, steps),
-        Some(Node::LeafList(values)) => is_value_key(&values.kind, keys, steps),
+    let keys = step.keys.as_slice();
+    match schema.node(steps) {
+        Some(Node::List(list)) => are_list_keys(schema, steps, list.keys.as_slice(), keys),
+        Some(Node::LeafList(values)) => is_value_key(&values.kind, keys),
         Some(Node::Container) => has_no_key(keys),
         Some(Node::Leaf(_)) => has_no_key(keys),
         None => has_no_key(keys),
     }
 }
 
-/// Whether each key of a step is the canonical text of a value of its leaf's type; `path` are the steps
-/// down to it and with it. It takes no memory.
-pub fn has_canonical_keys(schema: &Schema, path: &[Step], step: &Step) -> bool
-    ensures { result ≡ has_canonical_keys schema.now (path_names path.now) step.now }
+/// Whether each key of the steps is. It takes no memory.
+pub fn are_canonical_steps(schema: &Schema, steps: &[Step]) -> bool
+    ensures { result ≡ are_canonical_steps schema.now [] steps.now }
 {
-    has_keys_uncounted::<Brand>(schema, path, step, Blank::new(1))
-}
-
-// The same, where nothing is counted.
-fn has_keys_uncounted<L: Ledger>(schema: &Schema, path: &[Step], step: &Step, blank: Blank) -> bool
-    requires name { blank.name ≡ L.name }
-    requires parts { blank.parts ≡ L.parts }
-    requires some { 0 < blank.parts }
-    ensures { result ≡ has_canonical_keys schema.now (path_names path.now) step.now }
-{
-    let mut steps = Steps::<L>::new(blank);
-    has_canonical_keys_counted(schema, path, step, &mut steps)
-}
-
-/// The same, with its steps counted: a look-up in the schema for the step and for each key, and what
-/// `is_canonical_counted` of `orc_value` counts.
-pub fn has_canonical_keys_counted<L: Ledger>(
-    schema: &Schema,
-    path: &[Step],
-    step: &Step,
-    steps: &mut Steps<L>,
-) -> bool
-    ensures value { result ≡ has_canonical_keys schema.now (path_names path.now) step.now }
-    ensures cost { steps.new ≤ steps.old + 4 * length (step_text step.now) }
-{
-    are_keys(schema, path, step.keys.as_slice(), steps)
-}
-
-/// Whether each key of the steps is, with the steps counted.
-pub fn are_canonical_steps_counted<L: Ledger>(
-    schema: &Schema,
-    path: &[Step],
-    steps: &mut Steps<L>,
-) -> bool
-    ensures value { result ≡ are_canonical_steps schema.now [] path.now }
-    ensures cost { steps.new ≤ steps.old + 4 * length (flat_map step_text path.now) }
-{
-    match path.split_last() {
-        Some((last, front)) => are_canonical_steps_counted(schema, front, steps)
-            && has_canonical_keys_counted(schema, path, last, steps),
+    match steps.split_last() {
+        Some((last, front)) => are_canonical_steps(schema, front)
+            && has_canonical_keys(schema, steps, last),
         None => true,
     }
-}
-
-// The same, where nothing is counted.
-fn are_steps_uncounted<L: Ledger>(schema: &Schema, path: &[Step], blank: Blank) -> bool
-    requires name { blank.name ≡ L.name }
-    requires parts { blank.parts ≡ L.parts }
-    requires some { 0 < blank.parts }
-    ensures { result ≡ are_canonical_steps schema.now [] path.now }
-{
-    let mut steps = Steps::<L>::new(blank);
-    are_canonical_steps_counted(schema, path, &mut steps)
-}
-
-// The same.
-fn are_canonical_steps(schema: &Schema, path: &[Step]) -> bool
-    ensures { result ≡ are_canonical_steps schema.now [] path.now }
-{
-    are_steps_uncounted::<Brand>(schema, path, Blank::new(1))
 }
 
 /// Whether an item at a path is an entry, or its text the canonical one of a value of the leaf's
@@ -200,4 +104,14 @@ pub fn is_typed(schema: &Schema, path: &Path, item: &Item) -> bool
     is_in_schema(schema, path, item)
         && are_canonical_steps(schema, path.steps.as_slice())
         && is_canonical_value(schema, path, item)
+}
+
+/// Whether something may stand at a path of a configuration under the schema: an entry or a leaf,
+/// whatever its text, where each key is of its kind and canonical. Under a plain schema something may
+/// stand at each path. It takes no memory.
+pub fn has_place(schema: &Schema, path: &Path) -> bool
+    ensures { result ≡ has_place schema.now path.now }
+{
+    schema.is_plain()
+        || (has_place_in_schema(schema, path) && are_canonical_steps(schema, path.steps.as_slice()))
 }

@@ -1,5 +1,5 @@
 -- A search by halves among ranges that stand apart.
-use Rattle.std.proofs.Common.{◌≡◌, ℕ, suc, ◌+◌, ◌-◌, ◌*◌, ◌^◌, ◌≤◌, ℤ, Bool, true, false, List, [], ◌∷◌, ◌++◌, length, length-append, refl, sym, ap, ◌∙◌, arith}
+use Rattle.std.proofs.Common.{◌≡◌, ℕ, ℤ, Bool, true, false, List, [], ◌∷◌, ◌++◌, refl, sym, ap, ◌∙◌, arith}
 use Rattle.std.specs.Prelude.{◌&&◌, ◌||◌, not, int_le, nat_le}
 use Rattle.std.specs.List.{list_any, list_all}
 use Rattle.std.proofs.lemmas.Bool.{false≢true}
@@ -7,8 +7,6 @@ use Rattle.std.proofs.lemmas.Bool.Decides.{nat_tests}
 use Rattle.std.proofs.lemmas.Int.{ints}
 use Rattle.std.proofs.lemmas.List.Folds.{list_any-append, list_all-append}
 use Rattle.orc_value.specs.Ranges.{stand_apart}
-use Rattle.std.proofs.Math.Nat.{pow-suc, le-mul_of_pos_right, mul_assoc, mul-le-mul_left}
-use Rattle.orc_value.specs.inside.Halved.{IsCut}
 use Rattle.orc_value.proofs.IntegerLaws.{and_left, and_right}
 
 not_false : (b : Bool) → not b ≡ true → b ≡ false
@@ -160,29 +158,3 @@ nat_trans a b c h k = grind (arith, nat_tests)
 
 pub nat_total : (a b : ℕ) → nat_le a b ≡ false → nat_le b a ≡ true
 nat_total a b h = grind (arith, nat_tests)
-
--- how often something can be cut in halves
-
-doubled : (first now tick : ℕ) → first ≤ now → tick ≡ now + 1 → 2 ^ (tick - first) ≡ 2 ^ (now - first) * 2
-doubled first now tick later is = let more : tick - first ≡ suc (now - first) = omega arith in ap (λ (k : ℕ). 2 ^ k) more ∙ pow-suc 2 (now - first)
-
-pub looks_more : (first now tick whole left : ℕ) → first ≤ now → tick ≡ now + 1 → 2 ^ (now - first) * left ≤ whole → 1 ≤ left
-    → 2 ^ (tick - first) ≤ 2 * whole + 1
-looks_more first now tick whole left later is cut some =
-    let twice = doubled first now tick later is in
-    let once = le-mul_of_pos_right (2 ^ (now - first)) some in
-    omega (arith, twice, once, cut)
-
-pub less_left : (first now tick whole left half : ℕ) → first ≤ now → tick ≡ now + 1 → 2 ^ (now - first) * left ≤ whole → 2 * half ≤ left
-    → 2 ^ (tick - first) * half ≤ whole
-less_left first now tick whole left half later is cut halved =
-    let twice = ap (λ (n : ℕ). n * half) (doubled first now tick later is) in
-    let part = mul_assoc (2 ^ (now - first)) 2 half in
-    let less = mul-le-mul_left (2 ^ (now - first)) halved in
-    omega (arith, twice, part, less, cut)
-
-pub some_left : {X : Type 0} (whole front : List X) (middle : X) (back : List X) → IsCut whole front middle back → 1 ≤ length whole
-some_left whole front middle back cut =
-    let all = ap length cut.is in
-    let parts = length-append front (middle ∷ back) in
-    omega (arith, all, parts)

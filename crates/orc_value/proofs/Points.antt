@@ -1,16 +1,16 @@
 -- A text that is cut at its first point.
 use Rattle.std.proofs.Common.{◌≡◌, ◌≢◌, ℕ, ◌+◌, ◌<◌, Bool, true, false, cond, ltb, List, [], ◌∷◌, ◌++◌, length, get_or, take, drop, Some, None, refl, sym, ap, ◌∙◌, arith, ◌↔◌, IsTrue, ◌^◌, ◌/◌, suc, length-append}
-use Rattle.std.specs.Prelude.{is_some, not, ◌&&◌, ◌||◌}
+use Rattle.std.specs.Prelude.{is_some, not}
 use Rattle.std.specs.List.{position, position_or_len, before_first, after_first}
 use Rattle.std.specs.Char.{is_ascii_digit}
-use Rattle.std.proofs.lemmas.Bool.{false≢true, le-ltb}
+use Rattle.std.proofs.lemmas.Bool.{false≢true}
 use Rattle.std.proofs.lemmas.Bool.Decides.{nat_tests, Decides-eqb, Decides-ltb}
 use Rattle.std.proofs.lemmas.List.Sums.{split_at_first, passes_at_first}
 use Rattle.std.proofs.lemmas.Fmt.{decimal_is_IsNumeral}
 use Rattle.std.specs.Fmt.{decimal}
 use Rattle.std.proofs.Math.Nat.{div-le_self}
 use Rattle.std.proofs.Math.Seq.{take-append_seam}
-use Rattle.orc_value.specs.Numerals.{all_digits, is_numeral}
+use Rattle.orc_value.specs.Numerals.{all_digits}
 use Rattle.orc_value.specs.Decimals.{is_point}
 use Rattle.orc_value.proofs.IntegerLaws.{numerals, and_left, and_right}
 
@@ -89,45 +89,3 @@ decimal-digits n small = numerals.from (decimal n) ((decimal_is_IsNumeral n smal
 
 pub quotient-digits : (n k : ℕ) → n < 2 ^ 64 → all_digits (decimal (n / k)) ≡ true
 quotient-digits n k small = decimal-digits (n / k) (omega (arith, div-le_self n k))
-
--- digits before a point and behind it
-
-both : (a b p : Bool) → (b && a) ≡ true → true ≡ (a && (b || not p))
-both true true p h = refl
-both false true p h = sym h
-both a false p h = let no_way : ⊥ = cc in absurd no_way
-
-not_both : (a b p : Bool) → p ≡ true → (b && a) ≡ false → false ≡ (a && (b || not p))
-not_both false b p e h = refl
-not_both true true p e h = sym h
-not_both true false true e h = refl
-not_both true false false e h = e
-
-module _ (before after : List ℕ) (p : Bool) (whole fraction : List ℕ) (is_whole : whole ≡ before) (is_fraction : fraction ≡ after) where
-  pub both_numerals : (is_numeral fraction && is_numeral whole) ≡ true → true ≡ (is_numeral before && (is_numeral after || not p))
-  both_numerals h =
-      both (is_numeral before) (is_numeral after) p
-      (sym (ap (λ (xs : List ℕ). is_numeral xs && is_numeral whole) is_fraction ∙ ap (λ (xs : List ℕ). is_numeral after && is_numeral xs) is_whole) ∙ h)
-
-  pub not_both_numerals : p ≡ true → (is_numeral fraction && is_numeral whole) ≡ false → false ≡ (is_numeral before && (is_numeral after || not p))
-  not_both_numerals e h =
-      not_both (is_numeral before) (is_numeral after) p e
-      (sym (ap (λ (xs : List ℕ). is_numeral xs && is_numeral whole) is_fraction ∙ ap (λ (xs : List ℕ). is_numeral after && is_numeral xs) is_whole) ∙ h)
-
--- the place of the first point, where the bytes before some rest are none
-
-pub found : (text more : List ℕ) (at b : ℕ) → at + position_or_len is_point (b ∷ more) ≡ position_or_len is_point text → at + length (b ∷ more) ≡ length text
-    → is_point b ≡ true → Some at ≡ position is_point text
-found text more at b place whole is =
-    let first : position_or_len is_point (b ∷ more) ≡ 0 = ap (λ (t : Bool). cond (not t) (1 + position_or_len is_point more) 0) is in
-    let here : position_or_len is_point text ≡ at = omega (arith, place, first) in
-    let below : ltb (position_or_len is_point text) (length text) ≡ true = (Decides-ltb (position_or_len is_point text) (length text)).1 (omega (arith, here, whole)) in
-    sym (ap (λ (t : Bool). cond t (Some (position_or_len is_point text)) None) below ∙ ap Some here)
-
-pub missed : (text : List ℕ) (at : ℕ) → at + 0 ≡ position_or_len is_point text → at + 0 ≡ length text → None ≡ position is_point text
-missed text at place whole =
-    let not_below : ltb (position_or_len is_point text) (length text) ≡ false = le-ltb (position_or_len is_point text) (length text) (omega (arith, place, whole)) in
-    sym (ap (λ (t : Bool). cond t (Some (position_or_len is_point text)) None) not_below)
-
-pub passed : (more : List ℕ) (b : ℕ) → is_point b ≡ false → position_or_len is_point (b ∷ more) ≡ 1 + position_or_len is_point more
-passed more b is = ap (λ (t : Bool). cond (not t) (1 + position_or_len is_point more) 0) is

@@ -1,5 +1,5 @@
 //! Decimal numbers.
-ghost use Rattle.std.specs.Prelude.{◌≡◌, drop, ◌<◌, ◌≤◌, ◌+◌, ◌*◌, ◌^◌, ◌++◌, ◌↔◌, IsTrue, IfOk, OnOk, SomeIff, IfSome, is_some, ◌&&◌, ◌||◌, not, length, take, Some};
+ghost use Rattle.std.specs.Prelude.{◌≡◌, drop, ◌<◌, ◌≤◌, ◌^◌, ◌++◌, ◌↔◌, IsTrue, IfOk, OnOk, SomeIff, IfSome, is_some, ◌&&◌, ◌||◌, not, length, take, Some};
 ghost use Rattle.std.specs.List.{position, before_first, after_first};
 ghost use Rattle.std.specs.Str.Parse.{starts_with_minus};
 ghost use Rattle.orc_value.specs.Numerals.{admitted, all_digits, is_numeral, signed};
@@ -9,81 +9,49 @@ ghost use Rattle.orc_value.specs.inside.Scaled.{are_zeros, units};
 use crate::fault::{LEXICAL, RANGE};
 use crate::numerals::{is_decimal_of, is_numeral, push_decimal, push_digit, read_on, without_sign};
 use crate::signs::{after_sign, magnitude, push_sign};
-use orc_io::Steps;
 use orc_text::{Memory, Text};
 use std::alloc::Global;
-use std::sync::ledger::Ledger;
 
-// The place of the first point. It looks at each byte once at most.
-#[tactic(auto, using(crate::proofs::Points::found, crate::proofs::Points::missed, crate::proofs::Points::passed))]
-fn place_of_point<L: Ledger>(text: &[u8], steps: &mut Steps<L>) -> Option<usize>
-    ensures place { result ≡ position is_point text.now }
-    ensures cost { steps.new ≤ steps.old + length text.now }
+// The place of the first point.
+fn place_of_point(text: &[u8]) -> Option<usize>
+    ensures { result ≡ position is_point text.now }
 {
-    let mut at = 0;
-    let mut rest = text;
-    while let [byte, more @ ..] = rest {
-        steps.tick();
-        if *byte == b'.' {
-            return Some(at);
-        }
-        at += 1;
-        rest = more;
-    }
-    None
+    text.iter().position(|byte| *byte == b'.')
 }
 
 // The parts before the first point and behind it.
-fn split_at_point<'a, L: Ledger>(
-    text: &'a [u8],
-    steps: &mut Steps<L>,
-) -> Option<(&'a [u8], &'a [u8])>
+fn split_at_point(text: &[u8]) -> Option<(&[u8], &[u8])>
     ensures point { is_some result ≡ is_some (position is_point text.now) }
     ensures parts { IfSome result (λ parts. (parts.0.now ≡ before_first is_point text.now)
         × (parts.1.now ≡ after_first is_point text.now)) }
-    ensures cost { steps.new ≤ steps.old + length text.now }
 {
-    match place_of_point(text, steps) {
+    match place_of_point(text) {
         Some(place) => Some((&text[..place], &text[place + 1..])),
         None => None,
     }
 }
 
-// Whether there is one digit or more before the point and behind it, and nothing else.
-fn are_numerals<L: Ledger>(whole: &[u8], fraction: &[u8], steps: &mut Steps<L>) -> bool
-    ensures value { result ≡ (is_numeral fraction.now && is_numeral whole.now) }
-    ensures cost { steps.new ≤ steps.old + length fraction.now + length whole.now }
-{
-    is_numeral(fraction, steps) && is_numeral(whole, steps)
-}
-
 // The digits before the point and behind it, where the text is digits with a point among them or
-// none. It looks at each byte twice at most.
-fn decimal_parts<'a, L: Ledger>(
-    text: &'a [u8],
-    steps: &mut Steps<L>,
-) -> Option<(&'a [u8], &'a [u8])>
+// none.
+fn decimal_parts(text: &[u8]) -> Option<(&[u8], &[u8])>
     ensures parts { IfSome result (λ parts. (parts.0.now ≡ before_first is_point text.now)
         × (parts.1.now ≡ after_first is_point text.now)) }
     ensures form { is_some result ≡ (is_numeral (before_first is_point text.now)
         && (is_numeral (after_first is_point text.now) || not (is_some (position is_point text.now)))) }
-    ensures cost { steps.new ≤ steps.old + 2 * length text.now }
 {
-    match split_at_point(text, steps) {
+    let (whole, fraction) = match split_at_point(text) {
         Some((whole, fraction)) => {
-            if are_numerals(whole, fraction, steps) {
-                Some((whole, fraction))
-            } else {
-                None
+            if !is_numeral(fraction) {
+                return None;
             }
-        }
-        None => {
-            if is_numeral(text, steps) {
-                Some((text, &text[text.len()..]))
-            } else {
-                None
-            }
-        }
+            (whole, fraction)
+        },
+        None => (text, &text[text.len()..]),
+    };
+    if is_numeral(whole) {
+        Some((whole, fraction))
+    } else {
+        None
     }
 }
 
@@ -104,34 +72,24 @@ fn split_at_place(places: u8, fraction: &[u8]) -> (&[u8], &[u8])
     fraction.split_at(fraction.len().min(usize::from(places)))
 }
 
-// Whether all digits are 0. It looks at each once at most.
-fn are_zeros<L: Ledger>(digits: &[u8], steps: &mut Steps<L>) -> bool
-    ensures value { result ≡ are_zeros digits.now }
-    ensures cost { steps.new ≤ steps.old + length digits.now }
+// Whether all digits are 0.
+fn are_zeros(digits: &[u8]) -> bool
+    ensures { result ≡ are_zeros digits.now }
 {
-    let mut rest = digits;
-    while let [digit, more @ ..] = rest {
-        steps.tick();
-        if *digit != b'0' {
-            return false;
-        }
-        rest = more;
-    }
-    true
+    digits.iter().all(|digit| *digit == b'0')
 }
 
 // The number of the digits round the point, times ten to the power of `places`, where it has 64
 // bits.
-fn scaled<L: Ledger>(places: u8, whole: &[u8], fraction: &[u8], steps: &mut Steps<L>) -> Option<u64>
+fn scaled(places: u8, whole: &[u8], fraction: &[u8]) -> Option<u64>
     requires small { places ≤ 18 }
     requires short { length fraction.now ≤ places }
     requires whole { IsTrue (all_digits whole.now) }
     requires fraction { IsTrue (all_digits fraction.now) }
-    ensures value { SomeIff result (units places whole.now fraction.now < 2 ^ 64)
+    ensures { SomeIff result (units places whole.now fraction.now < 2 ^ 64)
         (units places whole.now fraction.now) }
-    ensures cost { steps.new ≤ steps.old + length whole.now + length fraction.now }
 {
-    let number = read_on(read_on(0, whole, steps)?, fraction, steps)?;
+    let number = read_on(read_on(0, whole)?, fraction)?;
     number.checked_mul(power_of_ten(places - fraction.len() as u8))
 }
 
@@ -164,24 +122,22 @@ fn in_range(value: i128) -> Result<i128, u8>
     }
 }
 
-// The value that a text denotes at this many fraction digits, or the rule that it breaks. It looks at
-// each byte three times at most: for a point, for what is no digit, and to read it.
-pub(crate) fn decimal<L: Ledger>(places: u8, text: &str, steps: &mut Steps<L>) -> Result<i128, u8>
-    ensures value { result ≡ admitted is_decimal_value (decimal_value places text.now) }
-    ensures cost { steps.new ≤ steps.old + 3 * length text.now }
+// The value that a text denotes at this many fraction digits, or the rule that it breaks.
+pub(crate) fn decimal(places: u8, text: &str) -> Result<i128, u8>
+    ensures { result ≡ admitted is_decimal_value (decimal_value places text.now) }
 {
     let text = text.as_bytes();
     if places < 1 || 18 < places {
         return Err(LEXICAL);
     }
-    let Some((whole, fraction)) = decimal_parts(without_sign(text), steps) else {
+    let Some((whole, fraction)) = decimal_parts(without_sign(text)) else {
         return Err(LEXICAL);
     };
     let (near, far) = split_at_place(places, fraction);
-    if !are_zeros(far, steps) {
+    if !are_zeros(far) {
         return Err(LEXICAL);
     }
-    match scaled(places, whole, near, steps) {
+    match scaled(places, whole, near) {
         Some(number) => in_range(with_sign(is_negative(text), number)),
         None => Err(RANGE),
     }
@@ -247,32 +203,24 @@ fn push_places(text: &mut Text, places: u8, number: u64) -> Result<(), Memory>
 }
 
 // Whether the text is the canonical text of a value.
-pub(crate) fn is_decimal_text<L: Ledger>(
-    text: &[u8],
-    places: u8,
-    value: i128,
-    steps: &mut Steps<L>,
-) -> bool
+pub(crate) fn is_decimal_text(text: &[u8], places: u8, value: i128) -> bool
     requires small { places ≤ 18 }
     requires fits { IsTrue (is_decimal_value value) }
-    ensures value { IsTrue result ↔ (text.now ≡ decimal_text places value) }
-    ensures cost { steps.new ≤ steps.old + length text.now }
+    ensures { IsTrue result ↔ (text.now ≡ decimal_text places value) }
 {
     match after_sign(text, value) {
-        Some(unsigned) => is_places(unsigned, places, magnitude(value), steps),
+        Some(unsigned) => is_places(unsigned, places, magnitude(value)),
         None => false,
     }
 }
 
-// Whether the text is a number over ten to the power of `places`. It looks for the point; behind it
-// there are as many turns as the number has digits.
-fn is_places<L: Ledger>(text: &[u8], places: u8, number: u64, steps: &mut Steps<L>) -> bool
+// Whether the text is a number over ten to the power of `places`.
+fn is_places(text: &[u8], places: u8, number: u64) -> bool
     requires { places ≤ 18 }
-    ensures value { IsTrue result ↔ (text.now ≡ places_text places number) }
-    ensures cost { steps.new ≤ steps.old + length text.now }
+    ensures { IsTrue result ↔ (text.now ≡ places_text places number) }
 {
     let unit = power_of_ten(places);
-    match split_at_point(text, steps) {
+    match split_at_point(text) {
         Some((whole, fraction)) => {
             is_decimal_of(whole, number / unit) && is_fraction_text(fraction, places, number % unit)
         },

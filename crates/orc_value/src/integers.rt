@@ -1,5 +1,5 @@
 //! Integers.
-ghost use Rattle.std.specs.Prelude.{◌≡◌, ◌<◌, ◌≤◌, ◌+◌, ◌++◌, ◌↔◌, IsTrue, IfOk, OnOk, length, if◌then◌else◌};
+ghost use Rattle.std.specs.Prelude.{◌≡◌, ◌++◌, ◌↔◌, IsTrue, IfOk, OnOk, if◌then◌else◌};
 ghost use Rattle.std.specs.Str.Parse.{without_leading_sign};
 ghost use Rattle.orc_value.specs.Numerals.{admitted, is_numeral};
 ghost use Rattle.orc_value.specs.declared.fault.TheConstants.{LEXICAL, RANGE};
@@ -9,11 +9,8 @@ use crate::IntKind;
 use crate::fault::{LEXICAL, RANGE};
 use crate::numerals::{is_decimal_of, is_numeral, push_decimal, without_sign};
 use crate::signs::{after_sign, magnitude, push_sign};
-use orc_io::Steps;
 use orc_text::{Memory, Text};
 use std::alloc::Global;
-use std::marker::Brand;
-use std::sync::ledger::{Blank, Ledger};
 
 // Whether the type has the number.
 pub(crate) fn has_integer(kind: &IntKind, number: i128) -> bool
@@ -23,56 +20,30 @@ pub(crate) fn has_integer(kind: &IntKind, number: i128) -> bool
 }
 
 // The rule that a text breaks which std reads as no number of 128 bits.
-fn no_integer<L: Ledger>(text: &[u8], steps: &mut Steps<L>) -> u8
-    ensures value { result ≡ (if is_numeral (without_leading_sign text.now) then RANGE else LEXICAL) }
-    ensures cost { steps.new ≤ steps.old + length text.now }
+fn no_integer(text: &[u8]) -> u8
+    ensures { result ≡ (if is_numeral (without_leading_sign text.now) then RANGE else LEXICAL) }
 {
-    if is_numeral(without_sign(text), steps) {
+    if is_numeral(without_sign(text)) {
         RANGE
     } else {
         LEXICAL
     }
 }
 
-// The number that a text denotes, or the rule that it breaks. It looks at each byte once at most, and
-// the number up among the ranges; that std reads a number isn't counted.
-pub(crate) fn integer_counted<L: Ledger>(
-    kind: &IntKind,
-    text: &str,
-    steps: &mut Steps<L>,
-) -> Result<i128, u8>
-    ensures value { result ≡ admitted (has_integer kind.now) (int_value text.now) }
-    ensures cost { steps.new ≤ steps.old + length text.now + 1 }
+// The number that a text denotes, or the rule that it breaks.
+pub(crate) fn integer(kind: &IntKind, text: &str) -> Result<i128, u8>
+    ensures { result ≡ admitted (has_integer kind.now) (int_value text.now) }
 {
     match text.parse::<i128>() {
         Ok(number) => {
-            steps.tick();
             if has_integer(kind, number) {
                 Ok(number)
             } else {
                 Err(RANGE)
             }
         }
-        Err(_) => Err(no_integer(text.as_bytes(), steps)),
+        Err(_) => Err(no_integer(text.as_bytes())),
     }
-}
-
-// The same, where nothing is counted. A call at `Brand` takes no `&str`, so the text is lent again.
-fn integer_uncounted<L: Ledger>(kind: &IntKind, text: &&str, blank: Blank) -> Result<i128, u8>
-    requires name { blank.name ≡ L.name }
-    requires parts { blank.parts ≡ L.parts }
-    requires some { 0 < blank.parts }
-    ensures { result ≡ admitted (has_integer kind.now) (int_value text.now.now) }
-{
-    let mut steps = Steps::<L>::new(blank);
-    integer_counted(kind, *text, &mut steps)
-}
-
-// The same.
-pub(crate) fn integer(kind: &IntKind, text: &str) -> Result<i128, u8>
-    ensures { result ≡ admitted (has_integer kind.now) (int_value text.now) }
-{
-    integer_uncounted::<Brand>(kind, &text, Blank::new(1))
 }
 
 // The canonical text of a number.

@@ -15,7 +15,7 @@ mod ranges;
 mod searches;
 mod signs;
 
-pub use canonical::{canon, canon_counted, is_canonical, is_canonical_counted};
+pub use canonical::{canon, is_canonical};
 pub use fault::{KIND, ValueFault};
 pub use json::{from_json, to_json};
 pub use kind::{IntKind, Kind};

@@ -1,13 +1,11 @@
 //! Digits of numbers: reading them and writing them.
-ghost use Rattle.std.specs.Prelude.{◌≡◌, ◌<◌, ◌≤◌, ◌^◌, [], ◌∷◌, ◌++◌, ◌+◌, ◌-◌, ◌*◌, ◌↔◌, IsTrue, OnOk, SomeIff, length};
+ghost use Rattle.std.specs.Prelude.{◌≡◌, ◌<◌, ◌^◌, [], ◌∷◌, ◌++◌, ◌+◌, ◌-◌, ◌*◌, ◌↔◌, IsTrue, OnOk, SomeIff};
 ghost use Rattle.std.specs.Char.{is_ascii_digit};
 ghost use Rattle.std.specs.Str.Parse.{without_leading_sign, digits_value_after};
 ghost use Rattle.std.specs.Fmt.{decimal};
 ghost use Rattle.orc_value.specs.Numerals.{is_numeral, all_digits};
 
-use orc_io::Steps;
 use orc_text::{Memory, Text};
-use std::sync::ledger::Ledger;
 
 // What stands behind a leading sign.
 pub(crate) fn without_sign(text: &[u8]) -> &[u8]
@@ -19,28 +17,18 @@ pub(crate) fn without_sign(text: &[u8]) -> &[u8]
     }
 }
 
-// Whether there are digits and nothing else. It looks at each byte once at most.
-fn all_digits<L: Ledger>(text: &[u8], steps: &mut Steps<L>) -> bool
-    ensures value { result ≡ all_digits text.now }
-    ensures cost { steps.new ≤ steps.old + length text.now }
+// Whether there are digits and nothing else.
+fn all_digits(text: &[u8]) -> bool
+    ensures { result ≡ all_digits text.now }
 {
-    let mut rest = text;
-    while let [byte, more @ ..] = rest {
-        steps.tick();
-        if !byte.is_ascii_digit() {
-            return false;
-        }
-        rest = more;
-    }
-    true
+    text.iter().all(|byte| byte.is_ascii_digit())
 }
 
 // Whether there is one digit or more, and nothing else.
-pub(crate) fn is_numeral<L: Ledger>(text: &[u8], steps: &mut Steps<L>) -> bool
-    ensures value { result ≡ is_numeral text.now }
-    ensures cost { steps.new ≤ steps.old + length text.now }
+pub(crate) fn is_numeral(text: &[u8]) -> bool
+    ensures { result ≡ is_numeral text.now }
 {
-    !text.is_empty() && all_digits(text, steps)
+    !text.is_empty() && all_digits(text)
 }
 
 // The number with a further digit, where it has 64 bits.
@@ -51,17 +39,14 @@ fn with_digit(number: u64, digit: u8) -> Option<u64>
     number.checked_mul(10)?.checked_add(u64::from(digit - b'0'))
 }
 
-// The number that the digits write behind those of `start`, where it has 64 bits. It looks at each
-// digit once at most.
-pub(crate) fn read_on<L: Ledger>(start: u64, digits: &[u8], steps: &mut Steps<L>) -> Option<u64>
+// The number that the digits write behind those of `start`, where it has 64 bits.
+pub(crate) fn read_on(start: u64, digits: &[u8]) -> Option<u64>
     requires { IsTrue (all_digits digits.now) }
-    ensures value { SomeIff result (digits_value_after 10 start digits.now < 2 ^ 64)
+    ensures { SomeIff result (digits_value_after 10 start digits.now < 2 ^ 64)
         (digits_value_after 10 start digits.now) }
-    ensures cost { steps.new ≤ steps.old + length digits.now }
 {
     let mut number = start;
     for digit in digits {
-        steps.tick();
         number = with_digit(number, *digit)?;
     }
     Some(number)

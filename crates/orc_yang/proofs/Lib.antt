@@ -15,4 +15,3 @@ mod OneFault
 mod Wanting
 mod Spelling
 mod Parsed
-mod Counting

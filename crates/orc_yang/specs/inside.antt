@@ -1,5 +1,4 @@
 -- What private contracts and proofs alone speak of.
-pub mod Counting
 pub mod Valuing
 pub mod View
 pub mod Wanting

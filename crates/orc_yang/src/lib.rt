@@ -20,4 +20,4 @@ mod strings;
 pub use fault::YangFault;
 pub use laws::{has_one_fault, parsing_follows_the_grammar};
 pub use statement::Stmt;
-pub use statements::{parse, parse_counted};
+pub use statements::parse;

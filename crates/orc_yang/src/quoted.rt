@@ -1,14 +1,11 @@
 //! The value of a double-quoted string (RFC 7950 section 6.1.3).
 
-ghost use Rattle.std.specs.Prelude.{◌≡◌, ◌≤◌, ◌+◌, ◌*◌, ◌∷◌, ◌++◌, List, ℕ, true, IfOk, OnOk, length, replicate};
+ghost use Rattle.std.specs.Prelude.{◌≡◌, ◌∷◌, ◌++◌, List, ℕ, true, IfOk, OnOk, replicate};
 ghost use Rattle.orc_yang.specs.Quoted.{string_value, is_space, begins_break, ends_line, escaped};
-ghost use Rattle.orc_yang.specs.inside.Counting.{blanks_looked_at, blanks_ahead, blanks_left};
 ghost use Rattle.orc_yang.specs.inside.Valuing.{spelled_with, lined_with, valued_with, KnowsBlanks};
 
-use orc_io::Steps;
 use orc_text::{Memory, Text};
 use std::alloc::Global;
-use std::sync::ledger::Ledger;
 
 // A value as far as it is made.
 #[derive(Drop)]
@@ -25,19 +22,15 @@ pub(crate) struct Value {
 }
 
 // The argument with the value of a double-quoted string behind it: trailing blanks are dropped first,
-// then the indentation up to the column of the opening quote, and escapes are read afterwards. A
-// character takes nine steps at most: it is taken, it may be looked at ahead, and a tab may become
-// seven spaces.
-#[tactic(auto, using(crate::proofs::Counting::blanks_within), unfolding(crate::specs::Quoted::string_value))]
-pub(crate) fn with_value<L: Ledger>(
+// then the indentation up to the column of the opening quote, and escapes are read afterwards.
+#[tactic(auto, unfolding(crate::specs::Quoted::string_value))]
+pub(crate) fn with_value(
     alloc: Global,
     argument: Text,
     column: u128,
     raw: &[char],
-    steps: &mut Steps<L>,
 ) -> Result<Text, Memory>
-    ensures value { IfOk result (λ text. text ≡ argument ++ string_value column raw.now) }
-    ensures cost { steps.new ≤ steps.old + 9 * length raw.now }
+    ensures { IfOk result (λ text. text ≡ argument ++ string_value column raw.now) }
 {
     let mut value = Value {
         text: argument,
@@ -48,8 +41,7 @@ pub(crate) fn with_value<L: Ledger>(
     };
     let mut rest = raw;
     while let [c, more @ ..] = rest {
-        steps.tick();
-        value.take(column, *c, more, steps)?;
+        value.take(column, *c, more)?;
         rest = more;
     }
     // (a copy, since a text that grew character by character may have room for twice as many)
@@ -75,13 +67,11 @@ fn begins_break(c: char, rest: &[char]) -> bool
 }
 
 // Whether spaces and tabs come, and then a line break.
-fn ends_line<L: Ledger>(text: &[char], steps: &mut Steps<L>) -> bool
-    ensures ends { result ≡ ends_line text.now }
-    ensures cost { steps.new ≡ steps.old + blanks_looked_at text.now }
+fn ends_line(text: &[char]) -> bool
+    ensures { result ≡ ends_line text.now }
 {
     let mut rest = text;
     while let [c, more @ ..] = rest {
-        steps.tick();
         if !is_space(*c) {
             return begins_break(*c, more);
         }
@@ -103,54 +93,43 @@ fn escape(c: char) -> char
 
 impl Value {
     // Takes the next character, behind which these follow.
-    #[tactic(auto, using(crate::proofs::Counting::took_other, crate::proofs::Counting::took_blank))]
-    fn take<L: Ledger>(
-        &mut self,
-        column: u128,
-        c: char,
-        rest: &[char],
-        steps: &mut Steps<L>,
-    ) -> Result<(), Memory>
+    fn take(&mut self, column: u128, c: char, rest: &[char]) -> Result<(), Memory>
         requires { KnowsBlanks self.old (c ∷ rest.now) }
         ensures value { OnOk result
             (valued_with column self.new rest.now ≡ valued_with column self.old (c ∷ rest.now)) }
         ensures blanks { OnOk result (KnowsBlanks self.new rest.now) }
-        ensures cost { steps.new + blanks_ahead self.old.blank (c ∷ rest.now)
-            ≤ steps.old + 8 + blanks_ahead self.new.blank rest.now }
     {
         if !is_space(c) {
             self.blank = false;
-            return self.keep(column, c, steps);
+            return self.keep(column, c);
         }
-        self.trailing = self.is_trailing(rest, steps);
+        self.trailing = self.is_trailing(rest);
         self.blank = true;
         if self.trailing {
             Ok(())
         } else {
-            self.keep(column, c, steps)
+            self.keep(column, c)
         }
     }
 
     // Whether a space or a tab that is taken, behind which these follow, stands before a line break.
-    fn is_trailing<L: Ledger>(&self, rest: &[char], steps: &mut Steps<L>) -> bool
+    fn is_trailing(&self, rest: &[char]) -> bool
         requires { self.now.blank ≡ true → self.now.trailing ≡ ends_line rest.now }
-        ensures ends { result ≡ ends_line rest.now }
-        ensures cost { steps.new ≡ steps.old + blanks_left self.now.blank rest.now }
+        ensures { result ≡ ends_line rest.now }
     {
         if self.blank {
             self.trailing
         } else {
-            ends_line(rest, steps)
+            ends_line(rest)
         }
     }
 
     // Takes a character that no line break follows, apart from indentation.
-    fn keep<L: Ledger>(&mut self, column: u128, c: char, steps: &mut Steps<L>) -> Result<(), Memory>
+    fn keep(&mut self, column: u128, c: char) -> Result<(), Memory>
         ensures value { OnOk result ((rest : List ℕ)
             → lined_with column self.new rest ≡ lined_with column self.old (c ∷ rest)) }
         ensures blank { self.new.blank ≡ self.old.blank }
         ensures trailing { OnOk result (self.new.trailing ≡ self.old.trailing) }
-        ensures cost { steps.new ≤ steps.old + 7 }
     {
         if c == '\n' {
             self.left = column;
@@ -161,7 +140,7 @@ impl Value {
         } else if c == '\t' && self.left > 0 {
             let spaces = 8u128.saturating_sub(self.left);
             self.left = self.left.saturating_sub(8);
-            self.add_spaces(spaces, steps)
+            self.add_spaces(spaces)
         } else {
             self.left = 0;
             self.add(c)
@@ -169,16 +148,14 @@ impl Value {
     }
 
     // Adds spaces.
-    fn add_spaces<L: Ledger>(&mut self, count: u128, steps: &mut Steps<L>) -> Result<(), Memory>
+    fn add_spaces(&mut self, count: u128) -> Result<(), Memory>
         ensures value { OnOk result ((rest : List ℕ)
             → spelled_with self.new rest ≡ spelled_with self.old (replicate count 32 ++ rest)) }
         ensures left { OnOk result (self.new.left ≡ self.old.left) }
         ensures blank { self.new.blank ≡ self.old.blank }
         ensures trailing { OnOk result (self.new.trailing ≡ self.old.trailing) }
-        ensures cost { steps.new ≤ steps.old + count }
     {
         for _i in 0..count {
-            steps.tick();
             self.add(' ')?;
         }
         Ok(())

@@ -1,7 +1,6 @@
 //! One character at a time: what each does between the parts of a statement.
-ghost use Rattle.std.specs.Prelude.{◌≡◌, ◌<◌, ◌≤◌, ◌+◌, ◌⊎◌, Some, Err, [], length, reverse, IfOk, IsErrOf};
+ghost use Rattle.std.specs.Prelude.{◌≡◌, ◌<◌, ◌⊎◌, Some, Err, [], length, reverse, IfOk, IsErrOf};
 ghost use Rattle.orc_yang.specs.Sorts.{sort_of};
-ghost use Rattle.orc_yang.specs.inside.Counting.{most_at};
 ghost use Rattle.orc_yang.specs.inside.Wanting.{MayTake};
 ghost use Rattle.orc_yang.specs.Machine.{feed, leaf, enter, between, keyed, worded, strung, joining, feed_gap, Gap};
 ghost use Rattle.orc_yang.specs.inside.View.{view, head_of, spot, Mirrors};
@@ -9,10 +8,8 @@ ghost use Rattle.orc_yang.specs.inside.View.{view, head_of, spot, Mirrors};
 use crate::YangFault;
 use crate::character::{Character, Sort, sort_of};
 use crate::parser::{Mode, Parser, Spot};
-use orc_io::Steps;
 use orc_text::{Memory, Text};
 use std::alloc::Global;
-use std::sync::ledger::Ledger;
 
 // A character that can't stand where it stands.
 pub(crate) fn bad(x: Character) -> Result<(), YangFault>
@@ -30,16 +27,10 @@ pub(crate) fn forbidden(x: Character) -> YangFault
 
 impl Parser {
     // Takes the next character.
-    pub(crate) fn step<L: Ledger>(
-        &mut self,
-        alloc: Global,
-        x: Character,
-        steps: &mut Steps<L>,
-    ) -> Result<(), YangFault>
+    pub(crate) fn step(&mut self, alloc: Global, x: Character) -> Result<(), YangFault>
         ensures step { Mirrors (feed (view self.old) x) (view self.new) result }
         ensures memory { IsErrOf result YangFault.Memory
             → MayTake (view self.old).work (view self.old).frames (sort_of x.code) }
-        ensures cost { steps.new ≤ steps.old + most_at (view self.old).work (sort_of x.code) }
     {
         let sort = sort_of(x.code);
         match self.mode {
@@ -56,7 +47,7 @@ impl Parser {
             Mode::WordStar => self.word_star(alloc, sort, x),
             Mode::Word => self.word(alloc, sort, x),
             Mode::Single => self.single(sort, x),
-            Mode::Double => self.double(alloc, sort, x, steps),
+            Mode::Double => self.double(alloc, sort, x),
             Mode::Escape => self.escape(x),
         }
     }

@@ -1,19 +1,16 @@
 //! What each character does in an unquoted or quoted string (RFC 7950 section 6.1.3).
-ghost use Rattle.std.specs.Prelude.{◌≡◌, ◌≤◌, ◌+◌, ◌*◌, [], ◌++◌, ◌∷◌, None, encode_utf8, length};
+ghost use Rattle.std.specs.Prelude.{◌≡◌, [], ◌++◌, ◌∷◌, None, encode_utf8};
 ghost use Rattle.orc_yang.specs.Quoted.{string_value};
 ghost use Rattle.orc_yang.specs.Machine.{go, unspoilt, lone, word_slash, word_star, feed_word, feed_single, feed_double, feed_backslash, Gap, InDouble, InSingle, Strung};
-ghost use Rattle.orc_yang.specs.inside.Counting.{closing};
 ghost use Rattle.orc_yang.specs.inside.View.{view, head_of, work_of, Mirrors};
 
 use crate::character::{Character, Sort};
 use crate::parser::{Mode, Parser, Spot};
 use crate::steps::{bad, forbidden};
 use crate::{YangFault, quoted};
-use orc_io::Steps;
 use orc_text::{Row, Text};
 use std::alloc::Global;
 use std::mem;
-use std::sync::ledger::Ledger;
 
 impl Parser {
     // The first character of an unquoted string.
@@ -177,22 +174,20 @@ impl Parser {
     }
 
     // In a double-quoted string.
-    pub(crate) fn double<L: Ledger>(
+    pub(crate) fn double(
         &mut self,
         alloc: Global,
         sort: Sort,
         x: Character,
-        steps: &mut Steps<L>,
     ) -> Result<(), YangFault>
-        ensures step { Mirrors
+        ensures { Mirrors
             (feed_double sort (head_of self.old) self.old.argument
             self.old.opened self.old.column self.old.raw self.old.pending
             (view self.old) x)
             (view self.new) result }
-        ensures cost { steps.new ≤ steps.old + closing sort (9 * length self.old.raw) }
     {
         match sort {
-            Sort::DoubleQuote => self.end_double(alloc, steps),
+            Sort::DoubleQuote => self.end_double(alloc),
             Sort::Backslash => self.more_raw(x, Mode::Escape),
             Sort::Forbidden => {
                 self.mode = Mode::Double;
@@ -204,24 +199,19 @@ impl Parser {
     }
 
     // The end of a double-quoted string.
-    pub(crate) fn end_double<L: Ledger>(
-        &mut self,
-        alloc: Global,
-        steps: &mut Steps<L>,
-    ) -> Result<(), YangFault>
-        ensures step { Mirrors
+    pub(crate) fn end_double(&mut self, alloc: Global) -> Result<(), YangFault>
+        ensures { Mirrors
             (unspoilt self.old.pending (go (view self.old)
             (Gap (Strung (head_of self.old)
             (self.old.argument ++ string_value self.old.column self.old.raw)))))
             (view self.new) result }
-        ensures cost { steps.new ≤ steps.old + 9 * length self.old.raw }
     {
         match self.pending {
             Some(fault) => Err(fault),
             None => {
                 let argument = self.take_argument(alloc);
                 let raw = self.raw.as_slice();
-                self.argument = quoted::with_value(alloc, argument, self.column, raw, steps)?;
+                self.argument = quoted::with_value(alloc, argument, self.column, raw)?;
                 self.mode = Mode::Gap;
                 self.spot = Spot::Strung;
                 Ok(())

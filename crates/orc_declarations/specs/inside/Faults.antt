@@ -1,5 +1,5 @@
 -- What faults of statements, of modules and of templates are.
-use Rattle.orc_state.specs.declared.rule.Rule.TheVariants as rule
+use Rattle.orc_decls.specs.declared.rule.Rule.TheVariants as rule
 use Rattle.orc_yang.specs.declared.fault.YangFault.{YangFault}
 use Rattle.orc_yang.specs.declared.fault.YangFault.TheVariants as yang
 use Rattle.orc_statements.specs.declared.fault.SchemaFault.{SchemaFault}

@@ -4,10 +4,10 @@ use Rattle.std.specs.declared.result.Result.TheVariants.{Ok, Err}
 use Rattle.std.specs.List.{list_all}
 use Rattle.orc_path.specs.Steps.{PathStep, has_keys}
 use Rattle.orc_schema.specs.Schemas.{SchemaTable, node_at, path_names}
-use Rattle.orc_state.specs.Declarations.{is_list_node}
+use Rattle.orc_decls.specs.Declarations.{is_list_node}
 use Rattle.orc_typed.specs.Typed.{stand}
-use Rattle.orc_state.specs.declared.rule.Rule.{Rule}
-use Rattle.orc_state.specs.declared.rule.Rule.TheVariants as rule
+use Rattle.orc_decls.specs.declared.rule.Rule.{Rule}
+use Rattle.orc_decls.specs.declared.rule.Rule.TheVariants as rule
 use Rattle.orc_lines.specs.Rules.{checked}
 use Rattle.orc_declarations.specs.Declarations.{is_template_of}
 

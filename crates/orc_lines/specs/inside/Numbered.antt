@@ -4,7 +4,7 @@ use Rattle.std.specs.List.{IsDistinct}
 use Rattle.std.specs.Ordering.{nat_cmp}
 use Rattle.std.specs.Cmp.Lexicographic.{slice_cmp}
 use Rattle.std.specs.BTreeMap.{BTreeMap, get}
-use Rattle.orc_state.specs.States.{is_same_text}
+use Rattle.orc_decls.specs.Devices.{is_same_text}
 use Rattle.orc_lines.specs.Names.{place_of}
 
 -- under each name the map has its number, and no two of the names are equal

@@ -1,7 +1,7 @@
 -- The controller, and what its calls keep.
 use Rattle.orc_disk.specs.Stops.{inside}
 use Rattle.orc_run.specs.declared.opening.TheConstants.{LARGEST_JOURNAL}
-use Rattle.std.specs.Prelude.{◌≡◌, ℕ, ◌<◌, ◌≤◌, ◌^◌, true, false, List, [], length, take, drop, ◌∷◌, ◌++◌, All, IsTrue, IfOk, OnErr, Option, None, Some, Result, Ok, Err}
+use Rattle.std.specs.Prelude.{◌≡◌, ℕ, ◌<◌, ◌≤◌, ◌^◌, true, false, List, [], length, take, ◌∷◌, ◌++◌, All, IsTrue, IfOk, OnErr, Option, None, Some, Result, Ok, Err}
 use Rattle.orc_call.specs.declared.call.Call.{Call}
 use Rattle.orc_text.specs.declared.memory.Memory.{Memory}
 use Rattle.orc_append.specs.Views.{unstopped}
@@ -13,13 +13,13 @@ use Rattle.orc_journal.specs.Committed.{history_of}
 use Rattle.orc_journal.specs.Opened.{Holds}
 use Rattle.orc_journal.specs.declared.entry.Entry.{Entry}
 use Rattle.orc_schema.specs.Sound as schema
-use Rattle.orc_state.specs.Legal.{IsLegal, IsDue}
+use Rattle.orc_datastore.specs.Legal.{IsLegal, IsDue}
 use Rattle.orc_run.specs.inside.Pasts.{IsBehind}
 use Rattle.orc_run.specs.inside.Transactions.{is_taken, AreNamed, IsFilled}
 use Rattle.orc_run.specs.Views.{View, Rests, Outlives}
 use Rattle.orc_run.specs.Steps.{Does, Breaks, EndsBecause, FailsToRecover}
 use Rattle.orc_disk.specs.Meanings.{DiskMeaning}
-use Rattle.orc_state.specs.declared.declarations.Decls.{Decls}
+use Rattle.orc_decls.specs.declared.declarations.Decls.{Decls}
 use Rattle.orc_script.specs.declared.step.ScriptStep.{ScriptStep}
 use Rattle.orc_script.specs.declared.step.ScriptStep.TheVariants.{Recover}
 use Rattle.orc_run.specs.declared.serving.CallOutcome.{CallOutcome}
@@ -27,16 +27,16 @@ use Rattle.orc_run.specs.declared.stop.Stop.{Stop}
 use Rattle.orc_run.specs.declared.stop.Stop.TheVariants as ending
 use Rattle.orc_run.specs.declared.controller.Controller.{Controller}
 use Rattle.orc_run.specs.declared.controller.LastStep.{LastStep}
-use Rattle.orc_state.specs.Declarations.{AreDecls}
+use Rattle.orc_decls.specs.Declarations.{AreDecls}
 use Rattle.orc_script.specs.Steps.{is_step}
 use Rattle.std.specs.List.{list_all}
 
 -- what it knows as committed, and what it was committing
 abbrev pub known_of : {D : Type 0} → Controller D → List Call
-known_of controller = take controller.known controller.past.history
+known_of controller = take controller.known controller.past.state.history
 
 abbrev pub pending_of : {D : Type 0} → Controller D → List Call
-pending_of controller = drop controller.known controller.past.history
+pending_of controller = controller.past.pending
 
 -- what a user can tell of the controller, where it knows these entries
 abbrev pub view_of : {D : Type 0} → Controller D → List Entry → View D
@@ -68,30 +68,31 @@ abbrev pub Wants : {D : Type 0} → Controller D → StepResult D → Type 0
 Wants controller result = result ≡ ends_run controller.journal.disk.inner [] ending.Memory
 
 module _ {D : Type 0} (meaning : DiskMeaning D) where
-  -- it is up: its journal holds these entries, and the history that it knows
+  -- it is up: its journal holds these entries, and the history that it knows, and no call is pending
   pub record IsUp (decls : Decls) (entries : List Entry) (controller : Controller D) : Type 0 where
     pub holds : Holds (inside meaning) controller.journal decls.text entries
     pub ordered : IsTrue (is_ordered entries)
-    pub decided : history_of entries ≡ controller.past.history
+    pub decided : history_of entries ≡ known_of controller
+    pub none : pending_of controller ≡ []
     pub numbers : All (λ entry. is_taken controller.past.numbers (number_of entry) ≡ true) entries
     pub filled : IsFilled controller.past.numbers
     pub named : AreNamed controller.past.numbers entries
     pub running : controller.journal.disk.stopped ≡ false
     pub limit : controller.journal.limit ≡ LARGEST_JOURNAL
-    pub all : controller.known ≡ length controller.past.history
 
-  -- it is up, and the state has done the actions of a call that is to be committed
+  -- it is up, and the state has committed a call that it doesn't know as committed yet
   pub record IsCommitting (decls : Decls) (call : Call) (entries : List Entry) (controller : Controller D)
       : Type 0 where
     pub running : controller.up ≡ true
     pub up : IsUp decls entries controller
-    pub legal : IsLegal decls controller.past.history
-    pub due : IsDue decls controller.past.history call
-    pub behind : IsBehind decls controller.past (controller.past.history ++ call ∷ [])
+    pub within : controller.known ≤ length controller.past.state.history
+    pub legal : IsLegal decls (known_of controller)
+    pub due : IsDue decls (known_of controller) call
+    pub behind : IsBehind decls controller.past (known_of controller ++ call ∷ [])
 
   -- it knows these entries, a legal history, and the state behind it
   pub record Knows (decls : Decls) (entries : List Entry) (controller : Controller D) : Type 0 where
-    pub within : controller.known ≤ length controller.past.history
+    pub within : controller.known ≤ length controller.past.state.history
     pub behind : IsBehind decls controller.past (known_of controller)
     pub legal : IsLegal decls (known_of controller)
     pub rests : Rests meaning decls (view_of controller entries)

@@ -10,8 +10,8 @@ use Rattle.orc_journal.specs.Orders.{is_ordered}
 use Rattle.orc_journal.specs.Committed.{history_of}
 use Rattle.orc_journal.specs.declared.entry.Entry.{Entry}
 use Rattle.orc_journal.specs.declared.entry.Entry.TheVariants.{Intent}
-use Rattle.orc_state.specs.Legal.{IsLegal}
-use Rattle.orc_state.specs.declared.declarations.Decls.{Decls}
+use Rattle.orc_datastore.specs.Legal.{IsLegal}
+use Rattle.orc_decls.specs.declared.declarations.Decls.{Decls}
 use Rattle.orc_run.specs.inside.Transactions.{TakesLeast}
 use Rattle.orc_run.specs.declared.past.Past.{Past}
 
@@ -20,13 +20,12 @@ pub record IsIntentOf (transaction : ℕ) (call : Call) (devices : List ℕ) (in
   pub is : intent ≡ Intent transaction call devices
   pub fields : IsEntry intent
 
--- the commit of a call on these devices has begun: it has a number and an intent, and the call stands open behind the
--- history
+-- the commit of a call on these devices has begun: it has a number and an intent, and is pending
 pub record HasBegun (old : Past) (call : Call) (devices : List ℕ) (new : Past) (transaction : ℕ) (intent : Entry)
     : Type 0 where
   pub number : TakesLeast old.numbers new.numbers transaction
   pub intended : IsIntentOf transaction call devices intent
-  pub pending : new.history ≡ old.history ++ call ∷ []
+  pub pending : new.pending ≡ call ∷ []
 
 -- what is so of the declarations and entries that an open journal is of
 abbrev pub WhereOpen : {D : Type 0} → DiskMeaning D → OpenJournal (Stopping D) → (List ℕ → List Entry → Type 0) → Type 0

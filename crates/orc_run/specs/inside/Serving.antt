@@ -1,5 +1,5 @@
 -- How the controller serves a call.
-use Rattle.std.specs.Prelude.{◌≡◌, ◌⊎◌, ℕ, Bool, false, List, ◌++◌, take, codes, length, Option}
+use Rattle.std.specs.Prelude.{◌≡◌, ◌⊎◌, ℕ, Bool, false, List, [], ◌++◌, take, codes, length, Option}
 use Rattle.std.specs.declared.option.Option.TheVariants.{None, Some}
 use Rattle.orc_append.specs.declared.outcome.Appended.{Appended}
 use Rattle.orc_append.specs.declared.outcome.Appended.TheVariants as appended
@@ -11,7 +11,7 @@ use Rattle.orc_print.specs.Printed.{answer_line}
 use Rattle.orc_run.specs.Steps.{Serves, Breaks, EndsBecause}
 use Rattle.orc_run.specs.inside.Pasts.{IsBehind}
 use Rattle.orc_disk.specs.Meanings.{DiskMeaning}
-use Rattle.orc_state.specs.declared.declarations.Decls.{Decls}
+use Rattle.orc_decls.specs.declared.declarations.Decls.{Decls}
 use Rattle.orc_script.specs.declared.step.ScriptStep.TheVariants as step
 use Rattle.orc_run.specs.declared.commit.Stage.{Stage}
 use Rattle.orc_run.specs.declared.commit.Stage.TheVariants.{Intent, Decide, Settled}
@@ -25,13 +25,13 @@ abbrev pub up_behind : Appended → Bool → Bool
 up_behind appended.Stopped up = false
 up_behind outcome up = up
 
--- the calls that it keeps: one whose intent was not appended is forgotten
-abbrev pub kept_then : Stage → ℕ → List Call → List Call
-kept_then Intent known calls = take known calls
-kept_then Decide known calls = calls
-kept_then Settled known calls = calls
+-- the call that is pending: a decided one, and one whose intent was not appended, is no longer
+abbrev pub pending_behind : Stage → List Call → List Call
+pending_behind Intent pending = []
+pending_behind Decide pending = pending
+pending_behind Settled pending = []
 
--- how many of them it knows
+-- how many of its calls it knows
 abbrev pub count_then : Stage → ℕ → ℕ → ℕ
 count_then Intent known count = known
 count_then Decide known count = known
@@ -52,14 +52,16 @@ pub record ComesBehind {D : Type 0} (decls : Decls) (stage : Stage) (outcome : A
     up = up_behind outcome old.up;
     past = record {
       numbers = old.past.numbers;
-      history = kept_then stage old.known old.past.history;
       state = new.past.state;
+      pending = pending_behind stage old.past.pending;
     };
-    known = count_then stage old.known (length old.past.history);
+    known = count_then stage old.known (length old.past.state.history);
   }
   pub settled_state : stage ≡ Settled → new.past.state ≡ old.past.state
+  pub unsettled_known : (stage ≡ Settled → ⊥)
+      → take old.known new.past.state.history ≡ take old.known old.past.state.history
   pub stopped_state : (stage ≡ Settled → ⊥) → outcome ≡ appended.Stopped → end ≡ None
-      → IsBehind decls new.past (take old.known old.past.history)
+      → IsBehind decls new.past (take old.known old.past.state.history)
 
 -- these are the lines that the commit of a call may print which is to become the entry of this number
 pub record AreLinesOf (names : List (List ℕ)) (call : Call) (entry : ℕ) (lines : CommitLines) : Type 0 where
@@ -73,5 +75,5 @@ module _ {D : Type 0} (meaning : DiskMeaning D) (decls : Decls) (old : View D) (
   -- What came of a call, by what is printed of it and why the run ends behind it, if it does.
   abbrev pub ServesTo : List ℕ → Option Stop → View D → Type 0
   ServesTo text None new = Serves meaning decls old call text new
-  ServesTo text (Some end) new = Breaks meaning decls old (step.Serve call) text end new
-      × EndsBecause meaning decls old (step.Serve call) end new
+  ServesTo text (Some end) new = Breaks meaning decls old (step.Call call) text end new
+      × EndsBecause meaning decls old (step.Call call) end new

@@ -2,10 +2,10 @@
 use Rattle.std.specs.Prelude.{◌≡◌, ◌≤◌, ◌+◌, ◌^◌, ℕ, Bool, true, not, ◌&&◌, nat_le, nat_lt, length, IsTrue, OnOk, Result}
 use Rattle.std.specs.List.{list_all}
 use Rattle.orc_call.specs.declared.call.TheConstants.{MOST_ACTIONS}
-use Rattle.orc_state.specs.Actions.{is_service_among, services_once}
-use Rattle.orc_state.specs.Calls.{is_action, is_lawful_name, is_write}
-use Rattle.orc_state.specs.declared.declarations.Decls.{Decls}
-use Rattle.orc_state.specs.declared.lawful.TheConstants.{MOST_WRITES}
+use Rattle.orc_decls.specs.Calls.{is_service_among, services_once}
+use Rattle.orc_decls.specs.Calls.{is_action, is_lawful_name, is_write}
+use Rattle.orc_decls.specs.declared.declarations.Decls.{Decls}
+use Rattle.orc_decls.specs.declared.lawful.TheConstants.{MOST_WRITES}
 use Rattle.orc_lines.specs.declared.fault.LineFault.{LineFault}
 use Rattle.orc_script.specs.Steps.{is_step}
 use Rattle.orc_script.specs.declared.script.Script.{Script}

@@ -2,7 +2,7 @@
 use Rattle.std.specs.Prelude.{Bool, ◌&&◌, ◌||◌, List, []}
 use Rattle.orc_path.specs.Steps.{PathStep}
 use Rattle.orc_schema.specs.Schemas.{SchemaTable}
-use Rattle.orc_state.specs.Calls.{blank_item}
+use Rattle.orc_decls.specs.Calls.{blank_item}
 use Rattle.orc_typed.specs.Typed.{are_canonical_steps}
 use Rattle.orc_lines.specs.Items.{can_carry}
 

@@ -1,5 +1,5 @@
 use Rattle.std.proofs.Common.{ap, rules, sym, ◌∙◌}
-use Rattle.orc_state.specs.States.{names_of}
+use Rattle.orc_decls.specs.Devices.{names_of}
 use Rattle.orc_declarations.proofs.ServiceLists.{all_of_none, none_apart}
 use Rattle.orc_declarations.proofs.declarations.nothing_declared.Goals as goal
 

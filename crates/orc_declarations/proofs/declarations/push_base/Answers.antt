@@ -1,5 +1,5 @@
 use Rattle.std.proofs.Common.{sym, ◌++◌, ◌∷◌, []}
-use Rattle.orc_state.specs.declared.declarations.Device.{Device}
+use Rattle.orc_decls.specs.declared.declarations.Device.{Device}
 use Rattle.orc_declarations.proofs.Lawful.{pushed, past_all}
 use Rattle.orc_declarations.proofs.declarations.push_base.Goals as goal
 

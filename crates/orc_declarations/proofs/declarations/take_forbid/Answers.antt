@@ -1,6 +1,6 @@
 use Rattle.std.proofs.Common.{◌≡◌, ℕ, true, List, ◌∙◌, ap, sym, subst, Some}
 use Rattle.orc_schema.specs.Schemas.{SchemaTable}
-use Rattle.orc_state.specs.Calls.{is_forbid_rule, schema_named}
+use Rattle.orc_decls.specs.Calls.{is_forbid_rule, schema_named}
 use Rattle.orc_lines.specs.Names.{place_of}
 use Rattle.orc_declarations.proofs.Lawful.{forbidden}
 use Rattle.orc_lines.proofs.Lawful.{schema_at}
@@ -8,7 +8,7 @@ use Rattle.orc_lines.proofs.SchemaPlaces.{schema_placed}
 use Rattle.orc_declarations.proofs.declarations.take_forbid.Goals as goal
 
 pub returns-clause-lawful : goal.returns-clause-lawful
-returns-clause-lawful g c = λ declared.
+returns-clause-lawful c = λ declared.
     let d = c.args.declared.now in
     let n = c.in-Some.n in
     let leaf = c.in_ok-leaf.leaf in

@@ -1,7 +1,7 @@
 use Rattle.std.proofs.Common.{◌≡◌, ℕ, true, List, ◌∙◌, ◌^◌, nat_lt, rules, ap, sym, subst, Some}
 use Rattle.orc_path.specs.Steps.{PathStep}
 use Rattle.orc_schema.specs.Schemas.{SchemaTable}
-use Rattle.orc_state.specs.Calls.{is_list_path, is_max_rule, schema_named}
+use Rattle.orc_decls.specs.Calls.{is_list_path, is_max_rule, schema_named}
 use Rattle.orc_lines.specs.Names.{place_of}
 use Rattle.orc_lines.proofs.Lawful.{both, schema_at}
 use Rattle.orc_declarations.proofs.Lawful.{limited}
@@ -9,7 +9,7 @@ use Rattle.orc_lines.proofs.SchemaPlaces.{schema_placed}
 use Rattle.orc_declarations.proofs.declarations.take_max.Goals as goal
 
 pub returns-clause-lawful : goal.returns-clause-lawful
-returns-clause-lawful g c = λ declared.
+returns-clause-lawful c = λ declared.
     let d = c.args.declared.now in
     let n = c.in-Some-place.n in
     let limit : List PathStep × ℕ = (c.in_ok-path.path, c.in-Some-number_of.count) in

@@ -1,6 +1,6 @@
 use Rattle.std.proofs.Common.{◌≡◌, take, true}
 use Rattle.std.specs.List.{list_all}
-use Rattle.orc_state.specs.Declarations.{accepts_base}
+use Rattle.orc_decls.specs.Declarations.{accepts_base}
 use Rattle.orc_declarations.proofs.opening.accept_bases.Given as goal
 
 -- each so far accepts its base

@@ -1,10 +1,10 @@
 use Rattle.std.proofs.Common.{true, [], ◌∷◌, IsTrue, refl}
 use Rattle.std.proofs.lemmas.Bool.{and_from}
 use Rattle.std.proofs.lemmas.List.Elements.{All-head}
-use Rattle.orc_state.specs.Calls.{is_device}
-use Rattle.orc_state.specs.States.{fits_puts}
-use Rattle.orc_state.specs.declared.declarations.Device.{Device}
-use Rattle.orc_state.proofs.Fits.{devices-fit}
+use Rattle.orc_decls.specs.Calls.{is_device}
+use Rattle.orc_decls.specs.Openings.{fits_puts}
+use Rattle.orc_decls.specs.declared.declarations.Device.{Device}
+use Rattle.orc_decls.proofs.Fits.{devices-fit}
 use Rattle.orc_declarations.proofs.opening.accepts_base.Goals as goal
 
 pub declared_base-requires : goal.declared_base-requires

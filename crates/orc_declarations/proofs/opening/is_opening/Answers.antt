@@ -2,10 +2,10 @@ use Rattle.std.proofs.Common.{ℕ, List, All, IsTrue, sym, subst}
 use Rattle.std.proofs.lemmas.List.Sums.{AllPass-from_list_all}
 use Rattle.orc_schema.specs.Schemas.{SchemaTable}
 use Rattle.orc_call.specs.declared.call.Put.{Put}
-use Rattle.orc_state.specs.Calls.{is_device, is_lawful_name}
-use Rattle.orc_state.specs.States.{fits_puts}
-use Rattle.orc_state.specs.declared.declarations.Device.{Device}
-use Rattle.orc_state.proofs.Fits.{data-fits}
+use Rattle.orc_decls.specs.Calls.{is_device, is_lawful_name}
+use Rattle.orc_decls.specs.Openings.{fits_puts}
+use Rattle.orc_decls.specs.declared.declarations.Device.{Device}
+use Rattle.orc_decls.proofs.Fits.{data-fits}
 use Rattle.orc_declarations.proofs.Opened.{lawful_names}
 use Rattle.orc_declarations.proofs.opening.is_opening.Goals as goal
 

@@ -3,7 +3,7 @@ use Rattle.orc_declarations.proofs.Added.{type_added}
 use Rattle.orc_declarations.proofs.types.take_devicetype.Goals as goal
 
 pub returns-clause-lawful : goal.returns-clause-lawful
-returns-clause-lawful g c = λ known.
+returns-clause-lawful c = λ known.
     let d = c.args.declared.now in
     let schema = c.in_ok-schema.schema in
     type_added d c.name-item.result c.in_ok-copy.field-0 schema c.add.new.self c.push.new.self known c.in_ok-schema.ensures.sound

@@ -6,7 +6,4 @@ use Rattle.orc_path.proofs.length.key_len.Given as goal
 
 -- the brackets, and the bytes so far
 abbrev pub invariant-loop-byte : goal.invariant-loop-byte
-invariant-loop-byte g l = record {
-  len : l.len ≡ capped (2 + length (flat_map escape (take l.byte-index l.key)));
-  cost : l.steps ≡ l.fn.steps + l.byte-index;
-}
+invariant-loop-byte l = l.len ≡ capped (2 + length (flat_map escape (take l.byte-index l.key)))

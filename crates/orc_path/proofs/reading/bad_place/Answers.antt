@@ -1,68 +1,38 @@
 use Rattle.std.proofs.Common.{ℕ, ◌+◌, ◌∙◌, sym, ap, subst, arith}
-use Rattle.std.proofs.lemmas.Iterator.{YieldsList-from_chars}
-use Rattle.std.proofs.lemmas.Iterator.Consumers.{YieldsList-turn, YieldsList-end}
-use Rattle.std.proofs.lemmas.List.{length_push}
 use Rattle.orc_path.specs.Texts.{IsPathText, IsBadAt}
 use Rattle.orc_path.specs.declared.mode.Mode.TheVariants.{Start}
 use Rattle.orc_path.proofs.Modes.{IsAt, at_first, at_next, at_refused, at_end, at_bad_end}
 use Rattle.orc_path.proofs.reading.bad_place.Goals as goal
 
 pub loop-character-init : goal.loop-character-init
-loop-character-init g c = record {
-  cost = omega arith;
-  place =
-      subst (λ rest. IsAt c.args.text.now 0 rest Start) (sym (ap (λ i. i.rest.now) c.into_iter-character-iterator.ensures.into_iter_gives ∙ c.chars-character-items.ensures.rest))
-      (at_first c.args.text.now c.utf8.text);
-}
+loop-character-init c =
+    subst (λ rest. IsAt c.args.text.now 0 rest Start) (sym (ap (λ i. i.rest.now) c.into_iter-character-iterator.ensures.into_iter_gives ∙ c.chars-character-items.ensures.rest))
+    (at_first c.args.text.now c.utf8.text)
 
 pub overflow_add-result : goal.overflow_add-result
-overflow_add-result g c =
+overflow_add-result c =
     let l = c.loop-character in
-    let bad = at_refused c.args.text.now l.at l.character-iterator.rest.now l.mode l.invariant.place c.next.new.self.rest.now c.in-Some.character c.in-Some.ensures.steps.0 c.in-None-mode_behind.ensures in
+    let bad = at_refused c.args.text.now l.at l.character-iterator.rest.now l.mode l.invariant c.next.new.self.rest.now c.in-Some.character c.in-Some.ensures.steps.0 c.in-None-mode_behind.ensures in
     omega (arith, bad.within, c.begun_in.ensures)
 
-pub returns-in-None-mode_behind-clause-place : goal.returns-in-None-mode_behind-clause-place
-returns-in-None-mode_behind-clause-place g c =
+pub returns-in-None-mode_behind : goal.returns-in-None-mode_behind
+returns-in-None-mode_behind c =
     let l = c.loop-character in
     subst (λ (n : ℕ). IsBadAt IsPathText c.args.text.now (l.at + n)) (sym c.begun_in.ensures)
-    (at_refused c.args.text.now l.at l.character-iterator.rest.now l.mode l.invariant.place c.next.new.self.rest.now c.in-Some.character c.in-Some.ensures.steps.0 c.in-None-mode_behind.ensures)
+    (at_refused c.args.text.now l.at l.character-iterator.rest.now l.mode l.invariant c.next.new.self.rest.now c.in-Some.character c.in-Some.ensures.steps.0 c.in-None-mode_behind.ensures)
 
 pub loop-character-preserved : goal.loop-character-preserved
-loop-character-preserved g c =
-    let l = c.loop-character in record {
-      cost = (let more = length_push l.yielded c.in-Some.character in omega (arith, l.invariant.cost, c.tick.ensures, more));
-      place =
-          subst (λ (n : ℕ). IsAt c.args.text.now (l.at + n) c.next.new.self.rest.now c.in-Some-mode_behind.next) (sym c.len_utf8-at.ensures.len)
-          (at_next c.args.text.now l.at l.character-iterator.rest.now l.mode l.invariant.place c.next.new.self.rest.now c.in-Some.character c.in-Some-mode_behind.next c.in-Some.ensures.steps.0 c.in-Some-mode_behind.ensures);
-    }
-
-pub returns-then-is_path_end-clause-place : goal.returns-then-is_path_end-clause-place
-returns-then-is_path_end-clause-place g c =
+loop-character-preserved c =
     let l = c.loop-character in
-    at_end c.args.text.now l.at l.character-iterator.rest.now l.mode l.invariant.place c.in-None.ensures.steps.0.0 (sym c.is_path_end.ensures ∙ c.if-is_path_end.true)
+    subst (λ (n : ℕ). IsAt c.args.text.now (l.at + n) c.next.new.self.rest.now c.in-Some-mode_behind.next) (sym c.len_utf8-at.ensures.len)
+    (at_next c.args.text.now l.at l.character-iterator.rest.now l.mode l.invariant c.next.new.self.rest.now c.in-Some.character c.in-Some-mode_behind.next c.in-Some.ensures.steps.0 c.in-Some-mode_behind.ensures)
 
-pub returns-else-is_path_end-clause-place : goal.returns-else-is_path_end-clause-place
-returns-else-is_path_end-clause-place g c =
+pub returns-then-is_path_end : goal.returns-then-is_path_end
+returns-then-is_path_end c =
     let l = c.loop-character in
-    at_bad_end c.args.text.now l.at l.character-iterator.rest.now l.mode l.invariant.place c.in-None.ensures.steps.0.0 (sym c.is_path_end.ensures ∙ c.if-is_path_end.false)
+    at_end c.args.text.now l.at l.character-iterator.rest.now l.mode l.invariant c.in-None.ensures.steps.0.0 (sym c.is_path_end.ensures ∙ c.if-is_path_end.true)
 
-pub returns-in-None-mode_behind-clause-cost : goal.returns-in-None-mode_behind-clause-cost
-returns-in-None-mode_behind-clause-cost g c =
-    let text = c.args.text.now in
+pub returns-else-is_path_end : goal.returns-else-is_path_end
+returns-else-is_path_end c =
     let l = c.loop-character in
-    let turn = YieldsList-turn (YieldsList-from_chars text c.utf8.text cc) l.yielded _ l.yielded_by _ _ c.in-Some.character c.in-Some.is c.next.ensures.steps in
-    omega (arith, l.invariant.cost, c.tick.ensures, turn.0)
-
-pub returns-then-is_path_end-clause-cost : goal.returns-then-is_path_end-clause-cost
-returns-then-is_path_end-clause-cost g c =
-    let text = c.args.text.now in
-    let l = c.loop-character in
-    let end = YieldsList-end (YieldsList-from_chars text c.utf8.text cc) l.yielded _ l.yielded_by _ _ c.in-None.is c.next.ensures.steps in
-    omega (arith, l.invariant.cost, end.1)
-
-pub returns-else-is_path_end-clause-cost : goal.returns-else-is_path_end-clause-cost
-returns-else-is_path_end-clause-cost g c =
-    let text = c.args.text.now in
-    let l = c.loop-character in
-    let end = YieldsList-end (YieldsList-from_chars text c.utf8.text cc) l.yielded _ l.yielded_by _ _ c.in-None.is c.next.ensures.steps in
-    omega (arith, l.invariant.cost, end.1)
+    at_bad_end c.args.text.now l.at l.character-iterator.rest.now l.mode l.invariant c.in-None.ensures.steps.0.0 (sym c.is_path_end.ensures ∙ c.if-is_path_end.false)

@@ -1,9 +1,5 @@
-use Rattle.std.proofs.Common.{◌≡◌, ◌+◌, length}
 use Rattle.orc_path.proofs.Modes.{IsAt}
 use Rattle.orc_path.proofs.reading.bad_place.Given as goal
 
 abbrev pub invariant-loop-character : goal.invariant-loop-character
-invariant-loop-character g l = record {
-  place : IsAt l.text l.at l.character-iterator.rest.now l.mode;
-  cost : l.steps ≡ l.fn.steps + length l.yielded;
-}
+invariant-loop-character l = IsAt l.text l.at l.character-iterator.rest.now l.mode

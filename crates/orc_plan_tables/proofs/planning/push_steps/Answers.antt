@@ -1,5 +1,5 @@
 use Rattle.std.proofs.Common.{IsTrue, subst}
-use Rattle.orc_state.proofs.Fits.{list_all-read}
+use Rattle.orc_decls.proofs.Fits.{list_all-read}
 use Rattle.orc_script.specs.Steps.{is_step}
 use Rattle.orc_script.specs.declared.step.ScriptStep.{ScriptStep}
 use Rattle.orc_plan_tables.proofs.planning.push_steps.Goals as goal

@@ -1,13 +1,9 @@
--- The number is given, the intent is that of the call on the devices, and the call stands behind the history.
+-- The number is given, the intent is that of the call on the devices, and the call is pending.
 use Rattle.std.proofs.Common.{arith, rules, sym, ap, subst}
 use Rattle.orc_call.specs.Encoding.{IsCall}
 use Rattle.orc_call.specs.declared.call.Call.{Call}
 use Rattle.orc_journal.specs.declared.entry.Entry.TheVariants.{Intent}
-use Rattle.orc_state.specs.Legal.{IsNew}
 use Rattle.orc_run.proofs.decision.begin.Goals as goal
-
-pub push-requires : goal.push-requires
-push-requires c = subst (IsNew c.args.past.now.history) (sym c.in_ok-copy-2.ensures) c.requires.new
 
 pub returns-clause-begun : goal.returns-clause-begun
 returns-clause-begun c = record {

@@ -1,6 +1,6 @@
 use Rattle.std.proofs.Common.{[], ◌++◌, sym, arith}
 use Rattle.std.proofs.lemmas.List.{take_all}
-use Rattle.orc_state.proofs.Fits.{list_all-read}
+use Rattle.orc_decls.proofs.Fits.{list_all-read}
 use Rattle.orc_script.specs.Steps.{is_step}
 use Rattle.orc_io.proofs.Fronts.{Appends-trans}
 use Rattle.orc_run.specs.inside.Controllers.{view_of}

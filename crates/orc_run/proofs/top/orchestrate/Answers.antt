@@ -2,7 +2,7 @@
 use Rattle.std.proofs.Common.{Some, Err, List, map, refl, sym, subst, ap, ◌∙◌}
 use Rattle.std.specs.String.{string_bytes}
 use Rattle.std.specs.declared.option.Option.{Option}
-use Rattle.orc_bundle.specs.Bundles.{IsBundle}
+use Rattle.orc_bundle.specs.Bundles.{IsScripted}
 use Rattle.orc_script.specs.declared.step.ScriptStep.{ScriptStep}
 use Rattle.orc_run.specs.Ends.{EndsBy, Outside}
 use Rattle.orc_run.specs.declared.stop.Ended.{Ended}
@@ -14,7 +14,7 @@ use Rattle.orc_run.proofs.top.orchestrate.Goals as goal
 
 pub run_over-requires : goal.run_over-requires
 run_over-requires g c = record {
-  bundle = subst (λ (steps : List ScriptStep). IsBundle (record { decls = c.in-Ok-read_input.bundle.decls; steps = steps })) (sym c.as_slice.ensures) c.in-Ok-read_input.ensures.lawful;
+  bundle = subst (λ (steps : List ScriptStep). IsScripted (record { decls = c.in-Ok-read_input.bundle.decls; steps = steps })) (sym c.as_slice.ensures) c.in-Ok-read_input.ensures.lawful;
   short = c.in-Ok-read_input.ensures.short;
 }
 

@@ -1,19 +1,19 @@
 -- The script is run over what was opened, or nothing was opened.
 use Rattle.std.proofs.Common.{None, refl, sym, subst}
 use Rattle.orc_run.specs.Ends.{EndsOver, Outside}
-use Rattle.orc_bundle.specs.declared.bundle.Bundle.{Bundle}
+use Rattle.orc_bundle.specs.declared.scripted.ScriptedBundle.{ScriptedBundle}
 use Rattle.orc_run.specs.declared.stop.Ended.{Ended}
 use Rattle.orc_run.proofs.Tops.{can_run, ran_over, over_unopened, run_rose, run_stop}
 use Rattle.orc_run.proofs.top.run_over.Goals as goal
 
 pub run_script-requires : goal.run_script-requires
 run_script-requires g c =
-    let bundle : Bundle = record { decls = c.args.decls.now; steps = c.args.steps.now } in
+    let bundle : ScriptedBundle = record { decls = c.args.decls.now; steps = c.args.steps.now } in
     record { can = can_run g.D.Disk.disk bundle c.requires.bundle c.requires.short c.in-Ok.controller c.args.steps.now refl (c.in-Ok.ensures.opens.entries, c.in-Ok.ensures.opens.knows) }
 
 pub returns-in-Ok-clause-ends : goal.returns-in-Ok-clause-ends
 returns-in-Ok-clause-ends g c before after =
-    let bundle : Bundle = record { decls = c.args.decls.now; steps = c.args.steps.now } in
+    let bundle : ScriptedBundle = record { decls = c.args.decls.now; steps = c.args.steps.now } in
     let held = g.K.Sink.sink.held in
     let so = c.in-Ok.ensures in
     ran_over g.D.Disk.disk g.met.D.Disk.only_now bundle
@@ -24,7 +24,7 @@ returns-in-Ok-clause-ends g c before after =
 
 pub returns-in-Ok-clause-journal : goal.returns-in-Ok-clause-journal
 returns-in-Ok-clause-journal g c =
-    let bundle : Bundle = record { decls = c.args.decls.now; steps = c.args.steps.now } in
+    let bundle : ScriptedBundle = record { decls = c.args.decls.now; steps = c.args.steps.now } in
     let held = g.K.Sink.sink.held in
     let so = c.in-Ok.ensures in
     let old : Outside g.row.D.Denot = record { left = None; held = held c.args.sink.now; disk = c.args.disk } in
@@ -36,7 +36,7 @@ returns-in-Ok-clause-journal g c =
 
 pub returns-in-Ok-clause-causes : goal.returns-in-Ok-clause-causes
 returns-in-Ok-clause-causes g c =
-    let bundle : Bundle = record { decls = c.args.decls.now; steps = c.args.steps.now } in
+    let bundle : ScriptedBundle = record { decls = c.args.decls.now; steps = c.args.steps.now } in
     let held = g.K.Sink.sink.held in
     let so = c.in-Ok.ensures in
     let old : Outside g.row.D.Denot = record { left = None; held = held c.args.sink.now; disk = c.args.disk } in
@@ -48,7 +48,7 @@ returns-in-Ok-clause-causes g c =
 
 pub returns-in-Err-clause-ends : goal.returns-in-Err-clause-ends
 returns-in-Err-clause-ends g c before after =
-    let bundle : Bundle = record { decls = c.args.decls.now; steps = c.args.steps.now } in
+    let bundle : ScriptedBundle = record { decls = c.args.decls.now; steps = c.args.steps.now } in
     let d = g.D.Disk.disk in
     let held = g.K.Sink.sink.held in
     let b = bundle in

@@ -8,11 +8,11 @@ pub returns-in-Err-clause-table : goal.returns-in-Err-clause-table
 returns-in-Err-clause-table c = fault_given c.args.drafts.now c.args.index.now c.requires.same c.requires.sorted _ chain_is c.in-Err.fault c.in-Err.ensures
 
 pub of_lines-requires : goal.of_lines-requires
-of_lines-requires c = in_order_at c.args.drafts.now c.args.index.now c.requires.same c.requires.sorted _ chain_is _ c.in_ok-whole_lines-in-Ok.ensures.lines
+of_lines-requires c = in_order_at c.args.drafts.now c.args.index.now c.requires.same c.requires.sorted _ chain_is _ c.in_ok-lines-in-Ok.ensures.lines
 
-pub returns-in_ok-whole_lines-in-Ok-clause-table : goal.returns-in_ok-whole_lines-in-Ok-clause-table
-returns-in_ok-whole_lines-in-Ok-clause-table c = subst (λ t. GivesTable (first_link_fault c.args.drafts.now) c.args.drafts.now (Ok t)) (sym c.of_lines.ensures)
-    (table_given c.args.drafts.now c.args.index.now c.requires.same c.requires.sorted _ chain_is _ c.in-Ok.ensures c.in_ok-whole_lines-in-Ok.ensures.lines)
+pub returns-in_ok-of_lines-in-Ok-clause-table : goal.returns-in_ok-of_lines-in-Ok-clause-table
+returns-in_ok-of_lines-in-Ok-clause-table c = subst (λ t. GivesTable (first_link_fault c.args.drafts.now) c.args.drafts.now (Ok t)) (sym c.in_ok-of_lines-in-Ok.ensures)
+    (table_given c.args.drafts.now c.args.index.now c.requires.same c.requires.sorted _ chain_is _ c.in-Ok.ensures c.in_ok-lines-in-Ok.ensures.lines)
 
-pub returns-in_ok-whole_lines-in-Ok-clause-whole : goal.returns-in_ok-whole_lines-in-Ok-clause-whole
-returns-in_ok-whole_lines-in-Ok-clause-whole c = whole_at c.args.drafts.now c.args.index.now c.requires.same c.requires.sorted _ chain_is c.in_ok-whole_lines-in-Ok.ensures.whole
+pub returns-in_ok-of_lines-in-Ok-clause-whole : goal.returns-in_ok-of_lines-in-Ok-clause-whole
+returns-in_ok-of_lines-in-Ok-clause-whole c = whole_at c.args.drafts.now c.args.index.now c.requires.same c.requires.sorted _ chain_is c.in_ok-lines-in-Ok.ensures.whole

@@ -2,4 +2,4 @@ use Rattle.std.specs.Prelude.{length}
 use Rattle.orc_typed.proofs.canonical.+with_keys.Given as goal
 
 abbrev pub decreases-with_keys : goal.decreases-with_keys
-decreases-with_keys g l = length l.keys.now
+decreases-with_keys l = length l.keys.now

@@ -1,5 +1,6 @@
 -- By the stage.
-use Rattle.std.proofs.Common.{sym, subst}
+use Rattle.std.proofs.Common.{List, sym, ap, subst}
+use Rattle.orc_call.specs.declared.call.Call.{Call}
 use Rattle.orc_run.specs.inside.Serving.{ComesBehind}
 use Rattle.orc_run.specs.declared.commit.Stage.{Stage}
 use Rattle.orc_run.proofs.Behind.{behind_decide, behind_intent, behind_settled}
@@ -13,11 +14,11 @@ returns-in-Settled g c =
 pub returns-in-Decide : goal.returns-in-Decide
 returns-in-Decide g c =
     subst (λ (s : Stage). ComesBehind c.args.decls.now s c.args.reached.outcome c.args.self.now c.fall_back.result c.fall_back.new.self) (sym c.in-Decide.is)
-    (behind_decide c.args.decls.now c.args.reached.outcome c.args.self.now c.fall_back.new.self c.fall_back.result c.fall_back.ensures.end
+    (behind_decide c.args.decls.now c.args.reached.outcome c.args.self.now c.fall_back.new.self c.fall_back.result c.fall_back.ensures.end c.fall_back.ensures.known
     c.fall_back.ensures.rest c.fall_back.ensures.behind)
 
 pub returns-in-Intent : goal.returns-in-Intent
 returns-in-Intent g c =
     subst (λ (s : Stage). ComesBehind c.args.decls.now s c.args.reached.outcome c.args.self.now c.fall_back-in-Intent.result c.fall_back-in-Intent.new.self) (sym c.in-Intent.is)
-    (behind_intent c.args.decls.now c.args.reached.outcome c.args.self.now c.fall_back-in-Intent.new.self c.fall_back-in-Intent.result c.fall_back-in-Intent.ensures.end
-    c.forget.new.self c.forget.ensures c.requires.within c.fall_back-in-Intent.ensures.rest c.fall_back-in-Intent.ensures.behind)
+    (behind_intent c.args.decls.now c.args.reached.outcome c.args.self.now c.fall_back-in-Intent.new.self c.fall_back-in-Intent.result c.fall_back-in-Intent.ensures.end c.fall_back-in-Intent.ensures.known
+    (record c.args.self.now.past { pending = c.new.result }) (ap (λ (l : List Call). record c.args.self.now.past { pending = l }) c.new.ensures) c.fall_back-in-Intent.ensures.rest c.fall_back-in-Intent.ensures.behind)

@@ -1,5 +1,5 @@
 use Rattle.std.proofs.Common.{refl}
-use Rattle.orc_state.specs.Legal.{state_of}
+use Rattle.orc_datastore.specs.Legal.{state_of}
 use Rattle.orc_run.specs.Steps.{PrintsJson}
 use Rattle.orc_run.specs.inside.Controllers.{known_of}
 use Rattle.orc_script.specs.declared.step.ScriptStep.TheVariants.{Json}

@@ -1,4 +1,5 @@
-use Rattle.std.proofs.Common.{true, take, Err, ap}
+use Rattle.std.proofs.Common.{true, List, length, take, Err, ap}
+use Rattle.orc_call.specs.declared.call.Call.{Call}
 use Rattle.std.proofs.lemmas.Option.{slice_get_within}
 use Rattle.orc_journal.specs.declared.entry.Entry.TheVariants.{Decide}
 use Rattle.orc_run.proofs.Openings.{newly_sound, offset_of}
@@ -12,7 +13,7 @@ offset-at-requires-clause-within g c =
 pub returns-in-Ok-clause-knows : goal.returns-in-Ok-clause-knows
 returns-in-Ok-clause-knows g c =
     newly_sound g.D.Disk.disk c.args.decls.now
-    (record { journal = c.args.journal; up = true; past = c.in-Ok.past; known = c.len.result }) c.args.entries.now c.in-Ok.ensures.past c.len.ensures
+    (record { journal = c.args.journal; up = true; past = c.in-Ok.past; known = length c.history.result.now }) c.args.entries.now c.in-Ok.ensures.past (ap (λ (l : List Call). length l) c.history.ensures)
     c.requires.holds c.requires.ordered c.requires.limit c.requires.running
 
 pub returns-in-Err-Illegal-clause-refused : goal.returns-in-Err-Illegal-clause-refused

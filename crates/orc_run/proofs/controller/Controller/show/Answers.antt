@@ -1,6 +1,7 @@
 use Rattle.std.proofs.Common.{◌≡◌, refl}
-use Rattle.orc_state.specs.States.{tree_due, name_of}
-use Rattle.orc_state.specs.Legal.{state_of}
+use Rattle.orc_datastore.specs.States.{tree_due}
+use Rattle.orc_decls.specs.Devices.{name_of}
+use Rattle.orc_datastore.specs.Legal.{state_of}
 use Rattle.orc_print.specs.Printed.{tree_text}
 use Rattle.orc_run.specs.inside.Controllers.{known_of}
 use Rattle.orc_script.specs.declared.step.ScriptStep.TheVariants.{Show}

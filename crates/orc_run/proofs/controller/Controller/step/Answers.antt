@@ -41,13 +41,13 @@ pub returns-in-Meta : goal.returns-in-Meta
 returns-in-Meta g c sound =
     subst (λ (s : ScriptStep). StepsTo g.D.Disk.disk c.args.decls.now (view_of c.args.self sound.0) s c.meta.result) (sym c.in-Meta.is) (c.meta.ensures sound)
 
-pub returns-in-Data : goal.returns-in-Data
-returns-in-Data g c sound =
-    subst (λ (s : ScriptStep). StepsTo g.D.Disk.disk c.args.decls.now (view_of c.args.self sound.0) s c.data.result) (sym c.in-Data.is) (c.data.ensures c.args.decls.now sound)
+pub returns-in-ShowData : goal.returns-in-ShowData
+returns-in-ShowData g c sound =
+    subst (λ (s : ScriptStep). StepsTo g.D.Disk.disk c.args.decls.now (view_of c.args.self sound.0) s c.data.result) (sym c.in-ShowData.is) (c.data.ensures c.args.decls.now sound)
 
-pub returns-in-Serve : goal.returns-in-Serve
-returns-in-Serve g c sound =
-    subst (λ (s : ScriptStep). StepsTo g.D.Disk.disk c.args.decls.now (view_of c.args.self sound.0) s c.answer.result) (sym c.in-Serve.is) (c.answer.ensures sound)
+pub returns-in-Call : goal.returns-in-Call
+returns-in-Call g c sound =
+    subst (λ (s : ScriptStep). StepsTo g.D.Disk.disk c.args.decls.now (view_of c.args.self sound.0) s c.answer.result) (sym c.in-Call.is) (c.answer.ensures sound)
 
 pub returns-in-Settle : goal.returns-in-Settle
 returns-in-Settle g c sound =

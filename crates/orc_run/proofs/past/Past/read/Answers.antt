@@ -15,8 +15,8 @@ returns-then-not-branch-clause-illegal c = λ place e.
 
 pub loop-place-init : goal.loop-place-init
 loop-place-init c =
-    let past : Past = record { numbers = c.new.result; history = c.new-2.result; state = c.in_ok-open.field-0 } in
-    past_none c.args.decls.now past c.new.ensures.filled c.new.ensures.none c.new-2.ensures c.in_ok-open.ensures.opening c.in_ok-open.ensures.kept
+    let past : Past = record { numbers = c.new.result; state = c.in_ok-start.field-0; pending = c.new-2.result } in
+    past_none c.args.decls.now past c.new.ensures.filled c.new.ensures.none c.new-2.ensures c.in_ok-start.ensures.none c.in_ok-start.ensures.state
 
 pub loop-place-preserved : goal.loop-place-preserved
 loop-place-preserved c =

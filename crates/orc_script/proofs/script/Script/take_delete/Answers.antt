@@ -1,9 +1,8 @@
 use Rattle.orc_call.specs.declared.call.Action.TheVariants.{Delete}
-use Rattle.orc_lines.specs.Lawful.{decls_in}
 use Rattle.orc_script.proofs.CallLines.{acted}
 use Rattle.orc_script.proofs.script.Script.take_delete.Goals as goal
 
 pub returns-clause-lawful : goal.returns-clause-lawful
-returns-clause-lawful g c = λ most so_far here.
-    acted (decls_in c.args.declared.now) most c.args.self.now so_far here (Delete c.in_ok-id.id) c.push.new.self c.in_ok-id.ensures.room
+returns-clause-lawful c = λ most so_far here.
+    acted c.args.decls.now most c.args.self.now so_far here (Delete c.in_ok-id.id) c.push.new.self c.in_ok-id.ensures.room
     c.in_ok-id.ensures.lawful c.in_ok-id.ensures.new c.in_ok-push.ensures.ok

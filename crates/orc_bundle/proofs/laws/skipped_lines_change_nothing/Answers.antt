@@ -1,5 +1,0 @@
-use Rattle.orc_bundle.proofs.SkippedLines.{changes_nothing}
-use Rattle.orc_bundle.proofs.laws.skipped_lines_change_nothing.Goals as goal
-
-pub returns : goal.returns
-returns c = changes_nothing

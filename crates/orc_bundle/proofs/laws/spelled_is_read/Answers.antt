@@ -1,5 +1,0 @@
-use Rattle.orc_bundle.proofs.WrittenBundle.{spelled_is_read}
-use Rattle.orc_bundle.proofs.laws.spelled_is_read.Goals as goal
-
-pub returns : goal.returns
-returns c = spelled_is_read

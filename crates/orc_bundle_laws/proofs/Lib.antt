@@ -1,0 +1,17 @@
+mod Bytes
+mod Skipped
+mod SkippedLines
+mod Texts
+mod TextsApart
+mod Wholes
+mod WrittenBases
+mod WrittenBundle
+mod WrittenCalls
+mod WrittenDeclarations
+mod WrittenDevices
+mod WrittenItems
+mod WrittenLines
+mod WrittenPreamble
+mod WrittenScript
+mod WrittenSteps
+mod WrittenTexts

@@ -1,0 +1,14 @@
+pub mod States
+pub mod Actions
+pub mod Codes
+pub mod Clashes
+pub mod Next
+pub mod Plans
+pub mod Snapshots
+pub mod Touched
+pub mod Sets
+pub mod Histories
+pub mod Legal
+pub mod Laws
+pub mod inside
+pub mod Metas

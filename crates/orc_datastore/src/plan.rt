@@ -1,0 +1,117 @@
+//! The plan of a call: what it holds while it is under way, and what its services write.
+ghost use Rattle.std.specs.Prelude.{◌≡◌, ◌++◌, ◌<◌, ◌^◌, All, IfOk, IsTrue, OnOk, length};
+ghost use Rattle.orc_services.specs.Fitting.{FitActions, fits_action};
+ghost use Rattle.orc_datastore.specs.inside.Sights.{all_expansions, expansions_by, literal_parts, planned_known, service_key};
+
+use crate::expanding::expanded_reading;
+use crate::expansion::expansion;
+use crate::held::held;
+use orc_call::{Action, Answer};
+use orc_decls::Decls;
+use orc_expr::ReadSet;
+use orc_queue::Held;
+use orc_template::Expansion;
+use orc_text::{Memory, Row, Text};
+use orc_tree::Tree;
+use std::alloc::Global;
+
+/// The plan of a call: the front of the snapshot that it was made on; what the call holds; and, for each
+/// service of a list that it creates, modifies or redeploys, in the order of the actions, what its
+/// expansion writes on each device. What a literal service writes stands in the call itself.
+#[derive(Drop)]
+pub struct Plan {
+    pub front: u64,
+    pub held: Held,
+    pub expansions: Row<(Text, Expansion)>,
+}
+
+// What a literal service writes, by the devices' numbers.
+fn literal_parts(alloc: Global, names: &[Text], action: &Action) -> Result<Expansion, Memory>
+    requires { IsTrue (fits_action action.now) }
+    ensures { IfOk result (λ expansion. expansion ≡ literal_parts names.now action.now) }
+{
+    match action {
+        Action::Literal(_, writes) => {
+            let parts = expansion(alloc, names, writes.as_slice())?;
+            Expansion::gathered(alloc, parts.as_slice())
+        }
+        _ => Ok(Expansion {
+            parts: Row::new(alloc),
+        }),
+    }
+}
+
+// Adds the expansion of the service that an action creates, modifies or redeploys, by the action that
+// it came to.
+fn push_expansion(
+    expansions: &mut Row<(Text, Expansion)>,
+    alloc: Global,
+    names: &[Text],
+    action: &Action,
+    made: &Action,
+) -> Result<(), Memory>
+    requires { IsTrue (fits_action made.now) }
+    ensures { OnOk result (expansions.new ≡ expansions.old ++ expansions_by names.now action.now made.now) }
+{
+    match action {
+        Action::Create(id, _) | Action::Modify(id, _) | Action::Redeploy(id) => {
+            expansions.push((id.copy(alloc)?, literal_parts(alloc, names, made)?))
+        }
+        _ => Ok(()),
+    }
+}
+
+// The expansions of the services that actions create, modify or redeploy, by what these came to.
+fn all_expansions(
+    alloc: Global,
+    names: &[Text],
+    actions: &[Action],
+    made: &[Action],
+) -> Result<Row<(Text, Expansion)>, Memory>
+    requires { FitActions made.now }
+    ensures { IfOk result (λ expansions. expansions ≡ all_expansions names.now actions.now made.now) }
+{
+    let mut expansions = Row::new(alloc);
+    let mut left = actions;
+    for one in made {
+        match left {
+            [action, later @ ..] => {
+                push_expansion(&mut expansions, alloc, names, action, one)?;
+                left = later;
+            }
+            [] => {}
+        }
+    }
+    Ok(expansions)
+}
+
+/// The plan of actions with the data behind them, as a snapshot knows the living services, or the first
+/// service that can't be expanded.
+pub(crate) fn planned_known(
+    alloc: Global,
+    decls: &Decls,
+    known: &Tree,
+    front: u64,
+    actions: &[Action],
+    data: &Tree,
+) -> Result<Result<Plan, Answer>, Memory>
+    requires fit { FitActions actions.now }
+    requires keys { All (λ action. IsTrue (service_key action)) actions.now }
+    requires few { length decls.now.names < 2 ^ 32 }
+    ensures { IfOk result (λ found. found ≡ planned_known decls.now known.now front actions.now «data».now) }
+{
+    let mut reads = ReadSet::new(alloc);
+    match expanded_reading(alloc, decls, data, actions, &mut reads)? {
+        Ok(made) => {
+            let held = held(alloc, decls, known, actions, made.as_slice(), reads)?;
+            let names = decls.names();
+            let expansions = all_expansions(alloc, names, actions, made.as_slice())?;
+            Ok(Ok(Plan {
+                front,
+                held,
+                expansions,
+            }))
+        }
+        Err(answer) => Ok(Err(answer)),
+    }
+}

@@ -1,0 +1,9 @@
+pub mod Rules
+pub mod Names
+pub mod Devices
+pub mod Openings
+pub mod Decls
+pub mod Calls
+pub mod Declarations
+pub mod Texts
+pub mod inside

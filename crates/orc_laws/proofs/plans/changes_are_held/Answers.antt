@@ -1,5 +1,0 @@
-use Rattle.orc_laws.proofs.Standing.{changes_are_held}
-use Rattle.orc_laws.proofs.plans.changes_are_held.Goals as goal
-
-pub returns : goal.returns
-returns c = changes_are_held

@@ -1,5 +1,0 @@
-use Rattle.orc_laws.proofs.Unread.{stands_behind}
-use Rattle.orc_laws.proofs.plans.expanded_stands_behind.Goals as goal
-
-pub returns : goal.returns
-returns c = stands_behind c.expanded_stands.ensures

@@ -1,5 +1,0 @@
-use Rattle.orc_laws.proofs.Unrefused.{legal_stands}
-use Rattle.orc_laws.proofs.plans.legal_stands.Goals as goal
-
-pub returns : goal.returns
-returns c = legal_stands c.expanded_stands.ensures

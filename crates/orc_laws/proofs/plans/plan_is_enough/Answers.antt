@@ -1,5 +1,0 @@
-use Rattle.orc_laws.proofs.Enough.{plan_is_enough}
-use Rattle.orc_laws.proofs.plans.plan_is_enough.Goals as goal
-
-pub returns : goal.returns
-returns c = plan_is_enough c.literal_is_expansion.ensures

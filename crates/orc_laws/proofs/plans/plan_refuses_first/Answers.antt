@@ -1,5 +1,0 @@
-use Rattle.orc_laws.proofs.Standing.{plan_refuses_first}
-use Rattle.orc_laws.proofs.plans.plan_refuses_first.Goals as goal
-
-pub returns : goal.returns
-returns c = plan_refuses_first

@@ -1,5 +1,0 @@
-use Rattle.orc_laws.proofs.Standing.{plan_stands}
-use Rattle.orc_laws.proofs.plans.plan_stands.Goals as goal
-
-pub returns : goal.returns
-returns c = plan_stands c.expanded_stands.ensures c.literal_is_expansion.ensures

@@ -1,5 +1,0 @@
-use Rattle.orc_laws.proofs.Together.{planned_together_fit}
-use Rattle.orc_laws.proofs.plans.planned_together_fit.Goals as goal
-
-pub returns : goal.returns
-returns c = planned_together_fit c.expanded_stands.ensures c.literal_is_expansion.ensures

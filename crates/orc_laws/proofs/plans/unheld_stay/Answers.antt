@@ -1,5 +1,0 @@
-use Rattle.orc_laws.proofs.Standing.{unheld_stay}
-use Rattle.orc_laws.proofs.plans.unheld_stay.Goals as goal
-
-pub returns : goal.returns
-returns c = unheld_stay

@@ -1,5 +1,0 @@
-use Rattle.orc_lines.proofs.NumberedNames.{has_none}
-use Rattle.orc_lines.proofs.names.Names.new.Goals as goal
-
-pub invariant_of-result : goal.invariant_of-result
-invariant_of-result c = has_none c.new.result.items c.new-2.result c.new-2.ensures.empty c.new.ensures.items

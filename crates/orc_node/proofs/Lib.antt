@@ -1,0 +1,7 @@
+mod Edits
+mod Listed
+mod Performing
+mod Rooms
+mod Taken
+mod Kept
+mod Sound

@@ -1,0 +1,2 @@
+pub mod Menders
+pub mod Courses

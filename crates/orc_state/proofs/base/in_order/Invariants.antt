@@ -1,6 +1,0 @@
-use Rattle.std.proofs.Common.{◌≡◌, map, take}
-use Rattle.orc_state.proofs.base.in_order.Given as goal
-
--- the items so far
-abbrev pub invariant-loop-put : goal.invariant-loop-put
-invariant-loop-put l = map (λ put. put.now) l.order.items ≡ take l.put-index l.puts

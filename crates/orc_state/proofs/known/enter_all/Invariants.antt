@@ -1,8 +1,0 @@
-use Rattle.std.proofs.Common.{◌≡◌, take}
-use Rattle.std.specs.List.{fold}
-use Rattle.orc_state.specs.inside.Sights.{enter_living}
-use Rattle.orc_state.proofs.known.enter_all.Given as goal
-
--- those so far have come
-abbrev pub invariant-loop-service : goal.invariant-loop-service
-invariant-loop-service l = l.known ≡ fold enter_living l.fn.known (take l.service-index l.services)

@@ -1,5 +1,0 @@
-use Rattle.orc_state.proofs.TypedTrees.{trees_are_typed}
-use Rattle.orc_state.proofs.laws.tree_is_typed.Goals as goal
-
-pub returns : goal.returns
-returns c = trees_are_typed c.written_is_typed.ensures

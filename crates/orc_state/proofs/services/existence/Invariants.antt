@@ -1,9 +1,0 @@
-use Rattle.std.proofs.Common.{◌≡◌, drop}
-use Rattle.orc_state.specs.Next.{first_service_fault}
-use Rattle.orc_state.specs.inside.Sights.{knows_service}
-use Rattle.orc_state.proofs.services.existence.Given as goal
-
--- the first one at fault is among those that are left
-abbrev pub invariant-loop-action : goal.invariant-loop-action
-invariant-loop-action l =
-    first_service_fault (knows_service l.known) (drop l.action-index l.actions) ≡ first_service_fault (knows_service l.known) l.actions

@@ -1,4 +1,0 @@
-use Rattle.orc_state.proofs.stores.moved.Given as goal
-
-abbrev pub ghosts-apply_uncounted : goal.ghosts-apply_uncounted
-ghosts-apply_uncounted a = record { name = a.blank.name; parts = a.blank.parts }
