@@ -1,25 +1,68 @@
 //! The file that holds the journal.
 use std::fs::{File, TryLockError};
-use std::os::unix::fs::FileExt;
+use std::os::unix::fs::{FileExt, MetadataExt, OpenOptionsExt};
 use std::rt::Files;
 use std::{fs, io};
 
-/// The file of this name, opened to be read and written and locked, which is made where it isn't
-/// there. A file that can't be opened, locked or read is left as it was. Its name outlives a crash.
+// Who may read and write a new journal: its owner alone, since calls are in it.
+const OWNER_ALONE: u32 = 0o600;
+
+/// A journal's file, locked for this program.
+#[derive(Drop)]
+pub(crate) struct JournalFile {
+    pub(crate) file: File,
+    /// Whether this program made it.
+    pub(crate) is_made: bool,
+    /// Whether no byte was in it.
+    pub(crate) is_empty: bool,
+}
+
+/// The file of this name, opened to be read and written and locked. Where it isn't there it is made for its
+/// owner alone, if that is asked for. A file that can't be opened, locked or read is left as it was. Its name
+/// outlives a crash.
 ///
 /// The lock is the advisory one on the whole file (`flock`). It holds until the program ends, so that
 /// two programs never write one journal.
 pub(crate) fn journal_file<R: Files<File = File> + AllocGlobal>(
     rt: &R,
     name: &str,
-) -> io::Result<File> {
-    let mut options = File::options();
-    options.read(true).write(true).create(true);
-    let file = options.open(rt, name)?;
+    makes: bool,
+) -> io::Result<JournalFile> {
+    let (file, is_made) = open(rt, name, makes)?;
     lock(&file)?;
-    look(&file)?;
+    has_its_name(rt, name, &file)?;
+    let is_empty = look(&file)?;
     sync_folder(rt, name)?;
-    Ok(file)
+    Ok(JournalFile {
+        file,
+        is_made,
+        is_empty,
+    })
+}
+
+/// Takes the name of a journal's file away, which this program has locked, so that nobody has begun a journal in it.
+/// Where that fails the empty file stays.
+pub(crate) fn remove<R: Files<File = File>>(rt: &R, name: &str) {
+    let _ = fs::remove_file(rt, name);
+}
+
+// Opens the file of this name, and says whether it was made.
+fn open<R: Files<File = File>>(rt: &R, name: &str, makes: bool) -> io::Result<(File, bool)> {
+    let mut options = File::options();
+    options.read(true).write(true);
+    if !makes {
+        return Ok((options.open(rt, name)?, false));
+    }
+    options.mode(OWNER_ALONE);
+    match options.create_new(true).open(rt, name) {
+        Ok(file) => Ok((file, true)),
+        Err(error) if error.kind() == io::ErrorKind::AlreadyExists => {
+            // A link that leads nowhere is there too, and the file to which it leads is made.
+            options.create_new(false).create(true);
+            Ok((options.open(rt, name)?, false))
+        }
+        Err(error) => Err(error),
+    }
 }
 
 // Locks a file for this program alone, without waiting for another one.
@@ -34,11 +77,22 @@ fn lock(file: &File) -> io::Result<()> {
     }
 }
 
-// Reads a byte, which a file that can't hold a journal refuses, as a pipe does.
-fn look(file: &File) -> io::Result<()> {
+// Whether the name still leads to the file that was opened: another program may have made it, left it empty and taken
+// it away before it was locked here, and what is written to a file without a name is lost.
+fn has_its_name<R: Files<File = File>>(rt: &R, name: &str, file: &File) -> io::Result<()> {
+    let named = fs::metadata(rt, name)?;
+    let opened = file.metadata()?;
+    if named.dev() == opened.dev() && named.ino() == opened.ino() {
+        return Ok(());
+    }
+    let message = "another program has put another file in its place";
+    Err(io::Error::new(io::ErrorKind::WouldBlock, message))
+}
+
+// Reads a byte, which a file that can't hold a journal refuses, as a pipe does; answers whether there is none.
+fn look(file: &File) -> io::Result<bool> {
     let mut byte = [0u8; 1];
-    file.read_at(&mut byte, 0)?;
-    Ok(())
+    Ok(file.read_at(&mut byte, 0)? == 0)
 }
 
 // Makes the name of a file in its folder outlive a crash, where a link leads to it the name at the

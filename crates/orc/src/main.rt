@@ -5,15 +5,15 @@
 mod file;
 mod sentences;
 
-use crate::file::journal_file;
+use crate::file::{journal_file, remove};
 use crate::sentences::sentence;
 use orc_disk::{Disk, FileDisk, MemDisk};
 use orc_explain::explanation;
 use orc_findings::finding;
-use orc_io::{KeptSource, StdSink, StdSource};
+use orc_io::{KeptSource, Source, StdSink, StdSource};
 use orc_run::{Stop, orchestrate, status};
 use orc_text::{Memory, Text};
-use orc_words::{journal_word, usage_text};
+use orc_words::{Command, WordsFault, command_of, journal_word, usage_text};
 use std::alloc::Global;
 use std::process::ExitCode;
 use std::rt::Env;
@@ -25,34 +25,60 @@ const JOURNAL_ROOM: u64 = 67_108_864;
 // The status where the journal's file can't be used.
 const FILE_STATUS: u8 = 14;
 
-// The file that the words name is opened before anything else is looked at.
+// The words are looked at before the file that they name is opened.
 fn main(rt: HostRuntime) -> ExitCode {
     let words = match words(&rt) {
         Ok(words) => words,
         Err(stop) => return ends(&rt, &[], &stop),
     };
-    match journal_word(words.as_slice()) {
-        Some(name) => match journal_file(&rt, name) {
-            Ok(file) => run(&rt, words.as_slice(), FileDisk::over(file)),
-            Err(error) if error.kind() == io::ErrorKind::OutOfMemory => {
-                ends(&rt, words.as_slice(), &Stop::Memory)
-            }
-            Err(error) => refuses(&rt, name, &error),
+    let words = words.as_slice();
+    match command_of(rt.alloc(), words) {
+        Ok(command) => match journal_word(words) {
+            Some(name) => run_over_file(&rt, words, &command, name),
+            None => run_in_memory(&rt, words),
         },
-        None => match journal_disk(rt.alloc()) {
-            Ok(disk) => run(&rt, words.as_slice(), disk),
-            Err(stop) => ends(&rt, words.as_slice(), &stop),
-        },
+        Err(WordsFault::Usage) => ends(&rt, words, &Stop::Usage),
+        Err(WordsFault::Memory) => ends(&rt, words, &Stop::Memory),
     }
 }
 
-// Does what the words ask for over the journal of a disk. A fault of the bundle is explained, unless
+// Does what the words ask for over the journal in the file of this name, which only `run` makes. It says where the
+// journal begins there: over a misspelt name nothing is known of earlier calls, and each is done anew. A file that was
+// made and in which no journal began is taken away.
+fn run_over_file(rt: &HostRuntime, words: &[String], command: &Command, name: &str) -> ExitCode {
+    let makes = matches!(command, Command::Run);
+    let journal = match journal_file(rt, name, makes) {
+        Ok(journal) => journal,
+        Err(error) if error.kind() == io::ErrorKind::OutOfMemory => {
+            return ends(rt, words, &Stop::Memory);
+        }
+        Err(error) => return refuses(rt, name, &error),
+    };
+    if makes && journal.is_empty {
+        let _ = eprintln!(rt; "The journal in \"{name}\" is new: its history is empty.");
+    }
+    let (status, mut disk) = run(rt, words, FileDisk::over(journal.file));
+    if journal.is_made && matches!(disk.len(), Ok(0)) {
+        remove(rt, name);
+    }
+    status
+}
+
+// Does what the words ask for over a journal in memory.
+fn run_in_memory(rt: &HostRuntime, words: &[String]) -> ExitCode {
+    match journal_disk(rt.alloc()) {
+        Ok(disk) => run(rt, words, disk).0,
+        Err(stop) => ends(rt, words, &stop),
+    }
+}
+
+// Does what the words ask for over the journal of a disk, which is handed back. A fault of the bundle is explained, unless
 // memory was wanting to keep the bundle's bytes.
-fn run<D: Disk>(rt: &HostRuntime, words: &[String], disk: D) -> ExitCode {
+fn run<D: Disk>(rt: &HostRuntime, words: &[String], disk: D) -> (ExitCode, D) {
     let mut source = KeptSource::new(rt.alloc(), StdSource::new(rt.reader()));
     let mut sink = StdSink::new(io::writer(rt));
     let ended = orchestrate(rt.alloc(), words, &mut source, &mut sink, disk);
-    match &ended.status {
+    let status = match &ended.status {
         Ok(_) => ExitCode::from(status(&ended.status)),
         Err(Stop::Bundle { line, rule }) => {
             let _ = eprintln!(rt; "orc: Bundle {line} {rule}");
@@ -62,8 +88,37 @@ fn run<D: Disk>(rt: &HostRuntime, words: &[String], disk: D) -> ExitCode {
             }
             ExitCode::from(status(&ended.status))
         }
-        Err(stop) => ends(rt, words, stop),
+        Err(stop) => {
+            let status = ends(rt, words, stop);
+            if let Stop::Foreign { at } = stop {
+                tell_line(rt, &source, *at);
+            }
+            status
+        }
+    };
+    (status, ended.disk)
+}
+
+// Writes in which line of the bundle the declarations differ from a journal's, unless memory was wanting to keep its bytes.
+fn tell_line<R: Eprint, S: Source>(rt: &R, source: &KeptSource<S>, at: u64) {
+    if source.is_all() {
+        let line = line_at(source.kept(), at);
+        let _ = eprintln!(rt; "Line {line} of the bundle is the first that differs.");
     }
+}
+
+// The number of the line in which a byte of a bundle stands, counted from 1.
+fn line_at(bundle: &[u8], at: u64) -> u64 {
+    let mut line: u64 = 1;
+    for (place, byte) in bundle.iter().enumerate() {
+        if place as u64 == at {
+            return line;
+        }
+        if *byte == b'\n' {
+            line = line.saturating_add(1);
+        }
+    }
+    line
 }
 
 // Writes the sentence that explains a fault of the bundle.

@@ -25,7 +25,7 @@ use Rattle.orc_datastore.specs.Histories.{fold_from}
 use Rattle.orc_datastore.specs.Next.{after, clash, existence, expanded_call, expanded_to, invalid, refusal, unexpanded}
 use Rattle.orc_datastore.specs.Plans.{call_held}
 use Rattle.orc_datastore.specs.Touched.{is_touched_among}
-use Rattle.orc_plans.specs.Plans.{EachAlong, FitsBeside, LegalStands, UnrefusedStands}
+use Rattle.orc_plans.specs.Plans.{EachAlong, FitsBeside, LegalStands, UnclashedStands, UnrefusedStands}
 use Rattle.orc_plans.specs.Clashing.{IsLeastClash}
 use Rattle.orc_decls.specs.declared.declarations.Decls.{Decls}
 use Rattle.orc_datastore.specs.declared.datastore.Service.{Service}
@@ -35,7 +35,7 @@ use Rattle.orc_datastore.proofs.LeastClash.{At, any_of, least_at}
 use Rattle.orc_datastore.proofs.Legality.{fold_from-append, legal_last, legal_more}
 use Rattle.orc_plans.proofs.FirstClash.{clash_least, flat_map_cases}
 use Rattle.orc_decls.proofs.Lists.{filter_from, passes}
-use Rattle.orc_plans.proofs.Standing.{HoldsOn, LeavesCall, busy, busy_behind, free_device, held_device, holds_along, holds_on, leaves_fit, not_busy, same_busy, same_expanded, same_touched}
+use Rattle.orc_plans.proofs.Standing.{HoldsOn, LeavesCall, busy, busy_behind, free_device, held_device, holds_along, holds_of, holds_on, leaves_fit, not_busy, same_busy, same_expanded, same_touched}
 use Rattle.orc_plans.proofs.Untouched.{IsQuiet, all_quiet}
 
 some_none : {A : Type 0} {a : A} → Some a ≡ None → ⊥
@@ -250,6 +250,10 @@ unrefused_stands stands decls state call others unrefused h valid =
     let again = holds_along stands decls call held (FitsBeside decls held) (leaves_fit decls call held) state others own h in
     let free = free_along stands decls call held state others own h third.1 in
     nothing_refuses decls behind call again.exist valid again.expanded free
+
+pub unclashed_stands : ExpandedStands → UnclashedStands
+unclashed_stands stands decls state call plan others own h free =
+    free_along stands decls call plan.held state others (holds_of decls state call plan own) h free
 
 pub legal_stands : ExpandedStands → LegalStands
 legal_stands stands decls history others call own legal new h valid =

@@ -182,6 +182,16 @@ UnrefusedStands =
     → let behind = fold_from decls state others in
     invalid decls.data_schema (data_after call.actions behind.data) ≡ None → refusal decls behind call ≡ None
 
+-- Nor is there a clash behind other calls that fit a plan that stands, where there is none on the state, whether or not
+-- the data is valid with it there.
+abbrev pub UnclashedStands : Type 0
+UnclashedStands =
+    (decls : Decls) (state : Datastore) (call : Call) (plan : Plan) (others : List Call)
+    → StandsOn decls state call plan → EachAlong (FitsBeside decls plan.held) decls state others
+    → clash decls.names state.live (expanded_to (expanded_call decls state call)) ≡ None
+    → let behind = fold_from decls state others in
+    clash decls.names behind.live (expanded_to (expanded_call decls behind call)) ≡ None
+
 -- Other calls that fit a plan leave the tree and the base of each device that it holds.
 abbrev pub HeldStay : Type 0
 HeldStay =

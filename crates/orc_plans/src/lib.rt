@@ -9,6 +9,6 @@ pub use clashes::{clash_is_least, services_agree};
 pub use plans::{
     changes_are_held, changes_are_targets, expanded_stands_behind, held_stay, legal_stands,
     plan_is_enough, plan_refuses_first, plan_stands, planned_stands, planned_together_fit,
-    planned_tree_is_stable, plans_stand_together, together_unrefused, unheld_stay,
-    unread_plan_stands, unrefused_stands, untouched_stay,
+    planned_tree_is_stable, plans_stand_together, together_unrefused, unclashed_stands,
+    unheld_stay, unread_plan_stands, unrefused_stands, untouched_stay,
 };

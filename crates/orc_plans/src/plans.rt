@@ -1,5 +1,5 @@
 //! Laws of plans: what one holds, and behind which calls it stands.
-ghost use Rattle.orc_plans.specs.Plans.{ChangesAreTargets, ExpandedStandsBehind, PlanRefusesFirst, UnheldStay, UntouchedStay, ChangesAreHeld, PlannedStands, PlanIsEnough, UnreadPlanStands, PlanStands, UnrefusedStands, HeldStay, PlannedTreeIsStable, LegalStands, PlansStandTogether, PlannedTogetherFit, TogetherUnrefused};
+ghost use Rattle.orc_plans.specs.Plans.{ChangesAreTargets, ExpandedStandsBehind, PlanRefusesFirst, UnheldStay, UntouchedStay, ChangesAreHeld, PlannedStands, PlanIsEnough, UnreadPlanStands, PlanStands, UnclashedStands, UnrefusedStands, HeldStay, PlannedTreeIsStable, LegalStands, PlansStandTogether, PlannedTogetherFit, TogetherUnrefused};
 
 use orc_datastore::literal_is_expansion;
 use orc_services::expanded_stands;
@@ -74,6 +74,14 @@ pub fn plan_stands()
 /// it there.
 pub fn unrefused_stands()
     ensures { UnrefusedStands }
+{
+    expanded_stands();
+}
+
+/// A call that clashes with no living service doesn't behind other calls that fit its plan, whether or not
+/// the data is valid with it there.
+pub fn unclashed_stands()
+    ensures { UnclashedStands }
 {
     expanded_stands();
 }

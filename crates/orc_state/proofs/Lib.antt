@@ -6,6 +6,6 @@ mod Writing
 mod Fronts
 mod OneConflict
 mod Ready
-mod Equality
+pub mod Equality
 mod Repeats
 mod Replaying

@@ -1,0 +1,40 @@
+//! Calls that wait, and calls that are under way.
+use orc_call::Call;
+use orc_datastore::Plan;
+
+/// How far a transaction is.
+#[derive(Clone, Copy, PartialEq, Eq)]
+pub enum Phase {
+    /// It has its Intent, and neither Decide nor Abort.
+    Preparing,
+    /// It has its Decide, and some worker hasn't ended.
+    Decided,
+    /// It has its Abort, and some worker hasn't ended.
+    Aborted,
+    /// All its workers have ended, none of them Lost since: its Settled is due.
+    Settling,
+    /// All its workers have ended, one of them Lost since. A reconciliation will settle it.
+    Left,
+}
+
+/// A call that waits for its admission: its transaction's number, the call and its plan, and the place
+/// of the one who asks.
+#[derive(Drop)]
+pub struct Waiting {
+    pub t: u64,
+    pub call: Call,
+    pub plan: Plan,
+    pub asker: usize,
+}
+
+/// A call under way: besides, how many calls the history had at its Intent, and its phase. Once all its
+/// workers have ended it holds nothing.
+#[derive(Drop)]
+pub struct Transaction {
+    pub t: u64,
+    pub call: Call,
+    pub plan: Plan,
+    pub asker: usize,
+    pub since: usize,
+    pub phase: Phase,
+}

@@ -1,0 +1,139 @@
+-- The run that is stopped before the Decide is written: it is given up.
+use Rattle.std.specs.Prelude.{◌≡◌, ℕ, zero, suc, false, None, List, [], ◌∷◌, ◌++◌, codes}
+use Rattle.std.proofs.Common.{refl, sym, ap}
+use Rattle.std.proofs.lemmas.List.Elements.{All-nil, All-cons}
+use Rattle.std.specs.Fmt.{digits}
+use Rattle.std.specs.List.{flat_map}
+use Rattle.orc_append.specs.declared.outcome.Appended.TheVariants.{Stopped}
+use Rattle.orc_check.specs.Validity.{broken_of}
+use Rattle.orc_decls.specs.Openings.{opening_data}
+use Rattle.orc_device.specs.declared.op.Op.TheVariants as op
+use Rattle.orc_journal.specs.declared.entry.Entry.TheVariants as entry
+use Rattle.orc_path.specs.Steps.{PathStep}
+use Rattle.orc_path.specs.declared.item.Item.{Item}
+use Rattle.orc_print.specs.Printed.{item_line}
+use Rattle.orc_rules.specs.Duties.{is_busy}
+use Rattle.orc_rules.specs.Events.{told_now}
+use Rattle.orc_rules.specs.Hubs.{due_on}
+use Rattle.orc_rules.specs.Journals.{AppendsRow, Journal}
+use Rattle.orc_rules.specs.Worlds.{World, over}
+use Rattle.orc_rules.specs.declared.duty.Duty.{Duty}
+use Rattle.orc_runs.specs.Runs.{AreDone, IsDone, LineDone, Run, text_in}
+use Rattle.orc_runs.specs.Scripts.{Goes}
+use Rattle.orc_runs.specs.Steps.{ScriptStep, ScriptStep as step}
+use Rattle.orc_schema.specs.Schemas.{SchemaTable}
+use Rattle.orc_run_cases.specs.Disks.{SureDisk, sure_disk}
+use Rattle.orc_run_cases.specs.Worked.{given_up_script, given_up_text}
+use Rattle.orc_run_cases.specs.OneDevice.{one_device, r1}
+use Rattle.orc_run_cases.proofs.Journals.{first_stopped, stopped_first}
+use Rattle.orc_run_cases.proofs.Prefix.{prefix_done, prefix_lines, tidy_3, world_0, world_9}
+use Rattle.orc_run_cases.proofs.Reconciled.{IsWell, mended, reconcile_done, reconcile_line, tree_read}
+use Rattle.orc_run_cases.proofs.Recovering.{one_unsettled}
+use Rattle.orc_run_cases.proofs.Stopped.{arm_done, arm_line, decide_done, decide_line, recover_done, recover_line, tidy_10, world_10, world_12}
+use Rattle.orc_run_cases.proofs.Trees.{entries_none, no_tree, same_none}
+use Rattle.orc_run_cases.proofs.Turns.{no_logs, Tidy, here, hub_in, line_done}
+
+module _ (schema : SchemaTable) (valid : broken_of schema (opening_data (r1.name ∷ []) []) ≡ None) where
+  abbrev text : List ℕ
+  text = (here schema).decls.text
+
+  abbrev limit : ℕ
+  limit = (here schema).limit
+
+  -- `stop 1 0`, `decide` and `recover`
+
+  abbrev journal : Journal SureDisk
+  journal = stopped_first (entry.Decide 1) (world_10 schema valid 1 0).journal
+
+  pub cut : AppendsRow sure_disk text limit (world_10 schema valid 1 0).journal (entry.Decide 1 ∷ []) Stopped journal
+  cut = first_stopped text limit (world_10 schema valid 1 0).journal (entry.Decide 1) (tidy_10 schema valid 1 0) refl refl
+
+  abbrev recovered : World SureDisk
+  recovered = world_12 schema valid 1 0 journal cut
+
+  tidy_12 : Tidy schema recovered
+  tidy_12 = let own = tidy_3 schema valid in record { file = own.file; writable = own.writable; uncut = refl; unread = refl }
+
+  -- `reconcile`
+
+  no_duty : (device : ℕ) → due_on (hub_in recovered) device ≡ None
+  no_duty zero = refl
+  no_duty (suc device) = refl
+
+  well : IsWell schema recovered (op.Cancel 1) (over (here schema).decls 0 []) no_tree
+  well = record {
+    tidy = tidy_12;
+    unarmed = refl;
+    up = refl;
+    waits = refl;
+    works = refl;
+    mends = refl;
+    free = no_duty;
+    silent = λ device. refl;
+    unsettled = one_unsettled (told_now (here schema) recovered) _ refl;
+    opens = record { up = refl; due = refl; heard = refl; unlisted = refl; near = refl; granted = refl; tidy = tidy_12 };
+    resolves = record { up = refl; due = refl; heard = refl; unlisted = refl; near = refl; granted = refl; tidy = tidy_12 };
+    reads = record { up = refl; due = refl; heard = refl; unlisted = refl; near = refl; granted = refl; tidy = tidy_12 };
+    same = ap (tree_read schema recovered (op.Cancel 1) (over (here schema).decls 0 []) no_tree) same_none;
+    closes = record { up = refl; due = refl; heard = refl; unlisted = refl; near = refl; granted = refl; tidy = tidy_12 };
+    unmet = refl;
+    ended = All-cons (λ (on : Duty). is_busy on ≡ false) _ [] refl (All-nil _);
+    none = refl;
+  }
+
+  abbrev pub world_18 : World SureDisk
+  world_18 = mended schema recovered (op.Cancel 1) (over (here schema).decls 0 []) no_tree
+
+  abbrev mended_line : LineDone SureDisk
+  mended_line = reconcile_line schema recovered (op.Cancel 1) (over (here schema).decls 0 []) no_tree
+
+  mended_done : IsDone (here schema) false mended_line
+  mended_done = reconcile_done schema recovered (op.Cancel 1) (over (here schema).decls 0 []) no_tree well
+
+  -- `show r1`
+
+  abbrev show_line : LineDone SureDisk
+  show_line = record { step = step.Show 0; before = world_18; turns = []; behind = world_18; text = codes "show r1\nend\n" }
+
+  show_done : IsDone (here schema) false show_line
+  show_done = line_done (here schema) show_line (Goes.whole world_18)
+      (record {
+        after = codes "show r1\nend\n";
+        printed = refl;
+        shows = sym (ap (λ (rows : List (List PathStep × Item)). codes "show r1\n" ++ flat_map item_line rows ++ codes "end\n") entries_none);
+      }) tt
+
+  -- the run
+
+  abbrev pub script_before : List ScriptStep
+  script_before = given_up_script
+
+  abbrev own_lines : List (LineDone SureDisk)
+  own_lines = arm_line schema valid 1 0 ∷ decide_line schema valid 1 0 journal cut ∷ recover_line schema valid 1 0 journal cut ∷ mended_line ∷ show_line ∷ []
+
+  abbrev lines_before : List (LineDone SureDisk)
+  lines_before = prefix_lines schema valid ++ own_lines
+
+  own_done : AreDone (here schema) (world_9 schema valid) own_lines world_18
+  own_done = (refl, arm_done schema valid 1 0, (refl, decide_done schema valid 1 0 journal cut, (refl, recover_done schema valid 1 0 journal cut tidy_12, (refl, mended_done, (refl, show_done, refl)))))
+
+  pub run_before : Run (here schema) script_before (world_0 schema valid) world_18
+  run_before = record {
+    lines = lines_before;
+    middle = world_18;
+    done = prefix_done schema valid own_lines world_18 own_done;
+    end = None;
+    ends = refl;
+    rest = [];
+    parts = refl;
+    whole = λ none. refl;
+    logs = no_logs (one_device schema).names lines_before (refl, (refl, (refl, (refl, (refl, (refl, (refl, (refl, (refl, (refl, (refl, (refl, (refl, tt)))))))))))));
+  }
+
+  pub prints_before : text_in run_before ≡ given_up_text
+  unfolding run_before digits
+  prints_before = refl
+
+  pub whole_before : run_before.rest ≡ []
+  unfolding run_before
+  whole_before = refl

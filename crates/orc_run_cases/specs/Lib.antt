@@ -1,0 +1,4 @@
+pub mod Disks
+pub mod OneDevice
+pub mod Worked
+pub mod Refused

@@ -1,0 +1,6 @@
+use Rattle.orc_call.specs.declared.answer.RecFault.TheVariants as fault
+use Rattle.orc_runs.proofs.laws.reconciliations_are_accepted.Goals as goal
+
+pub returns : goal.returns
+returns g c = λ decls kinds limit script first last run are of_hub of_schema starts.
+    λ accepts earlier later turn device said parts seen. (c.runs_have_the_headline.ensures decls kinds limit script first last run are of_hub of_schema starts).ends_because earlier later turn (fault.Refused device said) parts seen accepts
