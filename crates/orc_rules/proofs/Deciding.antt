@@ -29,7 +29,7 @@ use Rattle.orc_rules.specs.Cells.DeviceRole.{Free, Works}
 use Rattle.orc_rules.specs.Courses.{agrees, stands_undecided, is_clear}
 use Rattle.orc_rules.specs.Duties.{duty_told, is_busy, is_over, outcome_on}
 use Rattle.orc_rules.specs.Hubs.{Hub, duty_on}
-use Rattle.orc_rules.specs.Invariant.{IsLawful, is_preparing as prepares}
+use Rattle.orc_rules.specs.Invariant.{IsLawful, is_preparing_stage as prepares}
 use Rattle.orc_rules.specs.Kept.{FitAt, NetworkKept, Shadow, StandsAt, ValidAt, active_under, heard as then_heard, is_stale, mend_at, mends_at, network_of, plan_of, role_of, role_on, stale_on, stale_then, works_at}
 use Rattle.orc_rules.specs.Network.{Local, Network, Noted, Plan as Named, Planning, intent_seen, seen_plan}
 use Rattle.orc_rules.specs.Network.Happening.{Aborts, Decides}

@@ -12,7 +12,7 @@ use Rattle.orc_rules.specs.Works.Mend.{Mopening}
 use Rattle.orc_rules.specs.Cells.{Cell, DeviceRole, Mended, updated_at, performed, worked_due, mended_role, mender_after, cell_admitted, decided, decided_role, aborted_role, settled, released, at_node, new_intent}
 use Rattle.orc_rules.specs.Cells.Mended.{Goes, Whole, Fails}
 use Rattle.orc_rules.specs.Cells.DeviceRole.{Free, Works, Mends}
-use Rattle.orc_rules.specs.Invariant.{Invariant, RoleFacts, MayRest, is_open, is_preparing, IsNotOn, MaySettle, IsLawful, Commutes}
+use Rattle.orc_rules.specs.Invariant.{Invariant, RoleFacts, MayRest, is_open, is_preparing_stage, IsNotOn, MaySettle, IsLawful, Commutes}
 use Rattle.orc_rules.specs.Network.{Plan, Noted, Planning, Local, Network, cell, cell_of, local, intent_seen, seen_plan, Happening, happens, May, Kept, admitted_local}
 use Rattle.orc_rules.specs.Network.Happening.{Performs, Admits, Decides, Aborts, Settles, Releases, Ticks, Restarts, Stops, Reconciles}
 use Rattle.orc_rules.proofs.Performing.{performed_keeps}
@@ -172,7 +172,7 @@ module _ {Call : Type 0} (kinds : ℕ → DeviceKind) (over : ℕ → List Call 
   ]
 
   aborted_open : (t : ℕ) (r : DeviceRole Call) (o : Intent Call) (st : Stage) →
-      ((p : Intent Call) (s : Stage) → r ≡ Works p s → nat_eq t p.t ≡ true → is_preparing s ≡ false) →
+      ((p : Intent Call) (s : Stage) → r ≡ Works p s → nat_eq t p.t ≡ true → is_preparing_stage s ≡ false) →
       aborted_role t r ≡ Works o st → is_open st ≡ true → (r ≡ Works o st) × (nat_eq t o.t ≡ false)
   aborted_open t Free o st may e h = cc
   aborted_open t (Mends m) o st may e h = cc
@@ -191,7 +191,7 @@ module _ {Call : Type 0} (kinds : ℕ → DeviceKind) (over : ℕ → List Call 
       (e, sym (ap (λ q. nat_eq t q.t) q) ∙ apart (nat_eq t p.t) refl (ap is_open z ∙ h))
     where
       apart : (b : Bool) → nat_eq t p.t ≡ b → is_open s ≡ true → nat_eq t p.t ≡ false
-      apart true f g = false_true (is_preparing s) g (may p s refl f)
+      apart true f g = false_true (is_preparing_stage s) g (may p s refl f)
       apart false f g = f
 
   aborts : (t : ℕ) → May kinds over Stands Fits Valid w (Aborts t) → Kept over Stands Fits Valid (happens kinds over w (Aborts t))
@@ -345,7 +345,7 @@ module _ {Call : Type 0} (kinds : ℕ → DeviceKind) (over : ℕ → List Call 
   same_plan t u p q e f s = let both : Some p ≡ Some q = sym e ∙ ap w.active s ∙ f in cc
 
   decided_open : (t : ℕ) (r : DeviceRole Call) (o : Intent Call) (st : Stage) →
-      ((p : Intent Call) (s : Stage) → r ≡ Works p s → is_preparing s ≡ true → nat_eq t p.t ≡ false) →
+      ((p : Intent Call) (s : Stage) → r ≡ Works p s → is_preparing_stage s ≡ true → nat_eq t p.t ≡ false) →
       decided_role t r ≡ Works o st → is_open st ≡ true → (r ≡ Works o st) × (nat_eq t o.t ≡ false)
   decided_open t Free o st may e h = cc
   decided_open t (Mends m) o st may e h = cc
@@ -375,7 +375,7 @@ module _ {Call : Type 0} (kinds : ℕ → DeviceKind) (over : ℕ → List Call 
   }
     where
       -- no device works for t in preparing
-      preparing : (d : ℕ) (o : Intent Call) (s : Stage) → (w.locals d).role ≡ Works o s → is_preparing s ≡ true → nat_eq t o.t ≡ false
+      preparing : (d : ℕ) (o : Intent Call) (s : Stage) → (w.locals d).role ≡ Works o s → is_preparing_stage s ≡ true → nat_eq t o.t ≡ false
       preparing d o s e h = elim (either t o.t) [
         | inl same ↦
             (let z = kept.working d o s e (opens s h) in
@@ -383,11 +383,11 @@ module _ {Call : Type 0} (kinds : ℕ → DeviceKind) (over : ℕ → List Call 
             let y = may.prepared d named in
             let both : ◌≡◌ {A = DeviceRole Call} (Works y.0 Prepared) (Works o s) = sym y.1 ∙ e in
             let at_s : Prepared ≡ s = cc in
-            false_true (is_preparing s) h (sym (ap is_preparing at_s)))
+            false_true (is_preparing_stage s) h (sym (ap is_preparing_stage at_s)))
         | inr ne ↦ ne
       ]
         where
-          opens : (s : Stage) → is_preparing s ≡ true → is_open s ≡ true
+          opens : (s : Stage) → is_preparing_stage s ≡ true → is_open s ≡ true
           opens Prepared h = refl
           opens s h = h
 

@@ -14,7 +14,7 @@ use Rattle.orc_rules.specs.Works.Mend.{Mopening, Mresolving, MlockingRunning, Ml
 use Rattle.orc_device.specs.Links.Way.{Denied}
 use Rattle.orc_rules.specs.Cells.{Cell, PossibleDue, due_op}
 use Rattle.orc_rules.specs.Cells.DeviceRole.{Mends}
-use Rattle.orc_rules.specs.Invariant.{Invariant, StageFacts, MendFacts, IsFitting, RunsAccepted, is_preparing}
+use Rattle.orc_rules.specs.Invariant.{Invariant, StageFacts, MendFacts, IsFitting, RunsAccepted, is_preparing_stage}
 use Rattle.orc_rules.proofs.Resolving.{known_id}
 use Rattle.orc_rules.proofs.NodeLaws.{by_mine}
 use Rattle.orc_path.specs.Configurations.{Config}
@@ -114,7 +114,7 @@ module _ {Call : Type 0} (k : DeviceKind) (over : List Call → Config) (fit : I
       (past_session k c.node c.session LockCandidate tag live h)
 
   -- A worker in preparing is refused only where the device doesn't accept the tree due.
-  pub worker_refused : (o : Intent Call) (st : Stage) (tag : Tag) → is_preparing st ≡ true → StageFacts over c o st →
+  pub worker_refused : (o : Intent Call) (st : Stage) (tag : Tag) → is_preparing_stage st ≡ true → StageFacts over c o st →
       PossibleDue k c.node c.session (work_operation k o st) (Denied tag) → (tag ≡ OperationFailed) × (k.accepts o.due ≡ false)
   worker_refused o Opening tag e f p = cc
   worker_refused o LockingRunning tag e f p = absurd (lock_allowed tag f.2.run f.1.none p.0 (lives p.1))

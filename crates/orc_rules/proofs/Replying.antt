@@ -32,7 +32,7 @@ use Rattle.orc_rules.specs.Cells.{Cell, PossibleDue, due_op}
 use Rattle.orc_rules.specs.Cells.DeviceRole.{Mends}
 use Rattle.orc_rules.specs.Courses.{stands_undecided}
 use Rattle.orc_rules.specs.Hubs.{mend_fault}
-use Rattle.orc_rules.specs.Invariant.{Invariant, IsFitting, MendFacts, RunsAccepted, StageFacts, is_preparing}
+use Rattle.orc_rules.specs.Invariant.{Invariant, IsFitting, MendFacts, RunsAccepted, StageFacts, is_preparing_stage}
 use Rattle.orc_rules.specs.Works.{Intent, Mend, mend_operation, resolve, work_operation as work_order}
 use Rattle.orc_rules.specs.Works.Mend.{Mopening, Mresolving, MlockingRunning, MlockingCandidate, Mediting, Mvalidating, Mcommitting, MunlockingCandidate, MunlockingRunning, Mclosing}
 use Rattle.orc_rules.proofs.Accepting.{commits_confirmed, effect_accepted}
@@ -198,7 +198,7 @@ module _ (k : DeviceKind) (over : List Call → Config) (fit : IsFitting k over)
   Told st op way f out = Possible k c.node c.session op way → Tells (option_or (outcome_by st (way_reply c.node op way) f) out) Accepted
 
   -- it refused in preparing
-  refuses : (st : Stage) (op : Op) (way : Way) (tag : Tag) → is_preparing st ≡ true → work_order k o st ≡ Some op → over (c.history ++ o.call ∷ []) ≡ o.due → StageFacts over c o st
+  refuses : (st : Stage) (op : Op) (way : Way) (tag : Tag) → is_preparing_stage st ≡ true → work_order k o st ≡ Some op → over (c.history ++ o.call ∷ []) ≡ o.due → StageFacts over c o st
       → nat_eq c.session 0 ≡ false → Possible k c.node c.session op way → way ≡ Denied tag → (tag ≡ OperationFailed) × (Accepted ≡ false)
   refuses st op way tag preparing e due facts opened p is =
       let q = worker_refused k over fit c inv opened o st tag preparing facts

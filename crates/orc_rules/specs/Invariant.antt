@@ -157,19 +157,19 @@ pub record IsLawful {Call : Type 0} (kind : DeviceKind) (over : List Call → Co
       → kind.changed (kind.between config (over history)) config ≡ over history
 
 -- in preparing, with the decision open
-abbrev pub is_preparing : Stage → Bool
-is_preparing Opening = true
-is_preparing LockingRunning = true
-is_preparing LockingCandidate = true
-is_preparing Editing = true
-is_preparing Validating = true
-is_preparing Committing = true
-is_preparing stage = false
+abbrev pub is_preparing_stage : Stage → Bool
+is_preparing_stage Opening = true
+is_preparing_stage LockingRunning = true
+is_preparing_stage LockingCandidate = true
+is_preparing_stage Editing = true
+is_preparing_stage Validating = true
+is_preparing_stage Committing = true
+is_preparing_stage stage = false
 
 -- it may still be decided
 abbrev pub is_open : Stage → Bool
 is_open Prepared = true
-is_open stage = is_preparing stage
+is_open stage = is_preparing_stage stage
 
 -- When the other events may come, for this device.
 module _ {Call : Type 0} (over : List Call → Config) where

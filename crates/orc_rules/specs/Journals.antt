@@ -32,7 +32,7 @@ abbrev pub history_read : {D : Type 0} → Journal D → List Call
 history_read journal = history_of (entries_read journal)
 
 -- so many writes and syncs were done, and none of them was the armed one
-pub record Passes {D : Type 0} (operations : ℕ) (old new : Journal D) : Type 0 where
+pub record PassesOperations {D : Type 0} (operations : ℕ) (old new : Journal D) : Type 0 where
   pub none : (old.armed ≡ 0) ⊎ (operations < old.armed)
   pub nearer : new.armed ≡ old.armed - operations
   pub bytes : new.bytes ≡ old.bytes
@@ -55,10 +55,10 @@ module _ {D : Type 0} (disk : DiskMeaning D) (decls : List ℕ) (limit : ℕ) wh
 
   -- how it came out, after so many writes and syncs, where these entries are left
   abbrev pub Ends : ℕ → List Entry → Journal D → Appended → Journal D → Type 0
-  Ends done rest old Done new = (rest ≡ []) × (new.cut ≡ []) × Passes done old new
+  Ends done rest old Done new = (rest ≡ []) × (new.cut ≡ []) × PassesOperations done old new
   Ends done rest old Stopped new = CutsFirst rest new × StopsIn done old new
   Ends done rest old Failed new = CutsFirst rest new × Rose (disk.faults old.disk) (disk.faults new.disk)
-      × ((more : ℕ) × (more ≤ 4) × Passes (done + more) old new)
+      × ((more : ℕ) × (more ≤ 4) × PassesOperations (done + more) old new)
   Ends done rest old (Full len) new = (new.cut ≡ []) × (len ≡ journal_length decls new.synced)
       × ((entry : Entry) × (later : List Entry) × (rest ≡ entry ∷ later)
       × (limit < len + length (entry_bytes entry) + 1))

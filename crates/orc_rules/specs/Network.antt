@@ -9,7 +9,7 @@ use Rattle.orc_rules.specs.Works.{Intent}
 use Rattle.orc_worker.specs.declared.stage.Stage.TheVariants.{Prepared}
 use Rattle.orc_rules.specs.Cells.{Cell, DeviceRole, updated_at, performed, due_op, PossibleDue, cell_admitted, decided, aborted, released, stopped, mending, at_node}
 use Rattle.orc_rules.specs.Cells.DeviceRole.{Free, Works}
-use Rattle.orc_rules.specs.Invariant.{Invariant, MayRest, is_open, is_preparing, IsNotOn}
+use Rattle.orc_rules.specs.Invariant.{Invariant, MayRest, is_open, is_preparing_stage, IsNotOn}
 use Rattle.orc_path.specs.Configurations.{Config}
 
 -- a call and the devices that it names
@@ -204,7 +204,7 @@ module _ {Call : Type 0} (kinds : ℕ → DeviceKind) (over : ℕ → List Call 
   May network (Decides t plan) = MayDecidePlan network t plan
   May network (Aborts t) = (device : ℕ) (intent : Intent Call) (stage : Stage)
       → (network.locals device).role ≡ Works intent stage → nat_eq t intent.t ≡ true
-      → is_preparing stage ≡ false
+      → is_preparing_stage stage ≡ false
   May network (Settles t) = MaySettleIntent network t
   May network (Releases device) = MayRest (over device) (network.locals device).role
   May network (Ticks seconds) = Unit {0}

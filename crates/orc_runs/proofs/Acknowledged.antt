@@ -1,4 +1,4 @@
--- A call that is acknowledged is the entry of its number, from then on.
+-- A call that is acknowledged is the entry of its number, from then on. (Not checked yet.)
 use Rattle.std.proofs.Common.{[], ◌≡◌, inl, inr, ℕ, ◌+◌, Bool, true, false, cond, nat_eq, Option, Some, None, List, ◌∷◌, ◌++◌, All, IsTrue, length, Err, refl, sym, ap, subst, ◌∙◌, append-nil, eq-eqb, eqb-true, ne_eqb, zero, suc, arith}
 use Rattle.std.specs.Prelude.{IfSome, ◌==◌, slice_get, take}
 use Rattle.std.specs.List.{find}
@@ -120,7 +120,7 @@ module _ {D : Type 0} (here : Setting D) (are : AreDecls here.decls) (plans : Pl
       unused_apart xs all = All-weaker (λ (one : Waiting). IsUnnamed (entries_read old.journal) one.t) (λ (one : Waiting). one.t ≡ it.t → ⊥)
           (λ one none same. named_by it.t one.t (entries_read old.journal) intent none (sym same)) xs all
 
-  -- what is synced after what was done
+  -- what is synced behind what was done
   synced_done : (old new : Journal D) (row : List Entry) → AppendsRow here.disk here.decls.text here.limit old row appended.Done new → new.synced ≡ entries_read old ++ row
   synced_done old new row a =
       a.synced ∙ ap (λ (l : List Entry). l ++ a.done) (sym (uncut_read old a.before))

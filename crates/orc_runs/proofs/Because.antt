@@ -25,7 +25,7 @@ use Rattle.orc_rules.specs.Kept.{AreWaitingApart, FitAt, HistoryKept, StandsAt, 
 use Rattle.orc_rules.specs.Network.{Planning}
 use Rattle.orc_rules.specs.Transactions.{is_preparing}
 use Rattle.orc_rules.specs.UnderHub.{Attends, DevicesKept, IsOfHub}
-use Rattle.orc_rules.specs.Verdicts.{are_heard, verdict}
+use Rattle.orc_rules.specs.Verdicts.{are_heard}
 use Rattle.orc_rules.specs.Worlds.{AnswersSubmission, IsNumberedEntry, Setting, World, over}
 use Rattle.orc_rules.specs.declared.event.Event.{Event}
 use Rattle.orc_rules.specs.declared.transaction.Transaction.{Transaction}
@@ -34,7 +34,7 @@ use Rattle.orc_rules.proofs.Entering.{All-at, Differ}
 use Rattle.orc_rules.proofs.Refusing.{check_sought, invalid_unsought, is_plain, planned_unsought}
 use Rattle.orc_rules.proofs.Slots.{both_true}
 use Rattle.orc_rules.proofs.Tracking.{known_at}
-use Rattle.orc_runs.specs.Headline.{AnsweredBecause, HasFault, IsAnswered, IsRefusedAs, IsSaidOfDevices, IsStaleBecause}
+use Rattle.orc_runs.specs.Headline.{AnsweredBecause, HasFault, IsAnswered, IsRefusedAs, IsStaleBecause}
 use Rattle.orc_runs.specs.Scripts.{call_on_way, call_under}
 use Rattle.orc_rules.proofs.Images.{read_front}
 use Rattle.orc_runs.proofs.Acknowledged.{call_is, entered, entry_more}
@@ -124,7 +124,7 @@ module _ {D : Type 0} (here : Setting D) (earlier : List (Turn D)) where
               subst (Because it.call) (sym c.is) (hub, it, up, among_at hub.waiting place it there, refl, c.n, refl, c.conflict)
       turned place it said there (inr (inr stale)) =
           let s = stale_at it.plan.held.devices hub.stale said stale.2 in
-          subst (Because it.call) (sym s.said_is) (hub, it, up, among_at hub.waiting place it there, refl, stale.2 ∙ ap (λ (a : Answer). Some a) s.said_is, cause_so s.device s.cause s.there)
+          subst (Because it.call) (sym s.said_is) (hub, up, s.there, cause_so s.device s.cause s.there)
 
       given_up : (place : ℕ) (it : Transaction) (said : Answer) → slice_get hub.active place ≡ Some it → is_preparing it.phase ≡ true → IsGivenUpFor here old hub it said → Because it.call said
       given_up place it said there preparing (inl memory) = subst (Because it.call) (sym memory) tt
@@ -132,15 +132,12 @@ module _ {D : Type 0} (here : Setting D) (earlier : List (Turn D)) where
           plain_because old new it.call said (not_unplain said (λ h. invalid_unsought is_unplain plain_not _ _ said broken.1 h)) (inr (inr broken.1))
       given_up place it said there preparing (inr (inl found)) = by (given_up_by hub.duties it.t it.plan.held.devices said found)
         where
-          said_so : verdict hub.duties it.t it.plan.held.devices ≡ Some said → (given : Answer) → said ≡ given → IsSaidOfDevices old it.call given
-          said_so told given is = (hub, it, up, among_at hub.active place it there, refl, told ∙ ap (λ (a : Answer). Some a) is)
-
           by : GivenUpBy hub.duties it.t it.plan.held.devices said → Because it.call said
           by (GivenUpBy.by_memory memory) = subst (Because it.call) (sym memory) tt
           by (GivenUpBy.by_refusal d t named is outcome_is) =
-              subst (Because it.call) (sym is) (let refused = tells_refused here old hub up own replies place it there preparing d t named outcome_is in (said_so found (answer.Refused d t) is, refused.0, refused.1))
+              subst (Because it.call) (sym is) (tells_refused here old hub up own replies place it there preparing d t named outcome_is)
           by (GivenUpBy.by_loss d count named is outcome_is) =
-              subst (Because it.call) (sym is) (said_so found (answer.LinkFault d count) is, lost_by here (HasFault earlier) old hub up own known place it there preparing d count outcome_is)
+              subst (Because it.call) (sym is) (lost_by here (HasFault earlier) old hub up own known place it there preparing d count outcome_is)
 
       waiting_call : (place : ℕ) (it : Waiting) → slice_get hub.waiting place ≡ Some it → call_under old it.t ≡ Some it.call
       waiting_call place it there =

@@ -244,7 +244,7 @@ stale_fault (duty.Mends mender) r f before count honest h = ⊎_elim (λ old. in
 
 -- duties
 
--- after an admission a device does what it did, or a worker begins there
+-- behind an admission a device does what it did, or a worker begins there
 started_cases : (t : ℕ) (sets : List (ℕ × ChangeSet)) (duties : List Duty) (device : ℕ)
     → (duty_on (started t sets duties) device ≡ duty_on duties device) ⊎ ((set : ChangeSet) × (duty_on (started t sets duties) device ≡ duty.Works (new_worker t set)))
 started_cases t [] duties device = inl refl
@@ -276,8 +276,8 @@ freed_works (duty.Works w ∷ xs) zero worker h = h
 freed_works (duty.Mends m ∷ xs) zero worker h = absurd cc
 freed_works (x ∷ xs) (suc device) worker h = freed_works xs device worker h
 
--- What is known of faults under a hub that is up, where this says which came: each that a lost worker, a stale device
--- or a reconciliation names did.
+-- What is known of faults under a hub that is up, where this says which came: each that a lost worker, a stale device or a
+-- reconciliation names did.
 pub record UnderFaults (Came : ℕ → ℕ → Type 0) (duties : List Duty) (stale : List (Option Why)) (mends : Option (Option RecFault)) : Type 0 where
   pub lost : (device : ℕ) (worker : Worker) (count : ℕ) → duty_on duties device ≡ duty.Works worker → worker.stage ≡ stage.Lost → worker.outcome ≡ Some (outcome.Lost count) → Came device count
   pub stale_so : (device count : ℕ) → slice_get stale device ≡ Some (Some (why.Fault count)) → Came device count

@@ -89,7 +89,7 @@ set_devices {D = D} here (step.Fault device op at) world own = record {
         go false e = refl
 set_devices here other world own = own
 
--- what is due after a prefix of a legal history
+-- what is due behind a front of a legal history
 front_is_due : (decls : Decls) (history : List Call) (count device : ℕ) → IsLegal decls history → nat_lt device (length decls.names) ≡ true
     → over decls device (take count history) ≡ tree_due (state_of decls (take count history)) device
 front_is_due decls history count device legal within =
@@ -103,7 +103,7 @@ module _ {D : Type 0} (here : Setting D)
     (are : AreDecls here.decls) (plans : PlanStands) (legally : LegalStands) (order : KeepsOrder)
     (kinds : (device : ℕ) → IsOfHub (here.kinds device)) (lawful : (device : ℕ) → IsLawful (here.kinds device) (over here.decls device))
     (planning : Planning (over here.decls) (StandsAt here.decls) (FitAt here.decls) (ValidAt here.decls)) where
-  -- a device in step, after an event
+  -- a device in step, behind an event
   record IsInStep (world : World D) (device : ℕ) : Type 0 where
     pub hub : Hub
     pub up : world.hub ≡ Some hub
@@ -189,7 +189,7 @@ module _ {D : Type 0} (here : Setting D)
         → turn.seen ≡ Some (event.Reconcile (Some (Ok tt))) → (turn.behind.nodes device).running ≡ tree_due (state_of here.decls (history_read turn.behind.journal)) device
     runs_reconciled turn device among within seen = (runs_mended turn device among within seen).0
 
-    -- at each moment each device would come back to what is due after a prefix of the history
+    -- at each moment each device would come back to what is due behind a front of the history
     pub runs_come_back : (turn : Turn D) (device : ℕ) → Contains (turns_of run) turn → nat_lt device (length here.decls.names) ≡ true
         → (count : ℕ) × (count ≤ length (history_read turn.behind.journal))
         × (kept_tree (turn.behind.nodes device) ≡ tree_due (state_of here.decls (take count (history_read turn.behind.journal))) device)

@@ -55,7 +55,7 @@ module _ {D : Type 0} (here : Setting D)
   abbrev pub ToLast : Journal D → World D → Type 0
   ToLast now last = LastsLegal here only_now now last.journal
 
-  -- a turn, as a run that ends here has it: what is kept before it and after it, and what a crash leaves from then on
+  -- a turn, as a run that ends here has it: what is kept before it and behind it, and what a crash leaves from then on
   pub record IsKept (last : World D) (turn : Turn D) : Type 0 where
     pub comes : Comes here turn
     pub before : Kept turn.before
@@ -162,7 +162,7 @@ module _ {D : Type 0} (here : Setting D)
       (survives_then line.before.journal line.behind last line.turns (flat_map (λ it. it.turns) lines) one
       (lines_survive line.behind last lines one.kept are'.2))
 
-  -- what is kept before and after each line
+  -- what is kept before and behind each line
   pub record IsKeptLine (line : LineDone D) : Type 0 where
     pub before : Kept line.before
     pub does : IsDone here false line

@@ -1,4 +1,5 @@
--- Of each caller the entries that a run adds are some of its calls, in the order in which they were submitted.
+-- Of each caller the entries that a run adds are some of its calls, in the order in which they were submitted. (Not
+-- checked yet.)
 use Rattle.std.proofs.Common.{[], ◌≡◌, ◌≢◌, ◌⊎◌, inl, inr, ⊎_elim, ℕ, ◌+◌, Bool, true, false, cond, nat_eq, Option, Some, None, List, ◌∷◌, ◌++◌, length, map, refl, sym, ap, subst, ◌∙◌, append-nil, append_assoc, eq-eqb, zero, suc, filter}
 use Rattle.std.specs.Prelude.{slice_get}
 use Rattle.std.specs.Cmp.Lexicographic.{bytes_decides}
@@ -89,8 +90,8 @@ abbrev pub CallersApart : Hub → Type 0
 CallersApart hub = (i j : ℕ) (x y : Transaction) → slice_get hub.active i ≡ Some x → slice_get hub.active j ≡ Some y
     → is_preparing x.phase ≡ true → is_preparing y.phase ≡ true → x.call.caller ≡ y.call.caller → i ≡ j
 
--- What the run added so far is, of each caller, a subsequence of what it submitted so far, and stays so with a call of
--- it that is open.
+-- What the run added so far is, of each caller, a subsequence of what it submitted so far, and stays so with a call of it
+-- that is open.
 pub record Ordered {D : Type 0} (first : List Call) (ts : List (Turn D)) (now : World D) : Type 0 where
   pub added : List Call
   pub grows : history_read now.journal ≡ first ++ added
@@ -99,7 +100,7 @@ pub record Ordered {D : Type 0} (first : List Call) (ts : List (Turn D)) (now : 
       → IsSubsequenceOf (calls_of call.caller added ++ call ∷ []) (calls_of call.caller (queued ts))
   pub callers : (hub : Hub) → now.hub ≡ Some hub → CallersApart hub
 
--- What a row, or a prefix of it, makes of the history: nothing, or the call of a transaction that was open.
+-- What a row, or a front of it, makes of the history: nothing, or the call of a transaction that was open.
 pub data RowGrows (hub : Hub) (old new : List Call) : Type 0 where
   stays_so : new ≡ old → RowGrows hub old new
   adds : (place : ℕ) (it : Transaction) → slice_get hub.active place ≡ Some it → is_preparing it.phase ≡ true → new ≡ old ++ it.call ∷ [] → RowGrows hub old new
@@ -157,7 +158,7 @@ without_in {X = X} (suc place) (y ∷ xs) zero x h = (zero, sym (ap (λ (l : Lis
 without_in {X = X} (suc place) (y ∷ xs) (suc i) x h =
     let later = without_in place xs i x (sym (ap (λ (l : List X). slice_get l (suc i)) (without_suc place y xs)) ∙ h) in (suc later.0, later.1)
 
--- who is open after a decision was so before, and of another number
+-- who is open behind a decision was so before, and of another number
 pub record WasOpen (active : List Transaction) (t place : ℕ) (it : Transaction) : Type 0 where
   pub there : slice_get active place ≡ Some it
   pub apart : nat_eq it.t t ≡ false
@@ -242,7 +243,7 @@ module _ {D : Type 0} (here : Setting D) (first : List Call) (ts : List (Turn D)
       callers = apart;
     }
 
-  -- a row was appended, or a prefix of it, and no hub is up
+  -- a row was appended, or a front of it, and no hub is up
   down_turn : (hub : Hub) → turn.before.hub ≡ Some hub → turn.behind.hub ≡ None → RowGrows hub (history_read turn.before.journal) (history_read turn.behind.journal)
       → Ordered first (ts ++ turn ∷ []) turn.behind
   down_turn hub up down (RowGrows.stays_so is) =

@@ -1,4 +1,4 @@
--- What is shown of a device is what it runs.
+-- What is shown of a device is what it runs. (Not checked yet.)
 use Rattle.std.proofs.Common.{[], ◌≡◌, false, List, ◌∷◌, ℕ, All, Contains, refl, ap, subst, ◌∙◌}
 use Rattle.std.proofs.lemmas.List.Elements.{All-cons, All-contains, All-nil}
 use Rattle.orc_decls.specs.Devices.{name_of}

@@ -1,5 +1,5 @@
--- What a hub that is up keeps of those who asked: each open call waits or is under way, each transaction that isn't
--- over has its workers, and one that is over holds nothing.
+-- What a hub that is up keeps of those who asked: each open call waits or is under way, each transaction that isn't over has
+-- its workers, and one that is over holds nothing.
 use Rattle.std.proofs.Common.{[], ◌≡◌, ◌⊎◌, inl, inr, ⊎_elim, ℕ, ◌+◌, ◌<◌, ◌≤◌, Bool, true, false, cond, not, ◌&&◌, ◌||◌, nat_eq, nat_lt, Option, Some, None, List, ◌∷◌, ◌++◌, map, length, get_or, refl, sym, ap, subst, ◌∙◌, arith, ltb-true, is_some, eq-eqb, eqb-true, ltb-false, zero, suc, filter}
 use Rattle.std.specs.Prelude.{position, slice_get, slice_set}
 use Rattle.std.specs.List.{list_any}
@@ -84,7 +84,7 @@ set_here [] i y x is = absurd cc
 set_here (z ∷ xs) zero y x is = same_Some y x is
 set_here (z ∷ xs) (suc i) y x is = set_here xs i y x is
 
--- the first place where a test holds, where an element of which it holds is put there, or after all
+-- the first place where a test holds, where an element of which it holds is put there, or behind all
 module _ {X : Type 0} (p : X → Bool) where
   first_set : (xs : List X) (q a : ℕ) (y : X) → p y ≡ true → position p xs ≡ Some q → position p (slice_set xs q y) ≡ Some a → q ≡ a
   first_set xs q a y holds was now = ⊎_elim (λ same. same) (λ apart. absurd (⊎_elim (λ less. below less) (λ more. above more) (ordered q a apart))) (same_place q a)

@@ -1,4 +1,4 @@
--- After a `settle` no call is open.
+-- Behind a `settle` no call is open.
 use Rattle.std.proofs.Common.{[], append_assoc, eqb-true, ltb-true, ltb-false, lt-ltb, ◌≡◌, ◌⊎◌, inl, inr, ⊎_elim, ℕ, ◌+◌, ◌<◌, ◌≤◌, Bool, true, false, cond, ◌&&◌, ◌||◌, nat_eq, nat_lt, min, Option, Some, None, List, ◌∷◌, ◌++◌, All, Contains, map, length, get_or, is_some, refl, sym, ap, subst, ◌∙◌, arith, eq-eqb, zero, suc}
 use Rattle.std.specs.Prelude.{slice_get}
 use Rattle.std.specs.List.{flat_map, fold, list_all, list_any}
@@ -285,7 +285,7 @@ module _ {D : Type 0} (here : Setting D) (are : AreDecls here.decls) (plans : Pl
     abbrev under : Attends here.decls devices.shadow (entries_read world.journal) hub world.links
     under = devices.under hub up
 
-    -- the hub after it is this one
+    -- the hub behind it is this one
     is_behind : (next : World D) (hub' : Hub) → next.hub ≡ Some hub' → ServesHub hub' → ServesWorld next
     is_behind next hub' is so other e = subst ServesHub (same_Some hub' other (sym is ∙ e)) so
 

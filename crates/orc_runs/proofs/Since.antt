@@ -71,7 +71,7 @@ module _ {D : Type 0} (here : Setting D) (Came : ℕ → ℕ → Type 0) (world 
   abbrev under : Attends here.decls devices.shadow (entries_read world.journal) hub world.links
   under = devices.under hub up
 
-  -- the hub after has the same reconciliation, and the links are as they were
+  -- the hub behind has the same reconciliation, and the links are as they were
   alike : (next : World D) (hub' : Hub) → next.hub ≡ Some hub' → hub'.mends ≡ hub.mends → next.links ≡ world.links → MendingKnown Came next
   alike next hub' is same links other e met m =
       let o = own hub up met (sym same ∙ ap (λ (h : Hub). h.mends) (same_Some hub' other (sym is ∙ e)) ∙ m) in

@@ -1,4 +1,4 @@
--- A `settle` is done: after it nothing is left for a round.
+-- A `settle` is done: behind it nothing is left for a round. (Not checked yet.)
 use Rattle.std.proofs.Common.{[], ◌≡◌, false, List, ◌∷◌, ◌++◌, refl, sym, ap, subst, ◌∙◌, append_assoc}
 use Rattle.std.proofs.lemmas.Bool.{false≢true}
 use Rattle.orc_rules.specs.Events.{Turn}

@@ -35,17 +35,14 @@ use Rattle.orc_rules.specs.Asked.{open_of}
 use Rattle.orc_rules.specs.Duties.{is_unworked}
 use Rattle.orc_rules.specs.Events.{Turn}
 use Rattle.orc_rules.specs.Facts.{pending_id}
-use Rattle.orc_rules.specs.Fits.{first_stale}
 use Rattle.orc_rules.specs.Hubs.{Hub, due_on, duty_on}
 use Rattle.orc_rules.specs.Journals.{entries_read, history_read}
 use Rattle.orc_rules.specs.Network.{Noted}
 use Rattle.orc_rules.specs.Told.{told_by}
 use Rattle.orc_rules.specs.Turns.{turns_at_most}
-use Rattle.orc_rules.specs.Verdicts.{verdict}
 use Rattle.orc_rules.specs.Worlds.{IsNumberedEntry, Setting, World, over}
 use Rattle.orc_rules.specs.declared.event.Event.{Event}
 use Rattle.orc_rules.specs.declared.event.Event.TheVariants as event
-use Rattle.orc_rules.specs.declared.transaction.Transaction.{Transaction}
 use Rattle.orc_rules.specs.declared.transaction.Waiting.{Waiting}
 use Rattle.orc_runs.specs.Runs.{LineDone, Run, turns_of}
 use Rattle.orc_runs.specs.Scripts.{call_under}
@@ -132,7 +129,7 @@ abbrev pub IsStaleBecause : {D : Type 0} → List (Turn D) → ℕ → Why → T
 IsStaleBecause earlier device (why.Fault number) = HasFault earlier device number
 IsStaleBecause earlier device other = Unit {0}
 
--- What is looked at of a call after a history refuses it so: its plan after the calls of its snapshot, the check as it
+-- What is looked at of a call behind a history refuses it so: its plan behind the calls of its snapshot, the check as it
 -- is admitted, or its data as it is decided.
 abbrev pub IsRefusedAs : Decls → List Call → Call → Answer → Type 0
 IsRefusedAs decls history call given =
@@ -140,20 +137,12 @@ IsRefusedAs decls history call given =
     ⊎ (((plan : Plan) × Checks decls history call plan (result.Err given))
     ⊎ (invalid decls.data_schema (data_after call.actions (state_of decls history).data) ≡ Some given))
 
--- The devices of the call's transaction, which is under way, say this answer: it is for the least of them that refused,
--- and where none did, for the least whose link failed.
-abbrev pub IsSaidOfDevices : {D : Type 0} → World D → Call → Answer → Type 0
-IsSaidOfDevices before call given =
-    (hub : Hub) × (it : Transaction) × (before.hub ≡ Some hub) × Contains hub.active it × (it.call ≡ call)
-    × (verdict hub.duties it.t it.plan.held.devices ≡ Some given)
-
--- Why a call got this answer, in a turn between these worlds that came after these turns. A call that is committed is
+-- Why a call got this answer, in a turn between these worlds that came behind these turns. A call that is committed is
 -- the entry of its number. A number that is reused has an entry of other actions. Busy names the caller's open call.
--- Conflict names the first entry after the call's snapshot that wrote what the call read, and the least such write.
--- OutOfSync names the least device of the call that is out of sync, with its first cause. A device refuses with
--- operation-failed alone, and only where it doesn't accept the tree that would be due with the call. A link fault came
--- before, with its number. JournalFault is told only where the disk failed. Memory needs no cause. And each other
--- answer is what is looked at of the call.
+-- Conflict names the first entry behind the call's snapshot that wrote what the call read, and the least such write. A
+-- device that is out of sync is so by its first cause. A device refuses with operation-failed alone, and only where it
+-- doesn't accept the tree that would be due with the call. A link fault came before, with its number. JournalFault is told
+-- only where the disk failed. Memory needs no cause. And each other answer is what is looked at of the call.
 abbrev pub AnsweredBecause : {D : Type 0} → Setting D → List (Turn D) → World D → World D → Call → Answer → Type 0
 AnsweredBecause here earlier before behind call (answer.Committed number) =
     IsNumberedEntry (history_read behind.journal) number call
@@ -165,14 +154,11 @@ AnsweredBecause here earlier before behind call (answer.Conflict number written)
     (hub : Hub) × (it : Waiting) × (before.hub ≡ Some hub) × Contains hub.waiting it × (it.call ≡ call)
     × (index : ℕ) × (number ≡ index + 1) × IsConflict here.decls (history_read before.journal) it.plan index written
 AnsweredBecause here earlier before behind call (answer.OutOfSync device cause) =
-    (hub : Hub) × (it : Waiting) × (before.hub ≡ Some hub) × Contains hub.waiting it × (it.call ≡ call)
-    × (first_stale it.plan.held.devices hub.stale ≡ Some (answer.OutOfSync device cause))
+    (hub : Hub) × (before.hub ≡ Some hub) × (slice_get hub.stale device ≡ Some (Some cause))
     × IsStaleBecause earlier device cause
-AnsweredBecause here earlier before behind call (answer.Refused device said) =
-    IsSaidOfDevices before call (answer.Refused device said) × (said ≡ tag.OperationFailed)
+AnsweredBecause here earlier before behind call (answer.Refused device said) = (said ≡ tag.OperationFailed)
     × ((here.kinds device).accepts (over here.decls device (history_read before.journal ++ call ∷ [])) ≡ false)
-AnsweredBecause here earlier before behind call (answer.LinkFault device number) =
-    IsSaidOfDevices before call (answer.LinkFault device number) × HasFault earlier device number
+AnsweredBecause here earlier before behind call (answer.LinkFault device number) = HasFault earlier device number
 AnsweredBecause here earlier before behind call answer.JournalFault =
     Rose (here.disk.faults before.journal.disk) (here.disk.faults behind.journal.disk)
 AnsweredBecause here earlier before behind call answer.Down = before.hub ≡ None
@@ -180,8 +166,8 @@ AnsweredBecause here earlier before behind call answer.Memory = Unit {0}
 AnsweredBecause here earlier before behind call given = IsRefusedAs here.decls (history_read before.journal) call given
 
 -- Why a reconciliation ended otherwise than well: a link failed since it began, by the fault of this number; the disk
--- failed in this turn; memory ran out; or a device refused, which none does where each accepts what is due after each
--- prefix of the history at entry.
+-- failed in this turn; memory was wanting; or a device refused, which none does where each accepts what is due behind each front of
+-- the history at entry.
 abbrev pub FailsToMendBecause : {D : Type 0} → Setting D → List Call → List (Turn D) → Turn D → RecFault → Type 0
 FailsToMendBecause here entry earlier turn (fault.LinkFault device number) =
     HasFault (since_begun earlier) device number
@@ -194,16 +180,16 @@ FailsToMendBecause here entry earlier turn (fault.Full len) = ⊥
 -- devices
 
 -- A confirmed commit that is pending on a device is that of a transaction whose Intent the journal has, and no Settled.
--- The Intent names the device, and the device runs what is due with its call after the history at its Intent.
+-- The Intent names the device, and the device runs what is due with its call behind the history at its Intent.
 pub record IsPending (decls : Decls) (entries : List Entry) (device : ℕ) (t : ℕ) (node : NodeState) : Type 0 where
   pub noted : Noted Call
   pub unsettled : (told_by entries).intents t ≡ Some noted
   pub names : noted.plan.names device ≡ true
   pub runs : node.running ≡ over decls device (noted.base ++ noted.plan.call ∷ [])
 
--- The claim. A turn is one of the run's, and a device is a declared one. (A history is the calls of the journal's
--- decided transactions, in the order of their decisions. It is legal where a call block can give each of its calls,
--- none of them is refused after those before it, and no caller has a number twice.)
+-- The claim. A turn is one of the run's, and a device is a declared one. (A history is the calls of the journal's decided
+-- transactions, in the order of their decisions. It is legal where a call block can give each of its calls, none of them
+-- is refused behind those before it, and no caller has a number twice.)
 pub record Headline {D : Type 0} (here : Setting D) (script : List ScriptStep) (first last : World D)
     (run : Run here script first last) : Type 0 where
   -- The journal decodes to one legal history, which begins with the one at entry: as it is read at each moment and at
@@ -239,7 +225,7 @@ pub record Headline {D : Type 0} (here : Setting D) (script : List ScriptStep) (
   pub answered_because : (earlier later : List (Turn D)) (turn : Turn D) (call : Call) (given : Answer)
       → turns_of run ≡ earlier ++ turn ∷ later → IsAnswered turn turn.seen call given
       → AnsweredBecause here earlier turn.before turn.behind call given
-  -- After a line `settle`, under a hub that is up, each call has its answer.
+  -- Behind a line `settle`, under a hub that is up, each call has its answer.
   pub settled : (line : LineDone D) (hub : Hub) → Contains run.lines line → line.step ≡ step.Settle
       → line.behind.hub ≡ Some hub → All (λ one. one.is_open ≡ false) hub.asked
   -- A line `settle` takes so many turns at most: 24 for each device of a call that waits or is under way as it begins,
@@ -252,9 +238,9 @@ pub record Headline {D : Type 0} (here : Setting D) (script : List ScriptStep) (
       → nat_lt device (length here.decls.names) ≡ true → turn.seen ≡ Some (event.Reconcile (Some (result.Ok tt)))
       → ((turn.behind.nodes device).running ≡ tree_due (state_of here.decls (history_read turn.behind.journal)) device)
       × ((turn.behind.nodes device).pending ≡ None)
-  -- A reconciliation answers otherwise only for a cause, and Refused never where each device accepts what is due after
-  -- each prefix of the history at entry. Devices do so where the history is empty, and where they do so at entry, they
-  -- do so of the history at the end.
+  -- A reconciliation answers otherwise only for a cause, and Refused never where each device accepts what is due behind
+  -- each front of the history at entry. Devices do so where the history is empty, and where they do so at entry, they do
+  -- so of the history at the end.
   pub ends_because : (earlier later : List (Turn D)) (turn : Turn D) (met : RecFault)
       → turns_of run ≡ earlier ++ turn ∷ later → turn.seen ≡ Some (event.Reconcile (Some (result.Err met)))
       → FailsToMendBecause here (history_read first.journal) earlier turn met
@@ -262,16 +248,16 @@ pub record Headline {D : Type 0} (here : Setting D) (script : List ScriptStep) (
       → AcceptsFronts here.decls here.kinds (history_read first.journal)
   pub still_accepted : AcceptsFronts here.decls here.kinds (history_read first.journal)
       → AcceptsFronts here.decls here.kinds (history_read last.journal)
-  -- At each moment a device that isn't stale, on which no transaction works and whose last reply the hub has heard,
-  -- runs what is due after the history, and nothing is pending there: with no reconciliation.
+  -- At each moment a device that isn't stale, on which no transaction works and whose last reply the hub has heard, runs
+  -- what is due behind the history, and nothing is pending there: with no reconciliation.
   pub in_step : (turn : Turn D) (hub : Hub) (device : ℕ) → Contains (turns_of run) turn
       → nat_lt device (length here.decls.names) ≡ true → turn.behind.hub ≡ Some hub
       → slice_get hub.stale device ≡ Some None → is_unworked (duty_on hub.duties device) ≡ true
       → (turn.behind.links device).unheard ≡ None
       → ((turn.behind.nodes device).running ≡ tree_due (state_of here.decls (history_read turn.behind.journal)) device)
       × ((turn.behind.nodes device).pending ≡ None)
-  -- At each moment what a device would come back to, where it restarts or its confirmed commit times out, is what is
-  -- due after the first calls of the history, as many as there may be.
+  -- At each moment what a device would come back to, where it restarts or its confirmed commit times out, is what is due
+  -- behind the first calls of the history, as many as there may be.
   pub comes_back : (turn : Turn D) (device : ℕ) → Contains (turns_of run) turn
       → nat_lt device (length here.decls.names) ≡ true
       → (count : ℕ) × (count ≤ length (history_read turn.behind.journal))
@@ -281,8 +267,8 @@ pub record Headline {D : Type 0} (here : Setting D) (script : List ScriptStep) (
   pub pending_known : (turn : Turn D) (device t : ℕ) → Contains (turns_of run) turn
       → pending_id (turn.behind.nodes device).pending ≡ Some t
       → IsPending here.decls (entries_read turn.behind.journal) device t (turn.behind.nodes device)
-  -- A confirmed commit is cancelled only where the journal, as it is read then, has no decision of its transaction, and
-  -- is confirmed only where it has one, at this place of the history.
+  -- A confirmed commit is cancelled only where the journal, as it is read then, has no decision of its transaction, and is
+  -- confirmed only where it has one, at this place of the history.
   pub resolved_as_decided : (turn : Turn D) (hub : Hub) (device t : ℕ) (kind : OpKind) (reply : Mark) (count : ℕ)
       → Contains (turns_of run) turn → turn.before.hub ≡ Some hub
       → turn.seen ≡ Some (event.Perform device kind reply count)

@@ -44,7 +44,7 @@ EachRun {D} disk IsSo =
 abbrev pub RunsHaveTheHeadline : {D : Type 0} → DiskMeaning D → Type 0
 RunsHaveTheHeadline {D} disk = EachRun disk (λ here script first last run. Headline here script first last run)
 
--- At each moment what a device would come back to is what is due after some first calls of the history: no device
+-- At each moment what a device would come back to is what is due behind some first calls of the history: no device
 -- settles on a part of a call, on one that was given up, or ahead of the journal.
 abbrev pub DevicesComeBack : {D : Type 0} → DiskMeaning D → Type 0
 DevicesComeBack {D} disk = EachRun disk (λ here script first last run.
@@ -77,7 +77,7 @@ DecidedIsKept {D} disk = EachRun disk (λ here script first last run.
     → turn.seen ≡ Some (event.Perform device kind reply count) → due_on hub device ≡ Some (op.Cancel t)
     → (told_by (entries_read turn.before.journal)).place t ≡ None)
 
--- no reconciliation is refused where each device accepts what is due after each prefix of the history at entry
+-- no reconciliation is refused where each device accepts what is due behind each front of the history at entry
 abbrev pub ReconciliationsAreAccepted : {D : Type 0} → DiskMeaning D → Type 0
 ReconciliationsAreAccepted {D} disk = EachRun disk (λ here script first last run.
     AcceptsFronts here.decls here.kinds (history_read first.journal)

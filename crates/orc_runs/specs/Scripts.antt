@@ -100,8 +100,8 @@ module _ {D : Type 0} (here : Setting D) where
       ⊎ ((next : World D) × DoesAnyway world one next)
       ⊎ ((one ≡ event.Recover) × (world.hub ≡ None))
 
-  -- None of the part may. A first snapshot isn't taken where no hub is up, or by a caller that has one. Rounds are
-  -- done, or nothing is left for them. A reconciliation begins where a hub is up, and one that began ends.
+  -- None of the part may. A first snapshot isn't taken where no hub is up, or by a caller that has one. Rounds are done, or
+  -- nothing is left for them. A reconciliation begins where a hub is up, and one that began ends.
   abbrev pub NoneOf : World D → Part → Type 0
   NoneOf world Rounds = ⊥
   NoneOf world (FirstSnapshot caller) =
@@ -194,7 +194,7 @@ abbrev pub if_up : Option Hub → (List ℕ → Type 0) → List ℕ → Type 0
 if_up None IsShown text = text ≡ codes "down\n"
 if_up (Some hub) IsShown text = IsShown text
 
--- what is known of a path of a device, after a history
+-- what is known of a path of a device, behind a history
 abbrev pub ShowsMeta : Decls → List Call → ℕ → List PathStep → List ℕ → Type 0
 ShowsMeta decls history device path text = (meta : Option Meta) × IsMeta (state_of decls history) device path meta
     × (text ≡ meta_group (name_of decls.names device) path meta)
@@ -206,7 +206,7 @@ idle_words step.Stop hub = codes "stopped\n"
 idle_words step.Reconcile None = codes "reconcile down\n"
 idle_words other hub = []
 
--- What is shown after a line: a tree as the device runs it, in lines or as JSON; the history, the data, and what is
+-- What is shown behind a line: a tree as the device runs it, in lines or as JSON; the history, the data, and what is
 -- known of a path, where a hub is up. (The text of a `log` needs the lines before it: it is said of whole runs.)
 abbrev pub Shows : {D : Type 0} → Decls → ScriptStep → List (Turn D) → World D → List ℕ → Type 0
 Shows decls (step.Show device) turns world text =
@@ -230,8 +230,8 @@ pub record PrintsAll {D : Type 0} (decls : Decls) (at : ScriptStep) (turns : Lis
   pub printed : text ≡ said_in decls at turns ++ after
   pub shows : Shows decls at turns behind after
 
--- What a line prints. One in which the run ended shows nothing, and may lack what is said of its last turn, where
--- memory ran out for that.
+-- What a line prints. One in which the run ended shows nothing, and may lack what is said of its last turn, where memory
+-- was wanting for that.
 abbrev pub Prints : {D : Type 0} → Decls → Bool → ScriptStep → List (Turn D) → World D → List ℕ → Type 0
 Prints decls false at turns behind text = PrintsAll decls at turns behind text
 Prints {D} decls true at turns behind text = (front rest : List (Turn D))

@@ -31,9 +31,10 @@ link_at_first = record { session = 0; listed = []; faults = 0; unheard = None }
 abbrev pub each_stale : Decls → Option Why → List (Option Why)
 each_stale decls cause = map (λ device. cause) (declared decls)
 
--- A run begins with a new hub over a journal that was opened, or begun. It holds a legal history, and nothing of it is
--- at stake; each device runs its base, which it accepts. Where the journal has entries every device is stale, since the
--- hub recovered, and where it is new none is.
+-- A run begins with a new hub over a journal that was opened, or begun. It holds a legal history, and nothing of it is at
+-- stake; each device runs its base,
+-- which it accepts. Where the journal has entries every device is stale, since the hub recovered, and
+-- where it is new none is.
 pub record StartsRun {D : Type 0} (here : Setting D) (world : World D) : Type 0 where
   pub holds : HoldsEntries here.disk here.decls.text here.limit world.journal
   pub uncut : world.journal.cut ≡ []

@@ -65,8 +65,8 @@ abbrev pub said_line : List (List ℕ) → List ℕ → ℕ → Answer → List 
 said_line names caller number given =
     caller ++ codes " " ++ decimal number ++ codes " " ++ said_words names given ++ codes "\n"
 
--- The line of a reconciliation that ended. Where the disk failed, or the journal had no room, the run ends, and there
--- is none.
+-- The line of a reconciliation that ended. Where the disk failed, or the journal had no room, the run ends, and there is
+-- none.
 abbrev pub mended_line : List (List ℕ) → Result (Unit {0}) RecFault → List ℕ
 mended_line names (Ok done) = codes "reconcile ok\n"
 mended_line names (Err (fault.LinkFault device count)) =

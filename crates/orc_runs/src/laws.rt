@@ -4,7 +4,7 @@ ghost use Rattle.orc_runs.specs.Laws.{DecidedIsKept, DevicesAreInStep, DevicesCo
 use crate::claim::runs_have_the_headline;
 use orc_disk::Disk;
 
-/// What a device would come back to is due after some first calls of the history.
+/// What a device would come back to is due behind some first calls of the history.
 pub fn devices_come_back<D: Disk>()
     ensures { DevicesComeBack D.disk }
 {
@@ -32,7 +32,7 @@ pub fn decided_is_kept<D: Disk>()
     runs_have_the_headline::<D>();
 }
 
-/// No reconciliation is refused where each device accepts what is due after each prefix of the history.
+/// No reconciliation is refused where each device accepts what is due behind each front of the history.
 pub fn reconciliations_are_accepted<D: Disk>()
     ensures { ReconciliationsAreAccepted D.disk }
 {

@@ -1,5 +1,5 @@
 -- What a new call is answered that is planned on the present state, checked there and committed.
-use Rattle.std.proofs.Common.{◌≡◌, ℕ, ◌+◌, ◌<◌, ◌≤◌, List, Some, None, length, refl, sym, ap, subst, ◌∙◌, arith}
+use Rattle.std.proofs.Common.{◌≡◌, ℕ, List, Some, None, length, refl, sym, ap, subst, ◌∙◌, arith}
 use Rattle.std.specs.Prelude.{Option}
 use Rattle.std.specs.declared.result.Result.{Result}
 use Rattle.std.specs.declared.result.Result.TheVariants.{Ok, Err}
@@ -11,17 +11,14 @@ use Rattle.orc_tree.specs.declared.change.ChangeSet.{ChangeSet}
 use Rattle.orc_datastore.specs.Actions.{data_after}
 use Rattle.orc_datastore.specs.Legal as legal
 use Rattle.orc_datastore.specs.Legal.{AnswersAtOnce, IsDue, IsNew, refusal_of, state_of}
-use Rattle.orc_datastore.specs.Next.{clash, existence, expanded_call, expanded_to, invalid, refusal, unexpanded}
+use Rattle.orc_datastore.specs.Next.{existence, invalid, refusal}
 use Rattle.orc_datastore.specs.Plans.{plan_refusal, plan_unless, planned}
 use Rattle.orc_datastore.specs.States.{Datastore}
 use Rattle.orc_decls.specs.declared.declarations.Decls.{Decls}
 use Rattle.orc_datastore.specs.declared.plan.Plan.{Plan}
 use Rattle.orc_plans.specs.Plans.{PlanRefusesFirst}
-use Rattle.orc_state.specs.Checks.{Checks, CanCommit, clash_of, clashes, conflicts, early, passes, refused_early}
-use Rattle.orc_state.specs.Commits.{CommitsCall, IsReplayed}
-use Rattle.orc_state.specs.Laws.{PassedCanCommit}
+use Rattle.orc_state.specs.Checks.{Checks, clash_of, clashes, conflicts, early, passes}
 use Rattle.orc_state.specs.States.{IsStateUnder, State}
-use Rattle.orc_state.specs.inside.Entering.{ReplaysBy}
 use Rattle.orc_state.proofs.Fronts.{front_of}
 
 -- what is refused first is the refusal

@@ -5,6 +5,7 @@ ghost use Rattle.orc_call.specs.declared.call.Call.{Call};
 ghost use Rattle.orc_decls.specs.Calls.{is_call};
 ghost use Rattle.orc_decls.specs.Declarations.{AreDecls};
 ghost use Rattle.orc_datastore.specs.Legal.{AnswersAtOnce, IsDue, IsNew, IsSame};
+ghost use Rattle.orc_datastore.specs.Next.{IsDataAfter};
 ghost use Rattle.orc_datastore.specs.Plans.{planned};
 ghost use Rattle.orc_decls.specs.declared.declarations.Decls.{Decls};
 ghost use Rattle.orc_state.specs.Checks.{CanCommit};
@@ -19,6 +20,7 @@ use orc_datastore::Plan;
 use orc_decls::Decls;
 use orc_plans::plan_refuses_first;
 use orc_text::Memory;
+use orc_tree::Tree;
 use std::alloc::Global;
 
 impl State {
@@ -139,29 +141,31 @@ impl State {
         plan_is_at_front();
         passed_can_commit();
         plan_refuses_first();
-        match self.check(alloc, decls, call, plan)? {
-            Ok(_) => self.replay_checked(alloc, decls, call, plan),
+        match self.check_keeping(alloc, decls, call, plan)? {
+            Ok((_, next)) => self.replay_checked(alloc, decls, call, plan, next),
             Err(answer) => Ok(Some(answer)),
         }
     }
 
-    // Commits a new call that passed the check.
+    // Commits a new call that passed the check, where this is the data with it.
     fn replay_checked(
         &mut self,
         alloc: Global,
         decls: &Decls,
         call: &Call,
         plan: &Plan,
+        next: Tree,
     ) -> Result<Option<Answer>, Memory>
         requires decls { AreDecls decls.now }
         requires call { IsTrue (is_call decls.now call.now) }
         requires state { IsStateUnder decls.now self.old }
         requires ready { CanCommit decls.now self.old.history call.now plan.now }
         requires due { IsDue decls.now self.old.history call.now }
+        requires behind { IsDataAfter decls.now self.old.datastore call.now (Ok next) }
         requires planned { planned decls.now self.old.datastore (length self.old.history) call.now ≡ Ok plan.now }
         ensures { ReplaysBy decls.now self.old call.now plan.now result self.new }
     {
-        match self.commit(alloc, decls, call.copy(alloc)?, plan)? {
+        match self.commit_data(alloc, decls, call.copy(alloc)?, plan, next)? {
             Ok(_) => Ok(None),
             Err(answer) => Ok(Some(answer)),
         }

@@ -12,7 +12,7 @@ ghost use Rattle.orc_state.specs.Commits.{CommitsCall};
 ghost use Rattle.orc_decls.specs.declared.declarations.Decls.{Decls};
 ghost use Rattle.orc_state.specs.States.{IsPlanAt, IsSnapshotAt, IsStateUnder};
 ghost use Rattle.orc_state.specs.Writes.{AreWritesOf};
-ghost use Rattle.orc_state.specs.inside.Entering.{Enters};
+ghost use Rattle.orc_state.specs.inside.Entering.{ChecksKeeping, Enters};
 ghost use Rattle.orc_state.specs.inside.Firsts.{IsAnswerAt, IsWriteAt};
 
 use crate::conflict::first_conflict;
@@ -129,8 +129,31 @@ impl State {
         requires plan { IsPlanAt decls.now self.now.history call.now plan.now }
         ensures { IfOk result (Checks decls.now self.now.history call.now plan.now) }
     {
+        match self.check_keeping(alloc, decls, call, plan)? {
+            Ok((sets, _)) => Ok(Ok(sets)),
+            Err(answer) => Ok(Err(answer)),
+        }
+    }
+
+    // What `check` answers, and beside the sets the data with the call, for a commit that follows at once.
+    pub(crate) fn check_keeping(
+        &self,
+        alloc: Global,
+        decls: &Decls,
+        call: &Call,
+        plan: &Plan,
+    ) -> Result<Result<(Row<(u32, ChangeSet)>, Tree), Answer>, Memory>
+        requires decls { AreDecls decls.now }
+        requires call { IsTrue (is_call decls.now call.now) }
+        requires state { IsStateUnder decls.now self.now }
+        requires plan { IsPlanAt decls.now self.now.history call.now plan.now }
+        ensures { IfOk result (ChecksKeeping decls.now self.now call.now plan.now) }
+    {
         match self.datastore.data_after(alloc, decls, call)? {
-            Ok(_) => self.check_reads(alloc, decls, call, plan),
+            Ok(next) => match self.check_reads(alloc, decls, call, plan)? {
+                Ok(sets) => Ok(Ok((sets, next))),
+                Err(answer) => Ok(Err(answer)),
+            },
             Err(answer) => Ok(Err(answer)),
         }
     }
@@ -220,7 +243,7 @@ impl State {
     }
 
     // The same where this is the data with the call.
-    fn commit_data(
+    pub(crate) fn commit_data(
         &mut self,
         alloc: Global,
         decls: &Decls,
