@@ -18,8 +18,13 @@ use Rattle.orc_datastore.specs.Legal.{IsLegal, state_of}
 use Rattle.orc_datastore.specs.Next.{invalid}
 use Rattle.orc_datastore.specs.States.{Datastore}
 use Rattle.orc_decls.specs.Declarations.{AreDecls}
-use Rattle.orc_device.specs.Links.{Possible, Way, way_reply, way_session}
-use Rattle.orc_device.specs.Listings.{kind_of_op}
+use Rattle.orc_device.specs.declared.kind.When.{When}
+use Rattle.orc_device.specs.Links.{Way, way_reply, way_session}
+use Rattle.orc_device.specs.Links.{Way as way}
+use Rattle.orc_device.specs.declared.op.Op.TheVariants as op
+use Rattle.orc_rules.proofs.NodeLaws.{may_happen}
+use Rattle.orc_rules.specs.Cells.{MayHappen}
+use Rattle.orc_device.specs.Listings.{kind_of_op, without_first}
 use Rattle.orc_device.specs.declared.kind.OpKind.{OpKind}
 use Rattle.orc_device.specs.declared.op.Op.{Op}
 use Rattle.orc_device.specs.declared.reply.Reply.{Reply}
@@ -257,12 +262,12 @@ module _ {D : Type 0} (here : Setting D) (are_decls : AreDecls here.decls) (plan
 
     -- an operation of a mender is performed
     module _ (device : ℕ) (op : Op) (happened : Way) (order : order_on hub device ≡ Some op) (unheard : (world.links device).unheard ≡ None)
-        (possible : Possible (here.kinds device) (world.nodes device) (world.links device).session op happened) where
+        (possible : MayHappen (here.kinds device) (world.nodes device) (world.links device).session op happened) (listed : List (OpKind × When)) where
       abbrev r : Reply
       r = way_reply (world.nodes device) op happened
 
       abbrev link' : Link
-      link' = link_behind (world.links device) (way_session (world.nodes device) (world.links device).session op happened) op happened r
+      link' = link_behind listed (world.links device) (way_session (world.nodes device) (world.links device).session op happened) op happened r
 
       abbrev c : Cell Call
       c = cell (over here.decls) (network_of here.decls own.shadow (entries_read world.journal) (Some hub) world.nodes world.links) device
@@ -289,14 +294,14 @@ module _ {D : Type 0} (here : Setting D) (are_decls : AreDecls here.decls) (plan
         fine m stands =
             let slot = get_in hub.stale device (length here.decls.names) under.stale_sized within in
             let op_here : role_order (here.kinds device) place_now due_here m ≡ op =
-            op_is here.decls here.kinds are lawful planning own.shadow (entries_read world.journal) hub world.nodes world.links device op happened unheard possible net_kept
+            op_is here.decls here.kinds are lawful planning own.shadow (entries_read world.journal) hub world.nodes world.links device op happened unheard possible listed net_kept
             mender m is stands order_now slot.0 slot.1 in
             let facts : MendFacts (over here.decls device) c m =
             (subst (λ (role : DeviceRole Call). RoleFacts (over here.decls device) c role)
-            (mends_now here.decls here.kinds are lawful planning own.shadow (entries_read world.journal) hub world.nodes world.links device op happened unheard possible net_kept
+            (mends_now here.decls here.kinds are lawful planning own.shadow (entries_read world.journal) hub world.nodes world.links device op happened unheard possible listed net_kept
             mender m is stands order_now slot.0 slot.1) (net_kept.each device).role).1 in
-            let may : Possible (here.kinds device) (world.nodes device) (world.links device).session (role_order (here.kinds device) place_now due_here m) happened =
-            subst (λ (x : Op). Possible (here.kinds device) (world.nodes device) (world.links device).session x happened) (sym op_here) possible in
+            let may : MayHappen (here.kinds device) (world.nodes device) (world.links device).session (role_order (here.kinds device) place_now due_here m) happened =
+            subst (λ (x : Op). MayHappen (here.kinds device) (world.nodes device) (world.links device).session x happened) (sym op_here) possible in
             met_unrefused device (mender_end mender r link'.faults)
             (ap (λ (n : MenderState). is_refused (mender_end n r link'.faults)) stands
             ∙ ap (λ (x : Op). is_refused (mender_end (mender_of place_now due_here m) (way_reply (world.nodes device) x happened) link'.faults)) (sym op_here)
@@ -304,7 +309,7 @@ module _ {D : Type 0} (here : Setting D) (are_decls : AreDecls here.decls) (plan
             (λ tag denied. mend_harmless (here.kinds device) (over here.decls device) (fit device) c (net_kept.each device) m tag
             (λ n. subst (λ (calls : List Call). (here.kinds device).accepts (over here.decls device (take n calls)) ≡ true) (sym (told_history (entries_read world.journal))) (kept.fronts n device))
             facts (opened_before m stands)
-            (subst (λ (w : Way). Possible (here.kinds device) (world.nodes device) (world.links device).session (role_order (here.kinds device) place_now due_here m) w) denied may)))
+            (subst (λ (w : Way). MayHappen (here.kinds device) (world.nodes device) (world.links device).session (role_order (here.kinds device) place_now due_here m) w) denied may)))
 
         mender_fine : (other : ℕ) (tag : Tag) → mend_fault device (mender_end mender r link'.faults) ≡ Some (fault.Refused other tag) → ⊥
         mender_fine = at hub.mends refl
@@ -416,7 +421,9 @@ module _ {D : Type 0} (here : Setting D) (are_decls : AreDecls here.decls) (plan
             (sym (others here.decls are_decls plans here.kinds are lawful planning own.shadow (entries_read world.journal) hub world.nodes world.links under net_kept known.admitted legal
             it sets (length (history_read world.journal)) unused idle fits passes waits.lawful fresh device unnamed) ∙ mends) other tag h
     does_unrefused meant row next (DoesUnderHub.performs device op happened due_now unheard possible way) hub' is =
-        to hub _ hub' (sym up ∙ is) (performs_unrefused device op happened (due_is hub device op due_now) unheard possible)
+        to hub _ hub' (sym up ∙ is) (performs_unrefused device op happened (due_is hub device op due_now) unheard (may_happen (here.kinds device) (world.nodes device) (world.links device).session op happened possible) (without_first (kind_of_op op) (world.links device).listed))
+    does_unrefused meant row next (DoesUnderHub.leaves_unsent device changes due unheard) hub' is =
+        to hub _ hub' (sym up ∙ is) (performs_unrefused device (op.Edit changes) way.NoMemory (due_is hub device (op.Edit changes) due) unheard (refl, tt) (world.links device).listed)
     does_unrefused meant row next (DoesUnderHub.reports device op reply unheard) hub' is = to _ _ hub' is (report_unrefused device op reply unheard)
     does_unrefused meant row next (DoesUnderHub.commits place it there least due_now prepared valid) hub' is = to _ world.links hub' is (told_unrefused it.t true)
     does_unrefused meant row next (DoesUnderHub.aborts place it answer there least due_now why) hub' is = to _ world.links hub' is (told_unrefused it.t false)
@@ -428,6 +435,7 @@ module _ {D : Type 0} (here : Setting D) (are_decls : AreDecls here.decls) (plan
         (λ place it there. ap is_under_way (all_left hub.active idle.1 place it there))
         (subst (λ (m : Option (Option RecFault)). MendingKept here.decls (entries_read world.journal) hub.active hub.duties hub.stale m) idle.2 under.mending)))
     does_unrefused meant row next (DoesUnderHub.mended numbers met busy heard unsettled) hub' is = to _ world.links hub' is (quiet_unrefused None _ world.links not_mending heard)
+    does_unrefused meant row next (DoesUnderHub.finds_no_memory met busy heard) hub' is = to _ world.links hub' is (quiet_unrefused None _ world.links not_mending heard)
     does_unrefused meant row next (DoesUnderHub.fails_to_mend met failed heard) hub' is = to _ world.links hub' is (quiet_unrefused None _ world.links not_mending heard)
 
   -- each turn
@@ -471,7 +479,7 @@ module _ {D : Type 0} (here : Setting D) (are_decls : AreDecls here.decls) (plan
       no_hub new _ is down (subst (λ (es : List Entry). AcceptsFronts here.decls here.kinds (history_of es)) (stays_read here old.journal new.journal stays) fronts.fronts)
   steps_fronts old new meant seen kept own replies fronts (Steps.recovers _ down recover reopens is) =
       subst (λ (w : World D). FrontsKept here w) (sym is) (record {
-        fronts = subst (λ (es : List Entry). AcceptsFronts here.decls here.kinds (history_of es)) (sym (uncut_read new.journal reopens.cut ∙ reopens.synced)) fronts.fronts;
+        fronts = subst (λ (es : List Entry). AcceptsFronts here.decls here.kinds (history_of es)) (sym (uncut_read new.journal reopens.cut ∙ reopens.synced kept.journal.read_back)) fronts.fronts;
         under = λ hub e. subst (λ (x : Hub). IsNotRefused x.mends x.duties old.links) (same_Some _ hub e) (quiet_unrefused None _ old.links not_mending (own.silent down));
       })
 

@@ -93,6 +93,6 @@ module _ {D : Type 0} (here : Setting D)
       images = outlives_so old.journal new.journal [] (nothing_more old.journal kept.journal) same.outlives;
     }
     steps_last old new meant seen kept (Steps.recovers _ down recover reopens is) = record {
-      synced = subst (λ (l : List Entry). IsFront old.journal.synced l) (sym reopens.synced) (read_front here.disk here.decls.text here.limit old.journal);
+      synced = subst (λ (l : List Entry). IsFront old.journal.synced l) (sym (reopens.synced kept.journal.read_back)) (read_front here.disk here.decls.text here.limit old.journal);
       images = outlives_so old.journal new.journal [] (nothing_more old.journal kept.journal) reopens.outlives;
     }

@@ -1,5 +1,5 @@
 -- Transactions leave the list of those under way: what is kept of the others stays so.
-use Rattle.std.proofs.Common.{◌≡◌, ℕ, ◌+◌, ◌≤◌, Bool, true, false, cond, not, nat_eq, arith, List, [], ◌∷◌, Option, Some, None, map, refl, sym, ap, subst, ◌∙◌, zero, suc, eqb-true, eq-eqb}
+use Rattle.std.proofs.Common.{◌≡◌, ℕ, ◌+◌, ◌≤◌, Bool, true, false, cond, not, nat_eq, arith, List, [], ◌∷◌, Option, Some, None, map, refl, sym, ap, subst, ◌∙◌, zero, suc}
 use Rattle.std.specs.Prelude.{filter, slice_get}
 use Rattle.std.specs.List.{find}
 use Rattle.std.proofs.lemmas.Bool.{false≢true}
@@ -11,7 +11,6 @@ use Rattle.orc_decls.specs.declared.declarations.Decls.{Decls}
 use Rattle.orc_device.specs.Nodes.{DeviceKind}
 use Rattle.orc_journal.specs.declared.entry.Entry.{Entry}
 use Rattle.orc_rules.specs.Acceptance.{Replies}
-use Rattle.orc_rules.specs.Admissions.{without}
 use Rattle.orc_rules.specs.Kept.{HubKept, Shadow}
 use Rattle.orc_rules.specs.Transactions.{in_phase, is_other}
 use Rattle.orc_rules.specs.Turns.{sum_of}
@@ -21,7 +20,6 @@ use Rattle.orc_rules.specs.declared.duty.Duty.{Duty}
 use Rattle.orc_rules.specs.declared.transaction.Phase.{Phase}
 use Rattle.orc_rules.specs.declared.transaction.Transaction.{Transaction}
 use Rattle.orc_rules.specs.declared.transaction.Waiting.{Waiting}
-use Rattle.orc_rules.proofs.Entering.{without_suc}
 use Rattle.orc_rules.proofs.Retiring.{of_map}
 
 -- places

@@ -1,5 +1,5 @@
 -- Whatever is appended, the journal stays one of a legal history, also where the append is cut; and the hub knows it.
-use Rattle.std.proofs.Common.{◌≡◌, ◌*◌, Bool, true, false, cond, List, [], ◌∷◌, ◌++◌, length, IsTrue, refl, sym, ap, subst, ◌∙◌, append-nil, append_assoc}
+use Rattle.std.proofs.Common.{◌≡◌, ◌*◌, Bool, true, false, cond, List, [], ◌∷◌, ◌++◌, length, IsTrue, is_some, inl, inr, refl, sym, ap, subst, ◌∙◌, append-nil, append_assoc}
 use Rattle.orc_append.specs.declared.outcome.Appended.{Appended}
 use Rattle.orc_append.specs.declared.outcome.Appended.TheVariants as appended
 use Rattle.orc_call.specs.declared.call.Call.{Call}
@@ -8,7 +8,7 @@ use Rattle.orc_journal.specs.Orders.{is_ordered}
 use Rattle.orc_journal.specs.declared.entry.Entry.{Entry}
 use Rattle.orc_datastore.specs.Legal.{IsLegal}
 use Rattle.orc_decls.specs.declared.declarations.Decls.{Decls}
-use Rattle.orc_rules.specs.Journals.{AppendsRow, CutsFirst, Ends, Journal, Reopens, StaysClosed, entries_read}
+use Rattle.orc_rules.specs.Journals.{AppendsRow, CutsFirst, Ends, IsReadBack, Journal, Reopens, StaysClosed, entries_read}
 use Rattle.orc_rules.specs.Kept.{FrontsAre, JournalKept}
 use Rattle.orc_rules.specs.Worlds.{Setting}
 use Rattle.orc_rules.proofs.Fronts.{history_of-append}
@@ -49,10 +49,16 @@ next_front decls entries row done e rest parts fronts =
     one_front decls (entries ++ done) e own.0 own.1 more'.0 more'.1
 
 module _ {D : Type 0} (here : Setting D) where
+  -- a disk that tells what it holds goes on to
+  still_read_back : (old new : D) → is_some (here.disk.content new) ≡ is_some (here.disk.content old)
+      → IsReadBack here.disk here.decls.text here.limit here.granted old → IsReadBack here.disk here.decls.text here.limit here.granted new
+  still_read_back old new tells (inl granted) = inl granted
+  still_read_back old new tells (inr told) = inr (tells ∙ told)
+
   -- however an append of a row comes out
   pub appends_kept : (old new : Journal D) (row : List Entry) (out : Appended) → JournalKept here old → FrontsAre here.decls old.synced row
       → AppendsRow here.disk here.decls.text here.limit old row out new → JournalKept here new
-  appends_kept old new row out kept fronts a = record { holds = a.outlives.holds; fronts = on out a.ends }
+  appends_kept old new row out kept fronts a = record { holds = a.outlives.holds; fronts = on out a.ends; read_back = still_read_back old.disk new.disk a.outlives.tells kept.read_back }
     where
       done_so : FrontsAre here.decls (old.synced ++ a.done) []
       done_so = let own = fronts a.done a.rest a.parts in no_front here.decls (old.synced ++ a.done) own.0 own.1
@@ -81,16 +87,18 @@ module _ {D : Type 0} (here : Setting D) where
       on true = front_all here.decls journal.synced journal.cut kept.fronts
       on false = front_none here.decls journal.synced journal.cut kept.fronts
 
-  pub reopens_kept : (old new : Journal D) → JournalKept here old → Reopens here.disk here.decls.text here.limit old new → JournalKept here new
+  pub reopens_kept : (old new : Journal D) → JournalKept here old → Reopens here.disk here.decls.text here.limit here.granted old new → JournalKept here new
   reopens_kept old new kept r =
       let read = read_so old kept in
       record {
         holds = r.outlives.holds;
-        fronts = subst (λ (l : List Entry). FrontsAre here.decls l new.cut) (sym r.synced) (subst (λ (l : List Entry). FrontsAre here.decls (entries_read old) l) (sym r.cut) (no_front here.decls (entries_read old) read.0 read.1));
+        fronts = subst (λ (l : List Entry). FrontsAre here.decls l new.cut) (sym (r.synced kept.read_back)) (subst (λ (l : List Entry). FrontsAre here.decls (entries_read old) l) (sym r.cut) (no_front here.decls (entries_read old) read.0 read.1));
+        read_back = still_read_back old.disk new.disk r.outlives.tells kept.read_back;
       }
 
   pub stays_kept : (old new : Journal D) → JournalKept here old → StaysClosed here.disk here.decls.text here.limit old new → JournalKept here new
   stays_kept old new kept s = record {
     holds = s.outlives.holds;
     fronts = subst (λ (l : List Entry). FrontsAre here.decls l new.cut) (sym s.synced) (subst (λ (l : List Entry). FrontsAre here.decls old.synced l) (sym s.cut.0) kept.fronts);
+    read_back = still_read_back old.disk new.disk s.outlives.tells kept.read_back;
   }

@@ -47,3 +47,4 @@ pub mod Lessening
 pub mod Ranking
 pub mod Bounding
 pub mod Leaving
+pub mod OwnKinds

@@ -6,7 +6,8 @@ use Rattle.orc_device.specs.declared.op.Op.{Op}
 use Rattle.orc_device.specs.Nodes.{DeviceKind, NodeState, PendingCommit, is_pending_under, kept_by, session_ended}
 use Rattle.orc_call.specs.declared.answer.Tag.TheVariants.{LockDenied, InUse, InvalidValue, OperationFailed, NoSession}
 use Rattle.orc_device.specs.declared.op.Op.TheVariants.{OpenSession, LockRunning, LockCandidate, Edit, Validate, Commit, Confirm, Cancel, UnlockCandidate, UnlockRunning, CloseSession, GetRunning}
-use Rattle.orc_device.specs.Links.{Way, Possible, way_node, way_reply, took_effect}
+use Rattle.orc_device.specs.Links.{Way, way_node, way_reply, took_effect}
+use Rattle.orc_rules.specs.Cells.{MayHappen}
 use Rattle.orc_device.specs.Links.Way.{Done, Denied, Stranded, Before, After, NoMemory}
 use Rattle.orc_rules.specs.Facts.{Quiet, SameTrees, pending_id, EditsLocked, is_plain}
 use Rattle.orc_rules.specs.Works.{Intent, Mend}
@@ -40,7 +41,7 @@ unmended open_intent clear (Fails b) t h = h
 -- an operation that leaves the trees
 pub mend_keeps : {Call : Type 0} (k : DeviceKind) (over : List Call → Config) (c : Cell Call) (m : Mend) (op : Op) (way : Way) →
     SameTrees c.node (way_node k c.node c.session op way) → at_after c op (took_effect way) ≡ c.at →
-    EditsLocked c.node c.session op → Possible k c.node c.session op way → Invariant over c →
+    EditsLocked c.node c.session op → MayHappen k c.node c.session op way → Invariant over c →
     (is_whole (mender_after k (over c.history) m (way_reply c.node op way)) ≡ false) ⊎ (c.node.pending ≡ None) →
     RoleFacts over (mended k (over c.history) c m op way) (mended_role (mender_after k (over c.history) m (way_reply c.node op way))) →
     Invariant over (mended k (over c.history) c m op way)
@@ -62,7 +63,7 @@ mend_keeps k over c m op way trees at e may inv clears facts =
 
 pub mend_plain : {Call : Type 0} (k : DeviceKind) (over : List Call → Config) (c : Cell Call) (m : Mend) (op : Op) (way : Way) →
     is_plain op ≡ true →
-    EditsLocked c.node c.session op → Possible k c.node c.session op way → Invariant over c →
+    EditsLocked c.node c.session op → MayHappen k c.node c.session op way → Invariant over c →
     (is_whole (mender_after k (over c.history) m (way_reply c.node op way)) ≡ false) ⊎ (c.node.pending ≡ None) →
     RoleFacts over (mended k (over c.history) c m op way) (mended_role (mender_after k (over c.history) m (way_reply c.node op way))) →
     Invariant over (mended k (over c.history) c m op way)
@@ -87,7 +88,7 @@ module _ {Call : Type 0} (k : DeviceKind) (over : List Call → Config) (lawful 
   vacuous : (m : NodeState) (x : Config) → AtRest m x (c.stale || true)
   vacuous m x e = false_true _ (or_true c.stale) e
 
-  pub mopening : (ts : List ℕ) (way : Way) → Possible k c.node c.session OpenSession way → MendFacts over c (Mopening ts) → Invariant over (mended k (over c.history) c (Mopening ts) OpenSession way)
+  pub mopening : (ts : List ℕ) (way : Way) → MayHappen k c.node c.session OpenSession way → MendFacts over c (Mopening ts) → Invariant over (mended k (over c.history) c (Mopening ts) OpenSession way)
   mopening ts Done p f =
       let trees = way_trees k c.node c.session OpenSession Done refl in
       mend_plain k over c (Mopening ts) OpenSession Done refl tt p inv (inl refl) (
@@ -99,13 +100,13 @@ module _ {Call : Type 0} (k : DeviceKind) (over : List Call → Config) (lawful 
       )
   mopening ts way p f = mend_plain k over c (Mopening ts) OpenSession way refl tt p inv (inl refl) (rests _ _ (way_trees k c.node c.session OpenSession way refl))
 
-  pub mlocking_running : (read : Config) (way : Way) → Possible k c.node c.session LockRunning way → MendFacts over c (MlockingRunning read) → Invariant over (mended k (over c.history) c (MlockingRunning read) LockRunning way)
+  pub mlocking_running : (read : Config) (way : Way) → MayHappen k c.node c.session LockRunning way → MendFacts over c (MlockingRunning read) → Invariant over (mended k (over c.history) c (MlockingRunning read) LockRunning way)
   mlocking_running read Done p f =
       let trees = way_trees k c.node c.session LockRunning Done refl in
       mend_plain k over c (MlockingRunning read) LockRunning Done refl tt p inv (inl refl) (stays _ trees, (quiet_goes c.node _ read trees f.0, λ _. refl, (f.1.cand, f.1.same)))
   mlocking_running read way p f = mend_plain k over c (MlockingRunning read) LockRunning way refl tt p inv (inl refl) (rests _ _ (way_trees k c.node c.session LockRunning way refl))
 
-  pub mlocking_candidate : (read : Config) (way : Way) → Possible k c.node c.session LockCandidate way → MendFacts over c (MlockingCandidate read) → Invariant over (mended k (over c.history) c (MlockingCandidate read) LockCandidate way)
+  pub mlocking_candidate : (read : Config) (way : Way) → MayHappen k c.node c.session LockCandidate way → MendFacts over c (MlockingCandidate read) → Invariant over (mended k (over c.history) c (MlockingCandidate read) LockCandidate way)
   mlocking_candidate read Done p f =
       let trees = way_trees k c.node c.session LockCandidate Done refl in
       let free = unrefused _ LockDenied None (allowed k c.node c.session LockCandidate p) in
@@ -114,7 +115,7 @@ module _ {Call : Type 0} (k : DeviceKind) (over : List Call → Config) (lawful 
       (stays _ trees, (quiet_goes c.node _ read trees f.0, f.1, λ _. (refl, same ∙ f.0.running)))
   mlocking_candidate read way p f = mend_plain k over c (MlockingCandidate read) LockCandidate way refl tt p inv (inl refl) (rests _ _ (way_trees k c.node c.session LockCandidate way refl))
 
-  pub mediting : (read : Config) (way : Way) → Possible k c.node c.session (Edit (k.between read (over c.history))) way → MendFacts over c (Mediting read) → Invariant over (mended k (over c.history) c (Mediting read) (Edit (k.between read (over c.history))) way)
+  pub mediting : (read : Config) (way : Way) → MayHappen k c.node c.session (Edit (k.between read (over c.history))) way → MendFacts over c (Mediting read) → Invariant over (mended k (over c.history) c (Mediting read) (Edit (k.between read (over c.history))) way)
   mediting read Done p f =
       let op : Op = Edit (k.between read (over c.history)) in
       let trees = way_trees k c.node c.session op Done refl in
@@ -123,11 +124,11 @@ module _ {Call : Type 0} (k : DeviceKind) (over : List Call → Config) (lawful 
       (stays _ trees, (f.0.none, f.1, λ _. (now.0, ap (k.changed (k.between read (over c.history))) now.1 ∙ lawful.changed read c.history)))
   mediting read way p f = mend_plain k over c (Mediting read) (Edit (k.between read (over c.history))) way refl (λ l. (f.2 l).0) p inv (inl refl) (rests _ _ (way_trees k c.node c.session (Edit (k.between read (over c.history))) way refl))
 
-  pub mvalidating : (way : Way) → Possible k c.node c.session Validate way → MendFacts over c Mvalidating → Invariant over (mended k (over c.history) c Mvalidating Validate way)
+  pub mvalidating : (way : Way) → MayHappen k c.node c.session Validate way → MendFacts over c Mvalidating → Invariant over (mended k (over c.history) c Mvalidating Validate way)
   mvalidating Done p f = mend_plain k over c Mvalidating Validate Done refl tt p inv (inl refl) (rest, f)
   mvalidating way p f = mend_plain k over c Mvalidating Validate way refl tt p inv (inl refl) (rests _ _ (way_trees k c.node c.session Validate way refl))
 
-  pub mcommitting : (way : Way) → Possible k c.node c.session Commit way → MendFacts over c Mcommitting → Invariant over (mended k (over c.history) c Mcommitting Commit way)
+  pub mcommitting : (way : Way) → MayHappen k c.node c.session Commit way → MendFacts over c Mcommitting → Invariant over (mended k (over c.history) c Mcommitting Commit way)
   mcommitting Done p f =
       let op : Op = Commit in
       let n = way_node k c.node c.session op Done in
@@ -162,25 +163,25 @@ module _ {Call : Type 0} (k : DeviceKind) (over : List Call → Config) (lawful 
       let trees : SameTrees c.node (way_node k c.node c.session Commit Before) = record { running = refl; pending = refl } in
       mend_keeps k over c Mcommitting Commit Before trees refl tt p inv (inl refl) (rests _ true trees)
 
-  pub munlocking_candidate : (way : Way) → Possible k c.node c.session UnlockCandidate way → MendFacts over c MunlockingCandidate → Invariant over (mended k (over c.history) c MunlockingCandidate UnlockCandidate way)
+  pub munlocking_candidate : (way : Way) → MayHappen k c.node c.session UnlockCandidate way → MendFacts over c MunlockingCandidate → Invariant over (mended k (over c.history) c MunlockingCandidate UnlockCandidate way)
   munlocking_candidate Done p f =
       let trees = way_trees k c.node c.session UnlockCandidate Done refl in
       mend_plain k over c MunlockingCandidate UnlockCandidate Done refl tt p inv (inl refl) (stays _ trees, (quiet_goes c.node _ (over c.history) trees f.0, f.1))
   munlocking_candidate way p f = mend_plain k over c MunlockingCandidate UnlockCandidate way refl tt p inv (inl refl) (rests _ _ (way_trees k c.node c.session UnlockCandidate way refl))
 
-  pub munlocking_running : (way : Way) → Possible k c.node c.session UnlockRunning way → MendFacts over c MunlockingRunning → Invariant over (mended k (over c.history) c MunlockingRunning UnlockRunning way)
+  pub munlocking_running : (way : Way) → MayHappen k c.node c.session UnlockRunning way → MendFacts over c MunlockingRunning → Invariant over (mended k (over c.history) c MunlockingRunning UnlockRunning way)
   munlocking_running Done p f =
       let trees = way_trees k c.node c.session UnlockRunning Done refl in
       mend_plain k over c MunlockingRunning UnlockRunning Done refl tt p inv (inl refl) (stays _ trees, quiet_goes c.node _ (over c.history) trees f.0)
   munlocking_running way p f = mend_plain k over c MunlockingRunning UnlockRunning way refl tt p inv (inl refl) (rests _ _ (way_trees k c.node c.session UnlockRunning way refl))
 
-  pub mclosing : (way : Way) → Possible k c.node c.session CloseSession way → MendFacts over c Mclosing → Invariant over (mended k (over c.history) c Mclosing CloseSession way)
+  pub mclosing : (way : Way) → MayHappen k c.node c.session CloseSession way → MendFacts over c Mclosing → Invariant over (mended k (over c.history) c Mclosing CloseSession way)
   mclosing Done p f =
       let trees = way_trees k c.node c.session CloseSession Done refl in
       mend_plain k over c Mclosing CloseSession Done refl tt p inv (inr f.none) (λ _. quiet_goes c.node _ (over c.history) trees f)
   mclosing way p f = mend_plain k over c Mclosing CloseSession way refl tt p inv (inl refl) (rests _ _ (way_trees k c.node c.session CloseSession way refl))
 
-  pub reading : (way : Way) → Possible k c.node c.session GetRunning way → MendFacts over c (Mresolving []) → Invariant over (mended k (over c.history) c (Mresolving []) GetRunning way)
+  pub reading : (way : Way) → MayHappen k c.node c.session GetRunning way → MendFacts over c (Mresolving []) → Invariant over (mended k (over c.history) c (Mresolving []) GetRunning way)
   reading Done p f =
       mend_plain k over c (Mresolving []) GetRunning Done refl tt p inv (whole (k.same c.node.running (over c.history)))
       (facts (k.same c.node.running (over c.history)) refl)
@@ -233,7 +234,7 @@ module _ {Call : Type 0} (k : DeviceKind) (over : List Call → Config) (lawful 
       let placed = inv.placed t n q.intent q.unsettled place q.unresolved in
       (same ∙ q.held.running ∙ sym placed.1, placed.0)
 
-  pub resolving_confirm : (t n : ℕ) (ts : List ℕ) → c.place t ≡ Some n → (way : Way) → Possible k c.node c.session (Confirm t) way → MendFacts over c (Mresolving (t ∷ ts)) → Invariant over (mended k (over c.history) c (Mresolving (t ∷ ts)) (Confirm t) way)
+  pub resolving_confirm : (t n : ℕ) (ts : List ℕ) → c.place t ≡ Some n → (way : Way) → MayHappen k c.node c.session (Confirm t) way → MendFacts over c (Mresolving (t ∷ ts)) → Invariant over (mended k (over c.history) c (Mresolving (t ∷ ts)) (Confirm t) way)
   resolving_confirm t n ts place Done p f =
       let op : Op = Confirm t in
       let m = way_node k c.node c.session op Done in
@@ -276,7 +277,7 @@ module _ {Call : Type 0} (k : DeviceKind) (over : List Call → Config) (lawful 
       mend_keeps k over c (Mresolving (t ∷ ts)) (Confirm t) Before trees refl tt p inv (inl refl) (rests _ true trees)
 
   -- Cancel, of one that is not decided
-  pub resolving_cancel : (t : ℕ) (ts : List ℕ) (way : Way) → Possible k c.node c.session (Cancel t) way → MendFacts over c (Mresolving (t ∷ ts)) → Invariant over (mended k (over c.history) c (Mresolving (t ∷ ts)) (Cancel t) way)
+  pub resolving_cancel : (t : ℕ) (ts : List ℕ) (way : Way) → MayHappen k c.node c.session (Cancel t) way → MendFacts over c (Mresolving (t ∷ ts)) → Invariant over (mended k (over c.history) c (Mresolving (t ∷ ts)) (Cancel t) way)
   resolving_cancel t ts Done p f =
       let op : Op = Cancel t in
       let m = way_node k c.node c.session op Done in

@@ -12,7 +12,13 @@ use Rattle.orc_datastore.specs.Next.{invalid}
 use Rattle.orc_datastore.specs.States.{Datastore}
 use Rattle.orc_decls.specs.Declarations.{AreDecls}
 use Rattle.orc_decls.specs.declared.declarations.Decls.{Decls}
-use Rattle.orc_device.specs.Links.{Possible, Way, way_node, way_reply, way_session}
+use Rattle.orc_device.specs.declared.kind.When.{When}
+use Rattle.orc_device.specs.Links.{Way, way_node, way_reply, way_session}
+use Rattle.orc_device.specs.Listings.{kind_of_op, without_first}
+use Rattle.orc_device.specs.Links.{Way as way}
+use Rattle.orc_device.specs.declared.op.Op.TheVariants as op
+use Rattle.orc_rules.proofs.NodeLaws.{may_happen}
+use Rattle.orc_rules.specs.Cells.{MayHappen}
 use Rattle.orc_device.specs.Nodes.{NodeState}
 use Rattle.orc_tree.specs.Sameness.{equal_configs}
 use Rattle.orc_device.specs.declared.kind.OpKind.{OpKind}
@@ -34,7 +40,7 @@ use Rattle.orc_rules.specs.Cells.Mended.{Goes, Whole, Fails}
 use Rattle.orc_rules.specs.Courses.{is_clear}
 use Rattle.orc_rules.specs.Due.{is_decision_due}
 use Rattle.orc_rules.specs.Duties.{duty_order, duty_told, is_busy, is_unworked}
-use Rattle.orc_rules.specs.Events.{DoesUnderHub, mender_freed, link_behind, performed}
+use Rattle.orc_rules.specs.Events.{DoesUnderHub, mender_freed, link_behind, performed_with}
 use Rattle.orc_rules.specs.Hubs.{Hub, answered, duty_on, order_on, hub_reported, hub_told}
 use Rattle.orc_rules.specs.Invariant.{IsLawful}
 use Rattle.orc_rules.specs.Journals.{entries_read, history_read}
@@ -121,20 +127,20 @@ module _ {D : Type 0} (here : Setting D) (are_decls : AreDecls here.decls) (plan
 
     -- an operation is performed
     module _ (device : ℕ) (op : Op) (happened : Way) (order : order_on hub device ≡ Some op) (unheard : (world.links device).unheard ≡ None)
-        (possible : Possible (here.kinds device) (world.nodes device) (world.links device).session op happened) where
+        (possible : MayHappen (here.kinds device) (world.nodes device) (world.links device).session op happened) (listed : List (OpKind × When)) where
       abbrev r : Reply
       r = way_reply (world.nodes device) op happened
 
       abbrev link' : Link
-      link' = link_behind (world.links device) (way_session (world.nodes device) (world.links device).session op happened) op happened r
+      link' = link_behind listed (world.links device) (way_session (world.nodes device) (world.links device).session op happened) op happened r
 
       abbrev next : World D
-      next = performed here world device op happened
+      next = performed_with here world listed device op happened
 
       order_now : (on : Duty) → duty_on hub.duties device ≡ on → duty_order on ≡ Some op
       order_now on is = ap duty_order (sym is) ∙ sym (order_is hub device) ∙ order
 
-      rests_now : (on : Duty) → duty_on hub.duties device ≡ on → (on ≡ duty.Free → ⊥) → UndeclaredRest here.decls (performed here world device op happened).nodes
+      rests_now : (on : Duty) → duty_on hub.duties device ≡ on → (on ≡ duty.Free → ⊥) → UndeclaredRest here.decls (performed_with here world listed device op happened).nodes
       rests_now on is busy x past = elim (either device x) [
         | inl s ↦ absurd (false≢true (sym past ∙ sym (ap (λ (y : ℕ). nat_lt y (length here.decls.names)) s) ∙ sym (ap (λ (n : ℕ). nat_lt device n) under.duties_sized)
             ∙ slot_within hub.duties device on is busy))
@@ -158,15 +164,15 @@ module _ {D : Type 0} (here : Setting D) (are_decls : AreDecls here.decls) (plan
           on false = h
       mended_more open_intent clear (Fails b) t h = h
 
-      by_worker : (worker : Worker) → duty_on hub.duties device ≡ duty.Works worker → Led [] (performed here world device op happened)
+      by_worker : (worker : Worker) → duty_on hub.duties device ≡ duty.Works worker → Led [] (performed_with here world listed device op happened)
       by_worker worker is =
           let due = order_due worker.t worker.set worker.stage op (order_now (duty.Works worker) is) in
           let owned = under.owned device worker is due.1 in
           let agree = under.agree device worker is in
-          let sh : Shadow = shadow_worked here.decls here.kinds are lawful planning own.shadow (entries_read world.journal) hub world.nodes world.links device op happened unheard possible net_kept
+          let sh : Shadow = shadow_worked here.decls here.kinds are lawful planning own.shadow (entries_read world.journal) hub world.nodes world.links device op happened unheard possible listed net_kept
           worker is (order_now (duty.Works worker) is) agree owned in
-          quiet (performed here world device op happened) (updated_at own.shadow device sh) hub up
-          (works_moves here.decls here.kinds are lawful planning own.shadow (entries_read world.journal) hub world.nodes world.links device op happened unheard possible net_kept
+          quiet (performed_with here world listed device op happened) (updated_at own.shadow device sh) hub up
+          (works_moves here.decls here.kinds are lawful planning own.shadow (entries_read world.journal) hub world.nodes world.links device op happened unheard possible listed net_kept
           worker is (order_now (duty.Works worker) is) agree owned)
           (performs_under here.decls own.shadow (entries_read world.journal) hub.active hub.duties hub.stale hub.mends world.links under device link' sh
           (ap is_busy is ∙ due.0) clears (λ t h. cleared_more (worker_clears worker.stage r) (own.shadow device).clear worker.t t h))
@@ -187,7 +193,7 @@ module _ {D : Type 0} (here : Setting D) (are_decls : AreDecls here.decls) (plan
               (under.clear device worker (ap (λ (u : Option (OpKind × Reply)). then_heard u (world.links device).faults (duty_on hub.duties device)) unheard ∙ is) before))
               (took_clear link'.faults worker.stage worker.outcome r (subst (λ (y : Worker). is_clear y.outcome ≡ true) (sym same) h)))
 
-      by_mender : (mender : MenderState) → duty_on hub.duties device ≡ duty.Mends mender → Led [] (performed here world device op happened)
+      by_mender : (mender : MenderState) → duty_on hub.duties device ≡ duty.Mends mender → Led [] (performed_with here world listed device op happened)
       by_mender mender is = at hub.mends refl
         where
           within : nat_lt device (length here.decls.names) ≡ true
@@ -200,15 +206,15 @@ module _ {D : Type 0} (here : Setting D) (are_decls : AreDecls here.decls) (plan
               → is_mending mender.stage ≡ true
           busy m stands = ap (λ (n : MenderState). is_mending n.stage) stands ∙ mends_on m
 
-          stood : IsMenderOf here.decls (entries_read world.journal) device mender → Led [] (performed here world device op happened)
+          stood : IsMenderOf here.decls (entries_read world.journal) device mender → Led [] (performed_with here world listed device op happened)
           stood (inl ended) = absurd (let no : ◌≡◌ {A = Option Op} None (Some op) =
               sym (ap (λ s. mend_order differences mender.left mender.due s) ended) ∙ order_now (duty.Mends mender) is in cc)
           stood (inr so) =
               let slot = get_in hub.stale device (length here.decls.names) under.stale_sized within in
-              let sh : Shadow = shadow_mended here.decls here.kinds are lawful planning own.shadow (entries_read world.journal) hub world.nodes world.links device op happened unheard possible net_kept
+              let sh : Shadow = shadow_mended here.decls here.kinds are lawful planning own.shadow (entries_read world.journal) hub world.nodes world.links device op happened unheard possible listed net_kept
               mender so.0 is so.1 (order_now (duty.Mends mender) is) slot.0 slot.1 in
-              quiet (performed here world device op happened) (updated_at own.shadow device sh) hub up
-              (mends_moves here.decls here.kinds are lawful planning own.shadow (entries_read world.journal) hub world.nodes world.links device op happened unheard possible net_kept
+              quiet (performed_with here world listed device op happened) (updated_at own.shadow device sh) hub up
+              (mends_moves here.decls here.kinds are lawful planning own.shadow (entries_read world.journal) hub world.nodes world.links device op happened unheard possible listed net_kept
               mender so.0 is so.1 (order_now (duty.Mends mender) is) slot.0 slot.1)
               (performs_under here.decls own.shadow (entries_read world.journal) hub.active hub.duties hub.stale hub.mends world.links under device link' sh
               (ap is_busy is ∙ busy so.0 so.1) (λ w e h. absurd (no_worker w e))
@@ -216,17 +222,17 @@ module _ {D : Type 0} (here : Setting D) (are_decls : AreDecls here.decls) (plan
               (mender_after (here.kinds device) (over here.decls device (told_by (entries_read world.journal)).history) so.0 r) t h))
               (rests_now (duty.Mends mender) is (mends_not_free mender))
 
-          at : (m : Option (Option RecFault)) → hub.mends ≡ m → Led [] (performed here world device op happened)
+          at : (m : Option (Option RecFault)) → hub.mends ≡ m → Led [] (performed_with here world listed device op happened)
           at None e = absurd (subst (λ (n : Option (Option RecFault)). MendingKept here.decls (entries_read world.journal) hub.active hub.duties hub.stale n) e under.mending device mender is)
           at (Some met) e =
               let mending : AreMending here.decls (entries_read world.journal) hub.active hub.duties hub.stale met =
               subst (λ (n : Option (Option RecFault)). MendingKept here.decls (entries_read world.journal) hub.active hub.duties hub.stale n) e under.mending in
               stood (mending.stand device mender is)
 
-      pub performs_leads : Led [] (performed here world device op happened)
+      pub performs_leads : Led [] (performed_with here world listed device op happened)
       performs_leads = on (duty_on hub.duties device) refl
         where
-          on : (d : Duty) → duty_on hub.duties device ≡ d → Led [] (performed here world device op happened)
+          on : (d : Duty) → duty_on hub.duties device ≡ d → Led [] (performed_with here world listed device op happened)
           on duty.Free is = absurd (let no : ◌≡◌ {A = Option Op} None (Some op) = order_now duty.Free is in cc)
           on (duty.Works worker) is = by_worker worker is
           on (duty.Mends mender) is = by_mender mender is
@@ -273,7 +279,9 @@ module _ {D : Type 0} (here : Setting D) (are_decls : AreDecls here.decls) (plan
         it sets (length (history_read world.journal)) unused idle fits passes waits.lawful fresh)
         own.rests
     does_leads meant row next (DoesUnderHub.performs device op happened due unheard possible way) =
-        performs_leads device op happened (due_is hub device op due) unheard possible
+        performs_leads device op happened (due_is hub device op due) unheard (may_happen (here.kinds device) (world.nodes device) (world.links device).session op happened possible) (without_first (kind_of_op op) (world.links device).listed)
+    does_leads meant row next (DoesUnderHub.leaves_unsent device changes due unheard) =
+        performs_leads device (op.Edit changes) way.NoMemory (due_is hub device (op.Edit changes) due) unheard (refl, tt) (world.links device).listed
     does_leads meant row next (DoesUnderHub.reports device op reply unheard) =
         quiet next own.shadow (hub_reported device reply (world.links device).faults hub) refl
         (reports_keep here.decls own.shadow (entries_read world.journal) hub world.nodes world.links device op reply unheard net_kept)
@@ -323,6 +331,11 @@ module _ {D : Type 0} (here : Setting D) (are_decls : AreDecls here.decls) (plan
         leads (map entry.Settled numbers) next (all_clear own.shadow) _ refl
         (mended_keep here.decls here.kinds are lawful planning own.shadow (entries_read world.journal) hub world.nodes world.links under net_kept None met heard refl busy own.rests numbers)
         (mended_under here.decls here.kinds are lawful planning own.shadow (entries_read world.journal) hub world.nodes world.links under net_kept None met heard refl busy own.rests numbers)
+        own.rests
+    does_leads meant row next (DoesUnderHub.finds_no_memory met busy heard) =
+        quiet next own.shadow _ refl
+        (fails_keep here.decls here.kinds are lawful planning own.shadow (entries_read world.journal) hub world.nodes world.links under net_kept None met heard)
+        (fails_under here.decls here.kinds are lawful planning own.shadow (entries_read world.journal) hub world.nodes world.links under net_kept None met heard)
         own.rests
     does_leads meant row next (DoesUnderHub.fails_to_mend met failed heard) =
         quiet next own.shadow _ refl

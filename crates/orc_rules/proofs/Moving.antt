@@ -9,7 +9,9 @@ use Rattle.orc_call.specs.declared.answer.Why.{Why}
 use Rattle.orc_call.specs.declared.answer.Why.TheVariants as why
 use Rattle.orc_call.specs.declared.call.Call.{Call}
 use Rattle.orc_decls.specs.declared.declarations.Decls.{Decls}
-use Rattle.orc_device.specs.Links.{Possible, Way, took_effect, way_node, way_reply, way_session}
+use Rattle.orc_device.specs.declared.kind.When.{When}
+use Rattle.orc_device.specs.Links.{Way, took_effect, way_node, way_reply, way_session}
+use Rattle.orc_rules.specs.Cells.{MayHappen}
 use Rattle.orc_device.specs.Listings.{kind_of_op}
 use Rattle.orc_device.specs.Nodes.{DeviceKind, NodeState}
 use Rattle.orc_device.specs.Operations.{is_fault, is_ok, is_resolved}
@@ -178,7 +180,7 @@ module _ (decls : Decls) (kinds : ℕ → DeviceKind) (are : (device : ℕ) → 
             on false e = refl
 
     module _ (device : ℕ) (op : Op) (happened : Way) (unheard : (links device).unheard ≡ None)
-        (possible : Possible (kinds device) (nodes device) (links device).session op happened) (kept : NetworkKept decls net) where
+        (possible : MayHappen (kinds device) (nodes device) (links device).session op happened) (listed : List (OpKind × When)) (kept : NetworkKept decls net) where
       abbrev k : DeviceKind
       k = kinds device
 
@@ -195,7 +197,7 @@ module _ (decls : Decls) (kinds : ℕ → DeviceKind) (are : (device : ℕ) → 
       node' = way_node k (nodes device) link.session op happened
 
       abbrev link' : Link
-      link' = link_behind link (way_session (nodes device) link.session op happened) op happened r
+      link' = link_behind listed link (way_session (nodes device) link.session op happened) op happened r
 
       abbrev Moves : Shadow → Type 0
       Moves sh = NetworkKept decls (network_of decls (updated_at shadow device sh) entries (Some hub) (updated_at nodes device node') (updated_at links device link'))
@@ -348,7 +350,7 @@ module _ (decls : Decls) (kinds : ℕ → DeviceKind) (are : (device : ℕ) → 
         may_mend : PossibleDue k (nodes device) link.session (due_op k (over decls device) c (role_on decls shadow entries (Some hub) device link)) happened
         may_mend =
             subst (λ (y : DeviceRole Call). PossibleDue k (nodes device) link.session (due_op k (over decls device) c y) happened) (sym mends_now)
-            (subst (λ (y : Op). Possible k (nodes device) link.session y happened) (sym op_is) possible)
+            (subst (λ (y : Op). MayHappen k (nodes device) link.session y happened) (sym op_is) possible)
 
         performed_mend : performed k (over decls device) c (role_on decls shadow entries (Some hub) device link) happened ≡ mended k due c m op happened
         performed_mend =

@@ -5,7 +5,8 @@ use Rattle.orc_device.specs.declared.op.Op.{Op}
 use Rattle.orc_call.specs.declared.answer.Tag.TheVariants.{NoSession}
 use Rattle.orc_device.specs.Nodes.{DeviceKind, NodeState, PendingCommit, refuse, op_refusal, denied, needs_session, effect, session_ended, session_begun, roomy, least_of, next_session, is_live, is_held_by_session, is_held, freed, kept_tree, kept_by, dropped}
 use Rattle.orc_device.specs.declared.op.Op.TheVariants.{OpenSession, LockRunning, LockCandidate, Edit, Validate, CommitConfirmed, Commit, Confirm, Cancel, Discard, UnlockCandidate, UnlockRunning, CloseSession, GetRunning}
-use Rattle.orc_device.specs.Links.{Way, Possible, way_node, way_session, session_after}
+use Rattle.orc_device.specs.Links.{Possible, Way, way_node, way_session, session_after}
+use Rattle.orc_rules.specs.Cells.{MayHappen}
 use Rattle.orc_device.specs.Links.Way.{Done, Denied, Stranded, Before, After, NoMemory}
 use Rattle.orc_rules.specs.Facts.{Unlocked, EditsLocked, is_plain, Locks, Quiet, Held, SameTrees, pending_id}
 use Rattle.orc_path.specs.Configurations.{Config}
@@ -169,8 +170,17 @@ done_locks k n s UnlockRunning e r h = record { run = inl refl; cand = h.cand }
 done_locks k n s CloseSession e r h = locks_of_unlocked (session_ended n s) s (ended_unlocks n s h)
 done_locks k n s GetRunning e r h = h
 
+-- what is possible may happen
+pub may_happen : (k : DeviceKind) (n : NodeState) (s : ℕ) (op : Op) (way : Way) → Possible k n s op way → MayHappen k n s op way
+may_happen k n s op Done p = p
+may_happen k n s op (Denied tag) p = p
+may_happen k n s op Stranded p = p
+may_happen k n s op Before p = p
+may_happen k n s op After p = p
+may_happen k n s op NoMemory p = (p.0, tt)
+
 -- whatever happens to an operation, locks are the link's live session's
-pub way_locks : (k : DeviceKind) (n : NodeState) (s : ℕ) (op : Op) (way : Way) → EditsLocked n s op → Possible k n s op way → Locks n s → Locks (way_node k n s op way) (way_session n s op way)
+pub way_locks : (k : DeviceKind) (n : NodeState) (s : ℕ) (op : Op) (way : Way) → EditsLocked n s op → MayHappen k n s op way → Locks n s → Locks (way_node k n s op way) (way_session n s op way)
 way_locks k n s op Done e p h = done_locks k n s op e p h
 way_locks k n s op (Denied tag) e p h = h
 way_locks k n s op Stranded e p h = h

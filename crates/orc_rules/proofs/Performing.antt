@@ -1,7 +1,8 @@
 -- Whatever happens to the operation that is due, the invariant is kept.
 use Rattle.std.proofs.Common.{ℕ, ◌≡◌, Option, Some, None, List, [], ◌∷◌, refl}
 use Rattle.orc_device.specs.Nodes.{DeviceKind}
-use Rattle.orc_device.specs.Links.{Way, Possible}
+use Rattle.orc_device.specs.Links.{Way}
+use Rattle.orc_rules.specs.Cells.{MayHappen}
 use Rattle.orc_rules.specs.Works.{resolve}
 use Rattle.orc_worker.specs.declared.stage.Stage.TheVariants.{Opening, LockingRunning, LockingCandidate, Editing, Validating, Committing, Refusing, Prepared, Lost, Confirming, Cancelling, Reopening, Recancelling, UnlockingCandidate, UnlockingRunning, Closing, Over}
 use Rattle.orc_rules.specs.Works.Mend.{Mopening, Mresolving, MlockingRunning, MlockingCandidate, Mediting, Mvalidating, Mcommitting, MunlockingCandidate, MunlockingRunning, Mclosing}
@@ -37,7 +38,7 @@ module _ {Call : Type 0} (k : DeviceKind) (over : List Call → Config) (lawful 
   performed_role (Mends (Mresolving [])) f way p = reading k over lawful c inv f.0 way p f.1
   performed_role (Mends (Mresolving (t ∷ ts))) f way p = go (c.place t) refl p
     where
-      go : (q : Option ℕ) → c.place t ≡ q → Possible k c.node c.session (resolve q t) way → Invariant over (mended k (over c.history) c (Mresolving (t ∷ ts)) (resolve q t) way)
+      go : (q : Option ℕ) → c.place t ≡ q → MayHappen k c.node c.session (resolve q t) way → Invariant over (mended k (over c.history) c (Mresolving (t ∷ ts)) (resolve q t) way)
       go None e p' = resolving_cancel k over lawful c inv f.0 t ts way p' f.1
       go (Some n) e p' = resolving_confirm k over lawful c inv f.0 t n ts e way p' f.1
   performed_role (Mends (MlockingRunning read)) f way p = mlocking_running k over lawful c inv f.0 read way p f.1

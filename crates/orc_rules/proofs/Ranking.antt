@@ -5,7 +5,7 @@ use Rattle.std.specs.Prelude.{slice_get}
 use Rattle.std.proofs.lemmas.Bool.{false≢true}
 use Rattle.std.proofs.lemmas.Option.{same_Some}
 use Rattle.orc_device.specs.Links.{way_reply, way_session}
-use Rattle.orc_device.specs.Listings.{kind_of_op}
+use Rattle.orc_device.specs.Listings.{kind_of_op, without_first}
 use Rattle.orc_device.specs.declared.kind.OpKind.{OpKind}
 use Rattle.orc_device.specs.declared.op.Op.{Op}
 use Rattle.orc_device.specs.declared.reply.Reply.{Reply}
@@ -17,6 +17,10 @@ use Rattle.orc_tree.specs.declared.change.ChangeSet.{ChangeSet}
 use Rattle.orc_worker.specs.Workers.{is_due, order_at}
 use Rattle.orc_worker.specs.declared.stage.Stage.{Stage}
 use Rattle.orc_worker.specs.declared.stage.Stage.TheVariants as stage
+use Rattle.orc_device.specs.Links.{Way as way}
+use Rattle.orc_device.specs.declared.op.Op.TheVariants as op
+use Rattle.orc_device.specs.declared.kind.OpKind.TheVariants as kind
+use Rattle.orc_device.specs.declared.reply.Reply.TheVariants as reply
 use Rattle.orc_rules.specs.Admissions.{started, transaction_begun}
 use Rattle.orc_rules.specs.Cells.{updated_at}
 use Rattle.orc_rules.specs.Duties.{duty_order, duty_told, duty_took, is_busy}
@@ -242,7 +246,13 @@ module _ {D : Type 0} (here : Setting D) (world : World D) (hub : Hub) (own : De
       fewer next hub up
       (let busy = order_busy (duty_on hub.duties device) op (sym (order_is hub device) ∙ due_is hub device op due_now) in
       let less = performed_turns hub.duties world.links under.due device (kind_of_op op) (way_reply (world.nodes device) op happened)
-      (link_behind (world.links device) (way_session (world.nodes device) (world.links device).session op happened) op happened (way_reply (world.nodes device) op happened)) refl unheard busy in
+      (link_behind (without_first (kind_of_op op) (world.links device).listed) (world.links device) (way_session (world.nodes device) (world.links device).session op happened) op happened (way_reply (world.nodes device) op happened)) refl unheard busy in
+      omega arith)
+  does_lessen meant row next (DoesUnderHub.leaves_unsent device changes due_now unheard) round =
+      fewer next hub up
+      (let busy = order_busy (duty_on hub.duties device) (op.Edit changes) (sym (order_is hub device) ∙ due_is hub device (op.Edit changes) due_now) in
+      let less = performed_turns hub.duties world.links under.due device kind.Edit reply.Memory
+      (link_behind (world.links device).listed (world.links device) (world.links device).session (op.Edit changes) way.NoMemory reply.Memory) refl unheard busy in
       omega arith)
   does_lessen meant row next (DoesUnderHub.reports device op reply unheard) round =
       fewer next _ refl
@@ -280,6 +290,7 @@ module _ {D : Type 0} (here : Setting D) (world : World D) (hub : Hub) (own : De
   does_lessen meant row next DoesUnderHub.stops round = absurd (false≢true round)
   does_lessen meant row next (DoesUnderHub.mends numbers idle unsettled) round = absurd (false≢true round)
   does_lessen meant row next (DoesUnderHub.mended numbers met busy heard unsettled) round = absurd (false≢true round)
+  does_lessen meant row next (DoesUnderHub.finds_no_memory met busy heard) round = absurd (false≢true round)
   does_lessen meant row next (DoesUnderHub.fails_to_mend met failed heard) round = absurd (false≢true round)
 
 module _ {D : Type 0} (here : Setting D) where

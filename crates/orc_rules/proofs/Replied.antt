@@ -9,8 +9,13 @@ use Rattle.orc_call.specs.declared.call.Call.{Call}
 use Rattle.orc_datastore.specs.Legal.{IsLegal}
 use Rattle.orc_decls.specs.Declarations.{AreDecls}
 use Rattle.orc_decls.specs.declared.declarations.Decls.{Decls}
-use Rattle.orc_device.specs.Links.{Possible, Way, way_node, way_reply, way_session}
-use Rattle.orc_device.specs.Listings.{kind_of_op}
+use Rattle.orc_device.specs.declared.kind.When.{When}
+use Rattle.orc_device.specs.Links.{Way, way_node, way_reply, way_session}
+use Rattle.orc_device.specs.Links.{Way as way}
+use Rattle.orc_device.specs.declared.op.Op.TheVariants as op
+use Rattle.orc_rules.proofs.NodeLaws.{may_happen}
+use Rattle.orc_rules.specs.Cells.{MayHappen}
+use Rattle.orc_device.specs.Listings.{kind_of_op, without_first}
 use Rattle.orc_device.specs.Nodes.{DeviceKind, restarted}
 use Rattle.orc_device.specs.declared.kind.OpKind.{OpKind}
 use Rattle.orc_device.specs.declared.op.Op.{Op}
@@ -30,7 +35,7 @@ use Rattle.orc_rules.specs.Admissions.{intent_entry, transaction_begun}
 use Rattle.orc_rules.specs.Cells.{Cell, DeviceRole, updated_at}
 use Rattle.orc_rules.specs.Due.{is_decision_due}
 use Rattle.orc_rules.specs.Duties.{duty_order, duty_told, is_busy}
-use Rattle.orc_rules.specs.Events.{DoesAnyway, DoesUnderHub, Steps, link_behind, mender_freed, mender_on, performed}
+use Rattle.orc_rules.specs.Events.{DoesAnyway, DoesUnderHub, Steps, link_behind, mender_freed, mender_on, performed_with}
 use Rattle.orc_rules.specs.Hubs.{Hub, duty_on, order_on}
 use Rattle.orc_rules.specs.Invariant.{Invariant, IsFitting, IsLawful, RoleFacts, RunsAccepted, StageFacts}
 use Rattle.orc_rules.specs.Journals.{entries_read, history_read}
@@ -118,12 +123,12 @@ module _ {D : Type 0} (here : Setting D) (are_decls : AreDecls here.decls) (plan
 
     -- an operation is performed
     module _ (device : ℕ) (op : Op) (happened : Way) (order : order_on hub device ≡ Some op) (unheard : (world.links device).unheard ≡ None)
-        (possible : Possible (here.kinds device) (world.nodes device) (world.links device).session op happened) where
+        (possible : MayHappen (here.kinds device) (world.nodes device) (world.links device).session op happened) (listed : List (OpKind × When)) where
       abbrev r : Reply
       r = way_reply (world.nodes device) op happened
 
       abbrev link' : Link
-      link' = link_behind (world.links device) (way_session (world.nodes device) (world.links device).session op happened) op happened r
+      link' = link_behind listed (world.links device) (way_session (world.nodes device) (world.links device).session op happened) op happened r
 
       abbrev c : Cell Call
       c = cell (over here.decls) (network_of here.decls own.shadow (entries_read world.journal) (Some hub) world.nodes world.links) device
@@ -155,12 +160,12 @@ module _ {D : Type 0} (here : Setting D) (are_decls : AreDecls here.decls) (plan
 
         facts : StageFacts (over here.decls device) c o worker.stage
         facts = (subst (λ (role : DeviceRole Call). RoleFacts (over here.decls device) c role)
-            (works_now here.decls here.kinds are lawful planning own.shadow (entries_read world.journal) hub world.nodes world.links device op happened unheard possible net_kept
+            (works_now here.decls here.kinds are lawful planning own.shadow (entries_read world.journal) hub world.nodes world.links device op happened unheard possible listed net_kept
             worker is (order_now (duty.Works worker) is) (under.agree device worker is) owned)
             inv.role).1
 
         ordered : work_order (here.kinds device) o worker.stage ≡ Some op
-        ordered = order_here here.decls here.kinds are lawful planning own.shadow (entries_read world.journal) hub world.nodes world.links device op happened unheard possible net_kept
+        ordered = order_here here.decls here.kinds are lawful planning own.shadow (entries_read world.journal) hub world.nodes world.links device op happened unheard possible listed net_kept
             worker is (order_now (duty.Works worker) is) (under.agree device worker is) owned
 
         honest_here : IsHonest (duty.Works worker) r
@@ -223,16 +228,16 @@ module _ {D : Type 0} (here : Setting D) (are_decls : AreDecls here.decls) (plan
           same_works : (a b : Worker) → duty.Works a ≡ duty.Works b → a ≡ b
           same_works a b e' = cc
 
-      performs_replied : Replied [] (performed here world device op happened)
-      performs_replied = same [] (performed here world device op happened) hub up nothing nodes
+      performs_replied : Replied [] (performed_with here world listed device op happened)
+      performs_replied = same [] (performed_with here world listed device op happened) hub up nothing nodes
           (perform_replies here.decls here.kinds (history_of (entries_read world.journal)) hub.active hub.duties world.links said device link'
           (λ h. opened_then (duty_on hub.duties device) refl h)
           (λ place it there h worker' named e number. tells_then (duty_on hub.duties device) refl place it there h worker' named e number)
           (λ one e. subst (λ (x : OpKind × Reply). IsHonest (duty_on hub.duties device) x.1) (same_Some (kind_of_op op, r) one e) (honest_then (duty_on hub.duties device) refl)))
         where
-          nodes : (x : ℕ) → RunsAccepted (here.kinds x) ((performed here world device op happened).nodes x)
+          nodes : (x : ℕ) → RunsAccepted (here.kinds x) ((performed_with here world listed device op happened).nodes x)
           nodes x = elim (either device x) [
-            | inl s ↦ subst (λ (y : ℕ). RunsAccepted (here.kinds y) ((performed here world device op happened).nodes y)) s
+            | inl s ↦ subst (λ (y : ℕ). RunsAccepted (here.kinds y) ((performed_with here world listed device op happened).nodes y)) s
                 (subst (RunsAccepted (here.kinds device)) (sym (given_at world.nodes device (way_node (here.kinds device) (world.nodes device) (world.links device).session op happened)))
                 (way_accepted (here.kinds device) (world.nodes device) (world.links device).session op happened possible (replies.nodes device)))
             | inr ne ↦ subst (RunsAccepted (here.kinds x)) (sym (given_other world.nodes device (way_node (here.kinds device) (world.nodes device) (world.links device).session op happened) x ne))
@@ -286,7 +291,9 @@ module _ {D : Type 0} (here : Setting D) (are_decls : AreDecls here.decls) (plan
         (λ x unnamed. others here.decls are_decls plans here.kinds are lawful planning own.shadow (entries_read world.journal) hub world.nodes world.links under net_kept known.admitted legal
         it sets (length (history_read world.journal)) unused idle fits passes waits.lawful fresh x unnamed))
     does_reply meant row next (DoesUnderHub.performs device op happened due_now unheard possible way) =
-        performs_replied device op happened (due_is hub device op due_now) unheard possible
+        performs_replied device op happened (due_is hub device op due_now) unheard (may_happen (here.kinds device) (world.nodes device) (world.links device).session op happened possible) (without_first (kind_of_op op) (world.links device).listed)
+    does_reply meant row next (DoesUnderHub.leaves_unsent device changes due unheard) =
+        performs_replied device (op.Edit changes) way.NoMemory (due_is hub device (op.Edit changes) due) unheard (refl, tt) (world.links device).listed
     does_reply meant row next (DoesUnderHub.reports device op reply unheard) =
         same [] next _ refl nothing replies.nodes
         (retired_replies here.decls here.kinds (history_of (entries_read world.journal)) hub.active _ _
@@ -337,6 +344,14 @@ module _ {D : Type 0} (here : Setting D) (are_decls : AreDecls here.decls) (plan
           (λ place it there. absurd (let no : ◌≡◌ {A = Option Transaction} None (Some it) = there in cc))
           (λ device. ap has_session (freed_is here.decls here.kinds are lawful planning own.shadow (entries_read world.journal) hub world.nodes world.links under net_kept None met heard device))),
     )
+    does_reply meant row next (DoesUnderHub.finds_no_memory met busy heard) =
+        same [] next _ refl nothing replies.nodes
+        (quiet_replies here.decls here.kinds (history_of (entries_read world.journal)) hub.active (map mender_freed hub.duties) world.links heard
+        (λ place it there. ap is_preparing (mending.left place it there))
+        (λ device. ap has_session (freed_is here.decls here.kinds are lawful planning own.shadow (entries_read world.journal) hub world.nodes world.links under net_kept None met heard device)))
+      where
+        mending : AreMending here.decls (entries_read world.journal) hub.active hub.duties hub.stale None
+        mending = subst (λ (m : Option (Option RecFault)). MendingKept here.decls (entries_read world.journal) hub.active hub.duties hub.stale m) met under.mending
     does_reply meant row next (DoesUnderHub.fails_to_mend met failed heard) =
         same [] next _ refl nothing replies.nodes
         (quiet_replies here.decls here.kinds (history_of (entries_read world.journal)) hub.active (map mender_freed hub.duties) world.links heard

@@ -6,7 +6,8 @@ use Rattle.orc_call.specs.declared.answer.RecFault.TheVariants as fault
 use Rattle.orc_call.specs.declared.answer.Tag.{Tag}
 use Rattle.orc_call.specs.declared.answer.Tag.TheVariants.{InvalidValue, OperationFailed}
 use Rattle.orc_call.specs.declared.call.Call.{Call}
-use Rattle.orc_device.specs.Links.{Way, Possible, session_after, takes_memory, way_node, way_reply, way_session}
+use Rattle.orc_device.specs.Links.{Way, session_after, takes_memory, way_node, way_reply, way_session}
+use Rattle.orc_rules.specs.Cells.{MayHappen}
 use Rattle.orc_device.specs.Links.Way.{Done, Denied, Stranded, Before, After, NoMemory}
 use Rattle.orc_device.specs.Nodes.{DeviceKind, NodeState, dropped, good_reply}
 use Rattle.orc_device.specs.Operations.{is_fault, is_invalid_value, is_ok, is_resolved}
@@ -42,7 +43,7 @@ use Rattle.orc_rules.proofs.Refusals.{AcceptsAll, IsHarmless, cancel_harmless, c
 
 -- what a device accepts
 
-pub way_accepted : (k : DeviceKind) (n : NodeState) (s : ℕ) (op : Op) (way : Way) → Possible k n s op way → RunsAccepted k n → RunsAccepted k (way_node k n s op way)
+pub way_accepted : (k : DeviceKind) (n : NodeState) (s : ℕ) (op : Op) (way : Way) → MayHappen k n s op way → RunsAccepted k n → RunsAccepted k (way_node k n s op way)
 way_accepted k n s op Done p a = effect_accepted k n s op p a
 way_accepted k n s op (Denied tag) p a = a
 way_accepted k n s op Stranded p a = a
@@ -62,7 +63,7 @@ module _ (k : DeviceKind) (n : NodeState) (s : ℕ) where
 
   -- of a worker
   abbrev Works : Stage → Op → Way → Type 0
-  Works st op way = Possible k n s op way → (works_in_session st ≡ true → nat_eq s 0 ≡ false)
+  Works st op way = MayHappen k n s op way → (works_in_session st ≡ true → nat_eq s 0 ≡ false)
       → works_in_session (work_stage_after st (way_reply n op way)) ≡ true → nat_eq (way_session n s op way) 0 ≡ false
 
   opening_worker : (way : Way) → Works stage.Opening OpenSession way
@@ -107,7 +108,7 @@ module _ (k : DeviceKind) (n : NodeState) (s : ℕ) where
 
   -- of a mender
   abbrev MendsSo : (Config → Config → Bool) → MenderState → Op → Way → Type 0
-  MendsSo same mender op way = Possible k n s op way → (mends_in_session mender.stage ≡ true → nat_eq s 0 ≡ false)
+  MendsSo same mender op way = MayHappen k n s op way → (mends_in_session mender.stage ≡ true → nat_eq s 0 ≡ false)
       → mends_in_session (mender_took same mender (way_reply n op way)).stage ≡ true → nat_eq (way_session n s op way) 0 ≡ false
 
   opening_mender : (same : Config → Config → Bool) (left : List (ℕ × Bool)) (due : Config) (way : Way)
@@ -167,7 +168,7 @@ tells_by n op NoMemory next o f accepted good done denied = tt
 
 -- one to Confirm or Cancel
 resolves_honest : (k : DeviceKind) (n : NodeState) (s : ℕ) (op : Op) (way : Way) → good_reply n op ≡ reply.Ok → takes_memory op ≡ false
-    → ((tag : Tag) → way ≡ Denied tag → tag ≡ InvalidValue) → Possible k n s op way → not (is_resolved (way_reply n op way)) ≡ true → is_fault (way_reply n op way) ≡ true
+    → ((tag : Tag) → way ≡ Denied tag → tag ≡ InvalidValue) → MayHappen k n s op way → not (is_resolved (way_reply n op way)) ≡ true → is_fault (way_reply n op way) ≡ true
 resolves_honest k n s op Done good small harmless p spoilt = absurd (false≢true (ap (λ (r : Reply). not (is_resolved r)) (sym good) ∙ spoilt))
 resolves_honest k n s op (Denied tag) good small harmless p spoilt = absurd (false≢true (ap (λ (x : Tag). not (is_invalid_value x)) (sym (harmless tag refl)) ∙ spoilt))
 resolves_honest k n s op Stranded good small harmless p spoilt = refl
@@ -175,7 +176,7 @@ resolves_honest k n s op Before good small harmless p spoilt = refl
 resolves_honest k n s op After good small harmless p spoilt = refl
 resolves_honest k n s op NoMemory good small harmless p spoilt = absurd (false≢true (sym small ∙ p.0))
 
-reopens_honest : (k : DeviceKind) (n : NodeState) (s : ℕ) (way : Way) → Possible k n s OpenSession way → not (is_ok (way_reply n OpenSession way)) ≡ true
+reopens_honest : (k : DeviceKind) (n : NodeState) (s : ℕ) (way : Way) → MayHappen k n s OpenSession way → not (is_ok (way_reply n OpenSession way)) ≡ true
     → is_fault (way_reply n OpenSession way) ≡ true
 reopens_honest k n s Done p spoilt = cc
 reopens_honest k n s (Denied tag) p spoilt = absurd (no_refusal_there tag p.0)
@@ -195,14 +196,14 @@ module _ (k : DeviceKind) (over : List Call → Config) (fit : IsFitting k over)
   Accepted = k.accepts (over (c.history ++ o.call ∷ []))
 
   abbrev Told : Stage → Op → Way → ℕ → Option Outcome → Type 0
-  Told st op way f out = Possible k c.node c.session op way → Tells (option_or (outcome_by st (way_reply c.node op way) f) out) Accepted
+  Told st op way f out = MayHappen k c.node c.session op way → Tells (option_or (outcome_by st (way_reply c.node op way) f) out) Accepted
 
   -- it refused in preparing
   refuses : (st : Stage) (op : Op) (way : Way) (tag : Tag) → is_preparing_stage st ≡ true → work_order k o st ≡ Some op → over (c.history ++ o.call ∷ []) ≡ o.due → StageFacts over c o st
-      → nat_eq c.session 0 ≡ false → Possible k c.node c.session op way → way ≡ Denied tag → (tag ≡ OperationFailed) × (Accepted ≡ false)
+      → nat_eq c.session 0 ≡ false → MayHappen k c.node c.session op way → way ≡ Denied tag → (tag ≡ OperationFailed) × (Accepted ≡ false)
   refuses st op way tag preparing e due facts opened p is =
       let q = worker_refused k over fit c inv opened o st tag preparing facts
-      (subst (λ (x : Option Op). PossibleDue k c.node c.session x (Denied tag)) (sym e) (subst (λ (w : Way). Possible k c.node c.session op w) is p)) in
+      (subst (λ (x : Option Op). PossibleDue k c.node c.session x (Denied tag)) (sym e) (subst (λ (w : Way). MayHappen k c.node c.session op w) is p)) in
       (q.0, ap k.accepts due ∙ q.1)
 
   pub tells_worked : (st : Stage) (op : Op) (way : Way) (f : ℕ) (out : Option Outcome) → work_order k o st ≡ Some op → (works_in_session st ≡ true → nat_eq c.session 0 ≡ false)
@@ -210,7 +211,7 @@ module _ (k : DeviceKind) (over : List Call → Config) (fit : IsFitting k over)
   tells_worked stage.Opening op way f out e h facts before told =
       subst (λ (x : Op). Told stage.Opening x way f out) (let same : OpenSession ≡ op = cc in same)
       (λ p. tells_by c.node OpenSession way None out f Accepted refl (λ is. told)
-      (λ tag is. absurd (none_some tag (subst (λ (w : Way). Possible k c.node c.session OpenSession w) is p).0)))
+      (λ tag is. absurd (none_some tag (subst (λ (w : Way). MayHappen k c.node c.session OpenSession w) is p).0)))
   tells_worked stage.LockingRunning op way f out e h facts before told =
       subst (λ (x : Op). Told stage.LockingRunning x way f out) (let same : LockRunning ≡ op = cc in same)
       (λ p. tells_by c.node LockRunning way None out f Accepted refl (λ is. told) (λ tag is. refuses stage.LockingRunning LockRunning way tag refl refl facts.0.due facts (h refl) p is))
@@ -227,7 +228,7 @@ module _ (k : DeviceKind) (over : List Call → Config) (fit : IsFitting k over)
   tells_worked stage.Committing op way f out e h facts before told =
       subst (λ (x : Op). Told stage.Committing x way f out) (let same : CommitConfirmed o.t 120 ≡ op = cc in same)
       (λ p. tells_by c.node (CommitConfirmed o.t 120) way (Some outcome.Prepared) out f Accepted refl
-      (λ is. let q = subst (λ (w : Way). Possible k c.node c.session (CommitConfirmed o.t 120) w) is p in
+      (λ is. let q = subst (λ (w : Way). MayHappen k c.node c.session (CommitConfirmed o.t 120) w) is p in
       ap k.accepts facts.0.due ∙ ap k.accepts (sym (facts.3 (live_of k c.node c.session (CommitConfirmed o.t 120) refl q)).1) ∙ commits_confirmed k c.node c.session o.t 120 q)
       (λ tag is. refuses stage.Committing (CommitConfirmed o.t 120) way tag refl refl facts.0.due facts (h refl) p is))
   tells_worked stage.Refusing op way f out e h facts before told = λ p. told
@@ -244,13 +245,13 @@ module _ (k : DeviceKind) (over : List Call → Config) (fit : IsFitting k over)
 
   -- no reply counts as a fault that is none
   abbrev Honest : Stage → Op → Way → Type 0
-  Honest st op way = Possible k c.node c.session op way → spoils st (way_reply c.node op way) ≡ true → is_fault (way_reply c.node op way) ≡ true
+  Honest st op way = MayHappen k c.node c.session op way → spoils st (way_reply c.node op way) ≡ true → is_fault (way_reply c.node op way) ≡ true
 
-  cancels_honest : (t : ℕ) (way : Way) → nat_eq c.session 0 ≡ false → Possible k c.node c.session (Cancel t) way → not (is_resolved (way_reply c.node (Cancel t) way)) ≡ true
+  cancels_honest : (t : ℕ) (way : Way) → nat_eq c.session 0 ≡ false → MayHappen k c.node c.session (Cancel t) way → not (is_resolved (way_reply c.node (Cancel t) way)) ≡ true
       → is_fault (way_reply c.node (Cancel t) way) ≡ true
   cancels_honest t way opened p =
       resolves_honest k c.node c.session (Cancel t) way refl refl
-      (λ tag is. let q = subst (λ (w : Way). Possible k c.node c.session (Cancel t) w) is p in
+      (λ tag is. let q = subst (λ (w : Way). MayHappen k c.node c.session (Cancel t) w) is p in
       cancel_harmless k over fit c inv opened t tag q.0 (lives k over fit c inv opened q.1)) p
 
   pub honest_worked : (st : Stage) (op : Op) (way : Way) → work_order k o st ≡ Some op → (works_in_session st ≡ true → nat_eq c.session 0 ≡ false) → StageFacts over c o st
@@ -258,7 +259,7 @@ module _ (k : DeviceKind) (over : List Call → Config) (fit : IsFitting k over)
   honest_worked stage.Confirming op way e h facts a =
       subst (λ (x : Op). Honest stage.Confirming x way) (let same : Confirm o.t ≡ op = cc in same)
       (λ p. resolves_honest k c.node c.session (Confirm o.t) way refl refl
-      (λ tag is. let q = subst (λ (w : Way). Possible k c.node c.session (Confirm o.t) w) is p in
+      (λ tag is. let q = subst (λ (w : Way). MayHappen k c.node c.session (Confirm o.t) w) is p in
       confirm_only_invalid k over fit c inv (h refl) o.t tag facts.2 a q.0 (lives k over fit c inv (h refl) q.1)) p)
   honest_worked stage.Cancelling op way e h facts a =
       subst (λ (x : Op). Honest stage.Cancelling x way) (let same : Cancel o.t ≡ op = cc in same) (λ p. cancels_honest o.t way (h refl) p)

@@ -6,7 +6,8 @@ use Rattle.orc_device.specs.Nodes.{DeviceKind, NodeState, PendingCommit, op_refu
 use Rattle.orc_call.specs.declared.answer.Tag.TheVariants.{LockDenied, InUse, InvalidValue, OperationFailed, NoSession}
 use Rattle.orc_device.specs.declared.reply.Reply.TheVariants.{Refused}
 use Rattle.orc_device.specs.declared.op.Op.TheVariants.{OpenSession, Confirm, Cancel, UnlockCandidate, UnlockRunning, CloseSession}
-use Rattle.orc_device.specs.Links.{Way, Possible, way_node, way_session}
+use Rattle.orc_device.specs.Links.{Way, way_node, way_session}
+use Rattle.orc_rules.specs.Cells.{MayHappen}
 use Rattle.orc_device.specs.Links.Way.{Done, Denied, Stranded, Before, After, NoMemory}
 use Rattle.orc_rules.specs.Facts.{Quiet, Held, SameTrees, pending_id}
 use Rattle.orc_worker.specs.declared.stage.Stage.{Stage}
@@ -84,7 +85,7 @@ module _ {Call : Type 0} (k : DeviceKind) (over : List Call → Config) (c : Cel
 
   -- the last operations
 
-  pub refusing : (way : Way) → Possible k c.node c.session CloseSession way → StageFacts over c o Refusing → Invariant over (worked k c o Refusing CloseSession way)
+  pub refusing : (way : Way) → MayHappen k c.node c.session CloseSession way → StageFacts over c o Refusing → Invariant over (worked k c o Refusing CloseSession way)
   refusing way p f =
       plain k over c o Refusing CloseSession way refl tt p inv is (inl refl)
       (λ _. quiet_goes c.node _ (over c.history) (way_trees k c.node c.session CloseSession way refl) f)
@@ -96,17 +97,17 @@ module _ {Call : Type 0} (k : DeviceKind) (over : List Call → Config) (c : Cel
       left true b e = cc
       left false b e = refl
 
-  pub unlocking_candidate : (way : Way) → Possible k c.node c.session UnlockCandidate way → StageFacts over c o UnlockingCandidate → Invariant over (worked k c o UnlockingCandidate UnlockCandidate way)
+  pub unlocking_candidate : (way : Way) → MayHappen k c.node c.session UnlockCandidate way → StageFacts over c o UnlockingCandidate → Invariant over (worked k c o UnlockingCandidate UnlockCandidate way)
   unlocking_candidate way p f =
       plain k over c o UnlockingCandidate UnlockCandidate way refl tt p inv is (inl refl)
       (rests _ _ (way_trees k c.node c.session UnlockCandidate way refl) f)
 
-  pub unlocking_running : (way : Way) → Possible k c.node c.session UnlockRunning way → StageFacts over c o UnlockingRunning → Invariant over (worked k c o UnlockingRunning UnlockRunning way)
+  pub unlocking_running : (way : Way) → MayHappen k c.node c.session UnlockRunning way → StageFacts over c o UnlockingRunning → Invariant over (worked k c o UnlockingRunning UnlockRunning way)
   unlocking_running way p f =
       plain k over c o UnlockingRunning UnlockRunning way refl tt p inv is (inl refl)
       (rests _ _ (way_trees k c.node c.session UnlockRunning way refl) f)
 
-  pub closing : (way : Way) → Possible k c.node c.session CloseSession way → StageFacts over c o Closing → Invariant over (worked k c o Closing CloseSession way)
+  pub closing : (way : Way) → MayHappen k c.node c.session CloseSession way → StageFacts over c o Closing → Invariant over (worked k c o Closing CloseSession way)
   closing way p f =
       plain k over c o Closing CloseSession way refl tt p inv is (inl refl)
       (rests _ _ (way_trees k c.node c.session CloseSession way refl) f)
@@ -137,7 +138,7 @@ module _ {Call : Type 0} (k : DeviceKind) (over : List Call → Config) (c : Cel
       let h = still_held f e in
       record { none = trees.pending; running = trees.running ∙ same ∙ h.running ∙ sym u.due }
 
-  pub confirming : (way : Way) → Possible k c.node c.session (Confirm o.t) way → StageFacts over c o Confirming → Invariant over (worked k c o Confirming (Confirm o.t) way)
+  pub confirming : (way : Way) → MayHappen k c.node c.session (Confirm o.t) way → StageFacts over c o Confirming → Invariant over (worked k c o Confirming (Confirm o.t) way)
   confirming Done p f =
       let op : Op = Confirm o.t in
       let n = way_node k c.node c.session op Done in
@@ -183,7 +184,7 @@ module _ {Call : Type 0} (k : DeviceKind) (over : List Call → Config) (c : Cel
 
   -- a Cancel that took effect
   cancel_done : (next : Stage) (way : Way) (clear : Bool) → IsLeft over c.history c.place o → HeldOrBack c.node o → op_refusal k c.node c.session (Cancel o.t) ≡ None →
-      Possible k c.node c.session (Cancel o.t) way →
+      MayHappen k c.node c.session (Cancel o.t) way →
       (trees : SameTrees (way_node k c.node c.session (Cancel o.t) Done) (way_node k c.node c.session (Cancel o.t) way)) →
       (stale : Bool) →
       (Quiet (way_node k c.node c.session (Cancel o.t) way) (over c.history) →
@@ -203,7 +204,7 @@ module _ {Call : Type 0} (k : DeviceKind) (over : List Call → Config) (c : Cel
         role = (is, facts q);
       }
 
-  pub cancelling : (way : Way) → Possible k c.node c.session (Cancel o.t) way → StageFacts over c o Cancelling → Invariant over (worked k c o Cancelling (Cancel o.t) way)
+  pub cancelling : (way : Way) → MayHappen k c.node c.session (Cancel o.t) way → StageFacts over c o Cancelling → Invariant over (worked k c o Cancelling (Cancel o.t) way)
   cancelling Done p f = cancel_done UnlockingCandidate Done true f.0 f.1 p p (same_trees (way_node k c.node c.session (Cancel o.t) Done)) (c.stale || false) (λ q. λ _. q)
   cancelling After p f =
       let n = way_node k c.node c.session (Cancel o.t) After in
@@ -228,7 +229,7 @@ module _ {Call : Type 0} (k : DeviceKind) (over : List Call → Config) (c : Cel
       let n = way_node k c.node c.session (Cancel o.t) Before in
       keeps k over c o Cancelling (Cancel o.t) Before (record { running = refl; pending = refl }) refl tt p inv is (inl refl) (vacuous n (over c.history))
 
-  pub recancelling : (way : Way) → Possible k c.node c.session (Cancel o.t) way → StageFacts over c o Recancelling → Invariant over (worked k c o Recancelling (Cancel o.t) way)
+  pub recancelling : (way : Way) → MayHappen k c.node c.session (Cancel o.t) way → StageFacts over c o Recancelling → Invariant over (worked k c o Recancelling (Cancel o.t) way)
   recancelling Done p f = cancel_done Closing Done true f.0 f.1 p p (same_trees (way_node k c.node c.session (Cancel o.t) Done)) (c.stale || false) (λ q. λ _. q)
   recancelling After p f =
       let n = way_node k c.node c.session (Cancel o.t) After in
@@ -253,6 +254,6 @@ module _ {Call : Type 0} (k : DeviceKind) (over : List Call → Config) (c : Cel
       let n = way_node k c.node c.session (Cancel o.t) Before in
       keeps k over c o Recancelling (Cancel o.t) Before (record { running = refl; pending = refl }) refl tt p inv is (inl refl) (vacuous n (over c.history))
 
-  pub reopening : (way : Way) → Possible k c.node c.session OpenSession way → StageFacts over c o Reopening → Invariant over (worked k c o Reopening OpenSession way)
+  pub reopening : (way : Way) → MayHappen k c.node c.session OpenSession way → StageFacts over c o Reopening → Invariant over (worked k c o Reopening OpenSession way)
   reopening Done p f = plain k over c o Reopening OpenSession Done refl tt p inv is (inl refl) (f.0, either_goes _ (way_trees k c.node c.session OpenSession Done refl) f.1)
   reopening way p f = plain k over c o Reopening OpenSession way refl tt p inv is (inl refl) (vacuous _ (over c.history))

@@ -134,6 +134,7 @@ module _ {D : Type 0} (here : Setting D) (are_decls : AreDecls here.decls) (plan
   silent_done world hub meant row next up (DoesUnderHub.begins caller) none device = absurd (let no : Some hub ≡ None = sym up ∙ none in cc)
   silent_done world hub meant row next up DoesUnderHub.stops none device = refl
   silent_done world hub meant row next up (DoesUnderHub.performs d op happened due unheard possible way) none device = absurd (let no : Some hub ≡ None = sym up ∙ none in cc)
+  silent_done world hub meant row next up (DoesUnderHub.leaves_unsent d changes due unheard) none device = absurd (let no : Some hub ≡ None = sym up ∙ none in cc)
   silent_done world hub meant row next up does none device = absurd (some_not none)
 
   -- What a read gives of a row that wasn't done happened on devices that nothing else touched.
@@ -272,7 +273,7 @@ module _ {D : Type 0} (here : Setting D) (are_decls : AreDecls here.decls) (plan
         shadow = own.shadow;
         kept = recovers_keep here.decls here.kinds lawful planning own.shadow (entries_read new.journal) old.nodes old.links (own.silent down)
             (subst (λ (h : Option Hub). NetworkKept here.decls (network_of here.decls own.shadow (entries_read new.journal) h old.nodes old.links)) down
-            (subst (λ (l : List Entry). NetworkKept here.decls (network_of here.decls own.shadow l old.hub old.nodes old.links)) (sym (uncut_read new.journal reopens.cut ∙ reopens.synced)) own.kept));
+            (subst (λ (l : List Entry). NetworkKept here.decls (network_of here.decls own.shadow l old.hub old.nodes old.links)) (sym (uncut_read new.journal reopens.cut ∙ reopens.synced kept.journal.read_back)) own.kept));
         silent = λ none device. own.silent down device;
         under = λ h e. subst (λ (x : Hub). Attends here.decls own.shadow (entries_read new.journal) x old.links)
             (same_Some (new_hub (map (λ device. duty.Free) (declared here.decls)) (map (λ device. Some why.Recovered) (declared here.decls))) h e)

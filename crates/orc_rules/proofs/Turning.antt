@@ -20,7 +20,7 @@ use Rattle.orc_rules.specs.Due.{is_decision_due}
 use Rattle.orc_rules.specs.Duties.{duty_told, duty_took}
 use Rattle.orc_rules.specs.Events.{DoesUnderHub, DoesAnyway, Steps, mender_freed}
 use Rattle.orc_rules.specs.Hubs.{Hub, with_changed}
-use Rattle.orc_rules.specs.Journals.{HoldsEntries, Journal, entries_read}
+use Rattle.orc_rules.specs.Journals.{HoldsEntries, IsReadBack, Journal, entries_read}
 use Rattle.orc_rules.specs.Kept.{FrontsAre, HistoryKept, HubKept, IsOpenIn, JournalKept}
 use Rattle.orc_rules.specs.Standing.{IsWaiting}
 use Rattle.orc_rules.specs.Transactions.{in_phase, is_other, is_preparing, retired}
@@ -116,6 +116,7 @@ module _ {D : Type 0} (here : Setting D) (are : AreDecls here.decls) (plans : Pl
         (subst (λ (w : Waiting). All (λ (other : Transaction). FitTogether w.plan.held other.plan.held) hub.active) same first.fits.active_ones)
         legal passes.unrefused passes.stands)
     does_keeps meant row next (DoesUnderHub.performs device op happened due unheard possible way) = nothing next hub up own
+    does_keeps meant row next (DoesUnderHub.leaves_unsent device changes due unheard) = nothing next hub up own
     does_keeps meant row next (DoesUnderHub.reports device op reply unheard) =
         nothing next _ refl (report_keeps here.decls (entries_read world.journal) (history_of (entries_read world.journal)) hub.active hub.waiting hub.given own
         (with_changed (λ duty. duty_took duty reply (world.links device).faults) device hub.duties))
@@ -150,6 +151,7 @@ module _ {D : Type 0} (here : Setting D) (are : AreDecls here.decls) (plans : Pl
         let may = all_of {P = λ t. MayFollow (entries_read world.journal) (entry.Settled t)} numbers (λ t among. settles_known order (entries_read world.journal) ordered t ((unsettled.all t).0 among)) in
         let result = row_settles order here.decls hub.given hub.waiting (entries_read world.journal) numbers ordered legal unsettled.ascending may kept in
         (result.0, λ hub' e. subst (HubAt (entries_read world.journal ++ map entry.Settled numbers)) (same_Some (record hub { active = []; mends = None; duties = map mender_freed hub.duties }) hub' e) result.1)
+    does_keeps meant row next (DoesUnderHub.finds_no_memory met busy heard) = nothing next _ refl own
     does_keeps meant row next (DoesUnderHub.fails_to_mend met failed heard) = nothing next _ refl own
 
   -- a hub with nothing under way
@@ -221,13 +223,14 @@ module _ {D : Type 0} (here : Setting D) (are : AreDecls here.decls) (plans : Pl
   }
 
   -- the world as a run begins: a journal of a legal history, nothing cut, and a hub with nothing under way
-  pub opened_kept : (world : World D) (duties : List Duty) (stale : List (Option Why)) → HoldsEntries here.disk here.decls.text here.limit world.journal
+  pub opened_kept : (world : World D) (duties : List Duty) (stale : List (Option Why)) → IsReadBack here.disk here.decls.text here.limit here.granted world.journal.disk → HoldsEntries here.disk here.decls.text here.limit world.journal
       → IsTrue (is_ordered world.journal.synced) → IsLegal here.decls (history_of world.journal.synced) → world.journal.cut ≡ []
       → world.hub ≡ Some (new_hub duties stale) → HistoryKept here world
-  opened_kept world duties stale holds ordered legal uncut up = record {
+  opened_kept world duties stale read_back holds ordered legal uncut up = record {
     journal = record {
       holds = holds;
       fronts = subst (λ (l : List Entry). FrontsAre here.decls world.journal.synced l) (sym uncut) (no_front here.decls world.journal.synced ordered legal);
+      read_back = read_back;
     };
     hub = λ hub e. (
       uncut,

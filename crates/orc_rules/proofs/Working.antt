@@ -4,7 +4,8 @@ use Rattle.orc_call.specs.declared.answer.Tag.{Tag}
 use Rattle.orc_device.specs.declared.op.Op.{Op}
 use Rattle.orc_device.specs.Nodes.{DeviceKind, NodeState, PendingCommit, kept_by, session_ended}
 use Rattle.orc_device.specs.declared.op.Op.TheVariants.{OpenSession, LockRunning, LockCandidate, Edit, Validate, CommitConfirmed, Commit, Confirm, Cancel}
-use Rattle.orc_device.specs.Links.{Way, Possible, way_node, way_reply, took_effect}
+use Rattle.orc_device.specs.Links.{Way, way_node, way_reply, took_effect}
+use Rattle.orc_rules.specs.Cells.{MayHappen}
 use Rattle.orc_device.specs.Links.Way.{Done, Denied, Stranded, Before, After, NoMemory}
 use Rattle.orc_rules.specs.Facts.{Quiet, Held, SameTrees, pending_id, EditsLocked, is_plain}
 use Rattle.orc_worker.specs.declared.stage.Stage.{Stage}
@@ -51,7 +52,7 @@ uncleared false f t x h = h
 -- an operation that leaves the trees, in any stage
 pub keeps : {Call : Type 0} (k : DeviceKind) (over : List Call → Config) (c : Cell Call) (o : Intent Call) (st : Stage) (op : Op) (way : Way) →
     SameTrees c.node (way_node k c.node c.session op way) → at_after c op (took_effect way) ≡ c.at →
-    EditsLocked c.node c.session op → Possible k c.node c.session op way → Invariant over c → c.open_intent o.t ≡ Some o →
+    EditsLocked c.node c.session op → MayHappen k c.node c.session op way → Invariant over c → c.open_intent o.t ≡ Some o →
     (worker_clears st (way_reply c.node op way) ≡ false) ⊎ (c.node.pending ≡ None) →
     StageFacts over (worked k c o st op way) o (worker_after st (way_reply c.node op way)) →
     Invariant over (worked k c o st op way)
@@ -76,7 +77,7 @@ keeps k over c o st op way trees at e may inv is clears facts =
     unclear false f t q = q
 
 pub plain : {Call : Type 0} (k : DeviceKind) (over : List Call → Config) (c : Cell Call) (o : Intent Call) (st : Stage) (op : Op) (way : Way) →
-    is_plain op ≡ true → EditsLocked c.node c.session op → Possible k c.node c.session op way → Invariant over c → c.open_intent o.t ≡ Some o →
+    is_plain op ≡ true → EditsLocked c.node c.session op → MayHappen k c.node c.session op way → Invariant over c → c.open_intent o.t ≡ Some o →
     (worker_clears st (way_reply c.node op way) ≡ false) ⊎ (c.node.pending ≡ None) →
     StageFacts over (worked k c o st op way) o (worker_after st (way_reply c.node op way)) →
     Invariant over (worked k c o st op way)
@@ -94,7 +95,7 @@ module _ {Call : Type 0} (k : DeviceKind) (over : List Call → Config) (lawful 
   refused : (m : NodeState) → SameTrees c.node m → Quiet c.node (over c.history) → Quiet m (over c.history)
   refused m trees q = quiet_goes c.node m (over c.history) trees q
 
-  pub opening : (way : Way) → Possible k c.node c.session OpenSession way → StageFacts over c o Opening → Invariant over (worked k c o Opening OpenSession way)
+  pub opening : (way : Way) → MayHappen k c.node c.session OpenSession way → StageFacts over c o Opening → Invariant over (worked k c o Opening OpenSession way)
   opening Done p f =
       let trees = way_trees k c.node c.session OpenSession Done refl in
       plain k over c o Opening OpenSession Done refl tt p inv is (inl refl) (f.0, quiet_goes c.node _ (over c.history) trees f.1, begun_unlocked (session_ended c.node c.session) (ended_unlocks c.node c.session inv.locks))
@@ -102,7 +103,7 @@ module _ {Call : Type 0} (k : DeviceKind) (over : List Call → Config) (lawful 
   opening NoMemory p f = plain k over c o Opening OpenSession NoMemory refl tt p inv is (inr f.1.none) f.1
   opening way p f = plain k over c o Opening OpenSession way refl tt p inv is (inl refl) (lost _ (way_trees k c.node c.session OpenSession way refl) f.0 f.1)
 
-  pub locking_running : (way : Way) → Possible k c.node c.session LockRunning way → StageFacts over c o LockingRunning → Invariant over (worked k c o LockingRunning LockRunning way)
+  pub locking_running : (way : Way) → MayHappen k c.node c.session LockRunning way → StageFacts over c o LockingRunning → Invariant over (worked k c o LockingRunning LockRunning way)
   locking_running Done p f =
       let trees = way_trees k c.node c.session LockRunning Done refl in
       plain k over c o LockingRunning LockRunning Done refl tt p inv is (inl refl) (f.0, quiet_goes c.node _ (over c.history) trees f.1, λ _. refl, (f.2.cand, f.2.same))
@@ -118,7 +119,7 @@ module _ {Call : Type 0} (k : DeviceKind) (over : List Call → Config) (lawful 
   not_true true h = refl
   not_true false h = cc
 
-  pub locking_candidate : (way : Way) → Possible k c.node c.session LockCandidate way → StageFacts over c o LockingCandidate → Invariant over (worked k c o LockingCandidate LockCandidate way)
+  pub locking_candidate : (way : Way) → MayHappen k c.node c.session LockCandidate way → StageFacts over c o LockingCandidate → Invariant over (worked k c o LockingCandidate LockCandidate way)
   locking_candidate Done p f =
       let trees = way_trees k c.node c.session LockCandidate Done refl in
       let free = unrefused _ Tag.LockDenied None (allowed k c.node c.session LockCandidate p) in
@@ -129,7 +130,7 @@ module _ {Call : Type 0} (k : DeviceKind) (over : List Call → Config) (lawful 
   locking_candidate NoMemory p f = plain k over c o LockingCandidate LockCandidate NoMemory refl tt p inv is (inr f.1.none) f.1
   locking_candidate way p f = plain k over c o LockingCandidate LockCandidate way refl tt p inv is (inl refl) (lost _ (way_trees k c.node c.session LockCandidate way refl) f.0 f.1)
 
-  pub editing : (way : Way) → Possible k c.node c.session (Edit (k.between o.before o.due)) way → StageFacts over c o Editing → Invariant over (worked k c o Editing (Edit (k.between o.before o.due)) way)
+  pub editing : (way : Way) → MayHappen k c.node c.session (Edit (k.between o.before o.due)) way → StageFacts over c o Editing → Invariant over (worked k c o Editing (Edit (k.between o.before o.due)) way)
   editing Done p f =
       let op : Op = Edit (k.between o.before o.due) in
       let trees = way_trees k c.node c.session op Done refl in
@@ -144,7 +145,7 @@ module _ {Call : Type 0} (k : DeviceKind) (over : List Call → Config) (lawful 
   editing NoMemory p f = plain k over c o Editing (Edit (k.between o.before o.due)) NoMemory refl (λ l. (f.3 l).0) p inv is (inr f.1.none) f.1
   editing way p f = plain k over c o Editing (Edit (k.between o.before o.due)) way refl (λ l. (f.3 l).0) p inv is (inl refl) (lost _ (way_trees k c.node c.session (Edit (k.between o.before o.due)) way refl) f.0 f.1)
 
-  pub validating : (way : Way) → Possible k c.node c.session Validate way → StageFacts over c o Validating → Invariant over (worked k c o Validating Validate way)
+  pub validating : (way : Way) → MayHappen k c.node c.session Validate way → StageFacts over c o Validating → Invariant over (worked k c o Validating Validate way)
   validating Done p f = plain k over c o Validating Validate Done refl tt p inv is (inl refl) f
   validating (Denied tag) p f = plain k over c o Validating Validate (Denied tag) refl tt p inv is (inr f.1.none) f.1
   validating NoMemory p f = plain k over c o Validating Validate NoMemory refl tt p inv is (inr f.1.none) f.1
@@ -172,7 +173,7 @@ module _ {Call : Type 0} (k : DeviceKind) (over : List Call → Config) (lawful 
       same : o.t ≡ t
       same = let both : Some o.t ≡ Some t = sym h.id ∙ e in cc
 
-  pub committing : (way : Way) → Possible k c.node c.session (CommitConfirmed o.t 120) way → StageFacts over c o Committing → Invariant over (worked k c o Committing (CommitConfirmed o.t 120) way)
+  pub committing : (way : Way) → MayHappen k c.node c.session (CommitConfirmed o.t 120) way → StageFacts over c o Committing → Invariant over (worked k c o Committing (CommitConfirmed o.t 120) way)
   committing Done p f =
       let op : Op = CommitConfirmed o.t 120 in
       let n = way_node k c.node c.session op Done in

@@ -1,19 +1,23 @@
 -- What devices accept, and what they may answer to what is due there, at each moment.
-use Rattle.std.specs.Prelude.{◌≡◌, ℕ, nat_eq, Bool, true, false, Option, Some, List, [], ◌∷◌, ◌++◌, take, slice_get}
+use Rattle.std.specs.Prelude.{◌≡◌, ℕ, nat_eq, Bool, true, false, Option, None, Some, List, [], ◌∷◌, ◌++◌, take, slice_get}
 use Rattle.std.specs.List.{list_any}
 use Rattle.orc_call.specs.declared.answer.RecFault.{RecFault}
 use Rattle.orc_call.specs.declared.answer.RecFault.TheVariants as fault
 use Rattle.orc_call.specs.declared.answer.Tag.{Tag}
 use Rattle.orc_call.specs.declared.answer.Tag.TheVariants.{OperationFailed}
 use Rattle.orc_call.specs.declared.call.Call.{Call}
+use Rattle.orc_check.specs.declared.acceptance.Accept.{Accept}
 use Rattle.orc_decls.specs.Calls.{schema_named}
+use Rattle.orc_decls.specs.Declarations.{accept_of}
 use Rattle.orc_decls.specs.Devices.{name_of}
 use Rattle.orc_decls.specs.declared.declarations.Decls.{Decls}
+use Rattle.orc_decls.specs.declared.declarations.Device.{Device}
 use Rattle.orc_device.specs.Nodes.{DeviceKind}
 use Rattle.orc_device.specs.Operations.{is_fault}
 use Rattle.orc_device.specs.declared.kind.OpKind.{OpKind}
 use Rattle.orc_device.specs.declared.reply.Reply.{Reply}
-use Rattle.orc_node.specs.Kinds.{set_stands}
+use Rattle.orc_node.specs.Kinds.{device_kind, set_stands}
+use Rattle.orc_schema.specs.Schemas.{SchemaTable, plain_table}
 use Rattle.orc_recover.specs.Menders.{MenderState, mender_end}
 use Rattle.orc_recover.specs.declared.stage.MendStage.{MendStage}
 use Rattle.orc_recover.specs.declared.stage.MendStage.TheVariants as mend_stage
@@ -32,6 +36,19 @@ use Rattle.orc_rules.specs.Worlds.{Link, Setting, World, over}
 use Rattle.orc_rules.specs.declared.duty.Duty.{Duty}
 use Rattle.orc_rules.specs.declared.duty.Duty.TheVariants as duty
 use Rattle.orc_rules.specs.declared.transaction.Transaction.{Transaction}
+
+-- what a device accepts of which nothing is declared: what is valid under the plain schema
+abbrev pub plain_accept : Accept
+plain_accept = record { schema = plain_table; max = []; forbid = [] }
+
+-- what a device says of configurations, by what is declared of it, or where nothing is
+abbrev pub node_kind : List SchemaTable → Option Device → DeviceKind
+node_kind schemas None = device_kind plain_accept
+node_kind schemas (Some device) = device_kind (accept_of schemas device)
+
+-- the devices of a network as they are declared
+abbrev pub declared_kind : Decls → ℕ → DeviceKind
+declared_kind decls device = node_kind decls.schemas (slice_get decls.devices device)
 
 -- The device is one of its declared schema: it takes exactly the changes that are typed by it.
 abbrev pub IsOfSchema : Decls → ℕ → DeviceKind → Type 0

@@ -54,6 +54,10 @@ pub data KeepsAnswer (call : Call) (said : Answer) (asked : List Asked) : List A
   kept : KeepsAnswer call said asked (with_answer call said asked)
   wanting : said ≡ answer.Memory → slot_of asked call ≡ None → KeepsAnswer call said asked asked
 
--- or it waits
+-- the last answer in the slot at this place, if one was given
+abbrev pub last_at : List Asked → Option ℕ → Option Answer
+last_at asked place = option_and_then (λ at. option_and_then (λ one. one.last) (slice_get asked at)) place
+
+-- or it waits: the last answer of its caller and number stays
 abbrev pub with_open : Call → List Asked → List Asked
-with_open call asked = slot_set asked call (slot_of asked call) None true
+with_open call asked = slot_set asked call (slot_of asked call) (last_at asked (slot_of asked call)) true

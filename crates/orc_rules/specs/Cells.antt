@@ -1,12 +1,13 @@
 -- One device of the network: the node, what the journal says of it, and what is done there now.
-use Rattle.std.specs.Prelude.{ℕ, ◌+◌, Bool, true, false, ◌||◌, nat_eq, Option, Some, None, List, [], ◌∷◌, ◌++◌, length, if◌then◌else◌}
+use Rattle.std.specs.Prelude.{◌≡◌, ℕ, ◌+◌, Bool, true, false, ◌||◌, nat_eq, Option, Some, None, List, [], ◌∷◌, ◌++◌, length, if◌then◌else◌}
 use Rattle.orc_device.specs.declared.op.Op.{Op}
 use Rattle.orc_device.specs.declared.reply.Reply.{Reply}
 use Rattle.orc_device.specs.Nodes.{DeviceKind, NodeState, dropped}
 use Rattle.orc_device.specs.declared.op.Op.TheVariants.{Commit, Confirm}
 use Rattle.orc_device.specs.declared.reply.Reply.TheVariants.{Tree}
-use Rattle.orc_device.specs.Links.{Way, Possible, way_node, way_session, way_reply, took_effect}
+use Rattle.orc_device.specs.Links.{Way, Possible, takes_memory, way_node, way_session, way_reply, took_effect}
 use Rattle.orc_worker.specs.declared.stage.Stage.{Stage}
+use Rattle.orc_device.specs.Links.Way.{NoMemory}
 use Rattle.orc_device.specs.Operations.{is_ok, is_fault, is_resolved}
 use Rattle.orc_rules.specs.Works.{Intent, Mend, work_operation, worker_after, worker_spoils, worker_clears, mend_operation}
 use Rattle.orc_worker.specs.declared.stage.Stage.TheVariants.{Opening, Prepared, Lost, Confirming, Cancelling, Reopening}
@@ -213,7 +214,12 @@ stopped cell = record cell { node = dropped cell.node; role = Free; stale = true
 abbrev pub mending : {Call : Type 0} → Cell Call → List ℕ → Cell Call
 mending cell later = record cell { role = Mends (Mopening later) }
 
+-- what may happen to an operation: what is possible of its link, or memory runs out before it is sent
+abbrev pub MayHappen : DeviceKind → NodeState → ℕ → Op → Way → Type 0
+MayHappen kind node session op NoMemory = (takes_memory op ≡ true) × Unit {0}
+MayHappen kind node session op way = Possible kind node session op way
+
 -- what happens to the operation that is due, if one is
 abbrev pub PossibleDue : DeviceKind → NodeState → ℕ → Option (Op) → Way → Type 0
 PossibleDue kind node session None way = ⊥
-PossibleDue kind node session (Some op) way = Possible kind node session op way
+PossibleDue kind node session (Some op) way = MayHappen kind node session op way

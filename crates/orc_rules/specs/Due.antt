@@ -1,5 +1,5 @@
 -- What is due in the journal: the decision of a transaction, or that it is settled.
-use Rattle.std.specs.Prelude.{◌≡◌, ℕ, Bool, true, ◌&&◌, ◌||◌, List, Option, Some, None, min, if◌then◌else◌}
+use Rattle.std.specs.Prelude.{ℕ, Bool, ◌&&◌, ◌||◌, List, Option, Some, None, min, if◌then◌else◌}
 use Rattle.std.specs.List.{fold}
 use Rattle.orc_rules.specs.Transactions.{is_preparing, is_settling}
 use Rattle.orc_rules.specs.Verdicts.{are_heard}

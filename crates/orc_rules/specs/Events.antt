@@ -14,7 +14,9 @@ use Rattle.orc_device.specs.Listings.{kind_of_op, listed_when, without_first}
 use Rattle.orc_device.specs.Nodes.{op_refusal, restarted, ticked}
 use Rattle.orc_device.specs.Operations.{mark_of}
 use Rattle.orc_device.specs.declared.kind.OpKind.{OpKind}
+use Rattle.orc_device.specs.declared.kind.When.{When}
 use Rattle.orc_device.specs.declared.op.Op.{Op}
+use Rattle.orc_device.specs.declared.op.Op.TheVariants as op
 use Rattle.orc_device.specs.declared.reply.Reply.{Reply}
 use Rattle.orc_journal.specs.declared.entry.Entry.{Entry}
 use Rattle.orc_journal.specs.declared.entry.Entry.TheVariants as entry
@@ -49,11 +51,11 @@ use Rattle.orc_rules.specs.declared.transaction.Waiting.{Waiting}
 
 -- links
 
--- the link after an operation to which this happened
-abbrev pub link_behind : Link → ℕ → Op → Way → Reply → Link
-link_behind link session op happened reply = record {
+-- the link after an operation to which this happened, where these faults stay listed
+abbrev pub link_behind : List (OpKind × When) → Link → ℕ → Op → Way → Reply → Link
+link_behind listed link session op happened reply = record {
   session = session;
-  listed = without_first (kind_of_op op) link.listed;
+  listed = listed;
   faults = if link_fails happened then next_count link.faults else link.faults;
   unheard = Some (kind_of_op op, reply);
 }
@@ -85,15 +87,26 @@ module _ {D : Type 0} (here : Setting D) (world : World D) where
       if is_stranded node link.session op then way.Stranded
       else listed_way (listed_when (kind_of_op op) link.listed) (op_refusal (here.kinds device) node link.session op)
 
-  -- the world after an operation of a device to which this happened
-  abbrev pub performed : ℕ → Op → Way → World D
-  performed device op happened =
+  -- the world after an operation of a device to which this happened, where these faults of its link stay listed
+  abbrev pub performed_with : List (OpKind × When) → ℕ → Op → Way → World D
+  performed_with listed device op happened =
       let link = world.links device in let node = world.nodes device in
       record world {
         nodes = updated_at world.nodes device (way_node (here.kinds device) node link.session op happened);
         links = updated_at world.links device
-            (link_behind link (way_session node link.session op happened) op happened (way_reply node op happened));
+            (link_behind listed link (way_session node link.session op happened) op happened
+            (way_reply node op happened));
       }
+
+  -- the world after an operation of a device to which this happened: a fault that was listed for it stays no longer
+  abbrev pub performed : ℕ → Op → Way → World D
+  performed device op happened =
+      performed_with (without_first (kind_of_op op) (world.links device).listed) device op happened
+
+  -- The world after an edit that wasn't sent: the device and its session are as they were, and so is what is listed. The
+  -- hub is to hear that memory ran out.
+  abbrev pub unsent : ℕ → ChangeSet → World D
+  unsent device changes = performed_with (world.links device).listed device (op.Edit changes) way.NoMemory
 
   -- why a transaction whose decision is due is given up: what its devices say; where these are all prepared, that the
   -- data isn't valid with it; or that memory runs out
@@ -152,6 +165,9 @@ module _ {D : Type 0} (here : Setting D) (world : World D) where
         → (happened ≡ way_due device op) ⊎ (happened ≡ way.NoMemory)
         → DoesUnderHub hub (event.Perform device (kind_of_op op) (mark_of (way_reply (world.nodes device) op happened))
         ((performed device op happened).links device).faults) [] (performed device op happened)
+    leaves_unsent : (device : ℕ) (changes : ChangeSet) → due_on hub device ≡ Some (op.Edit changes)
+        → (world.links device).unheard ≡ None
+        → DoesUnderHub hub (event.Unsent device) [] (unsent device changes)
     reports : (device : ℕ) (op : OpKind) (reply : Reply) → (world.links device).unheard ≡ Some (op, reply)
         → DoesUnderHub hub (event.Report device op (mark_of reply) (world.links device).faults) [] (record world {
           hub = Some (hub_reported device reply (world.links device).faults hub);
@@ -188,6 +204,10 @@ module _ {D : Type 0} (here : Setting D) (world : World D) where
         → ((device : ℕ) → (world.links device).unheard ≡ None) → AreUnsettled told_now numbers
         → DoesUnderHub hub (event.Reconcile (Some (Ok tt))) (map entry.Settled numbers)
         (record world { hub = Some (record hub { active = []; mends = None; duties = map mender_freed hub.duties }) })
+    finds_no_memory : hub.mends ≡ Some None → All (λ duty. is_busy duty ≡ false) hub.duties
+        → ((device : ℕ) → (world.links device).unheard ≡ None)
+        → DoesUnderHub hub (event.Reconcile (Some (Err fault.Memory))) []
+        (record world { hub = Some (record hub { mends = None; duties = map mender_freed hub.duties }) })
     fails_to_mend : (met : RecFault) → hub.mends ≡ Some (Some met)
         → ((device : ℕ) → (world.links device).unheard ≡ None)
         → DoesUnderHub hub (event.Reconcile (Some (Err met))) []
@@ -236,7 +256,7 @@ module _ {D : Type 0} (here : Setting D) where
         → StaysClosed here.disk here.decls.text here.limit old.journal new.journal
         → new ≡ record old { journal = new.journal } → Steps old meant None new
     recovers : (new : World D) → old.hub ≡ None → meant ≡ event.Recover
-        → Reopens here.disk here.decls.text here.limit old.journal new.journal
+        → Reopens here.disk here.decls.text here.limit here.granted old.journal new.journal
         → new ≡ record old {
           journal = new.journal;
           hub = Some (new_hub (map (λ device. duty.Free) (declared here.decls))

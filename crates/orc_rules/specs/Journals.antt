@@ -1,5 +1,5 @@
 -- The journal on its disk, and what becomes of it while entries are appended, also where an append is cut.
-use Rattle.std.specs.Prelude.{◌≡◌, ◌⊎◌, ℕ, ◌+◌, ◌-◌, ◌*◌, ◌<◌, ◌≤◌, min, nat_lt, Bool, List, [], ◌∷◌, ◌++◌, length, IfSome, is_some, if◌then◌else◌}
+use Rattle.std.specs.Prelude.{◌≡◌, ◌⊎◌, ℕ, ◌+◌, ◌-◌, ◌*◌, ◌<◌, ◌≤◌, min, nat_lt, Bool, true, List, [], ◌∷◌, ◌++◌, length, IfSome, is_some, if◌then◌else◌}
 use Rattle.orc_disk.specs.Meanings.{DiskMeaning}
 use Rattle.orc_disk.specs.Moments.{LeavesOnly}
 use Rattle.orc_io.specs.Counts.{Rose}
@@ -79,7 +79,7 @@ module _ {D : Type 0} (disk : DiskMeaning D) (decls : List ℕ) (limit : ℕ) wh
     pub later : disk.faults old.disk ≤ disk.faults new.disk
 
   -- The entries of a row were appended in turn, each by four operations. These were, and are synced; the others were
-  -- not, and how it came out says why.
+  -- not, and how it came out says why. What was appended fits the limit, with the entry that was cut.
   pub record AppendsRow (old : Journal D) (row : List Entry) (outcome : Appended) (new : Journal D) : Type 0 where
     pub before : old.cut ≡ []
     pub done : List Entry
@@ -87,11 +87,17 @@ module _ {D : Type 0} (disk : DiskMeaning D) (decls : List ℕ) (limit : ℕ) wh
     pub parts : row ≡ done ++ rest
     pub synced : new.synced ≡ old.synced ++ done
     pub ends : Ends (4 * length done) rest old outcome new
+    pub fits : (new.synced ++ new.cut ≡ old.synced) ⊎ (journal_length decls (new.synced ++ new.cut) ≤ limit)
     pub outlives : OutlivesRow old row new
 
-  -- The journal was opened again: what a read gave is what there is from then on, and no stop is armed.
-  pub record Reopens (old new : Journal D) : Type 0 where
-    pub synced : new.synced ≡ entries_read old
+  -- Reads give what was written: the disk tells what it holds, or that is taken for granted.
+  abbrev pub IsReadBack : Bool → D → Type 0
+  IsReadBack granted held = (granted ≡ true) ⊎ (is_some (disk.content held) ≡ true)
+
+  -- The journal was opened again: what a read gave, which is what was written where reads give that, is what there is
+  -- from then on, and no stop is armed.
+  pub record Reopens (granted : Bool) (old new : Journal D) : Type 0 where
+    pub synced : IsReadBack granted old.disk → new.synced ≡ entries_read old
     pub cut : new.cut ≡ []
     pub unarmed : new.armed ≡ 0
     pub outlives : OutlivesRow old [] new

@@ -28,7 +28,7 @@ use Rattle.orc_rules.specs.Cells.{DeviceRole}
 use Rattle.orc_rules.specs.Cells.DeviceRole.{Free, Works, Mends}
 use Rattle.orc_rules.specs.Duties.{duty_took, is_over, stale_by}
 use Rattle.orc_rules.specs.Hubs.{Hub, duty_on}
-use Rattle.orc_rules.specs.Journals.{HoldsEntries, Journal, entries_read}
+use Rattle.orc_rules.specs.Journals.{HoldsEntries, IsReadBack, Journal, entries_read}
 use Rattle.orc_rules.specs.Network.{Plan as Named, Local, Network, Kept, intent_seen}
 use Rattle.orc_rules.specs.Standing.{AreFit, IsAdmitted, IsWaiting}
 use Rattle.orc_rules.specs.Told.{Told, named_call, told_by}
@@ -223,6 +223,7 @@ module _ {D : Type 0} (here : Setting D) where
   pub record JournalKept (journal : Journal D) : Type 0 where
     pub holds : HoldsEntries here.disk here.decls.text here.limit journal
     pub fronts : FrontsAre here.decls journal.synced journal.cut
+    pub read_back : IsReadBack here.disk here.decls.text here.limit here.granted journal.disk
 
   -- The part of what is kept that says nothing of devices: the journal, and under a hub that is up nothing is cut.
   pub record HistoryKept (world : World D) : Type 0 where

@@ -104,6 +104,7 @@ turns_left hub links =
 abbrev pub is_of_round : Event → Bool
 is_of_round (event.Admit t said) = true
 is_of_round (event.Perform device op mark count) = true
+is_of_round (event.Unsent device) = true
 is_of_round (event.Report device op mark count) = true
 is_of_round (event.Decide t said) = true
 is_of_round (event.Settle t) = true

@@ -30,13 +30,15 @@ use Rattle.orc_rules.specs.declared.duty.Duty.{Duty}
 use Rattle.orc_rules.specs.declared.transaction.Phase.{Phase}
 use Rattle.orc_rules.specs.declared.transaction.Phase.TheVariants as phase
 
--- Where a run takes place: what the disk tells, what is declared, what each device accepts, and the most bytes of a
--- journal.
+-- Where a run takes place: what the disk tells, what is declared, what each device accepts, the most bytes of a journal,
+-- and whether it is taken for granted that a journal that is opened again reads what was written. (Over a disk that tells
+-- what it holds that is so, granted or not. What a file holds nobody tells.)
 pub record Setting (D : Type 0) : Type 1 where
   pub disk : DiskMeaning D
   pub decls : Decls
   pub kinds : ℕ → DeviceKind
   pub limit : ℕ
+  pub granted : Bool
 
 -- a link: its session, 0 before the first; its listed faults, the count of those that came, and what was replied to an
 -- operation that the hub hasn't heard of yet

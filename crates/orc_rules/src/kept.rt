@@ -1,5 +1,5 @@
 //! What each event keeps. Each function does nothing: its contract is the law.
-ghost use Rattle.orc_rules.specs.Laws.{DevicesAreKept, FrontsAreKept, HistoryIsKept, RepliesAreKept, TurnsAreBounded, TurnsLessen};
+ghost use Rattle.orc_rules.specs.Laws.{DevicesAreAsDeclared, DevicesAreKept, FrontsAreKept, HistoryIsKept, RepliesAreKept, TurnsAreBounded, TurnsLessen};
 
 use orc_change::difference_leads;
 use orc_datastore::{tree_is_configuration, tree_is_typed};
@@ -67,4 +67,9 @@ pub fn fronts_are_kept<D: Disk>()
 pub fn rounds_end<D: Disk>()
     ensures lessen { TurnsLessen D.disk }
     ensures bounded { TurnsAreBounded D }
+{}
+
+/// Devices as they are declared are such as the other laws ask for.
+pub fn devices_are_as_declared()
+    ensures { DevicesAreAsDeclared }
 {}

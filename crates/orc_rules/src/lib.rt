@@ -11,5 +11,8 @@ mod transaction;
 pub use asked::Asked;
 pub use duty::Duty;
 pub use event::Event;
-pub use kept::{devices_are_kept, fronts_are_kept, history_is_kept, replies_are_kept, rounds_end};
+pub use kept::{
+    devices_are_as_declared, devices_are_kept, fronts_are_kept, history_is_kept, replies_are_kept,
+    rounds_end,
+};
 pub use transaction::{Phase, Transaction, Waiting};

@@ -270,7 +270,7 @@ module _ (schema : SchemaTable) (valid : broken_of schema (opening_data (r1.name
   admit_b1 = admit_line schema 1 intent_b1 c_3 next_4
 
   admit_b1_done : IsDone (here schema) false admit_b1
-  admit_b1_done = admit_done schema 1 intent_b1 c_3 next_4 refl refl (DoesUnderHub.admits 0 wait_b1 [] refl first_b1 refl passes_b1 refl) t_0 refl intent_b1_writes
+  admit_b1_done = admit_done schema 1 intent_b1 c_3 next_4 refl refl (DoesUnderHub.admits 0 wait_b1 [] refl first_b1 refl passes_b1 refl) t_0 refl intent_b1_writes (omega arith)
 
   -- `decide`
 
@@ -308,7 +308,7 @@ module _ (schema : SchemaTable) (valid : broken_of schema (opening_data (r1.name
   unfolding digits
   decide_b1_done = decide_done schema 1 1 c_4 next_5 next_6 (codes "bo 1 Committed 1\n") refl refl refl
       (DoesUnderHub.commits 0 (transaction_begun 0 wait_b1) refl refl refl refl (ap broken valid))
-      (DoesUnderHub.settles 0 (first_active (hub_in c_5)) refl refl refl) refl t_4 refl decide_1_writes settled_1_writes refl
+      (DoesUnderHub.settles 0 (first_active (hub_in c_5)) refl refl refl) refl t_4 refl decide_1_writes settled_1_writes (omega arith) (omega arith) refl
 
   -- `call bo 2`
 
@@ -443,7 +443,7 @@ module _ (schema : SchemaTable) (valid : broken_of schema (opening_data (r1.name
   admit_b2 = admit_line schema 2 intent_b2 c_8 next_9
 
   admit_b2_done : IsDone (here schema) false admit_b2
-  admit_b2_done = admit_done schema 2 intent_b2 c_8 next_9 refl refl (DoesUnderHub.admits 0 wait_b2 [] refl first_b2 refl passes_b2 refl) t_6 refl intent_b2_writes
+  admit_b2_done = admit_done schema 2 intent_b2 c_8 next_9 refl refl (DoesUnderHub.admits 0 wait_b2 [] refl first_b2 refl passes_b2 refl) t_6 refl intent_b2_writes (omega arith)
 
   -- `decide`
 
@@ -484,7 +484,7 @@ module _ (schema : SchemaTable) (valid : broken_of schema (opening_data (r1.name
   unfolding digits
   decide_b2_done = decide_done schema 2 2 c_9 next_10 next_11 (codes "bo 2 Committed 2\n") refl refl refl
       (DoesUnderHub.commits 0 (transaction_begun 1 wait_b2) refl refl refl refl valid_b2)
-      (DoesUnderHub.settles 0 (first_active (hub_in c_10)) refl refl refl) refl t_9 refl decide_2_writes settled_2_writes refl
+      (DoesUnderHub.settles 0 (first_active (hub_in c_10)) refl refl refl) refl t_9 refl decide_2_writes settled_2_writes (omega arith) (omega arith) refl
 
   -- `call al 1`, on the snapshot before both
 

@@ -1,5 +1,5 @@
 -- Lines that are done: a call that is submitted, its admission, and its decision with what settles it.
-use Rattle.std.specs.Prelude.{◌≡◌, ℕ, false, Option, None, Some, List, [], ◌∷◌, ◌++◌, length}
+use Rattle.std.specs.Prelude.{◌≤◌, ◌≡◌, ℕ, false, Option, None, Some, List, [], ◌∷◌, ◌++◌, length}
 use Rattle.std.proofs.Common.{refl}
 use Rattle.orc_call.specs.declared.answer.Answer.{Answer}
 use Rattle.orc_call.specs.declared.answer.Answer.TheVariants as answer
@@ -17,6 +17,7 @@ use Rattle.orc_runs.specs.Runs.{IsDone, LineDone}
 use Rattle.orc_runs.specs.Scripts.{Goes, Part as part, said_in}
 use Rattle.orc_runs.specs.Steps.{ScriptStep as step}
 use Rattle.orc_schema.specs.Schemas.{SchemaTable}
+use Rattle.orc_journal.specs.Journals.{journal_length}
 use Rattle.orc_run_cases.specs.Disks.{SureDisk}
 use Rattle.orc_run_cases.proofs.Idle.{idle_decided}
 use Rattle.orc_run_cases.proofs.Journals.{one_appended, with_one, with_one_tidy}
@@ -30,10 +31,11 @@ module _ (schema : SchemaTable) where
 
   pub comes_appending : (before next : World SureDisk) (meant : Event) (e : Entry) → before.hub ≡ Some (hub_in before)
       → DoesUnderHub (here schema) before (hub_in before) meant (e ∷ []) next → Tidy schema before → before.journal.armed ≡ 0 → IsWritable e
+      → journal_length (here schema).decls.text (before.journal.synced ++ e ∷ []) ≤ (here schema).limit
       → Comes (here schema) (done_turn before meant (appending e before next))
-  comes_appending before next meant e up does tidy unarmed writes =
+  comes_appending before next meant e up does tidy unarmed writes fits =
       Steps.done (hub_in before) (e ∷ []) next (appending e before next) up does
-      (one_appended (here schema).decls.text (here schema).limit before.journal e tidy unarmed writes) refl
+      (one_appended (here schema).decls.text (here schema).limit before.journal e tidy unarmed writes fits) refl
 
   pub stays_tidy : (before next : World SureDisk) (e : Entry) → Tidy schema before → IsWritable e → Tidy schema (appending e before next)
   stays_tidy before next e tidy writes = with_one_tidy (here schema).decls.text (here schema).limit before.journal e tidy writes
@@ -81,11 +83,12 @@ module _ (schema : SchemaTable) where
 
   pub admit_done : (t : ℕ) (e : Entry) (before next : World SureDisk) → before.hub ≡ Some (hub_in before) → next.hub ≡ Some (hub_in next)
       → DoesUnderHub (here schema) before (hub_in before) (event.Admit t None) (e ∷ []) next → Tidy schema before → before.journal.armed ≡ 0 → IsWritable e
+      → journal_length (here schema).decls.text (before.journal.synced ++ e ∷ []) ≤ (here schema).limit
       → IsDone (here schema) false (admit_line t e before next)
-  admit_done t e before next up after does tidy unarmed writes =
+  admit_done t e before next up after does tidy unarmed writes fits =
       let turn : Turn SureDisk = done_turn before (event.Admit t None) (appending e before next) in
       line_done (here schema) (admit_line t e before next)
-      (Goes.once part.Admission [] turn [] (appending e before next) refl tt tt (comes_appending before next turn.meant e up does tidy unarmed writes) (Goes.whole (appending e before next)))
+      (Goes.once part.Admission [] turn [] (appending e before next) refl tt tt (comes_appending before next turn.meant e up does tidy unarmed writes fits) (Goes.whole (appending e before next)))
       (record { after = []; printed = refl; shows = refl })
       (goes_on turn turn.meant (hub_in next) refl after, tt)
 
@@ -111,16 +114,19 @@ module _ (schema : SchemaTable) where
       → over.hub ≡ Some (hub_in over) → DoesUnderHub (here schema) before (hub_in before) (event.Decide t (answer.Committed number)) (entry.Decide t ∷ []) next
       → DoesUnderHub (here schema) (committed t before next) (hub_in next) (event.Settle t) (entry.Settled t ∷ []) over
       → least_due (hub_in over).duties (hub_in over).active ≡ None → Tidy schema before → before.journal.armed ≡ 0 → IsWritable (entry.Decide t)
-      → IsWritable (entry.Settled t) → text ≡ said_in (here schema).decls step.Decide (decide_turns t number before next over) ++ []
+      → IsWritable (entry.Settled t)
+      → journal_length (here schema).decls.text (before.journal.synced ++ entry.Decide t ∷ []) ≤ (here schema).limit
+      → journal_length (here schema).decls.text ((before.journal.synced ++ entry.Decide t ∷ []) ++ entry.Settled t ∷ []) ≤ (here schema).limit
+      → text ≡ said_in (here schema).decls step.Decide (decide_turns t number before next over) ++ []
       → IsDone (here schema) false (decide_line t number before next over text)
-  decide_done t number before next over text up after ended decided settled none tidy unarmed decides writes said =
+  decide_done t number before next over text up after ended decided settled none tidy unarmed decides writes fits both said =
       let behind : World SureDisk = appending (entry.Settled t) (committed t before next) over in
       let one : Turn SureDisk = done_turn before (event.Decide t (answer.Committed number)) (committed t before next) in
       let two : Turn SureDisk = done_turn (committed t before next) (event.Settle t) behind in
       line_done (here schema) (decide_line t number before next over text)
-      (Goes.again part.Decisions [] one (two ∷ []) behind refl tt (comes_appending before next one.meant (entry.Decide t) up decided tidy unarmed decides)
+      (Goes.again part.Decisions [] one (two ∷ []) behind refl tt (comes_appending before next one.meant (entry.Decide t) up decided tidy unarmed decides fits)
       (Goes.again part.Decisions [] two [] behind refl tt
-      (comes_appending (committed t before next) over two.meant (entry.Settled t) after settled (stays_tidy before next (entry.Decide t) tidy decides) unarmed writes)
+      (comes_appending (committed t before next) over two.meant (entry.Settled t) after settled (stays_tidy before next (entry.Decide t) tidy decides) unarmed writes both)
       (Goes.none part.Decisions [] behind behind [] (idle_decided (here schema) behind (hub_in over) ended none) (Goes.whole behind))))
       (record { after = []; printed = said; shows = refl })
       (goes_on one one.meant (hub_in next) refl after, (goes_on two two.meant (hub_in over) refl ended, tt))

@@ -4,6 +4,7 @@ use Rattle.std.proofs.Common.{inl, inr, refl, sym, ap, subst, ◌∙◌}
 use Rattle.orc_device.specs.declared.kind.OpKind.{OpKind}
 use Rattle.orc_device.specs.declared.op.Op.{Op}
 use Rattle.orc_device.specs.declared.reply.Reply.{Reply}
+use Rattle.orc_device.specs.declared.op.Op.TheVariants as op
 use Rattle.orc_rules.specs.Due.{least_due}
 use Rattle.orc_rules.specs.Events.{DoesUnderHub, DoesAnyway}
 use Rattle.orc_rules.specs.Hubs.{Hub, due_on}
@@ -33,6 +34,11 @@ module _ {D : Type 0} (here : Setting D) (world : World D) where
   idle_operation device none (event.Perform other kind reply count) is (inr (inl (next, anyway))) =
       absurd (let no : false ≡ true = anyway_is world (event.Perform other kind reply count) next anyway in cc)
   idle_operation device none (event.Perform other kind reply count) is (inr (inr (recover, down))) = absurd cc
+  idle_operation device none (event.Unsent other) is (inl (hub, row, next, up, DoesUnderHub.leaves_unsent d changes order unheard)) =
+      let both : ◌≡◌ {A = Option Op} None (Some (op.Edit changes)) = sym (subst (λ d. due_on hub d ≡ None) (sym is) (none hub up)) ∙ order in cc
+  idle_operation device none (event.Unsent other) is (inr (inl (next, anyway))) =
+      absurd (let no : false ≡ true = anyway_is world (event.Unsent other) next anyway in cc)
+  idle_operation device none (event.Unsent other) is (inr (inr (recover, down))) = absurd cc
   idle_operation device none other is may = absurd is
 
   -- nothing is there to be heard of it
@@ -48,6 +54,7 @@ module _ {D : Type 0} (here : Setting D) (world : World D) where
   pub idle_operations : (device : ℕ) → ((hub : Hub) → world.hub ≡ Some hub → due_on hub device ≡ None) → (world.links device).unheard ≡ None
       → NoneOf here world (part.Operations device)
   idle_operations device none silent (event.Perform other kind reply count) is may = idle_operation device none (event.Perform other kind reply count) is may
+  idle_operations device none silent (event.Unsent other) is may = idle_operation device none (event.Unsent other) is may
   idle_operations device none silent (event.Report other kind reply count) is may = idle_hearing device silent (event.Report other kind reply count) is may
   idle_operations device none silent other is may = absurd is
 

@@ -6,7 +6,7 @@ use Rattle.orc_append.specs.Rows.{HasSomeOf}
 use Rattle.orc_append.specs.declared.outcome.Appended.TheVariants.{Done, Stopped}
 use Rattle.orc_disk.specs.Moments.{LeavesOnly}
 use Rattle.orc_journal.specs.Entries.{IsWritable, entry_bytes}
-use Rattle.orc_journal.specs.Journals.{IsGated, closing_gate, journal_bytes}
+use Rattle.orc_journal.specs.Journals.{IsGated, closing_gate, journal_bytes, journal_length}
 use Rattle.orc_journal.specs.declared.entry.Entry.{Entry}
 use Rattle.orc_rules.specs.Journals.{AppendsRow, HoldsEntries, Journal, Reopens, entries_read}
 use Rattle.orc_run_cases.specs.Disks.{SureDisk, WasHeld, holding, sure_disk}
@@ -56,26 +56,25 @@ only_now disk file (inr earlier) = absurd (none_since disk.earlier (length disk.
 
 -- journals
 
--- a journal of these entries, with its ending gate
+-- a journal of these entries, with its ending gate, and bytes that were left after that
+abbrev pub file_left : List ℕ → List Entry → List ℕ → List ℕ
+file_left text entries rest = journal_bytes text entries ++ closing_gate ∷ rest
+
+-- the same where none were
 abbrev pub file_of : List ℕ → List Entry → List ℕ
-file_of text entries = journal_bytes text entries ++ closing_gate ∷ []
+file_of text entries = file_left text entries []
 
 -- the same while one more is written: its gate is closed yet
 abbrev pub file_before : List ℕ → List Entry → Entry → List ℕ
-file_before text entries entry = journal_bytes text entries ++ closing_gate ∷ (entry_bytes entry ++ closing_gate ∷ [])
+file_before text entries entry = file_left text entries (entry_bytes entry ++ closing_gate ∷ [])
+
+pub is_gated_left : (text : List ℕ) (entries : List Entry) (rest : List ℕ) → All IsWritable entries
+    → IsGated (file_left text entries rest) text entries
+is_gated_left text entries rest writable =
+    record { gate = closing_gate; rest = rest; bytes = refl; closed = refl; writable = writable }
 
 pub is_gated : (text : List ℕ) (entries : List Entry) → All IsWritable entries → IsGated (file_of text entries) text entries
-is_gated text entries writable = record { gate = closing_gate; rest = []; bytes = refl; closed = refl; writable = writable }
-
-pub is_gated_before : (text : List ℕ) (entries : List Entry) (entry : Entry) → All IsWritable entries
-    → IsGated (file_before text entries entry) text entries
-is_gated_before text entries entry writable = record {
-  gate = closing_gate;
-  rest = entry_bytes entry ++ closing_gate ∷ [];
-  bytes = refl;
-  closed = refl;
-  writable = writable;
-}
+is_gated text entries writable = is_gated_left text entries [] writable
 
 -- none of the entries that are added is there, or one that is
 has_none : (text file : List ℕ) (entries added : List Entry) → IsGated file text entries → HasSomeOf text entries added file
@@ -86,9 +85,10 @@ has_one : (text file : List ℕ) (entries : List Entry) (entry : Entry) → IsGa
     → HasSomeOf text entries (entry ∷ []) file
 has_one text file entries entry gated = record { front = entry ∷ []; rest = []; parts = refl; gated = gated }
 
--- the disk holds just the entries that are synced, and none was cut
+-- the disk holds the entries that are synced, and what was left of one that was stopped, and none was cut
 pub record IsTidy (text : List ℕ) (journal : Journal SureDisk) : Type 0 where
-  pub file : journal.disk.file ≡ file_of text journal.synced
+  pub left : List ℕ
+  pub file : journal.disk.file ≡ file_left text journal.synced left
   pub writable : All IsWritable journal.synced
   pub uncut : journal.cut ≡ []
   pub unread : journal.cut_is_read ≡ false
@@ -105,9 +105,14 @@ with_one text entry journal = record journal {
   synced = journal.synced ++ entry ∷ [];
 }
 
--- where the first operation of the append is stopped, before it puts a byte
-abbrev pub stopped_first : Entry → Journal SureDisk → Journal SureDisk
-stopped_first entry journal = record journal { cut = entry ∷ []; armed = 0; bytes = 0 }
+-- where one before the last is stopped, and so much was written behind the ending gate by so many
+abbrev pub stopped_within : List ℕ → List ℕ → ℕ → Entry → Journal SureDisk → Journal SureDisk
+stopped_within text rest asked entry journal = record journal {
+  disk = record (holding (file_left text journal.synced rest) journal.disk) { asked = journal.disk.asked + asked };
+  cut = entry ∷ [];
+  armed = 0;
+  bytes = 0;
+}
 
 -- where the last one is, after it
 abbrev pub stopped_last : List ℕ → Entry → Journal SureDisk → Journal SureDisk
@@ -126,14 +131,14 @@ module _ (text : List ℕ) (limit : ℕ) where
   -- what it holds
   pub tidy_holds : (journal : Journal SureDisk) → IsTidy text journal → HoldsEntries sure_disk text limit journal
   tidy_holds journal tidy =
-      let gated : IsGated journal.disk.file text journal.synced = subst (λ file. IsGated file text journal.synced) (sym tidy.file) (is_gated text journal.synced tidy.writable) in
+      let gated : IsGated journal.disk.file text journal.synced = subst (λ file. IsGated file text journal.synced) (sym tidy.file) (is_gated_left text journal.synced tidy.left tidy.writable) in
       record {
         read = subst (λ entries. IsGated journal.disk.file text entries) (reads_synced journal tidy.unread) gated;
         crash = λ file left. has_none text file journal.synced journal.cut (subst (λ held. IsGated held text journal.synced) (sym left) gated);
       }
 
   gated_now : (journal : Journal SureDisk) → IsTidy text journal → IsGated journal.disk.file text journal.synced
-  gated_now journal tidy = subst (λ file. IsGated file text journal.synced) (sym tidy.file) (is_gated text journal.synced tidy.writable)
+  gated_now journal tidy = subst (λ file. IsGated file text journal.synced) (sym tidy.file) (is_gated_left text journal.synced tidy.left tidy.writable)
 
   -- nothing is appended
   pub none_appended : (journal : Journal SureDisk) → IsTidy text journal → AppendsRow sure_disk text limit journal [] Done journal
@@ -143,6 +148,7 @@ module _ (text : List ℕ) (limit : ℕ) where
     rest = [];
     parts = refl;
     synced = sym (append-nil journal.synced);
+    fits = inl (ap (λ (cut : List Entry). journal.synced ++ cut) tidy.uncut ∙ append-nil journal.synced);
     ends = (refl, tidy.uncut, record { none = on journal.armed; nearer = omega arith; bytes = refl });
     outlives = record {
       each_moment = stays_held journal.disk (HasSomeOf text journal.synced (journal.cut ++ [])) (has_none text journal.disk.file journal.synced (journal.cut ++ []) (gated_now journal tidy));
@@ -165,7 +171,7 @@ module _ (text : List ℕ) (limit : ℕ) where
   leaves_one journal entry tidy writable =
       let P : List ℕ → Type 0 = HasSomeOf text journal.synced (entry ∷ []) in
       let first = stays_held journal.disk P (has_none text journal.disk.file journal.synced (entry ∷ []) (gated_now journal tidy)) in
-      let next = holds_then journal.disk journal.disk P (file_before text journal.synced entry) first (has_none text (file_before text journal.synced entry) journal.synced (entry ∷ []) (is_gated_before text journal.synced entry tidy.writable)) in
+      let next = holds_then journal.disk journal.disk P (file_before text journal.synced entry) first (has_none text (file_before text journal.synced entry) journal.synced (entry ∷ []) (is_gated_left text journal.synced (entry_bytes entry ++ closing_gate ∷ []) tidy.writable)) in
       let last = holds_then journal.disk (holding (file_before text journal.synced entry) journal.disk) P (file_of text (journal.synced ++ entry ∷ [])) next (has_one text (file_of text (journal.synced ++ entry ∷ [])) journal.synced entry (is_gated text (journal.synced ++ entry ∷ []) (all_and journal.synced entry tidy.writable writable))) in
       record { later = last.later; each = last.each; earlier_rows = last.earlier_rows }
 
@@ -175,16 +181,18 @@ module _ (text : List ℕ) (limit : ℕ) where
 
   pub with_one_tidy : (journal : Journal SureDisk) (entry : Entry) → IsTidy text journal → IsWritable entry → IsTidy text (with_one text entry journal)
   with_one_tidy journal entry tidy writable =
-      record { file = refl; writable = all_and journal.synced entry tidy.writable writable; uncut = tidy.uncut; unread = tidy.unread }
+      record { left = []; file = refl; writable = all_and journal.synced entry tidy.writable writable; uncut = tidy.uncut; unread = tidy.unread }
 
   pub one_appended : (journal : Journal SureDisk) (entry : Entry) → IsTidy text journal → journal.armed ≡ 0 → IsWritable entry
-      → AppendsRow sure_disk text limit journal (entry ∷ []) Done (with_one text entry journal)
-  one_appended journal entry tidy unarmed writable = record {
+      → journal_length text (journal.synced ++ entry ∷ []) ≤ limit → AppendsRow sure_disk text limit journal (entry ∷ []) Done (with_one text entry journal)
+  one_appended journal entry tidy unarmed writable fits = record {
     before = tidy.uncut;
     done = entry ∷ [];
     rest = [];
     parts = refl;
     synced = refl;
+    fits = inr (subst (λ (all : List Entry). journal_length text all ≤ limit)
+        (sym (ap (λ (cut : List Entry). (journal.synced ++ entry ∷ []) ++ cut) tidy.uncut ∙ append-nil (journal.synced ++ entry ∷ []))) fits);
     ends = (refl, tidy.uncut, record { none = inl unarmed; nearer = omega (arith, unarmed); bytes = refl });
     outlives = record {
       each_moment = subst (λ added. LeavesOnly sure_disk journal.disk (disk_with text journal.synced entry journal.disk) (HasSomeOf text journal.synced added)) (at_stake journal entry tidy.uncut) (leaves_one journal entry tidy writable);
@@ -194,41 +202,54 @@ module _ (text : List ℕ) (limit : ℕ) where
     };
   }
 
-  -- the first of its operations is stopped
-  pub first_stopped : (journal : Journal SureDisk) (entry : Entry) → IsTidy text journal → journal.armed ≡ 1 → journal.bytes ≡ 0
-      → AppendsRow sure_disk text limit journal (entry ∷ []) Stopped (stopped_first entry journal)
-  first_stopped journal entry tidy armed bytes = record {
-    before = tidy.uncut;
-    done = [];
-    rest = entry ∷ [];
-    parts = refl;
-    synced = sym (append-nil journal.synced);
-    ends = (
-      (entry, [], refl, refl),
+  -- what each moment of an append leaves that is stopped so
+  leaves_within : (journal : Journal SureDisk) (entry : Entry) (rest : List ℕ) (asked : ℕ) → IsTidy text journal
+      → LeavesOnly sure_disk journal.disk (stopped_within text rest asked entry journal).disk (HasSomeOf text journal.synced (entry ∷ []))
+  leaves_within journal entry rest asked tidy =
+      let P : List ℕ → Type 0 = HasSomeOf text journal.synced (entry ∷ []) in
+      let first = stays_held journal.disk P (has_none text journal.disk.file journal.synced (entry ∷ []) (gated_now journal tidy)) in
+      let last = holds_then journal.disk journal.disk P (file_left text journal.synced rest) first (has_none text (file_left text journal.synced rest) journal.synced (entry ∷ []) (is_gated_left text journal.synced rest tidy.writable)) in
+      record { later = last.later; each = last.each; earlier_rows = last.earlier_rows }
+
+  -- one of its operations is stopped before the gate is opened
+  pub within_stopped : (journal : Journal SureDisk) (entry : Entry) (rest : List ℕ) (asked operation bytes : ℕ) → IsTidy text journal
+      → journal.armed ≡ operation → journal.bytes ≡ bytes → 1 ≤ operation → operation ≤ 4 → nat_lt 3 (operation + min bytes 1) ≡ false
+      → journal_length text (journal.synced ++ entry ∷ []) ≤ limit
+      → AppendsRow sure_disk text limit journal (entry ∷ []) Stopped (stopped_within text rest asked entry journal)
+  within_stopped journal entry rest asked operation bytes tidy armed put least most before fits =
+      let gated = is_gated_left text journal.synced rest tidy.writable in
       record {
-        operation = 1;
-        among = (omega arith, omega arith);
-        armed = armed;
-        came = refl;
-        reads = inr (tidy.unread ∙ ap (λ put. nat_lt 3 (1 + min put 1)) (sym bytes));
-      },
-    );
-    outlives = record {
-      each_moment = subst (λ added. LeavesOnly sure_disk journal.disk journal.disk (HasSomeOf text journal.synced added)) (at_stake journal entry tidy.uncut)
-          (stays_held journal.disk (HasSomeOf text journal.synced (entry ∷ [])) (has_none text journal.disk.file journal.synced (entry ∷ []) (gated_now journal tidy)));
-      holds = record {
-        read = subst (λ entries. IsGated journal.disk.file text entries) (reads_synced (stopped_first entry journal) tidy.unread) (gated_now journal tidy);
-        crash = λ file left. has_none text file journal.synced (entry ∷ []) (subst (λ held. IsGated held text journal.synced) (sym left) (gated_now journal tidy));
-      };
-      tells = refl;
-      later = omega arith;
-    };
-  }
+        before = tidy.uncut;
+        done = [];
+        rest = entry ∷ [];
+        parts = refl;
+        synced = sym (append-nil journal.synced);
+        fits = inr fits;
+        ends = (
+          (entry, [], refl, refl),
+          record {
+            operation = operation;
+            among = (least, most);
+            armed = omega (arith, armed);
+            came = refl;
+            reads = inr (tidy.unread ∙ sym before ∙ ap (λ put. nat_lt 3 (operation + min put 1)) (sym put));
+          },
+        );
+        outlives = record {
+          each_moment = subst (λ added. LeavesOnly sure_disk journal.disk (stopped_within text rest asked entry journal).disk (HasSomeOf text journal.synced added)) (at_stake journal entry tidy.uncut) (leaves_within journal entry rest asked tidy);
+          holds = record {
+            read = subst (λ entries. IsGated (file_left text journal.synced rest) text entries) (reads_synced (stopped_within text rest asked entry journal) tidy.unread) gated;
+            crash = λ file left. has_none text file journal.synced (entry ∷ []) (subst (λ held. IsGated held text journal.synced) (sym left) gated);
+          };
+          tells = refl;
+          later = omega arith;
+        };
+      }
 
   -- the last one is, after it was done
   pub last_stopped : (journal : Journal SureDisk) (entry : Entry) → IsTidy text journal → journal.armed ≡ 4 → journal.bytes ≡ 1 → IsWritable entry
-      → AppendsRow sure_disk text limit journal (entry ∷ []) Stopped (stopped_last text entry journal)
-  last_stopped journal entry tidy armed bytes writable =
+      → journal_length text (journal.synced ++ entry ∷ []) ≤ limit → AppendsRow sure_disk text limit journal (entry ∷ []) Stopped (stopped_last text entry journal)
+  last_stopped journal entry tidy armed bytes writable fits =
       let gated = is_gated text (journal.synced ++ entry ∷ []) (all_and journal.synced entry tidy.writable writable) in
       record {
         before = tidy.uncut;
@@ -236,6 +257,7 @@ module _ (text : List ℕ) (limit : ℕ) where
         rest = entry ∷ [];
         parts = refl;
         synced = sym (append-nil journal.synced);
+        fits = inr fits;
         ends = (
           (entry, [], refl, refl),
           record {
@@ -261,9 +283,9 @@ module _ (text : List ℕ) (limit : ℕ) where
   abbrev pub opened : Journal SureDisk → Journal SureDisk
   opened journal = record journal { synced = entries_read journal; cut = []; cut_is_read = false; armed = 0; bytes = 0 }
 
-  pub opens : (journal : Journal SureDisk) → IsTidy text (opened journal) → HoldsEntries sure_disk text limit journal → Reopens sure_disk text limit journal (opened journal)
+  pub opens : (journal : Journal SureDisk) → IsTidy text (opened journal) → HoldsEntries sure_disk text limit journal → Reopens sure_disk text limit false journal (opened journal)
   opens journal tidy holds = record {
-    synced = refl;
+    synced = λ read_back. refl;
     cut = refl;
     unarmed = refl;
     outlives = record {

@@ -10,7 +10,9 @@ pub mod Stopped
 pub mod StoppedBefore
 pub mod StoppedAfter
 pub mod Rounds
+pub mod Settling
 pub mod Settled
+pub mod SentAgain
 pub mod LinkFault
 pub mod Conflict
 pub mod Declared

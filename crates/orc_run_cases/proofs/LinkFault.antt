@@ -98,7 +98,7 @@ module _ (schema : SchemaTable) (valid : broken_of schema (opening_data (r1.name
 
   abort_comes : Comes (here schema) abort_turn
   abort_comes = comes_appending schema f_10 next_11 (event.Decide 1 (answer.LinkFault 0 1)) (entry.Abort 1) refl
-      (DoesUnderHub.aborts 0 (transaction_begun 0 (waiting_1 schema valid)) (answer.LinkFault 0 1) refl refl refl (inr (inl refl))) tidy_8 refl abort_writes
+      (DoesUnderHub.aborts 0 (transaction_begun 0 (waiting_1 schema valid)) (answer.LinkFault 0 1) refl refl refl (inr (inl refl))) tidy_8 refl abort_writes (omega arith)
 
   tidy : Tidy schema f_11
   tidy = stays_tidy schema f_10 next_11 (entry.Abort 1) tidy_8 abort_writes
@@ -138,7 +138,7 @@ module _ (schema : SchemaTable) (valid : broken_of schema (opening_data (r1.name
   transaction_14 = option_map_or (λ it. it) (slice_get (hub_in f_14).active 0) (transaction_begun 0 (waiting_1 schema valid))
 
   settle_comes : Comes (here schema) settle_turn
-  settle_comes = comes_appending schema f_14 next_15 (event.Settle 1) (entry.Settled 1) refl (DoesUnderHub.settles 0 transaction_14 refl refl refl) tidy refl settled_writes
+  settle_comes = comes_appending schema f_14 next_15 (event.Settle 1) (entry.Settled 1) refl (DoesUnderHub.settles 0 transaction_14 refl refl refl) tidy refl settled_writes (omega arith)
 
   no_duty : (device : ℕ) → due_on (hub_in f_15) device ≡ None
   no_duty zero = refl

@@ -106,12 +106,13 @@ module _ (schema : SchemaTable) (valid : broken_of schema (opening_data (r1.name
   }
 
   pub tidy_0 : Tidy schema world_0
-  tidy_0 = record { file = refl; writable = All-nil IsWritable; uncut = refl; unread = refl }
+  tidy_0 = record { left = []; file = refl; writable = All-nil IsWritable; uncut = refl; unread = refl }
 
   pub starts : StartsRun (here schema) world_0
   starts = record {
     holds = tidy_holds (here schema).decls.text (here schema).limit begun_journal tidy_0;
     uncut = refl;
+    read_back = inr refl;
     ordered = refl;
     legal = record { lawful = All-nil _; unrefused = tt; distinct = tt };
     cause = None;
@@ -224,15 +225,18 @@ module _ (schema : SchemaTable) (valid : broken_of schema (opening_data (r1.name
     first = λ other one less fits. absurd (omega (arith, less));
   }
 
-  admitted : DoesUnderHub (here schema) world_2 (hub_in world_2) (event.Admit 1 None) (intent_1 ∷ []) next_3
+  pub admitted : DoesUnderHub (here schema) world_2 (hub_in world_2) (event.Admit 1 None) (intent_1 ∷ []) next_3
   admitted = DoesUnderHub.admits 0 waiting_1 (set_1 ∷ []) refl first_1 refl passes_1 refl
 
-  pub writable_1 : IsWritable intent_1
+  pub writes_intent : (t : ℕ) → t < 2 ^ 64 → IsWritable (intent_entry (record waiting_1 { t = t }))
   unfolding encode_utf8 IsStrictlySortedBy
-  writable_1 = record {
-    fields = (omega arith, al_1_is_call, record { count = omega arith; numbers = All-cons (λ device. device < 2 ^ 16) 0 [] (omega arith) (All-nil _); ascending = (tt, tt) });
+  writes_intent t small = record {
+    fields = (small, al_1_is_call, record { count = omega arith; numbers = All-cons (λ device. device < 2 ^ 16) 0 [] (omega arith) (All-nil _); ascending = (tt, tt) });
     length = omega arith;
   }
+
+  pub writable_1 : IsWritable intent_1
+  writable_1 = writes_intent 1 (omega arith)
 
   pub tidy_3 : Tidy schema world_3
   tidy_3 = with_one_tidy (here schema).decls.text (here schema).limit begun_journal intent_1 tidy_0 writable_1
@@ -244,10 +248,10 @@ module _ (schema : SchemaTable) (valid : broken_of schema (opening_data (r1.name
   admit_turn = done_turn world_2 (event.Admit 1 None) world_3
 
   pub admit_comes : Comes (here schema) admit_turn
-  admit_comes = done.comes_appending schema world_2 next_3 (event.Admit 1 None) intent_1 refl admitted tidy_0 refl writable_1
+  admit_comes = done.comes_appending schema world_2 next_3 (event.Admit 1 None) intent_1 refl admitted tidy_0 refl writable_1 (omega arith)
 
   pub admit_done : IsDone (here schema) false admit_line
-  admit_done = done.admit_done schema 1 intent_1 world_2 next_3 refl refl admitted tidy_0 refl writable_1
+  admit_done = done.admit_done schema 1 intent_1 world_2 next_3 refl refl admitted tidy_0 refl writable_1 (omega arith)
 
   -- six times `step r1`
 

@@ -1,5 +1,5 @@
 -- A reconciliation of the one device that is well: its one transaction is resolved, and what is read is what is due.
-use Rattle.std.specs.Prelude.{◌≡◌, ℕ, Bool, true, false, cond, None, Some, Ok, List, [], ◌∷◌, ◌++◌, All, codes, map}
+use Rattle.std.specs.Prelude.{◌≤◌, ◌≡◌, ℕ, Bool, true, false, cond, None, Some, Ok, List, [], ◌∷◌, ◌++◌, All, codes, map}
 use Rattle.std.proofs.Common.{refl, sym, ap, subst, arith}
 use Rattle.std.specs.List.{list_all}
 use Rattle.std.proofs.lemmas.Option.{same_Some}
@@ -22,6 +22,7 @@ use Rattle.orc_runs.specs.Steps.{ScriptStep as step}
 use Rattle.orc_schema.specs.Schemas.{SchemaTable}
 use Rattle.orc_run_cases.specs.Disks.{SureDisk}
 use Rattle.orc_run_cases.proofs.Idle.{idle_operations, is_still}
+use Rattle.orc_journal.specs.Journals.{journal_length}
 use Rattle.orc_run_cases.proofs.Journals.{one_appended, with_one}
 use Rattle.orc_run_cases.proofs.Recovering.{stays_silent}
 use Rattle.orc_run_cases.proofs.Turns.{Each, GoesOn, MayStep, Tidy, comes_quietly, done_turn, each_append, goes_on, here, hub_in, line_done, mend_goes, step_goes_on, step_turns, stepped}
@@ -92,6 +93,7 @@ module _ (schema : SchemaTable) (start : World SureDisk) (resolve : Op) (due run
   pub record IsWell : Type 0 where
     pub tidy : Tidy schema start
     pub unarmed : start.journal.armed ≡ 0
+    pub fits : journal_length (here schema).decls.text (start.journal.synced ++ entry.Settled 1 ∷ []) ≤ (here schema).limit
     pub up : start.hub ≡ Some (hub_in start)
     pub waits : (hub_in start).waiting ≡ []
     pub works : (hub_in start).active ≡ []
@@ -115,7 +117,7 @@ module _ (schema : SchemaTable) (start : World SureDisk) (resolve : Op) (due run
     resolved_silent : (device : ℕ) → (resolved.links device).unheard ≡ None
     resolved_silent = stays_silent schema session_opened resolve (stays_silent schema mending_begun op.OpenSession well.silent)
 
-    closed_silent : (device : ℕ) → (session_closed.links device).unheard ≡ None
+    pub closed_silent : (device : ℕ) → (session_closed.links device).unheard ≡ None
     closed_silent = stays_silent schema (tree_read true) op.CloseSession (stays_silent schema resolved op.GetRunning resolved_silent)
 
     ends : DoesUnderHub (here schema) session_closed (hub_in session_closed) (event.Reconcile (Some (Ok tt))) (entry.Settled 1 ∷ []) next_mended
@@ -123,7 +125,7 @@ module _ (schema : SchemaTable) (start : World SureDisk) (resolve : Op) (due run
 
     end_comes : Comes (here schema) end_turn
     end_comes = Steps.done (hub_in session_closed) (entry.Settled 1 ∷ []) next_mended mended refl ends
-        (one_appended (here schema).decls.text (here schema).limit start.journal (entry.Settled 1) well.tidy well.unarmed settled_writes) refl
+        (one_appended (here schema).decls.text (here schema).limit start.journal (entry.Settled 1) well.tidy well.unarmed settled_writes well.fits) refl
 
     none_left : (hub : Hub) → session_closed.hub ≡ Some hub → due_on hub 0 ≡ None
     none_left hub up = subst (λ (h : Hub). due_on h 0 ≡ None) (same_Some (hub_in session_closed) hub up) well.none

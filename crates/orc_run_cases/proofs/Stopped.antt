@@ -39,7 +39,7 @@ module _ (schema : SchemaTable) (valid : broken_of schema (opening_data (r1.name
   world_10 = set_by (step.StopAt operation bytes) (world_9 schema valid)
 
   pub tidy_10 : Tidy schema world_10
-  tidy_10 = let own = tidy_3 schema valid in record { file = own.file; writable = own.writable; uncut = own.uncut; unread = own.unread }
+  tidy_10 = let own = tidy_3 schema valid in record { left = own.left; file = own.file; writable = own.writable; uncut = own.uncut; unread = own.unread }
 
   abbrev pub arm_line : LineDone SureDisk
   arm_line = record { step = step.StopAt operation bytes; before = world_9 schema valid; turns = []; behind = world_10; text = [] }

@@ -59,13 +59,14 @@ module _ (schema : SchemaTable) (valid : broken_of schema (opening_data (r1.name
   journal = stopped_last text (entry.Decide 1) (world_10 schema valid 4 1).journal
 
   pub cut : AppendsRow sure_disk text limit (world_10 schema valid 4 1).journal (entry.Decide 1 ∷ []) Stopped journal
-  cut = last_stopped text limit (world_10 schema valid 4 1).journal (entry.Decide 1) (tidy_10 schema valid 4 1) refl refl decide_writable
+  cut = last_stopped text limit (world_10 schema valid 4 1).journal (entry.Decide 1) (tidy_10 schema valid 4 1) refl refl decide_writable (omega arith)
 
   abbrev recovered : World SureDisk
   recovered = world_12 schema valid 4 1 journal cut
 
   tidy_12 : Tidy schema recovered
   tidy_12 = record {
+    left = [];
     file = refl;
     writable = all_and text limit (world_10 schema valid 4 1).journal.synced (entry.Decide 1) (tidy_3 schema valid).writable decide_writable;
     uncut = refl;
@@ -104,6 +105,7 @@ module _ (schema : SchemaTable) (valid : broken_of schema (opening_data (r1.name
   well = record {
     tidy = tidy_12;
     unarmed = refl;
+    fits = omega arith;
     up = refl;
     waits = refl;
     works = refl;

@@ -1,11 +1,12 @@
 -- The run that is stopped before the Decide is written: it is given up.
-use Rattle.std.specs.Prelude.{◌≡◌, ℕ, zero, suc, false, None, List, [], ◌∷◌, ◌++◌, codes}
-use Rattle.std.proofs.Common.{refl, sym, ap}
+use Rattle.std.specs.Prelude.{◌≡◌, ◌≤◌, ◌+◌, min, nat_lt, ℕ, zero, suc, false, None, List, [], ◌∷◌, ◌++◌, codes}
+use Rattle.std.proofs.Common.{refl, sym, ap, arith}
 use Rattle.std.proofs.lemmas.List.Elements.{All-nil, All-cons}
 use Rattle.std.specs.Fmt.{digits}
 use Rattle.std.specs.List.{flat_map}
 use Rattle.orc_append.specs.declared.outcome.Appended.TheVariants.{Stopped}
 use Rattle.orc_check.specs.Validity.{broken_of}
+use Rattle.orc_decls.specs.Declarations.{AreDecls}
 use Rattle.orc_decls.specs.Openings.{opening_data}
 use Rattle.orc_device.specs.declared.op.Op.TheVariants as op
 use Rattle.orc_journal.specs.declared.entry.Entry.TheVariants as entry
@@ -23,36 +24,39 @@ use Rattle.orc_runs.specs.Scripts.{Goes}
 use Rattle.orc_runs.specs.Steps.{ScriptStep, ScriptStep as step}
 use Rattle.orc_schema.specs.Schemas.{SchemaTable}
 use Rattle.orc_run_cases.specs.Disks.{SureDisk, sure_disk}
-use Rattle.orc_run_cases.specs.Worked.{given_up_script, given_up_text}
-use Rattle.orc_run_cases.specs.OneDevice.{one_device, r1}
-use Rattle.orc_run_cases.proofs.Journals.{first_stopped, stopped_first}
-use Rattle.orc_run_cases.proofs.Prefix.{prefix_done, prefix_lines, tidy_3, world_0, world_9}
-use Rattle.orc_run_cases.proofs.Reconciled.{IsWell, mended, reconcile_done, reconcile_line, tree_read}
+use Rattle.orc_run_cases.specs.Worked.{IsWorked, given_up_script, given_up_text}
+use Rattle.orc_run_cases.specs.OneDevice.{network_with, one_device, r1}
+use Rattle.orc_run_cases.proofs.Journals.{stopped_within, with_one_tidy, within_stopped}
+use Rattle.orc_run_cases.proofs.Prefix.{prefix_done, prefix_lines, starts, tidy_3, world_0, world_9}
+use Rattle.orc_run_cases.proofs.Reconciled.{IsWell, closed_silent, mended, reconcile_done, reconcile_line, settled_writes, tree_read}
 use Rattle.orc_run_cases.proofs.Recovering.{one_unsettled}
 use Rattle.orc_run_cases.proofs.Stopped.{arm_done, arm_line, decide_done, decide_line, recover_done, recover_line, tidy_10, world_10, world_12}
 use Rattle.orc_run_cases.proofs.Trees.{entries_none, no_tree, same_none}
 use Rattle.orc_run_cases.proofs.Turns.{no_logs, Tidy, here, hub_in, line_done}
 
-module _ (schema : SchemaTable) (valid : broken_of schema (opening_data (r1.name ∷ []) []) ≡ None) where
+module _ (schema : SchemaTable) (valid : broken_of schema (opening_data (r1.name ∷ []) []) ≡ None)
+    (operation bytes : ℕ) (rest : List ℕ) (asked : ℕ) (least : 1 ≤ operation) (most : operation ≤ 4)
+    (before : nat_lt 3 (operation + min bytes 1) ≡ false) where
   abbrev text : List ℕ
   text = (here schema).decls.text
 
   abbrev limit : ℕ
   limit = (here schema).limit
 
-  -- `stop 1 0`, `decide` and `recover`
+  -- the stop is armed, `decide` and `recover`
 
   abbrev journal : Journal SureDisk
-  journal = stopped_first (entry.Decide 1) (world_10 schema valid 1 0).journal
+  journal = stopped_within text rest asked (entry.Decide 1) (world_10 schema valid operation bytes).journal
 
-  pub cut : AppendsRow sure_disk text limit (world_10 schema valid 1 0).journal (entry.Decide 1 ∷ []) Stopped journal
-  cut = first_stopped text limit (world_10 schema valid 1 0).journal (entry.Decide 1) (tidy_10 schema valid 1 0) refl refl
+  pub cut : AppendsRow sure_disk text limit (world_10 schema valid operation bytes).journal (entry.Decide 1 ∷ []) Stopped journal
+  cut = within_stopped text limit (world_10 schema valid operation bytes).journal (entry.Decide 1) rest asked operation bytes
+      (tidy_10 schema valid operation bytes) refl refl least most before (omega arith)
 
   abbrev recovered : World SureDisk
-  recovered = world_12 schema valid 1 0 journal cut
+  recovered = world_12 schema valid operation bytes journal cut
 
   tidy_12 : Tidy schema recovered
-  tidy_12 = let own = tidy_3 schema valid in record { file = own.file; writable = own.writable; uncut = refl; unread = refl }
+  tidy_12 = let own = tidy_3 schema valid in record { left = rest; file = refl; writable = own.writable; uncut = refl; unread = own.unread }
 
   -- `reconcile`
 
@@ -64,6 +68,7 @@ module _ (schema : SchemaTable) (valid : broken_of schema (opening_data (r1.name
   well = record {
     tidy = tidy_12;
     unarmed = refl;
+    fits = omega arith;
     up = refl;
     waits = refl;
     works = refl;
@@ -84,6 +89,9 @@ module _ (schema : SchemaTable) (valid : broken_of schema (opening_data (r1.name
   abbrev pub world_18 : World SureDisk
   world_18 = mended schema recovered (op.Cancel 1) (over (here schema).decls 0 []) no_tree
 
+  pub tidy_18 : Tidy schema world_18
+  tidy_18 = with_one_tidy text limit recovered.journal (entry.Settled 1) tidy_12 settled_writes
+
   abbrev mended_line : LineDone SureDisk
   mended_line = reconcile_line schema recovered (op.Cancel 1) (over (here schema).decls 0 []) no_tree
 
@@ -103,25 +111,31 @@ module _ (schema : SchemaTable) (valid : broken_of schema (opening_data (r1.name
         shows = sym (ap (λ (rows : List (List PathStep × Item)). codes "show r1\n" ++ flat_map item_line rows ++ codes "end\n") entries_none);
       }) tt
 
+  pub silent_18 : (device : ℕ) → (world_18.links device).unheard ≡ None
+  silent_18 device = closed_silent schema recovered (op.Cancel 1) (over (here schema).decls 0 []) no_tree well device
+
   -- the run
 
   abbrev pub script_before : List ScriptStep
-  script_before = given_up_script
+  script_before = given_up_script operation bytes
 
-  abbrev own_lines : List (LineDone SureDisk)
-  own_lines = arm_line schema valid 1 0 ∷ decide_line schema valid 1 0 journal cut ∷ recover_line schema valid 1 0 journal cut ∷ mended_line ∷ show_line ∷ []
+  abbrev pub own_lines : List (LineDone SureDisk)
+  own_lines = arm_line schema valid operation bytes ∷ decide_line schema valid operation bytes journal cut ∷ recover_line schema valid operation bytes journal cut ∷ mended_line ∷ show_line ∷ []
 
-  abbrev lines_before : List (LineDone SureDisk)
+  abbrev pub lines_before : List (LineDone SureDisk)
   lines_before = prefix_lines schema valid ++ own_lines
 
-  own_done : AreDone (here schema) (world_9 schema valid) own_lines world_18
-  own_done = (refl, arm_done schema valid 1 0, (refl, decide_done schema valid 1 0 journal cut, (refl, recover_done schema valid 1 0 journal cut tidy_12, (refl, mended_done, (refl, show_done, refl)))))
+  -- and others after them
+  pub own_done : (lines : List (LineDone SureDisk)) (last : World SureDisk) → AreDone (here schema) world_18 lines last
+      → AreDone (here schema) (world_9 schema valid) (own_lines ++ lines) last
+  own_done lines last done =
+      (refl, arm_done schema valid operation bytes, (refl, decide_done schema valid operation bytes journal cut, (refl, recover_done schema valid operation bytes journal cut tidy_12, (refl, mended_done, (refl, show_done, done)))))
 
   pub run_before : Run (here schema) script_before (world_0 schema valid) world_18
   run_before = record {
     lines = lines_before;
     middle = world_18;
-    done = prefix_done schema valid own_lines world_18 own_done;
+    done = prefix_done schema valid own_lines world_18 (own_done [] world_18 refl);
     end = None;
     ends = refl;
     rest = [];
@@ -137,3 +151,16 @@ module _ (schema : SchemaTable) (valid : broken_of schema (opening_data (r1.name
   pub whole_before : run_before.rest ≡ []
   unfolding run_before
   whole_before = refl
+
+-- So it goes wherever the append of the Decide is stopped before its gate is opened.
+pub given_up : (schema : SchemaTable) → AreDecls (one_device schema) → (operation bytes : ℕ) (rest : List ℕ) (asked : ℕ)
+    → 1 ≤ operation → operation ≤ 4 → nat_lt 3 (operation + min bytes 1) ≡ false
+    → IsWorked (network_with schema) (given_up_script operation bytes) given_up_text
+given_up schema are operation bytes rest asked least most before = record {
+  first = world_0 schema are.valid;
+  last = world_18 schema are.valid operation bytes rest asked least most before;
+  starts = starts schema are.valid;
+  run = run_before schema are.valid operation bytes rest asked least most before;
+  whole = whole_before schema are.valid operation bytes rest asked least most before;
+  prints = prints_before schema are.valid operation bytes rest asked least most before;
+}

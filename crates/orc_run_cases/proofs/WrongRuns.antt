@@ -319,6 +319,13 @@ module _ {D : Type 0} (here : Setting D) (kinds : (device : ℕ) → IsOfHub (he
           let same = eqb-true d device e in
           (o, subst (λ (x : ℕ). order_on hub x ≡ Some o) same (due_unmet hub d o due), subst (λ (x : ℕ). (world.links x).unheard ≡ None) same unheard)
       on false e = absurd (differs (ap (λ (b : Bool). (cond b (way_node (here.kinds d) (world.nodes d) (world.links d).session o happened) (world.nodes device)).running) e))
+  does_change world hub meant row next (DoesUnderHub.leaves_unsent d changes due unheard) device differs = on (nat_eq d device) refl
+    where
+      on : (b : Bool) → nat_eq d device ≡ b → (o : Op) × (order_on hub device ≡ Some o) × ((world.links device).unheard ≡ None)
+      on true e =
+          let same = eqb-true d device e in
+          (op.Edit changes, subst (λ (x : ℕ). order_on hub x ≡ Some (op.Edit changes)) same (due_unmet hub d (op.Edit changes) due), subst (λ (x : ℕ). (world.links x).unheard ≡ None) same unheard)
+      on false e = absurd (differs (ap (λ (b : Bool). (cond b (world.nodes d) (world.nodes device)).running) e))
   does_change world hub meant row next DoesUnderHub.stops device differs = absurd (differs refl)
   does_change world hub meant row next does device differs = absurd (differs refl)
 

@@ -1,5 +1,5 @@
 -- A network of one plain device, and a call on it.
-use Rattle.std.specs.Prelude.{List, [], ◌∷◌, codes}
+use Rattle.std.specs.Prelude.{false, List, [], ◌∷◌, codes}
 use Rattle.orc_call.specs.declared.call.Action.TheVariants.{Delete, Literal}
 use Rattle.orc_call.specs.declared.call.Call.{Call}
 use Rattle.orc_call.specs.declared.call.DevicePut.{DevicePut}
@@ -38,7 +38,13 @@ r1_kind = device_kind (accept_of (plain_table ∷ []) r1)
 -- the network of the plain device r1, on a disk that does each write at once
 abbrev pub network_with : SchemaTable → Setting SureDisk
 network_with schema =
-    record { disk = sure_disk; decls = one_device schema; kinds = λ device. r1_kind; limit = 268435456 }
+    record {
+      disk = sure_disk;
+      decls = one_device schema;
+      kinds = λ device. r1_kind;
+      limit = 268435456;
+      granted = false;
+    }
 
 -- the path `/if:mtu`
 abbrev pub mtu : List PathStep

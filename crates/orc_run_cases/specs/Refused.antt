@@ -39,16 +39,19 @@ use Rattle.orc_worker.specs.declared.report.Outcome.TheVariants as outcome
 
 -- a law that holds of each network on the disk, whatever is declared and whatever devices accept
 abbrev pub InEachNetwork : {D : Type 0} → DiskMeaning D → (Setting D → Type 0) → Type 0
-InEachNetwork disk Law = (decls : Decls) (kinds : ℕ → DeviceKind) (limit : ℕ) → Law (setting disk decls kinds limit)
+InEachNetwork disk Law =
+    (decls : Decls) (kinds : ℕ → DeviceKind) (limit : ℕ) (granted : Bool)
+    → Law (setting disk decls kinds limit granted)
 
 -- a law that holds of each turn of each run that begins as runs do, whatever is declared, over devices that work as the
 -- hub's workers take them to
 abbrev pub InEachRun : {D : Type 0} → DiskMeaning D → (Setting D → Turn D → Type 0) → Type 0
 InEachRun {D} disk Law =
-    (decls : Decls) (kinds : ℕ → DeviceKind) (limit : ℕ) (script : List ScriptStep) (first last : World D)
-    (run : Run (setting disk decls kinds limit) script first last)
-    → AreDecls decls → ((device : ℕ) → IsOfHub (kinds device)) → StartsRun (setting disk decls kinds limit) first
-    → (turn : Turn D) → Contains (turns_of run) turn → Law (setting disk decls kinds limit) turn
+    (decls : Decls) (kinds : ℕ → DeviceKind) (limit : ℕ) (granted : Bool) (script : List ScriptStep)
+    (first last : World D) (run : Run (setting disk decls kinds limit granted) script first last)
+    → AreDecls decls → ((device : ℕ) → IsOfHub (kinds device))
+    → StartsRun (setting disk decls kinds limit granted) first
+    → (turn : Turn D) → Contains (turns_of run) turn → Law (setting disk decls kinds limit granted) turn
 
 -- an outcome of preparing by which a transaction is given up: the device refused, ran out of memory or lost its link
 abbrev pub is_hindrance : Outcome → Bool

@@ -27,14 +27,22 @@ abbrev pub until_decision : ℕ → ℕ → List ScriptStep
 until_decision operation bytes = step.Call al_1 ∷ step.Admit ∷ step.Step 0 ∷ step.Step 0 ∷ step.Step 0 ∷ step.Step 0
     ∷ step.Step 0 ∷ step.Step 0 ∷ step.StopAt operation bytes ∷ step.Decide ∷ []
 
--- The script of a run whose controller stops before the first byte of the Decide: it recovers and reconciles, and r1 is
--- shown.
-abbrev pub given_up_script : List ScriptStep
-given_up_script = until_decision 1 0 ++ (step.Recover ∷ step.Reconcile ∷ step.Show 0 ∷ [])
+-- The script of a run whose controller stops so: it recovers and reconciles, and r1 is shown.
+abbrev pub given_up_script : ℕ → ℕ → List ScriptStep
+given_up_script operation bytes =
+    until_decision operation bytes ++ (step.Recover ∷ step.Reconcile ∷ step.Show 0 ∷ [])
 
--- what that run prints: the call isn't in the history, and r1 runs nothing
+-- what it prints where the decision isn't in the journal: the call isn't in the history, and r1 runs nothing
 abbrev pub given_up_text : List ℕ
 given_up_text = codes "stopped\nrecovered 0\nreconcile ok\nshow r1\nend\n"
+
+-- The script of that run where al sends the call again after it: the call is settled, and r1 is shown again.
+abbrev pub again_script : List ScriptStep
+again_script = given_up_script 1 0 ++ (step.Call al_1 ∷ step.Settle ∷ step.Show 0 ∷ [])
+
+-- what it prints besides: the call is the first of the history, and r1 runs what it wrote
+abbrev pub again_text : List ℕ
+again_text = given_up_text ++ codes "al 1 Committed 1\nshow r1\n/if:mtu = 9\nend\n"
 
 -- The script of a run whose controller stops once the Decide is synced: it recovers, the call is sent again, it
 -- reconciles, and r1 is shown with its log.

@@ -5,7 +5,7 @@ ghost use Rattle.orc_rules.specs.Acceptance.{IsOfSchema};
 ghost use Rattle.orc_rules.specs.UnderHub.{IsOfHub};
 ghost use Rattle.orc_schema.specs.Schemas.{SchemaTable, plain_table};
 ghost use Rattle.orc_run_cases.specs.OneDevice.{network_with, one_device, r1_kind};
-ghost use Rattle.orc_run_cases.specs.Worked.{HasHeadlineOnOne, IsWorked, committed_script, committed_text, conflict_script, conflict_text, fault_script, fault_text, given_up_script, given_up_text, settled_script, settled_text};
+ghost use Rattle.orc_run_cases.specs.Worked.{HasHeadlineOnOne, IsWorked, again_script, again_text, committed_script, committed_text, conflict_script, conflict_text, fault_script, fault_text, given_up_script, given_up_text, settled_script, settled_text};
 
 use orc_change::difference_leads;
 use orc_datastore::{tree_is_configuration, tree_is_typed};
@@ -47,10 +47,23 @@ pub fn call_is_settled()
         → IsWorked (network_with schema) settled_script settled_text }
 {}
 
-/// The controller stops before it writes the first byte of the decision: the call is given up.
+/// The controller stops before its decision is in the journal: before it writes the first byte of it,
+/// once that byte is written, or once all of it is synced behind a gate that is closed yet. The call is
+/// given up.
 pub fn stopped_before_its_decision()
+    ensures unwritten { (schema : SchemaTable) → AreDecls (one_device schema)
+        → IsWorked (network_with schema) (given_up_script 1 0) given_up_text }
+    ensures torn { (schema : SchemaTable) → AreDecls (one_device schema)
+        → IsWorked (network_with schema) (given_up_script 1 1) given_up_text }
+    ensures closed { (schema : SchemaTable) → AreDecls (one_device schema)
+        → IsWorked (network_with schema) (given_up_script 3 0) given_up_text }
+{}
+
+/// The call that was given up is sent again, with the same number and action, and is settled: it is
+/// committed, once.
+pub fn given_up_call_is_sent_again()
     ensures { (schema : SchemaTable) → AreDecls (one_device schema)
-        → IsWorked (network_with schema) given_up_script given_up_text }
+        → IsWorked (network_with schema) again_script again_text }
 {}
 
 /// It stops once the decision is synced: the call is committed, and sent again it gets that answer.

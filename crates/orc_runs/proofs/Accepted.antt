@@ -59,6 +59,7 @@ module _ {D : Type 0} (here : Setting D) where
   does_meet : (world : World D) (hub : Hub) (up : world.hub ≡ Some hub) → MeetsDevices world → (meant : Event) (row : List Entry) (next : World D) → DoesUnderHub here world hub meant row next → MeetsDevices next
   does_meet world hub up own meant row next (DoesUnderHub.begins caller) = own
   does_meet world hub up own meant row next (DoesUnderHub.performs device one happened due unheard possible way) = own
+  does_meet world hub up own meant row next (DoesUnderHub.leaves_unsent device changes due unheard) = own
   does_meet world hub up own meant row next (DoesUnderHub.reports device kind reply unheard) = λ hub' e met h.
       by hub.mends refl met (ap (λ (x : Hub). x.mends) (same_Some (hub_reported device reply (world.links device).faults hub) hub' e) ∙ h)
     where
@@ -76,6 +77,8 @@ module _ {D : Type 0} (here : Setting D) where
   does_meet world hub up own meant row next (DoesUnderHub.mends numbers idle unsettled) = λ hub' e met h.
       absurd (let no : ◌≡◌ {A = Option (Option RecFault)} (Some None) (Some (Some met)) = ap (λ (x : Hub). x.mends) (same_Some _ hub' e) ∙ h in cc)
   does_meet world hub up own meant row next (DoesUnderHub.mended numbers met busy heard unsettled) = λ hub' e m h.
+      absurd (let no : ◌≡◌ {A = Option (Option RecFault)} None (Some (Some m)) = ap (λ (x : Hub). x.mends) (same_Some _ hub' e) ∙ h in cc)
+  does_meet world hub up own meant row next (DoesUnderHub.finds_no_memory met busy heard) = λ hub' e m h.
       absurd (let no : ◌≡◌ {A = Option (Option RecFault)} None (Some (Some m)) = ap (λ (x : Hub). x.mends) (same_Some _ hub' e) ∙ h in cc)
   does_meet world hub up own meant row next (DoesUnderHub.fails_to_mend met failed heard) = λ hub' e m h.
       absurd (let no : ◌≡◌ {A = Option (Option RecFault)} None (Some (Some m)) = ap (λ (x : Hub). x.mends) (same_Some _ hub' e) ∙ h in cc)
@@ -126,6 +129,10 @@ module _ {D : Type 0} (here : Setting D) where
     where
       met_is : event.Reconcile (Some (Err first)) ≡ event.Reconcile (Some (Err met)) → first ≡ met
       met_is e = cc
+  does_end world new hub up own meant row next (DoesUnderHub.finds_no_memory met busy heard) m is = subst (EndsBy world new) (met_is m is) tt
+    where
+      met_is : (m : RecFault) → event.Reconcile (Some (Err fault.Memory)) ≡ event.Reconcile (Some (Err m)) → fault.Memory ≡ m
+      met_is m e = cc
   does_end world new hub up own meant row next does met is = absurd cc
 
   failing_ends : (meant : Event) (met : RecFault) → seen_failing meant ≡ Some (event.Reconcile (Some (Err met))) → met ≡ fault.DiskFault

@@ -1,4 +1,4 @@
--- A call that is acknowledged is the entry of its number, from then on. (Not checked yet.)
+-- A call that is acknowledged is the entry of its number, from then on.
 use Rattle.std.proofs.Common.{[], ◌≡◌, inl, inr, ℕ, ◌+◌, Bool, true, false, cond, nat_eq, Option, Some, None, List, ◌∷◌, ◌++◌, All, IsTrue, length, Err, refl, sym, ap, subst, ◌∙◌, append-nil, eq-eqb, eqb-true, ne_eqb, zero, suc, arith}
 use Rattle.std.specs.Prelude.{IfSome, ◌==◌, slice_get, take}
 use Rattle.std.specs.List.{find}

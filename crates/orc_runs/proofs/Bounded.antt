@@ -1,5 +1,6 @@
 -- A `settle` takes so many turns at most.
-use Rattle.std.proofs.Common.{[], ◌≡◌, ℕ, ◌≤◌, Bool, true, false, Option, Some, None, List, ◌∷◌, ◌++◌, Contains, length, arith, refl, sym, ap, subst, ◌∙◌, suc}
+use Rattle.std.proofs.Common.{[], ◌≡◌, ℕ, ◌≤◌, Bool, true, false, Option, Some, None, List, ◌∷◌, ◌++◌, Contains, length, arith, refl, sym, ap, subst, ◌∙◌, zero, suc}
+use Rattle.std.specs.Prelude.{slice_get}
 use Rattle.std.specs.List.{flat_map}
 use Rattle.std.proofs.lemmas.Bool.{false≢true}
 use Rattle.std.proofs.lemmas.Option.{same_Some}
@@ -21,12 +22,12 @@ use Rattle.orc_rules.specs.declared.event.Event.TheVariants as event
 use Rattle.orc_rules.proofs.Ranking.{does_lessen}
 use Rattle.orc_rules.proofs.Tracking.{steps_devices}
 use Rattle.orc_rules.proofs.Turning.{steps_keep}
-use Rattle.orc_runs.specs.Runs.{LineDone, Run}
+use Rattle.orc_runs.specs.Runs.{EndsIn, IsDone, LineDone, Run, line_list, lines_in}
 use Rattle.orc_runs.specs.Scripts.{Goes, IsOf, Part, Part as part, line_parts, round, set_by}
 use Rattle.orc_runs.specs.Steps.{ScriptStep, ScriptStep as step}
 use Rattle.orc_runs.proofs.InStep.{also, set_devices}
-use Rattle.orc_runs.proofs.Lasting.{each_line, there_in}
-use Rattle.orc_runs.proofs.Settled.{IsRested, lines_rest_before}
+use Rattle.orc_runs.proofs.Lasting.{each_line, lines_survive, there_in}
+use Rattle.orc_runs.proofs.Settled.{IsRested, lines_rest_before, lines_rest_last}
 
 -- parts of rounds
 abbrev pub is_round_part : Part → Bool
@@ -58,6 +59,7 @@ of_round : (one : Part) (meant : Event) → is_round_part one ≡ true → IsOf 
 of_round part.Admission (event.Admit t given) h is = refl
 of_round part.Admissions (event.Admit t given) h is = refl
 of_round (part.Operation device) (event.Perform other kind reply count) h is = refl
+of_round (part.Operation device) (event.Unsent other) h is = refl
 of_round (part.Hearing device) (event.Report other kind reply count) h is = refl
 of_round part.Decisions (event.Decide t given) h is = refl
 of_round part.Decisions (event.Settle t) h is = refl
@@ -68,6 +70,22 @@ of_round (part.Hearing device) other h is = absurd is
 of_round part.Decisions other h is = absurd is
 of_round part.Rounds other h is = absurd is
 of_round one meant h is = absurd (false≢true h)
+
+-- a line of these, or the last
+data InEither {D : Type 0} (lines : List (LineDone D)) (end : Option (LineDone D)) (line : LineDone D) : Type 0 where
+  in_front : (place : ℕ) → slice_get lines place ≡ Some line → InEither lines end line
+  at_end : end ≡ Some line → InEither lines end line
+
+in_either : {D : Type 0} (lines : List (LineDone D)) (end : Option (LineDone D)) (place : ℕ) (line : LineDone D) → slice_get (lines ++ line_list end) place ≡ Some line → InEither lines end line
+in_either [] None place line h = absurd cc
+in_either [] (Some x) zero line h = InEither.at_end h
+in_either [] (Some x) (suc place) line h = absurd cc
+in_either (y ∷ lines) end zero line h = InEither.in_front zero h
+in_either (y ∷ lines) end (suc place) line h = shift (in_either lines end place line h)
+  where
+    shift : InEither lines end line → InEither (y ∷ lines) end line
+    shift (InEither.in_front place' at) = InEither.in_front (suc place') at
+    shift (InEither.at_end ended) = InEither.at_end ended
 
 module _ {D : Type 0} (here : Setting D) (are : AreDecls here.decls) (plans : PlanStands) (legally : LegalStands) (order : KeepsOrder) (kinds : (device : ℕ) → IsOfHub (here.kinds device))
     (lawful : (device : ℕ) → IsLawful (here.kinds device) (over here.decls device)) (planning : Planning (over here.decls) (StandsAt here.decls) (FitAt here.decls) (ValidAt here.decls)) where
@@ -81,6 +99,7 @@ module _ {D : Type 0} (here : Setting D) (are : AreDecls here.decls) (plans : Pl
   round_up world hub up meant row next (DoesUnderHub.turns_away place it said there first idle why) h = (_, refl)
   round_up world hub up meant row next (DoesUnderHub.admits place it sets there first idle passes fresh) h = (_, refl)
   round_up world hub up meant row next (DoesUnderHub.performs device one happened due unheard possible way) h = (hub, up)
+  round_up world hub up meant row next (DoesUnderHub.leaves_unsent device changes due unheard) h = (hub, up)
   round_up world hub up meant row next (DoesUnderHub.reports device op reply unheard) h = (_, refl)
   round_up world hub up meant row next (DoesUnderHub.commits place it there least due prepared valid) h = (_, refl)
   round_up world hub up meant row next (DoesUnderHub.aborts place it said there least due why) h = (_, refl)
@@ -91,6 +110,7 @@ module _ {D : Type 0} (here : Setting D) (are : AreDecls here.decls) (plans : Pl
   round_up world hub up meant row next DoesUnderHub.stops h = absurd (false≢true h)
   round_up world hub up meant row next (DoesUnderHub.mends numbers idle unsettled) h = absurd (false≢true h)
   round_up world hub up meant row next (DoesUnderHub.mended numbers met busy heard unsettled) h = absurd (false≢true h)
+  round_up world hub up meant row next (DoesUnderHub.finds_no_memory met busy heard) h = absurd (false≢true h)
   round_up world hub up meant row next (DoesUnderHub.fails_to_mend met failed heard) h = absurd (false≢true h)
 
   at_most_one : (old new : World D) (hub : Hub) (n : ℕ) → old.hub ≡ Some hub → suc n ≤ turns_left hub old.links → AtMost old (suc n)
@@ -147,13 +167,35 @@ module _ {D : Type 0} (here : Setting D) (are : AreDecls here.decls) (plans : Pl
   module _ (only_now : (d : D) (c : List ℕ) → here.disk.left_since d (here.disk.moment d) c → here.disk.may_leave d c)
       (at_most : (world : World D) (hub : Hub) → DevicesKept here.decls world → world.hub ≡ Some hub → hub.mends ≡ None → turns_left hub world.links ≤ turns_at_most hub)
       (script : List ScriptStep) (first last : World D) (run : Run here script first last) (kept : HistoryKept here first) (own : DevicesKept here.decls first) (rested : IsRested first) where
-    pub bounded : (line : LineDone D) (hub : Hub) → Contains run.lines line → line.step ≡ step.Settle → line.before.hub ≡ Some hub → length line.turns ≤ turns_at_most hub
-    bounded line hub among is up =
-        let at = there_in run.lines line among in
-        let line' = each_line here only_now are plans legally order (DevicesKept here.decls) (also here only_now are plans legally order kinds lawful planning) (set_devices here)
-        first run.middle run.lines (kept, own) run.done among.0 line at in
-        let goes : Goes here false (part.Rounds ∷ []) line.before line.turns line.behind =
-        subst (λ (s : ScriptStep). Goes here false (line_parts here.decls s) (set_by s line.before) line.turns line.behind) is line'.does.goes in
-        let most = (goes_at_most false (part.Rounds ∷ []) line.before line.turns line.behind goes (refl, tt) line'.before.0 line'.before.1).0 hub up in
-        let bound = at_most line.before hub line'.before.1 up (lines_rest_before here first run.middle run.lines rested run.done among.0 line at hub up) in
+    -- a line from a world that is kept and rests
+    line_bounded : (ended : Bool) (line : LineDone D) (hub : Hub) → HistoryKept here line.before → DevicesKept here.decls line.before → IsRested line.before → IsDone here ended line
+        → line.step ≡ step.Settle → line.before.hub ≡ Some hub → length line.turns ≤ turns_at_most hub
+    line_bounded ended line hub history devices rests does is up =
+        let goes : Goes here ended (part.Rounds ∷ []) line.before line.turns line.behind =
+        subst (λ (s : ScriptStep). Goes here ended (line_parts here.decls s) (set_by s line.before) line.turns line.behind) is does.goes in
+        let most = (goes_at_most ended (part.Rounds ∷ []) line.before line.turns line.behind goes (refl, tt) history devices).0 hub up in
+        let bound = at_most line.before hub devices up (rests hub up) in
         omega (arith, most, bound)
+
+    abbrev lines_kept : HistoryKept here run.middle × DevicesKept here.decls run.middle
+    lines_kept =
+        (lines_survive here only_now are plans legally order (DevicesKept here.decls) (also here only_now are plans legally order kinds lawful planning) (set_devices here)
+        first run.middle run.lines (kept, own) run.done).kept
+
+    -- that in which the run ended
+    end_bounded : (line : LineDone D) (hub : Hub) → EndsIn here run.middle (Some line) last → line.step ≡ step.Settle → line.before.hub ≡ Some hub → length line.turns ≤ turns_at_most hub
+    end_bounded line hub ends is up =
+        let at : run.middle ≡ line.before = sym ends.0 in
+        line_bounded true line hub (subst (HistoryKept here) at lines_kept.0) (subst (DevicesKept here.decls) at lines_kept.1)
+        (subst IsRested at (lines_rest_last here first run.middle run.lines rested run.done)) ends.1 is up
+
+    either_bounded : (line : LineDone D) (hub : Hub) → InEither run.lines run.end line → line.step ≡ step.Settle → line.before.hub ≡ Some hub → length line.turns ≤ turns_at_most hub
+    either_bounded line hub (InEither.at_end ended) is up =
+        end_bounded line hub (subst (λ (o : Option (LineDone D)). EndsIn here run.middle o last) ended run.ends) is up
+    either_bounded line hub (InEither.in_front place at) is up =
+        let line' = each_line here only_now are plans legally order (DevicesKept here.decls) (also here only_now are plans legally order kinds lawful planning) (set_devices here)
+        first run.middle run.lines (kept, own) run.done place line at in
+        line_bounded false line hub line'.before.0 line'.before.1 (lines_rest_before here first run.middle run.lines rested run.done place line at) line'.does is up
+
+    pub bounded : (line : LineDone D) (hub : Hub) → Contains (lines_in run) line → line.step ≡ step.Settle → line.before.hub ≡ Some hub → length line.turns ≤ turns_at_most hub
+    bounded line hub among is up = either_bounded line hub (in_either run.lines run.end among.0 line (there_in (lines_in run) line among)) is up

@@ -1,5 +1,5 @@
 -- A device's refusal is told only where it doesn't accept the tree that would be due.
-use Rattle.std.proofs.Common.{[], ◌≡◌, ◌≢◌, ℕ, ◌+◌, true, false, Option, Some, None, ◌∷◌, ◌++◌, nat_eq, refl, sym, ap, subst, ◌∙◌}
+use Rattle.std.proofs.Common.{[], ◌≡◌, ℕ, true, false, Option, Some, None, ◌∷◌, ◌++◌, nat_eq, refl, sym, ap, subst, ◌∙◌}
 use Rattle.std.specs.Prelude.{slice_get}
 use Rattle.std.specs.List.{list_any}
 use Rattle.std.specs.Option.{option_or}

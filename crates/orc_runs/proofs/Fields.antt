@@ -24,7 +24,7 @@ use Rattle.orc_rules.proofs.Images.{IsFront, front_trans, read_front}
 use Rattle.orc_rules.proofs.Imaging.{LastsLegal, LegalFrom, lasts_then, stays, steps_last}
 use Rattle.orc_rules.proofs.Legality.{read_so}
 use Rattle.orc_rules.proofs.Turning.{uncut_read}
-use Rattle.orc_runs.specs.Headline.{BeginsHistory, HoldsHistoryFrom, IsOpenable}
+use Rattle.orc_runs.specs.Headline.{BeginsHistory, HoldsHistoryFrom, IsLegalJournal, IsOpenable}
 use Rattle.orc_runs.specs.Runs.{Run, turns_of}
 use Rattle.orc_runs.specs.Steps.{ScriptStep, ScriptStep as step}
 use Rattle.orc_runs.proofs.Lasting.{IsKept, Survives, each_in, run_survives}
@@ -83,14 +83,18 @@ module _ {D : Type 0} (here : Setting D)
   at_entry = ap history_of (sym (uncut_read first.journal uncut))
 
   -- as a read gives it
-  holds_now : (world : World D) → HistoryKept here world → FromFirst world → IfSome (here.disk.content world.journal.disk) (HoldsHistoryFrom here.decls (history_read first.journal))
-  holds_now world own so = if_some (here.disk.content world.journal.disk) (λ file. IsGated file here.decls.text (entries_read world.journal)) (HoldsHistoryFrom here.decls (history_read first.journal))
-      (λ file gated. subst (λ (h : List Call). HoldsHistoryFrom here.decls h file) at_entry (
-        history_of (entries_read world.journal),
-        record { entries = entries_read world.journal; gated = gated; ordered = legal.0; decided = refl; legal = legal.1 },
-        front_history first.journal.synced (entries_read world.journal)
-            (front_trans first.journal.synced world.journal.synced (entries_read world.journal) so.synced (read_front here.disk here.decls.text here.limit world.journal)),
-      )) own.journal.holds.read
+  abbrev HoldsNow : World D → Type 0
+  HoldsNow world = BeginsHistory (history_read first.journal) (history_read world.journal)
+      × IfSome (here.disk.content world.journal.disk) (λ file. IsLegalJournal here.decls file (history_read world.journal))
+
+  holds_now : (world : World D) → HistoryKept here world → FromFirst world → HoldsNow world
+  holds_now world own so = (
+    subst (λ (h : List Call). BeginsHistory h (history_read world.journal)) at_entry
+        (front_history first.journal.synced (entries_read world.journal)
+        (front_trans first.journal.synced world.journal.synced (entries_read world.journal) so.synced (read_front here.disk here.decls.text here.limit world.journal))),
+    if_some (here.disk.content world.journal.disk) (λ file. IsGated file here.decls.text (entries_read world.journal)) (λ file. IsLegalJournal here.decls file (history_read world.journal))
+        (λ file gated. record { entries = entries_read world.journal; gated = gated; ordered = legal.0; decided = refl; legal = legal.1 }) own.journal.holds.read,
+  )
     where
       legal : IsTrue (is_ordered (entries_read world.journal)) × IsLegal here.decls (history_of (entries_read world.journal))
       legal = read_so here world.journal own.journal
@@ -98,10 +102,10 @@ module _ {D : Type 0} (here : Setting D)
   behind : (turn : Turn D) → Contains (turns_of run) turn → HistoryKept here turn.behind × FromFirst turn.behind
   behind turn among = (each_in (IsKept here only_now are plans legally order FromFirst from_steps from_set last) (turns_of run) turn survives.each among).behind
 
-  pub one_history : IfSome (here.disk.content last.journal.disk) (HoldsHistoryFrom here.decls (history_read first.journal))
+  pub one_history : HoldsNow last
   one_history = holds_now last survives.kept.0 survives.kept.1
 
-  pub whenever_it_is_read : (turn : Turn D) → Contains (turns_of run) turn → IfSome (here.disk.content turn.behind.journal.disk) (HoldsHistoryFrom here.decls (history_read first.journal))
+  pub whenever_it_is_read : (turn : Turn D) → Contains (turns_of run) turn → HoldsNow turn.behind
   whenever_it_is_read turn among = let own = behind turn among in holds_now turn.behind own.0 own.1
 
   pub whenever_it_crashes : (file : List ℕ) → here.disk.left_since last.journal.disk (here.disk.moment first.journal.disk) file

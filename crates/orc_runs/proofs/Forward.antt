@@ -1,4 +1,4 @@
--- Over whole runs, forward: what is kept of the world and of the turns so far. (Not checked yet.)
+-- Over whole runs, forward: what is kept of the world and of the turns so far.
 use Rattle.std.proofs.Common.{[], ◌≡◌, Bool, true, false, Option, Some, None, List, ◌∷◌, ◌++◌, refl, sym, ap, subst, ◌∙◌, append-nil, append_assoc}
 use Rattle.std.specs.List.{flat_map}
 use Rattle.orc_rules.specs.Events.{Comes, Turn}

@@ -33,7 +33,7 @@ use Rattle.orc_rules.specs.Journals.{entries_read, history_read}
 use Rattle.orc_rules.specs.Kept.{FitAt, HistoryKept, NetworkKept, StandsAt, ValidAt, local_of, network, network_of}
 use Rattle.orc_rules.specs.Worlds.{Link, Setting, World, over}
 use Rattle.orc_rules.proofs.Legality.{read_so}
-use Rattle.orc_runs.specs.Headline.{IsPending}
+use Rattle.orc_runs.specs.Headline.{IsPending, IsReconciled}
 use Rattle.orc_runs.specs.Runs.{Run, turns_of}
 use Rattle.orc_runs.specs.Steps.{ScriptStep, ScriptStep as step}
 use Rattle.orc_runs.proofs.Lasting.{IsKept, Survives, each_in, run_survives}
@@ -178,16 +178,17 @@ module _ {D : Type 0} (here : Setting D)
     -- whenever a reconciliation is well each declared device runs what is due, and nothing is pending there
     pub runs_mended : (turn : Turn D) (device : ℕ) → Contains (turns_of run) turn → nat_lt device (length here.decls.names) ≡ true
         → turn.seen ≡ Some (event.Reconcile (Some (Ok tt)))
-        → ((turn.behind.nodes device).running ≡ tree_due (state_of here.decls (history_read turn.behind.journal)) device) × ((turn.behind.nodes device).pending ≡ None)
+        → IsReconciled here.decls turn.behind device
     runs_mended turn device among within seen =
         let is = tracked turn among in
         let s = well_seen turn.before turn.behind turn.meant turn.seen is.before.0 is.before.1 is.comes seen device within in
-        runs_in_step turn s.hub device among within s.up s.fresh s.unworked s.heard
+        let so = runs_in_step turn s.hub device among within s.up s.fresh s.unworked s.heard in
+        record { runs = so.0; settled = so.1; hub = s.hub; up = s.up; in_sync = s.fresh }
 
     -- the first of these
     pub runs_reconciled : (turn : Turn D) (device : ℕ) → Contains (turns_of run) turn → nat_lt device (length here.decls.names) ≡ true
         → turn.seen ≡ Some (event.Reconcile (Some (Ok tt))) → (turn.behind.nodes device).running ≡ tree_due (state_of here.decls (history_read turn.behind.journal)) device
-    runs_reconciled turn device among within seen = (runs_mended turn device among within seen).0
+    runs_reconciled turn device among within seen = (runs_mended turn device among within seen).runs
 
     -- at each moment each device would come back to what is due behind a front of the history
     pub runs_come_back : (turn : Turn D) (device : ℕ) → Contains (turns_of run) turn → nat_lt device (length here.decls.names) ≡ true

@@ -106,7 +106,7 @@ module _ {D : Type 0} (here : Setting D)
   armed_keeps world count bytes kept =
       let same = stays here only_now world.journal kept.journal in (
         record {
-          journal = record { holds = record { read = kept.journal.holds.read; crash = kept.journal.holds.crash }; fronts = kept.journal.fronts };
+          journal = record { holds = record { read = kept.journal.holds.read; crash = kept.journal.holds.crash }; fronts = kept.journal.fronts; read_back = kept.journal.read_back };
           hub = kept.hub;
         },
         record { synced = same.synced; images = same.images },
@@ -152,7 +152,7 @@ module _ {D : Type 0} (here : Setting D)
         kept = goes.kept;
       }
 
-  lines_survive : (first last : World D) (lines : List (LineDone D)) → Kept first → AreDone here first lines last
+  pub lines_survive : (first last : World D) (lines : List (LineDone D)) → Kept first → AreDone here first lines last
       → Survives first.journal (flat_map (λ line. line.turns) lines) last
   lines_survive first last [] kept same = subst (λ (w : World D). Survives first.journal [] w) same (nothing first kept)
   lines_survive first last (line ∷ lines) kept are' =
@@ -202,7 +202,7 @@ set_kept {D = D} here (step.StopAt count bytes) world kept = on world.hub where
   on : (hub : Option Hub) → HistoryKept here (option_map_or (λ h. record world { journal = record world.journal { armed = count; bytes = bytes } }) hub world)
   on None = kept
   on (Some hub) = record {
-    journal = record { holds = record { read = kept.journal.holds.read; crash = kept.journal.holds.crash }; fronts = kept.journal.fronts };
+    journal = record { holds = record { read = kept.journal.holds.read; crash = kept.journal.holds.crash }; fronts = kept.journal.fronts; read_back = kept.journal.read_back };
     hub = kept.hub;
   }
 set_kept here (step.Fault device op at) world kept = record { journal = kept.journal; hub = kept.hub }

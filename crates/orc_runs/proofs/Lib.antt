@@ -18,4 +18,7 @@ pub mod Accepted
 pub mod Bounded
 pub mod Because
 pub mod Since
+pub mod Growing
+pub mod Keeping
+pub mod Settling
 pub mod Whole

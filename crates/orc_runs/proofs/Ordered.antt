@@ -1,5 +1,4 @@
--- Of each caller the entries that a run adds are some of its calls, in the order in which they were submitted. (Not
--- checked yet.)
+-- Of each caller the entries that a run adds are some of its calls, in the order in which they were submitted.
 use Rattle.std.proofs.Common.{[], ◌≡◌, ◌≢◌, ◌⊎◌, inl, inr, ⊎_elim, ℕ, ◌+◌, Bool, true, false, cond, nat_eq, Option, Some, None, List, ◌∷◌, ◌++◌, length, map, refl, sym, ap, subst, ◌∙◌, append-nil, append_assoc, eq-eqb, zero, suc, filter}
 use Rattle.std.specs.Prelude.{slice_get}
 use Rattle.std.specs.Cmp.Lexicographic.{bytes_decides}
@@ -105,13 +104,13 @@ pub data RowGrows (hub : Hub) (old new : List Call) : Type 0 where
   stays_so : new ≡ old → RowGrows hub old new
   adds : (place : ℕ) (it : Transaction) → slice_get hub.active place ≡ Some it → is_preparing it.phase ≡ true → new ≡ old ++ it.call ∷ [] → RowGrows hub old new
 
-settled_same : (es : List Entry) (ts : List ℕ) → history_of (es ++ map entry.Settled ts) ≡ history_of es
+pub settled_same : (es : List Entry) (ts : List ℕ) → history_of (es ++ map entry.Settled ts) ≡ history_of es
 settled_same es [] = ap history_of (append-nil es)
 settled_same es (t ∷ ts) =
     ap history_of (sym (append_assoc es (entry.Settled t ∷ []) (map entry.Settled ts))) ∙ settled_same (es ++ entry.Settled t ∷ []) ts
     ∙ history_of-append es (entry.Settled t) ∙ append-nil (history_of es)
 
-one_entry : (e : Entry) (front rest : List Entry) → e ∷ [] ≡ front ++ rest → (front ≡ []) ⊎ (front ≡ e ∷ [])
+pub one_entry : (e : Entry) (front rest : List Entry) → e ∷ [] ≡ front ++ rest → (front ≡ []) ⊎ (front ≡ e ∷ [])
 one_entry e [] rest is = inl refl
 one_entry e (x ∷ front) rest is =
     let first : e ≡ x = cc in
@@ -359,6 +358,8 @@ module _ {D : Type 0} (here : Setting D) (first : List Call) (ts : List (Turn D)
           (push_cases hub.active (transaction_begun (length (history_read old.journal)) it) i x at)
   does_ordered old hub meant row next new o up known (DoesUnderHub.performs device op happened due unheard possible way) grown is =
       same_hub old new meant (Some meant) o (grown ∙ ap history_of (append-nil (entries_read old.journal))) is
+  does_ordered old hub meant row next new o up known (DoesUnderHub.leaves_unsent device changes due unheard) grown is =
+      same_hub old new meant (Some meant) o (grown ∙ ap history_of (append-nil (entries_read old.journal))) is
   does_ordered old hub meant row next new o up known (DoesUnderHub.reports device op reply unheard) grown is =
       less_open old new meant (Some meant) o (grown ∙ ap history_of (append-nil (entries_read old.journal))) hub (hub_reported device reply (old.links device).faults hub) up is
       (λ call open_now. told_before call open_now)
@@ -429,6 +430,8 @@ module _ {D : Type 0} (here : Setting D) (first : List Call) (ts : List (Turn D)
       were : (call : Call) → IsOpen (record hub { active = []; mends = None; duties = map mender_freed hub.duties }) call → IsOpen hub call
       were call (IsOpen.open_waiting i one at same) = IsOpen.open_waiting i one at same
       were call (IsOpen.open_preparing i x at h same) = absurd cc
+  does_ordered old hub meant row next new o up known (DoesUnderHub.finds_no_memory met busy heard) grown is =
+      alike old new meant (Some meant) o (grown ∙ ap history_of (append-nil (entries_read old.journal))) hub _ up is refl refl
   does_ordered old hub meant row next new o up known (DoesUnderHub.fails_to_mend met failed heard) grown is =
       alike old new meant (Some meant) o (grown ∙ ap history_of (append-nil (entries_read old.journal))) hub _ up is refl refl
 
@@ -471,7 +474,7 @@ module _ {D : Type 0} (here : Setting D) (first : List Call) (ts : List (Turn D)
           ∙ ap (λ (l : List Entry). cond b.cut_is_read (a.synced ++ l) a.synced) (sym s.cut.0)
           ∙ ap (λ (l : List Entry). cond b.cut_is_read (l ++ b.cut) l) (sym s.synced)
   steps_ordered old new meant seen kept o (Steps.recovers _ down recover reopens is) =
-      quiet_turn here first ts (record { before = old; meant = meant; seen = seen; behind = new }) o (ap history_of (uncut_read new.journal reopens.cut ∙ reopens.synced))
+      quiet_turn here first ts (record { before = old; meant = meant; seen = seen; behind = new }) o (ap history_of (uncut_read new.journal reopens.cut ∙ reopens.synced kept.journal.read_back))
       (λ hub' e call open_now. absurd (nobody (subst (λ (h : Hub). IsOpen h call) (sym (same_Some _ hub' (sym (ap (λ (w : World D). w.hub) is) ∙ e))) open_now)))
       (λ hub' e. subst CallersApart (same_Some _ hub' (sym (ap (λ (w : World D). w.hub) is) ∙ e)) (λ i j x y at. absurd cc))
     where

@@ -1,10 +1,12 @@
 -- No confirmed commit is cancelled that is decided, and none confirmed that isn't.
-use Rattle.std.proofs.Common.{◌≡◌, inl, inr, ℕ, true, Option, Some, None, List, refl, sym, ap, subst, ◌∙◌}
+use Rattle.std.proofs.Common.{[], ◌≡◌, inl, inr, ℕ, true, Option, Some, None, List, refl, sym, ap, subst, ◌∙◌}
 use Rattle.std.specs.Prelude.{length, nat_lt}
 use Rattle.std.proofs.lemmas.Option.{same_Some}
 use Rattle.orc_call.specs.declared.answer.RecFault.{RecFault}
 use Rattle.orc_call.specs.declared.call.Call.{Call}
 use Rattle.orc_device.specs.Links.{Way, Possible}
+use Rattle.orc_rules.proofs.NodeLaws.{may_happen}
+use Rattle.orc_rules.specs.Cells.{MayHappen}
 use Rattle.orc_device.specs.declared.kind.OpKind.{OpKind}
 use Rattle.orc_device.specs.declared.op.Op.{Op}
 use Rattle.orc_device.specs.declared.op.Op.TheVariants as op
@@ -46,6 +48,9 @@ module _ {D : Type 0} (here : Setting D) (kinds : (device : ℕ) → IsOfHub (he
     abbrev under : Attends here.decls own.shadow (entries_read world.journal) hub world.links
     under = own.under hub up
 
+    may : MayHappen (here.kinds device) (world.nodes device) (world.links device).session one happened
+    may = may_happen (here.kinds device) (world.nodes device) (world.links device).session one happened possible
+
     net_kept : NetworkKept here.decls (network_of here.decls own.shadow (entries_read world.journal) (Some hub) world.nodes world.links)
     net_kept = subst (λ (h : Option Hub). NetworkKept here.decls (network_of here.decls own.shadow (entries_read world.journal) h world.nodes world.links)) up own.kept
 
@@ -69,8 +74,8 @@ module _ {D : Type 0} (here : Setting D) (kinds : (device : ℕ) → IsOfHub (he
         let owned = under.owned device worker is (order_due worker.t worker.set worker.stage one due).1 in
         let agree = under.agree device worker is in
         by_role _
-        (works_now here.decls here.kinds kinds lawful planning own.shadow (entries_read world.journal) hub world.nodes world.links device one happened unheard possible net_kept worker is due agree owned)
-        (order_here here.decls here.kinds kinds lawful planning own.shadow (entries_read world.journal) hub world.nodes world.links device one happened unheard possible net_kept worker is due agree owned)
+        (works_now here.decls here.kinds kinds lawful planning own.shadow (entries_read world.journal) hub world.nodes world.links device one happened unheard may [] net_kept worker is due agree owned)
+        (order_here here.decls here.kinds kinds lawful planning own.shadow (entries_read world.journal) hub world.nodes world.links device one happened unheard may [] net_kept worker is due agree owned)
 
     by_mender : (mender : MenderState) → duty_on hub.duties device ≡ duty.Mends mender → ResolvesSo world one
     by_mender mender is = at hub.mends refl
@@ -84,10 +89,10 @@ module _ {D : Type 0} (here : Setting D) (kinds : (device : ℕ) → IsOfHub (he
         stood (inr so) =
             let slot = get_in hub.stale device (length here.decls.names) under.stale_sized within in
             by_role (Mends so.0)
-            (mends_now here.decls here.kinds kinds lawful planning own.shadow (entries_read world.journal) hub world.nodes world.links device one happened unheard possible net_kept
+            (mends_now here.decls here.kinds kinds lawful planning own.shadow (entries_read world.journal) hub world.nodes world.links device one happened unheard may [] net_kept
             mender so.0 is so.1 (order_now (duty.Mends mender) is) slot.0 slot.1)
             (ap (λ (o : Op). Some o)
-            (op_is here.decls here.kinds kinds lawful planning own.shadow (entries_read world.journal) hub world.nodes world.links device one happened unheard possible net_kept
+            (op_is here.decls here.kinds kinds lawful planning own.shadow (entries_read world.journal) hub world.nodes world.links device one happened unheard may [] net_kept
             mender so.0 is so.1 (order_now (duty.Mends mender) is) slot.0 slot.1))
 
         at : (m : Option (Option RecFault)) → hub.mends ≡ m → ResolvesSo world one

@@ -21,7 +21,7 @@ use Rattle.orc_worker.specs.declared.stage.Stage.TheVariants as stage
 use Rattle.orc_worker.specs.declared.worker.Worker.{Worker}
 use Rattle.orc_device.specs.Operations.{is_ok, is_resolved}
 use Rattle.orc_rules.specs.Admissions.{transaction_begun, started, without}
-use Rattle.orc_rules.specs.Asked.{open_of, answered_at, answered_one, is_of, new_slot, slot_of, slot_set, with_answer, with_open}
+use Rattle.orc_rules.specs.Asked.{open_of, answered_at, answered_one, is_of, last_at, new_slot, slot_of, slot_set, with_answer, with_open}
 use Rattle.orc_rules.specs.Courses.{agrees}
 use Rattle.orc_rules.specs.Duties.{duty_told, duty_took, is_over_for, is_over_on}
 use Rattle.orc_rules.specs.Hubs.{with_changed, duty_on}
@@ -191,15 +191,15 @@ open_asks asked waiting active it slot own = on (slot_of asked it.call) refl slo
     mine : (q : ℕ) → it.asker ≡ q → IsAsking (waiting ++ it ∷ []) active q
     mine q is = IsAsking.asks_waiting (length waiting) it (push_last waiting it) is
 
-    on : (place : Option ℕ) → slot_of asked it.call ≡ place → slot_of (slot_set asked it.call place None true) it.call ≡ Some it.asker
-        → EachOpenAsks (slot_set asked it.call place None true) (waiting ++ it ∷ []) active
+    on : (place : Option ℕ) → slot_of asked it.call ≡ place → slot_of (slot_set asked it.call place (last_at asked place) true) it.call ≡ Some it.asker
+        → EachOpenAsks (slot_set asked it.call place (last_at asked place) true) (waiting ++ it ∷ []) active
     on None was now q one at is_open = ⊎_elim
         (λ old. more_asks waiting active it q (own q one old is_open))
         (λ new. mine q (sym (first_push (is_of it.call.caller it.call.number) asked it.asker (new_slot it.call None true) was now) ∙ sym new.0))
         (push_cases asked (new_slot it.call None true) q one at)
     on (Some place) was now q one at is_open = ⊎_elim
-        (λ same. mine q (sym (first_set (is_of it.call.caller it.call.number) asked place it.asker (new_slot it.call None true) (own_slot it.call None true) was now) ∙ same))
-        (λ apart. more_asks waiting active it q (own q one (sym (set_other place q asked (new_slot it.call None true) apart) ∙ at) is_open))
+        (λ same. mine q (sym (first_set (is_of it.call.caller it.call.number) asked place it.asker (new_slot it.call (last_at asked (Some place)) true) (own_slot it.call (last_at asked (Some place)) true) was now) ∙ same))
+        (λ apart. more_asks waiting active it q (own q one (sym (set_other place q asked (new_slot it.call (last_at asked (Some place)) true) apart) ∙ at) is_open))
         (same_place place q)
 
 -- who is answered asks no more

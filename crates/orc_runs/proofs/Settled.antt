@@ -341,6 +341,7 @@ module _ {D : Type 0} (here : Setting D) (are : AreDecls here.decls) (plans : Pl
                 (All-at (λ (other : Transaction). FitTogether it.plan.held other.plan.held) hub.active i x fits at).devices is named)
             on false is = is
     does_serve meant row next (DoesUnderHub.performs device op happened due unheard possible way) = is_behind next hub up own
+    does_serve meant row next (DoesUnderHub.leaves_unsent device changes due unheard) = is_behind next hub up own
     does_serve meant row next (DoesUnderHub.reports device op reply unheard) =
         is_behind next (hub_reported device reply (world.links device).faults hub) refl (report_serves hub.waiting hub.active hub.duties hub.asked device reply (world.links device).faults own)
     does_serve meant row next (DoesUnderHub.commits place it there least due prepared valid) =
@@ -358,6 +359,8 @@ module _ {D : Type 0} (here : Setting D) (are : AreDecls here.decls) (plans : Pl
         is_behind next _ refl (idle_serves hub.waiting hub.active hub.duties _ hub.asked (all_left hub.active idle.1) own)
     does_serve meant row next (DoesUnderHub.mended numbers met busy heard unsettled) =
         is_behind next _ refl (none_serves hub.waiting hub.active hub.duties (map mender_freed hub.duties) hub.asked (mending_left None met) own)
+    does_serve meant row next (DoesUnderHub.finds_no_memory met busy heard) =
+        is_behind next _ refl (idle_serves hub.waiting hub.active hub.duties (map mender_freed hub.duties) hub.asked (mending_left None met) own)
     does_serve meant row next (DoesUnderHub.fails_to_mend met failed heard) =
         is_behind next _ refl (idle_serves hub.waiting hub.active hub.duties (map mender_freed hub.duties) hub.asked (mending_left (Some met) failed) own)
 
@@ -596,6 +599,8 @@ module _ {D : Type 0} (here : Setting D) where
   does_rest world hub meant row next (DoesUnderHub.begins caller) other up rested = λ h e. ap (λ (x : Hub). x.mends) (sym (same_Some hub h (sym up ∙ e))) ∙ rested
   does_rest world hub meant row next (DoesUnderHub.performs device op happened due unheard possible way) other up rested =
       λ h e. ap (λ (x : Hub). x.mends) (sym (same_Some hub h (sym up ∙ e))) ∙ rested
+  does_rest world hub meant row next (DoesUnderHub.leaves_unsent device changes due unheard) other up rested =
+      λ h e. ap (λ (x : Hub). x.mends) (sym (same_Some hub h (sym up ∙ e))) ∙ rested
   does_rest world hub meant row next (DoesUnderHub.reports device op reply unheard) other up rested =
       λ h e. ap (λ (x : Hub). x.mends) (sym (same_Some (hub_reported device reply (world.links device).faults hub) h e)) ∙ still_none _ hub.mends rested
     where
@@ -605,6 +610,7 @@ module _ {D : Type 0} (here : Setting D) where
   does_rest world hub meant row next DoesUnderHub.stops other up rested = λ h e. absurd (let none : ◌≡◌ {A = Option Hub} None (Some h) = e in cc)
   does_rest world hub meant row next (DoesUnderHub.mends numbers idle unsettled) other up rested = absurd (other refl)
   does_rest world hub meant row next (DoesUnderHub.mended numbers met busy heard unsettled) other up rested = λ h e. ap (λ (x : Hub). x.mends) (sym (same_Some _ h e))
+  does_rest world hub meant row next (DoesUnderHub.finds_no_memory met busy heard) other up rested = λ h e. ap (λ (x : Hub). x.mends) (sym (same_Some _ h e))
   does_rest world hub meant row next (DoesUnderHub.fails_to_mend met failed heard) other up rested = λ h e. ap (λ (x : Hub). x.mends) (sym (same_Some _ h e))
   does_rest world hub meant row next does other up rested = λ h e. ap (λ (x : Hub). x.mends) (sym (same_Some _ h e)) ∙ rested
 
@@ -643,6 +649,7 @@ module _ {D : Type 0} (here : Setting D) where
   -- an event that ends a reconciliation
   does_end : (world : World D) (hub : Hub) (meant : Event) (row : List Entry) (next : World D) → DoesUnderHub here world hub meant row next → IsOf part.Ending meant → IsRested next
   does_end world hub meant row next (DoesUnderHub.mended numbers met busy heard unsettled) ends = λ h e. ap (λ (x : Hub). x.mends) (sym (same_Some _ h e))
+  does_end world hub meant row next (DoesUnderHub.finds_no_memory met busy heard) ends = λ h e. ap (λ (x : Hub). x.mends) (sym (same_Some _ h e))
   does_end world hub meant row next (DoesUnderHub.fails_to_mend met failed heard) ends = λ h e. ap (λ (x : Hub). x.mends) (sym (same_Some _ h e))
   does_end world hub meant row next does ends = absurd ends
 
@@ -735,6 +742,12 @@ module _ {D : Type 0} (here : Setting D) where
   lines_rest_before first last (x ∷ lines) rested done zero line at = subst (λ (l : LineDone D). IsRested l.before) (same_Some x line at) (subst IsRested (sym done.0) rested)
   lines_rest_before first last (x ∷ lines) rested done (suc place) line at =
       lines_rest_before x.behind last lines (line_rests x.step x.before x.turns x.behind done.1.goes (subst IsRested (sym done.0) rested)) done.2 place line at
+
+  -- and behind them all
+  pub lines_rest_last : (first last : World D) (lines : List (LineDone D)) → IsRested first → AreDone here first lines last → IsRested last
+  lines_rest_last first last [] rested same = subst IsRested same rested
+  lines_rest_last first last (x ∷ lines) rested done =
+      lines_rest_last x.behind last lines (line_rests x.step x.before x.turns x.behind done.1.goes (subst IsRested (sym done.0) rested)) done.2
 
 -- over a whole run
 module _ {D : Type 0} (here : Setting D)

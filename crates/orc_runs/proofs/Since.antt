@@ -1,6 +1,5 @@
 -- A reconciliation meets the fault of a link only where one came since it began.
-use Rattle.std.proofs.Common.{[], ◌≡◌, ◌⊎◌, ⊎_elim, ℕ, Bool, true, false, cond, nat_eq, Option, Some, None, Err, List, ◌∷◌, ◌++◌, refl, sym, ap, subst, ◌∙◌, eqb-true}
-use Rattle.std.specs.List.{fold}
+use Rattle.std.proofs.Common.{[], ◌≡◌, ⊎_elim, ℕ, Bool, true, false, cond, nat_eq, Option, Some, None, Err, List, ◌∷◌, ◌++◌, refl, sym, ap, subst, ◌∙◌, eqb-true}
 use Rattle.std.specs.Option.{option_map, option_map_or, option_or}
 use Rattle.std.proofs.lemmas.Bool.{false≢true}
 use Rattle.std.proofs.lemmas.List.Elements.{Contains-append_left, Contains-push}
@@ -12,6 +11,7 @@ use Rattle.orc_device.specs.Links.{way_reply}
 use Rattle.orc_device.specs.Listings.{kind_of_op}
 use Rattle.orc_device.specs.Operations.{mark_of}
 use Rattle.orc_device.specs.declared.kind.OpKind.{OpKind}
+use Rattle.orc_device.specs.declared.kind.OpKind.TheVariants as kind
 use Rattle.orc_device.specs.declared.reply.Mark.TheVariants as mark
 use Rattle.orc_device.specs.declared.reply.Reply.{Reply}
 use Rattle.orc_device.specs.declared.reply.Reply.TheVariants as reply
@@ -20,7 +20,7 @@ use Rattle.orc_journal.specs.declared.entry.Entry.{Entry}
 use Rattle.orc_plans.specs.Plans.{LegalStands, PlanStands}
 use Rattle.orc_rules.specs.Cells.{updated_at}
 use Rattle.orc_rules.specs.Duties.{duty_end}
-use Rattle.orc_rules.specs.Events.{Comes, DoesAnyway, DoesUnderHub, Steps, Turn, performed, seen_failing}
+use Rattle.orc_rules.specs.Events.{Comes, DoesAnyway, DoesUnderHub, Steps, Turn, performed, seen_failing, unsent}
 use Rattle.orc_rules.specs.Hubs.{Hub, duty_on, hub_reported, mend_fault}
 use Rattle.orc_rules.specs.Invariant.{IsLawful}
 use Rattle.orc_rules.specs.Journals.{entries_read}
@@ -39,17 +39,13 @@ use Rattle.orc_runs.specs.Headline.{HasFault, begins_again, since_begun}
 use Rattle.orc_runs.specs.Runs.{Run, turns_of}
 use Rattle.orc_runs.specs.Scripts.{set_by}
 use Rattle.orc_runs.specs.Steps.{ScriptStep, ScriptStep as step}
-use Rattle.orc_runs.proofs.Faulted.{SplitPush, listed_same, nil_none, split_push}
+use Rattle.orc_runs.proofs.Faulted.{SplitPush, fold_push, listed_same, nil_none, split_push}
 use Rattle.orc_runs.proofs.Faulting.{UnheardFaults, duty_fault, met_fault, or_some}
 use Rattle.orc_runs.proofs.Forward.{run_forward}
 use Rattle.orc_runs.proofs.InStep.{set_devices}
 use Rattle.orc_runs.proofs.Lasting.{set_kept}
 
 -- the turns since the beginning, with one more
-fold_push : {X Y : Type 0} (f : Y → X → Y) (a : Y) (xs : List X) (x : X) → fold f a (xs ++ x ∷ []) ≡ f (fold f a xs) x
-fold_push f a [] x = refl
-fold_push f a (y ∷ xs) x = fold_push f (f a y) xs x
-
 since_push : {D : Type 0} (ts : List (Turn D)) (turn : Turn D) → since_begun (ts ++ turn ∷ []) ≡ cond (begins_again turn.seen) [] (since_begun ts ++ turn ∷ [])
 since_push ts turn = fold_push (λ so_far t. cond (begins_again t.seen) [] (so_far ++ t ∷ [])) [] ts turn
 
@@ -149,6 +145,26 @@ module _ {D : Type 0} (here : Setting D) (Came : ℕ → ℕ → Type 0) (world 
           on false e =
               let same : (performed here world device op happened).links x ≡ world.links x = given_other world.links device _ x e in
               subst (λ (l : Link). Came x l.faults) (sym same) (old x op' (ap (λ (l : Link). l.unheard) (sym same) ∙ h))
+  does_know meant row next (DoesUnderHub.leaves_unsent device changes due unheard) now = λ other e met m.
+      let o = own hub up met (ap (λ (h : Hub). h.mends) (same_Some hub other (sym up ∙ e)) ∙ m) in
+      record { unheard = links o.unheard; met_so = o.met_so }
+    where
+      came_now : (op' : OpKind) → ((unsent here world device changes).links device).unheard ≡ Some (op', reply.Fault) → ⊥
+      came_now op' h =
+          let is : ◌≡◌ {A = Option (OpKind × Reply)} (Some (kind.Edit, reply.Memory)) (Some (op', reply.Fault)) =
+          sym (ap (λ (l : Link). l.unheard) (given_at world.links device _)) ∙ h in
+          let replied : reply.Memory ≡ reply.Fault = ap (λ (p : OpKind × Reply). p.1) (same_Some (kind.Edit, reply.Memory) (op', reply.Fault) is) in cc
+
+      links : UnheardFaults Came world.links → UnheardFaults Came (unsent here world device changes).links
+      links old x op' h = on (nat_eq device x) refl
+        where
+          on : (b : Bool) → nat_eq device x ≡ b → Came x ((unsent here world device changes).links x).faults
+          on true e =
+              let same : device ≡ x = eqb-true device x e in
+              absurd (came_now op' (subst (λ (y : ℕ). ((unsent here world device changes).links y).unheard ≡ Some (op', reply.Fault)) (sym same) h))
+          on false e =
+              let same : (unsent here world device changes).links x ≡ world.links x = given_other world.links device _ x e in
+              subst (λ (l : Link). Came x l.faults) (sym same) (old x op' (ap (λ (l : Link). l.unheard) (sym same) ∙ h))
   does_know meant row next (DoesUnderHub.reports device op r heard) now = λ other e met m.
       let o = by device op r heard hub.mends refl met (ap (λ (h : Hub). h.mends) (same_Some (hub_reported device r (world.links device).faults hub) other e) ∙ m) in
       record { unheard = o.0; met_so = o.1 }
@@ -166,6 +182,7 @@ module _ {D : Type 0} (here : Setting D) (Came : ℕ → ℕ → Type 0) (world 
       quiet device = all_heard here.decls devices.shadow (entries_read world.journal) hub.active hub.duties hub.stale hub.mends world.links under (λ place it there. ap is_under_way (all_left hub.active idle.1 place it there))
           (subst (λ (n : Option (Option RecFault)). MendingKept here.decls (entries_read world.journal) hub.active hub.duties hub.stale n) idle.2 under.mending) device
   does_know meant row next (DoesUnderHub.mended numbers met busy heard unsettled) now = ended next _ refl refl
+  does_know meant row next (DoesUnderHub.finds_no_memory met busy heard) now = ended next _ refl refl
   does_know meant row next (DoesUnderHub.fails_to_mend met failed heard) now = ended next _ refl refl
 
 -- over whole runs

@@ -45,7 +45,7 @@ use Rattle.orc_runs.proofs.Bounded.{bounded}
 use Rattle.orc_runs.proofs.Because.{turn_because}
 use Rattle.orc_runs.proofs.Faulted.{known_before}
 use Rattle.orc_runs.proofs.Since.{met_since}
-use Rattle.orc_runs.proofs.Faulting.{FaultsKnown, UnderFaults, UnheardFaults}
+use Rattle.orc_runs.proofs.Faulting.{FaultsKnown, UnderFaults, UnheardFaults, by_fault}
 use Rattle.orc_runs.proofs.Replying.{IsReplied, replied}
 use Rattle.std.specs.Prelude.{take, slice_get}
 use Rattle.std.proofs.lemmas.Bool.{false≢true}
@@ -57,7 +57,12 @@ use Rattle.orc_rules.specs.Journals.{history_read}
 use Rattle.orc_rules.specs.Worlds.{Link}
 use Rattle.orc_rules.proofs.Replied.{steps_reply}
 use Rattle.orc_rules.proofs.Starting.{free_on}
-use Rattle.orc_runs.specs.Headline.{FailsToMendBecause, HasFault}
+use Rattle.orc_runs.specs.Headline.{FailsToMendBecause, HasFault, IsStaleBecause, since_admitted}
+use Rattle.orc_rules.specs.Hubs.{duty_on}
+use Rattle.orc_worker.specs.declared.worker.Worker.{Worker}
+use Rattle.orc_runs.proofs.Keeping.{turn_moves}
+use Rattle.orc_runs.proofs.Settling.{turn_settles}
+use Rattle.orc_runs.proofs.Growing.{turn_grows}
 use Rattle.orc_runs.proofs.Unmoved.{turn_unmoved}
 
 -- an element between two parts of a list is in it
@@ -70,7 +75,7 @@ among_split xs x ys = Contains-append_right xs (x ∷ ys) x (0, lt_suc, refl)
 module _ {D : Type 0} (here : Setting D) (first : World D) (starts : StartsRun here first) where
   -- what is kept holds as a run begins
   pub starts_kept : (are : AreDecls here.decls) (plans : PlanStands) (legally : LegalStands) (order : KeepsOrder) → HistoryKept here first
-  starts_kept are plans legally order = opened_kept here are plans legally order first (map (λ device. duty.Free) (declared here.decls)) (each_stale here.decls starts.cause) starts.holds starts.ordered starts.legal starts.uncut starts.hub
+  starts_kept are plans legally order = opened_kept here are plans legally order first (map (λ device. duty.Free) (declared here.decls)) (each_stale here.decls starts.cause) starts.read_back starts.holds starts.ordered starts.legal starts.uncut starts.hub
 
   new_or_stale : (starts.cause ≡ Some why.Recovered) ⊎ ((starts.cause ≡ None) × (first.journal.synced ≡ []))
       → ((told_by (entries_read first.journal)).history ≡ []) ⊎ (each_stale here.decls starts.cause ≡ map (λ device. Some why.Recovered) (declared here.decls))
@@ -118,25 +123,32 @@ module _ {D : Type 0} (here : Setting D) (first : World D) (starts : StartsRun h
   starts_meets : MeetsDevices first
   starts_meets hub up met h = absurd (let no : ◌≡◌ {A = Option (Option RecFault)} None (Some (Some met)) = ap (λ (x : Hub). x.mends) (same_Some _ hub (sym starts.hub ∙ up)) ∙ h in cc)
 
-  starts_faults : (Came : ℕ → ℕ → Type 0) → FaultsKnown Came first
-  starts_faults Came = record {
-    unheard = subst (UnheardFaults Came) (sym starts.links) (λ device op h. absurd cc);
-    under = λ hub up. subst (λ (h : Hub). UnderFaults Came h.duties h.stale h.mends) (same_Some _ hub (sym starts.hub ∙ up)) (record {
-      lost = λ device worker count h. absurd (let no : duty.Free ≡ duty.Works worker = sym (free_on here.decls device) ∙ h in cc);
-      stale_so = λ device count h. absurd (none_stale starts.stale (declared here.decls) device count h);
-      met = λ device count h. absurd cc;
+  starts_faults : FaultsKnown (IsStaleBecause first []) (λ t. HasFault {D = D} (since_admitted t [])) first
+  starts_faults = record {
+    unheard = subst (UnheardFaults (by_fault (IsStaleBecause first []))) (sym starts.links) (λ device op h. absurd cc);
+    under = λ hub up. subst (λ (l : ℕ → Link). UnderFaults (IsStaleBecause first []) (λ t. HasFault {D = D} (since_admitted t [])) hub.duties hub.stale l) (sym starts.links) (record {
+      lost = λ device worker count h. absurd (none_works hub up device worker h);
+      stale_so = λ device cause h.
+          let is = recovered starts.stale (declared here.decls) device cause (ap (λ (x : Hub). slice_get x.stale device) (same_Some _ hub (sym starts.hub ∙ up)) ∙ h) in
+          subst (IsStaleBecause first [] device) is (inr (refl, (hub, up, h ∙ ap (λ (w : Why). Some (Some w)) (sym is))));
+      loses = λ device op worker h. absurd cc;
+      is_gone = λ device op r worker h. absurd cc;
     });
   }
     where
-      other_cause : (starts.cause ≡ Some why.Recovered) ⊎ ((starts.cause ≡ None) × (first.journal.synced ≡ [])) → (count : ℕ) → starts.cause ≡ Some (why.Fault count) → ⊥
-      other_cause (inl stale) count h = let no : ◌≡◌ {A = Option Why} (Some why.Recovered) (Some (why.Fault count)) = sym stale ∙ h in cc
-      other_cause (inr new) count h = let no : ◌≡◌ {A = Option Why} None (Some (why.Fault count)) = sym new.0 ∙ h in cc
+      none_works : (hub : Hub) → first.hub ≡ Some hub → (device : ℕ) (worker : Worker) → duty_on hub.duties device ≡ duty.Works worker → ⊥
+      none_works hub up device worker h =
+          let no : duty.Free ≡ duty.Works worker = sym (free_on here.decls device) ∙ ap (λ (x : Hub). duty_on x.duties device) (same_Some _ hub (sym starts.hub ∙ up)) ∙ h in cc
 
-      none_stale : (starts.cause ≡ Some why.Recovered) ⊎ ((starts.cause ≡ None) × (first.journal.synced ≡ [])) → (xs : List ℕ) (device count : ℕ)
-          → slice_get (map (λ d. starts.cause) xs) device ≡ Some (Some (why.Fault count)) → ⊥
-      none_stale so [] device count h = cc
-      none_stale so (x ∷ xs) zero count h = other_cause so count (same_Some starts.cause (Some (why.Fault count)) h)
-      none_stale so (x ∷ xs) (suc device) count h = none_stale so xs device count h
+      one_cause : (starts.cause ≡ Some why.Recovered) ⊎ ((starts.cause ≡ None) × (first.journal.synced ≡ [])) → (cause : Why) → starts.cause ≡ Some cause → why.Recovered ≡ cause
+      one_cause (inl stale) cause h = same_Some why.Recovered cause (sym stale ∙ h)
+      one_cause (inr new) cause h = absurd (let no : ◌≡◌ {A = Option Why} None (Some cause) = sym new.0 ∙ h in cc)
+
+      recovered : (starts.cause ≡ Some why.Recovered) ⊎ ((starts.cause ≡ None) × (first.journal.synced ≡ [])) → (xs : List ℕ) (device : ℕ) (cause : Why)
+          → slice_get (map (λ d. starts.cause) xs) device ≡ Some (Some cause) → why.Recovered ≡ cause
+      recovered so [] device cause h = absurd cc
+      recovered so (x ∷ xs) zero cause h = one_cause so cause (same_Some starts.cause (Some cause) h)
+      recovered so (x ∷ xs) (suc device) cause h = recovered so xs device cause h
 
   starts_rested : IsRested first
   starts_rested hub up = ap (λ (h : Hub). h.mends) (sym (same_Some _ hub (sym starts.hub ∙ up)))
@@ -152,13 +164,16 @@ module _ {D : Type 0} (here : Setting D)
     one_history = one_history here only_now are plans legally order script first last run kept starts.uncut;
     whenever_it_is_read = whenever_it_is_read here only_now are plans legally order script first last run kept starts.uncut;
     whenever_it_crashes = whenever_it_crashes here only_now are plans legally order script first last run kept starts.uncut;
+    grows = λ turn among. turn_grows here are plans kinds lawful planning turn (came turn among).before.0 (came turn among).before.1 (came turn among).comes;
     opens_again = opens_again here only_now are plans legally order script first last run kept starts.uncut verdict;
     acknowledged = acknowledged here are plans kinds lawful planning only_now legally order script first last run kept own;
     in_callers_order = in_callers_order here are plans legally order script first last run kept (starts_idle here first starts);
     refusals_change_nothing = λ turn call given among says sound refused. turn_unmoved here turn (came turn among).comes call given says sound refused;
     reconciled = runs_mended here only_now are plans legally order kinds lawful planning script first last run kept own;
+    all_settled = λ turn t among seen. turn_settles here turn (came turn among).comes seen t;
     in_step = runs_in_step here only_now are plans legally order kinds lawful planning script first last run kept own;
     comes_back = runs_come_back here only_now are plans legally order kinds lawful planning script first last run kept own;
+    moves_on = λ turn device among. turn_moves here turn (came turn among).comes device;
     pending_known = runs_pend_known here only_now are plans legally order kinds lawful planning script first last run kept own;
     as_printed = as_printed here script first last run;
     ends_because = λ earlier later turn met parts seen. because earlier later turn met parts seen;
@@ -172,9 +187,9 @@ module _ {D : Type 0} (here : Setting D)
     bounded = bounded here are plans legally order kinds lawful planning only_now at_most script first last run kept own (starts_rested here first starts);
     answered_because = λ earlier later turn call given parts says.
         let is = answered turn (subst (λ (l : List (Turn D)). Contains l turn) (sym parts) (among_split earlier turn later)) in
-        turn_because here earlier are plans kinds lawful planning turn is.comes is.before.0 is.before.1.0 is.before.1.1
-        (known_before here are plans legally order kinds lawful planning (steps_reply here are plans kinds lawful planning fit) script first last run kept own replies
-        (starts_faults here first starts (HasFault {D = D} [])) earlier later turn parts) call given says;
+        turn_because here first earlier turn are plans kinds lawful planning is.comes is.before.0 is.before.1.0 is.before.1.1
+        (known_before here are plans legally order kinds lawful planning (steps_reply here are plans kinds lawful planning fit) first script last run kept own replies
+        (starts_faults here first starts) earlier later turn parts) call given says;
   }
     where
       take_none : (count : ℕ) → take {A = Call} count [] ≡ []

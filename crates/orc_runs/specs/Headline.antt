@@ -1,7 +1,7 @@
 -- The claim, for every script and however a run of it ends.
-use Rattle.std.specs.Prelude.{[], All, ◌≡◌, ◌≢◌, ◌⊎◌, ℕ, true, false, Option, Some, None, List, ◌∷◌, ◌++◌, IsTrue, Bool, if◌then◌else◌, filter, take as front_of, Contains, nat_lt, slice_get, IfSome, length, ◌+◌, ◌≤◌}
+use Rattle.std.specs.Prelude.{[], All, ◌≡◌, ◌≢◌, ◌⊎◌, ℕ, true, false, Option, Some, None, List, ◌∷◌, ◌++◌, IsTrue, Bool, if◌then◌else◌, filter, take as front_of, Contains, nat_eq, nat_lt, slice_get, IfSome, length, ◌+◌, ◌≤◌}
 use Rattle.std.specs.declared.result.Result.TheVariants as result
-use Rattle.std.specs.List.{fold}
+use Rattle.std.specs.List.{fold, list_any}
 use Rattle.orc_call.specs.declared.answer.Answer.{Answer}
 use Rattle.orc_call.specs.declared.answer.Answer.TheVariants as answer
 use Rattle.orc_call.specs.declared.answer.RecFault.{RecFault}
@@ -20,6 +20,7 @@ use Rattle.orc_decls.specs.Devices.{is_same_text, name_of}
 use Rattle.orc_decls.specs.declared.declarations.Decls.{Decls}
 use Rattle.orc_device.specs.Nodes.{NodeState, kept_tree}
 use Rattle.orc_device.specs.declared.kind.OpKind.{OpKind}
+use Rattle.orc_device.specs.declared.kind.OpKind.TheVariants as kind
 use Rattle.orc_device.specs.declared.op.Op.TheVariants as op
 use Rattle.orc_device.specs.declared.reply.Mark.{Mark}
 use Rattle.orc_device.specs.declared.reply.Mark.TheVariants as mark
@@ -28,13 +29,17 @@ use Rattle.orc_journal.specs.Committed.{history_of}
 use Rattle.orc_journal.specs.Journals.{IsDamaged, IsForeign, IsGated, IsNotJournal}
 use Rattle.orc_journal.specs.Orders.{is_ordered}
 use Rattle.orc_journal.specs.declared.entry.Entry.{Entry}
+use Rattle.orc_path.specs.Configurations.{Config}
 use Rattle.orc_print.specs.Printed.{tree_text}
+use Rattle.orc_tree.specs.declared.change.ChangeSet.{ChangeSet}
 use Rattle.orc_state.specs.Checks.{Checks, IsConflict}
 use Rattle.orc_rules.specs.Acceptance.{AcceptsFronts}
+use Rattle.orc_rules.specs.Admissions.{Passes}
 use Rattle.orc_rules.specs.Asked.{open_of}
 use Rattle.orc_rules.specs.Duties.{is_unworked}
 use Rattle.orc_rules.specs.Events.{Turn}
 use Rattle.orc_rules.specs.Facts.{pending_id}
+use Rattle.orc_rules.specs.Fits.{first_stale}
 use Rattle.orc_rules.specs.Hubs.{Hub, due_on, duty_on}
 use Rattle.orc_rules.specs.Journals.{entries_read, history_read}
 use Rattle.orc_rules.specs.Network.{Noted}
@@ -43,8 +48,9 @@ use Rattle.orc_rules.specs.Turns.{turns_at_most}
 use Rattle.orc_rules.specs.Worlds.{IsNumberedEntry, Setting, World, over}
 use Rattle.orc_rules.specs.declared.event.Event.{Event}
 use Rattle.orc_rules.specs.declared.event.Event.TheVariants as event
+use Rattle.orc_rules.specs.declared.transaction.Transaction.{Transaction}
 use Rattle.orc_rules.specs.declared.transaction.Waiting.{Waiting}
-use Rattle.orc_runs.specs.Runs.{LineDone, Run, turns_of}
+use Rattle.orc_runs.specs.Runs.{LineDone, Run, lines_in, turns_of}
 use Rattle.orc_runs.specs.Scripts.{call_under}
 use Rattle.orc_runs.specs.Steps.{ScriptStep, ScriptStep as step}
 
@@ -57,6 +63,14 @@ pub record IsLegalJournal (decls : Decls) (file : List ℕ) (history : List Call
   pub ordered : IsTrue (is_ordered entries)
   pub decided : history_of entries ≡ history
   pub legal : IsLegal decls history
+
+-- The second history is the first, or has one call more, that of the transaction that this event decides, or was meant to
+-- decide.
+abbrev pub GrowsTo : {D : Type 0} → World D → Event → List Call → Type 0
+GrowsTo world meant history = (history ≡ history_read world.journal)
+    ⊎ ((t : ℕ) × (call : Call)
+    × (meant ≡ event.Decide t (answer.Committed (length (history_read world.journal) + 1)))
+    × (call_under world t ≡ Some call) × (history ≡ history_read world.journal ++ call ∷ []))
 
 -- the second history goes on where the first ends
 abbrev pub BeginsHistory : List Call → List Call → Type 0
@@ -98,7 +112,7 @@ abbrev pub queued : {D : Type 0} → List (Turn D) → List Call
 queued [] = []
 queued (turn ∷ turns) = queued_by turn.seen ++ queued turns
 
--- those of one caller
+-- the calls of these that are of this caller
 abbrev pub calls_of : List ℕ → List Call → List Call
 calls_of caller calls = filter (λ call. is_same_text call.caller caller) calls
 
@@ -124,50 +138,128 @@ abbrev pub since_begun : {D : Type 0} → List (Turn D) → List (Turn D)
 since_begun turns =
     fold (λ so_far turn. if begins_again turn.seen then [] else so_far ++ turn ∷ []) [] turns
 
--- A device is out of sync for this cause: a link fault came before.
-abbrev pub IsStaleBecause : {D : Type 0} → List (Turn D) → ℕ → Why → Type 0
-IsStaleBecause earlier device (why.Fault number) = HasFault earlier device number
-IsStaleBecause earlier device other = Unit {0}
+-- what is seen ends a reconciliation well
+abbrev pub is_mended : Option Event → Bool
+is_mended (Some (event.Reconcile (Some (result.Ok done)))) = true
+is_mended other = false
 
--- What is looked at of a call behind a history refuses it so: its plan behind the calls of its snapshot, the check as it
--- is admitted, or its data as it is decided.
-abbrev pub IsRefusedAs : Decls → List Call → Call → Answer → Type 0
-IsRefusedAs decls history call given =
-    ((front : ℕ) × (planned decls (state_of decls (front_of front history)) front call ≡ result.Err given))
-    ⊎ (((plan : Plan) × Checks decls history call plan (result.Err given))
-    ⊎ (invalid decls.data_schema (data_after call.actions (state_of decls history).data) ≡ Some given))
+-- those of these turns that came since a reconciliation ended well last
+abbrev pub since_mended : {D : Type 0} → List (Turn D) → List (Turn D)
+since_mended turns = fold (λ so_far turn. if is_mended turn.seen then [] else so_far ++ turn ∷ []) [] turns
 
--- Why a call got this answer, in a turn between these worlds that came behind these turns. A call that is committed is
--- the entry of its number. A number that is reused has an entry of other actions. Busy names the caller's open call.
--- Conflict names the first entry behind the call's snapshot that wrote what the call read, and the least such write. A
--- device that is out of sync is so by its first cause. A device refuses with operation-failed alone, and only where it
--- doesn't accept the tree that would be due with the call. A link fault came before, with its number. JournalFault is told
--- only where the disk failed. Memory needs no cause. And each other answer is what is looked at of the call.
-abbrev pub AnsweredBecause : {D : Type 0} → Setting D → List (Turn D) → World D → World D → Call → Answer → Type 0
-AnsweredBecause here earlier before behind call (answer.Committed number) =
-    IsNumberedEntry (history_read behind.journal) number call
-AnsweredBecause here earlier before behind call (answer.Reused number) =
-    (entry : Call) × IsNumberedEntry (history_read before.journal) number entry × IsSame entry call × (entry ≢ call)
-AnsweredBecause here earlier before behind call (answer.Busy number) =
-    (hub : Hub) × (before.hub ≡ Some hub) × (open_of hub.asked call.caller ≡ Some number)
-AnsweredBecause here earlier before behind call (answer.Conflict number written) =
-    (hub : Hub) × (it : Waiting) × (before.hub ≡ Some hub) × Contains hub.waiting it × (it.call ≡ call)
-    × (index : ℕ) × (number ≡ index + 1) × IsConflict here.decls (history_read before.journal) it.plan index written
-AnsweredBecause here earlier before behind call (answer.OutOfSync device cause) =
-    (hub : Hub) × (before.hub ≡ Some hub) × (slice_get hub.stale device ≡ Some (Some cause))
-    × IsStaleBecause earlier device cause
-AnsweredBecause here earlier before behind call (answer.Refused device said) = (said ≡ tag.OperationFailed)
-    × ((here.kinds device).accepts (over here.decls device (history_read before.journal ++ call ∷ [])) ≡ false)
-AnsweredBecause here earlier before behind call (answer.LinkFault device number) = HasFault earlier device number
-AnsweredBecause here earlier before behind call answer.JournalFault =
-    Rose (here.disk.faults before.journal.disk) (here.disk.faults behind.journal.disk)
-AnsweredBecause here earlier before behind call answer.Down = before.hub ≡ None
-AnsweredBecause here earlier before behind call answer.Memory = Unit {0}
-AnsweredBecause here earlier before behind call given = IsRefusedAs here.decls (history_read before.journal) call given
+-- the call of this number is admitted in what is seen
+abbrev pub is_admission : ℕ → Option Event → Bool
+is_admission t (Some (event.Admit other None)) = nat_eq other t
+is_admission t other = false
+
+-- those of these turns that came since the call of this number was admitted
+abbrev pub since_admitted : {D : Type 0} → ℕ → List (Turn D) → List (Turn D)
+since_admitted t turns = fold (λ so_far turn. if is_admission t turn.seen then [] else so_far ++ turn ∷ []) [] turns
+
+-- In a turn of these the confirmed commit of this transaction was to be confirmed on the device, and the device said that
+-- none was pending: invalid-value.
+pub record WasGone {D : Type 0} (turns : List (Turn D)) (device t : ℕ) : Type 0 where
+  pub turn : Turn D
+  pub among : Contains turns turn
+  pub hub : Hub
+  pub up : turn.before.hub ≡ Some hub
+  pub due : due_on hub device ≡ Some (op.Confirm t)
+  pub count : ℕ
+  pub seen : turn.seen ≡ Some (event.Perform device kind.Confirm (mark.Refused tag.InvalidValue) count)
+
+-- A device is out of sync because the hub recovered: in a turn of these since a reconciliation ended well last; or before
+-- the run, where the device was so as it began, and no reconciliation ended well since.
+abbrev pub HasRecovered : {D : Type 0} → World D → List (Turn D) → ℕ → Type 0
+HasRecovered {D} first turns device =
+    ((turn : Turn D) × Contains (since_mended turns) turn × (turn.seen ≡ Some event.Recover))
+    ⊎ ((since_mended turns ≡ turns)
+    × ((hub : Hub) × (first.hub ≡ Some hub) × (slice_get hub.stale device ≡ Some (Some why.Recovered))))
+
+-- A device is out of sync for this cause, which came since a reconciliation ended well last: its link failed, by the fault
+-- of this number; its confirmed commit of this transaction was gone as it was to be confirmed; or the hub recovered.
+abbrev pub IsStaleBecause : {D : Type 0} → World D → List (Turn D) → ℕ → Why → Type 0
+IsStaleBecause first earlier device (why.Fault number) = HasFault (since_mended earlier) device number
+IsStaleBecause first earlier device (why.Gone t) = WasGone (since_mended earlier) device t
+IsStaleBecause first earlier device why.Recovered = HasRecovered first earlier device
+
+-- The call of this number waits in this world with this plan, which is its plan after the calls of its snapshot, as many
+-- as the plan's front says.
+pub record WaitsWith {D : Type 0} (decls : Decls) (world : World D) (t : ℕ) (call : Call) (plan : Plan) : Type 0 where
+  pub hub : Hub
+  pub up : world.hub ≡ Some hub
+  pub it : Waiting
+  pub waits : Contains hub.waiting it
+  pub number : it.t ≡ t
+  pub is : (it.call ≡ call) × (it.plan ≡ plan)
+  pub within : plan.front ≤ length (history_read world.journal)
+  pub planned : planned decls (state_of decls (front_of plan.front (history_read world.journal))) plan.front call
+      ≡ result.Ok plan
+
+-- the call of this number is under way in this world, and its plan holds the device
+pub record HoldsDevice {D : Type 0} (world : World D) (t : ℕ) (call : Call) (device : ℕ) : Type 0 where
+  pub hub : Hub
+  pub up : world.hub ≡ Some hub
+  pub it : Transaction
+  pub active : Contains hub.active it
+  pub number : it.t ≡ t
+  pub called : it.call ≡ call
+  pub held : list_any (nat_eq device) it.plan.held.devices ≡ true
+
+-- What is looked at of a call refuses it so, in an event that came in this world. As it is submitted: its plan after the
+-- calls of its caller's snapshot, which the submission carries. As it is admitted or turned away: the check of its own
+-- plan after the whole history. As it is decided: that the data isn't valid with it after the whole history.
+abbrev pub IsRefusedAs : {D : Type 0} → Decls → World D → Option Event → Call → Answer → Type 0
+IsRefusedAs decls world (Some (event.Submit submitted front said)) call given =
+    (world.snapshots call.caller ≡ Some front)
+    × (planned decls (state_of decls (front_of front (history_read world.journal))) front call ≡ result.Err given)
+IsRefusedAs decls world (Some (event.Admit t said)) call given =
+    (plan : Plan) × WaitsWith decls world t call plan
+    × Checks decls (history_read world.journal) call plan (result.Err given)
+IsRefusedAs decls world (Some (event.Decide t said)) call given =
+    invalid decls.data_schema (data_after call.actions (state_of decls (history_read world.journal)).data) ≡ Some given
+IsRefusedAs decls world other call given = ⊥
+
+-- Why a call got this answer, in a turn of a run from this first world on that came after these turns. A call that is committed is the entry of its number.
+-- A number that is reused has an entry of other actions. Busy names the caller's open call. Conflict is what the check of
+-- a waiting call's own plan says: it names the first entry after the call's snapshot that wrote what the call read, and
+-- the least such write. OutOfSync is told of a waiting call that nothing else refuses, of the first device of those that
+-- it holds that is out of sync, with the cause that the hub has for it, and that cause came since a reconciliation ended
+-- well last. A device of a call under way refuses with operation-failed alone, and only where it doesn't accept the tree
+-- that would be due with the call. A link fault of a device of a call under way came since that was admitted, with its
+-- number. JournalFault is told only where the disk failed. Memory needs
+-- no cause. And each other answer is what is looked at of the call in this turn.
+abbrev pub AnsweredBecause : {D : Type 0} → Setting D → World D → List (Turn D) → Turn D → Call → Answer → Type 0
+AnsweredBecause here first earlier turn call (answer.Committed number) =
+    IsNumberedEntry (history_read turn.behind.journal) number call
+AnsweredBecause here first earlier turn call (answer.Reused number) =
+    (entry : Call) × IsNumberedEntry (history_read turn.before.journal) number entry
+    × IsSame entry call × (entry ≢ call)
+AnsweredBecause here first earlier turn call (answer.Busy number) =
+    (hub : Hub) × (turn.before.hub ≡ Some hub) × (open_of hub.asked call.caller ≡ Some number)
+AnsweredBecause here first earlier turn call (answer.Conflict number written) =
+    (t : ℕ) × (plan : Plan) × WaitsWith here.decls turn.before t call plan
+    × Checks here.decls (history_read turn.before.journal) call plan (result.Err (answer.Conflict number written))
+    × (index : ℕ) × (number ≡ index + 1) × IsConflict here.decls (history_read turn.before.journal) plan index written
+AnsweredBecause here first earlier turn call (answer.OutOfSync device cause) =
+    (t : ℕ) × (plan : Plan) × (waits : WaitsWith here.decls turn.before t call plan)
+    × ((sets : List (ℕ × ChangeSet)) × Passes here.decls (history_read turn.before.journal) call plan sets)
+    × (first_stale plan.held.devices waits.hub.stale ≡ Some (answer.OutOfSync device cause))
+    × (slice_get waits.hub.stale device ≡ Some (Some cause)) × IsStaleBecause first earlier device cause
+AnsweredBecause here first earlier turn call (answer.Refused device said) =
+    ((t : ℕ) × HoldsDevice turn.before t call device)
+    × (said ≡ tag.OperationFailed)
+    × ((here.kinds device).accepts (over here.decls device (history_read turn.before.journal ++ call ∷ [])) ≡ false)
+AnsweredBecause here first earlier turn call (answer.LinkFault device number) =
+    (t : ℕ) × HoldsDevice turn.before t call device × HasFault (since_admitted t earlier) device number
+AnsweredBecause here first earlier turn call answer.JournalFault =
+    Rose (here.disk.faults turn.before.journal.disk) (here.disk.faults turn.behind.journal.disk)
+AnsweredBecause here first earlier turn call answer.Down = turn.before.hub ≡ None
+AnsweredBecause here first earlier turn call answer.Memory = Unit {0}
+AnsweredBecause here first earlier turn call given = IsRefusedAs here.decls turn.before turn.seen call given
 
 -- Why a reconciliation ended otherwise than well: a link failed since it began, by the fault of this number; the disk
--- failed in this turn; memory was wanting; or a device refused, which none does where each accepts what is due behind each front of
--- the history at entry.
+-- failed in this turn; memory was wanting; or a device refused, which none does where each accepts what is due after each
+-- first calls of the history at entry.
 abbrev pub FailsToMendBecause : {D : Type 0} → Setting D → List Call → List (Turn D) → Turn D → RecFault → Type 0
 FailsToMendBecause here entry earlier turn (fault.LinkFault device number) =
     HasFault (since_begun earlier) device number
@@ -179,28 +271,58 @@ FailsToMendBecause here entry earlier turn (fault.Full len) = ⊥
 
 -- devices
 
+-- the device of this number is declared
+abbrev pub IsDeclared : Decls → ℕ → Type 0
+IsDeclared decls device = nat_lt device (length decls.names) ≡ true
+
+-- the hub has a declared device in sync: it isn't stale
+abbrev pub IsInSync : Hub → ℕ → Type 0
+IsInSync hub device = slice_get hub.stale device ≡ Some None
+
 -- A confirmed commit that is pending on a device is that of a transaction whose Intent the journal has, and no Settled.
--- The Intent names the device, and the device runs what is due with its call behind the history at its Intent.
+-- The Intent names the device, and the device runs what is due with its call after the history at its Intent.
 pub record IsPending (decls : Decls) (entries : List Entry) (device : ℕ) (t : ℕ) (node : NodeState) : Type 0 where
   pub noted : Noted Call
   pub unsettled : (told_by entries).intents t ≡ Some noted
   pub names : noted.plan.names device ≡ true
   pub runs : node.running ≡ over decls device (noted.base ++ noted.plan.call ∷ [])
 
+-- What a device would come back to stays so, or a Confirm or a Commit was performed on the device.
+abbrev pub MovesOn : Config → Option Event → Config → ℕ → Type 0
+MovesOn old seen new device = (new ≡ old)
+    ⊎ ((done : OpKind) × (reply : Mark) × (count : ℕ) × (seen ≡ Some (event.Perform device done reply count))
+    × ((done ≡ kind.Confirm) ⊎ (done ≡ kind.Commit)))
+
+-- A device runs what is due after the history, nothing is pending there, and the hub, which is up, has it in sync.
+pub record IsReconciled {D : Type 0} (decls : Decls) (world : World D) (device : ℕ) : Type 0 where
+  pub runs : (world.nodes device).running ≡ tree_due (state_of decls (history_read world.journal)) device
+  pub settled : (world.nodes device).pending ≡ None
+  pub hub : Hub
+  pub up : world.hub ≡ Some hub
+  pub in_sync : IsInSync hub device
+
 -- The claim. A turn is one of the run's, and a device is a declared one. (A history is the calls of the journal's decided
 -- transactions, in the order of their decisions. It is legal where a call block can give each of its calls, none of them
--- is refused behind those before it, and no caller has a number twice.)
+-- is refused after those before it, and no caller has a number twice.)
 pub record Headline {D : Type 0} (here : Setting D) (script : List ScriptStep) (first last : World D)
     (run : Run here script first last) : Type 0 where
-  -- The journal decodes to one legal history, which begins with the one at entry: as it is read at each moment and at
-  -- the end, and as a crash at each moment leaves it.
-  pub one_history : IfSome (here.disk.content last.journal.disk)
-      (HoldsHistoryFrom here.decls (history_read first.journal))
+  -- The journal decodes to one legal history, that which the world tells, and it begins with the one at entry: as it is
+  -- read at the end and at each moment, where the disk tells what it holds. And as a crash at any moment since the run
+  -- began leaves it, it decodes to one that begins with the one at entry.
+  pub one_history : BeginsHistory (history_read first.journal) (history_read last.journal)
+      × IfSome (here.disk.content last.journal.disk)
+      (λ file. IsLegalJournal here.decls file (history_read last.journal))
   pub whenever_it_is_read : (turn : Turn D) → Contains (turns_of run) turn
-      → IfSome (here.disk.content turn.behind.journal.disk) (HoldsHistoryFrom here.decls (history_read first.journal))
+      → BeginsHistory (history_read first.journal) (history_read turn.behind.journal)
+      × IfSome (here.disk.content turn.behind.journal.disk)
+      (λ file. IsLegalJournal here.decls file (history_read turn.behind.journal))
   pub whenever_it_crashes : (file : List ℕ)
       → here.disk.left_since last.journal.disk (here.disk.moment first.journal.disk) file
       → HoldsHistoryFrom here.decls (history_read first.journal) file
+  -- In each turn the history stays, or one call is added: that of the transaction that the turn decides. (Where the append
+  -- of its Decide was cut, or the disk failed in it, nobody is told, and the call may be added or not.)
+  pub grows : (turn : Turn D) → Contains (turns_of run) turn
+      → GrowsTo turn.before turn.meant (history_read turn.behind.journal)
   -- At no moment do the journal's bytes keep it from being opened again.
   pub opens_again : (turn : Turn D) → Contains (turns_of run) turn
       → IfSome (here.disk.content turn.behind.journal.disk) (IsOpenable here.decls)
@@ -212,34 +334,41 @@ pub record Headline {D : Type 0} (here : Setting D) (script : List ScriptStep) (
       → IfSome (here.disk.content last.journal.disk) (HoldsEntry here.decls number call)
       × ((file : List ℕ) → here.disk.left_since last.journal.disk (here.disk.moment turn.behind.journal.disk) file
       → HoldsEntry here.decls number call file)
-  -- Of each caller the entries that the run added are some of its calls, in the order in which they were submitted.
+  -- Of each caller the entries that the run added are some of its calls, in the order in which they were submitted. (Calls
+  -- are told apart by what they say: of one that was refused, and sent again as it was, either sending counts.)
   pub in_callers_order : (caller : List ℕ) (added : List Call)
       → history_read last.journal ≡ history_read first.journal ++ added
       → IsSubsequenceOf (calls_of caller added) (calls_of caller (queued (turns_of run)))
-  -- A call that is refused leaves the history as it was, unless the disk failed as its decision was written.
+  -- The turn in which a call is refused leaves the history as it was, unless the disk failed as its decision was written.
+  -- (What a turn may make of the history at all says `grows`.)
   pub refusals_change_nothing : (turn : Turn D) (call : Call) (given : Answer) → Contains (turns_of run) turn
       → IsAnswered turn turn.seen call given → given ≢ answer.JournalFault
       → ((number : ℕ) → given ≢ answer.Committed number)
       → history_read turn.behind.journal ≡ history_read turn.before.journal
-  -- Each answer has its cause. So a call for which none of the causes holds is answered Committed, or Memory.
+  -- Each answer has its cause. So a call that is answered, and for which none of the causes of refusals holds then, is
+  -- answered Committed, or Memory.
   pub answered_because : (earlier later : List (Turn D)) (turn : Turn D) (call : Call) (given : Answer)
       → turns_of run ≡ earlier ++ turn ∷ later → IsAnswered turn turn.seen call given
-      → AnsweredBecause here earlier turn.before turn.behind call given
-  -- Behind a line `settle`, under a hub that is up, each call has its answer.
+      → AnsweredBecause here first earlier turn call given
+  -- After a line `settle`, where a hub is up, no caller has a call open. (That is said of what the hub keeps of each
+  -- caller, and not of the turns in which the answers came.)
   pub settled : (line : LineDone D) (hub : Hub) → Contains run.lines line → line.step ≡ step.Settle
       → line.behind.hub ≡ Some hub → All (λ one. one.is_open ≡ false) hub.asked
-  -- A line `settle` takes so many turns at most: 24 for each device of a call that waits or is under way as it begins,
-  -- and 4 for each such call.
-  pub bounded : (line : LineDone D) (hub : Hub) → Contains run.lines line → line.step ≡ step.Settle
+  -- A line `settle` takes so many turns at most, also where the run ended in it: 24 for each device of a call that waits
+  -- or is under way as it begins, and 4 for each such call.
+  pub bounded : (line : LineDone D) (hub : Hub) → Contains (lines_in run) line → line.step ≡ step.Settle
       → line.before.hub ≡ Some hub → length line.turns ≤ turns_at_most hub
   -- Whenever a reconciliation answers Ok, each device runs its base overlaid with what the services write that the
-  -- history leaves alive, and nothing is pending there.
+  -- history leaves alive, nothing is pending there, and it is out of sync no more.
   pub reconciled : (turn : Turn D) (device : ℕ) → Contains (turns_of run) turn
-      → nat_lt device (length here.decls.names) ≡ true → turn.seen ≡ Some (event.Reconcile (Some (result.Ok tt)))
-      → ((turn.behind.nodes device).running ≡ tree_due (state_of here.decls (history_read turn.behind.journal)) device)
-      × ((turn.behind.nodes device).pending ≡ None)
-  -- A reconciliation answers otherwise only for a cause, and Refused never where each device accepts what is due behind
-  -- each front of the history at entry. Devices do so where the history is empty, and where they do so at entry, they do
+      → IsDeclared here.decls device → turn.seen ≡ Some (event.Reconcile (Some (result.Ok tt)))
+      → IsReconciled here.decls turn.behind device
+  -- And the journal, as it is read then, has no Intent without its Settled.
+  pub all_settled : (turn : Turn D) (t : ℕ) → Contains (turns_of run) turn
+      → turn.seen ≡ Some (event.Reconcile (Some (result.Ok tt)))
+      → (told_by (entries_read turn.behind.journal)).intents t ≡ None
+  -- A reconciliation answers otherwise only for a cause, and Refused never where each device accepts what is due after
+  -- each first calls of the history at entry. Devices do so where the history is empty, and where they do so at entry, they do
   -- so of the history at the end.
   pub ends_because : (earlier later : List (Turn D)) (turn : Turn D) (met : RecFault)
       → turns_of run ≡ earlier ++ turn ∷ later → turn.seen ≡ Some (event.Reconcile (Some (result.Err met)))
@@ -249,20 +378,23 @@ pub record Headline {D : Type 0} (here : Setting D) (script : List ScriptStep) (
   pub still_accepted : AcceptsFronts here.decls here.kinds (history_read first.journal)
       → AcceptsFronts here.decls here.kinds (history_read last.journal)
   -- At each moment a device that isn't stale, on which no transaction works and whose last reply the hub has heard, runs
-  -- what is due behind the history, and nothing is pending there: with no reconciliation.
+  -- what is due after the history, and nothing is pending there: with no reconciliation.
   pub in_step : (turn : Turn D) (hub : Hub) (device : ℕ) → Contains (turns_of run) turn
-      → nat_lt device (length here.decls.names) ≡ true → turn.behind.hub ≡ Some hub
-      → slice_get hub.stale device ≡ Some None → is_unworked (duty_on hub.duties device) ≡ true
+      → IsDeclared here.decls device → turn.behind.hub ≡ Some hub
+      → IsInSync hub device → is_unworked (duty_on hub.duties device) ≡ true
       → (turn.behind.links device).unheard ≡ None
       → ((turn.behind.nodes device).running ≡ tree_due (state_of here.decls (history_read turn.behind.journal)) device)
       × ((turn.behind.nodes device).pending ≡ None)
   -- At each moment what a device would come back to, where it restarts or its confirmed commit times out, is what is due
-  -- behind the first calls of the history, as many as there may be.
+  -- after some first calls of the history. (How many isn't said.) It changes only by a Confirm or a Commit on the device: no
+  -- restart, timeout, stop, or end of a session takes a device back to an older one.
   pub comes_back : (turn : Turn D) (device : ℕ) → Contains (turns_of run) turn
-      → nat_lt device (length here.decls.names) ≡ true
+      → IsDeclared here.decls device
       → (count : ℕ) × (count ≤ length (history_read turn.behind.journal))
       × (kept_tree (turn.behind.nodes device)
       ≡ tree_due (state_of here.decls (front_of count (history_read turn.behind.journal))) device)
+  pub moves_on : (turn : Turn D) (device : ℕ) → Contains (turns_of run) turn
+      → MovesOn (kept_tree (turn.before.nodes device)) turn.seen (kept_tree (turn.behind.nodes device)) device
   -- At each moment what is pending on a device is known to the journal.
   pub pending_known : (turn : Turn D) (device t : ℕ) → Contains (turns_of run) turn
       → pending_id (turn.behind.nodes device).pending ≡ Some t

@@ -14,7 +14,7 @@ use Rattle.orc_runs.specs.Scripts.{Goes, Prints, line_parts, set_by}
 use Rattle.orc_runs.specs.Steps.{ScriptStep, ScriptStep as step}
 use Rattle.orc_runs.specs.Words.{log_text}
 
--- a line of a script that was done: the world before it, what came, the world behind it, and what it printed
+-- a line of a script that was done: the world before it, what came, the world after it, and what it printed
 pub record LineDone (D : Type 0) : Type 0 where
   pub step : ScriptStep
   pub before : World D
@@ -22,6 +22,7 @@ pub record LineDone (D : Type 0) : Type 0 where
   pub behind : World D
   pub text : List ℕ
 
+-- the line as a list, where there is one
 abbrev pub line_list : {D : Type 0} → Option (LineDone D) → List (LineDone D)
 line_list None = []
 line_list (Some line) = line ∷ []
@@ -50,7 +51,7 @@ abbrev pub is_log : ℕ → ScriptStep → Bool
 is_log device (step.Log other) = other == device
 is_log device other = false
 
--- the operations of a device behind a line: none where it printed them, else those of its turns too
+-- the operations of a device after a line: none where it printed them, else those of its turns too
 abbrev pub logged_with : {D : Type 0} → ℕ → List (Op × Mark) → LineDone D → List (Op × Mark)
 logged_with device rows line =
     if is_log device line.step then [] else rows ++ flat_map (λ turn. operation_of device turn turn.seen) line.turns
@@ -73,7 +74,7 @@ module _ {D : Type 0} (here : Setting D) where
     pub ends : (earlier later : List (Turn D)) (turn : Turn D) → line.turns ≡ earlier ++ turn ∷ later → EndsRun turn
         → (ended ≡ true) × (later ≡ [])
 
-  -- lines, one behind the other
+  -- lines, one after the other
   abbrev pub AreDone : World D → List (LineDone D) → World D → Type 0
   AreDone first [] last = first ≡ last
   AreDone first (line ∷ lines) last = (line.before ≡ first) × IsDone false line × AreDone line.behind lines last
@@ -100,11 +101,12 @@ abbrev pub lines_in : {D : Type 0} {here : Setting D} {script : List ScriptStep}
     → Run here script first last → List (LineDone D)
 lines_in run = run.lines ++ line_list run.end
 
--- all that came in a run, and all that it printed
+-- all that came in a run
 abbrev pub turns_of : {D : Type 0} {here : Setting D} {script : List ScriptStep} {first last : World D}
     → Run here script first last → List (Turn D)
 turns_of run = flat_map (λ line. line.turns) (lines_in run)
 
+-- all that a run printed
 abbrev pub text_in : {D : Type 0} {here : Setting D} {script : List ScriptStep} {first last : World D}
     → Run here script first last → List ℕ
 text_in run = flat_map (λ line. line.text) (lines_in run)

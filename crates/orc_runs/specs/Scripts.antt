@@ -32,7 +32,7 @@ pub data Part : Type 0 where
   Submission : Call → Part  -- the call is submitted
   Admission : Part  -- one that waits is admitted, or turned away
   Admissions : Part  -- and then the next, until none fits
-  Operation : ℕ → Part  -- the device does the operation due
+  Operation : ℕ → Part  -- the device does the operation due, or that is an edit which isn't sent
   Operations : ℕ → Part  -- and then the next, each heard of by the hub, until none is due
   Hearing : ℕ → Part  -- the hub hears of it
   Decisions : Part  -- what is due in the journal is written, until nothing is
@@ -72,8 +72,10 @@ IsOf (Submission call) (event.Submit other front given) = other ≡ call
 IsOf Admission (event.Admit t given) = Unit {0}
 IsOf Admissions (event.Admit t given) = Unit {0}
 IsOf (Operation device) (event.Perform other op reply count) = other ≡ device
+IsOf (Operation device) (event.Unsent other) = other ≡ device
 IsOf (Hearing device) (event.Report other op reply count) = other ≡ device
 IsOf (Operations device) (event.Perform other op reply count) = other ≡ device
+IsOf (Operations device) (event.Unsent other) = other ≡ device
 IsOf (Operations device) (event.Report other op reply count) = other ≡ device
 IsOf Decisions (event.Decide t given) = Unit {0}
 IsOf Decisions (event.Settle t) = Unit {0}
@@ -85,7 +87,7 @@ IsOf Beginning (event.Reconcile None) = Unit {0}
 IsOf Ending (event.Reconcile (Some result)) = Unit {0}
 IsOf part other = ⊥
 
--- all that come of the kind belong to it
+-- all that come of its kind belong to the part, one after the other until none may; to another part one does
 abbrev pub comes_again : Part → Bool
 comes_again Admissions = true
 comes_again (Operations device) = true
@@ -110,7 +112,8 @@ module _ {D : Type 0} (here : Setting D) where
   NoneOf world Ending = (hub : Hub) (met : Option RecFault) → world.hub ≡ Some hub → hub.mends ≡ Some met → ⊥
   NoneOf world part = (one : Event) → IsOf part one → MayCome world one → ⊥
 
-  -- where it may come now, it is to: a first snapshot is taken only by a caller that has none
+  -- The part is called for in this world: a first snapshot is taken only by a caller that has none, and any other part
+  -- always is.
   abbrev pub IsCalledFor : World D → Part → Type 0
   IsCalledFor world (FirstSnapshot caller) = world.snapshots caller ≡ None
   IsCalledFor world part = Unit {0}
@@ -194,7 +197,7 @@ abbrev pub if_up : Option Hub → (List ℕ → Type 0) → List ℕ → Type 0
 if_up None IsShown text = text ≡ codes "down\n"
 if_up (Some hub) IsShown text = IsShown text
 
--- what is known of a path of a device, behind a history
+-- what is known of a path of a device, after a history
 abbrev pub ShowsMeta : Decls → List Call → ℕ → List PathStep → List ℕ → Type 0
 ShowsMeta decls history device path text = (meta : Option Meta) × IsMeta (state_of decls history) device path meta
     × (text ≡ meta_group (name_of decls.names device) path meta)
@@ -206,7 +209,7 @@ idle_words step.Stop hub = codes "stopped\n"
 idle_words step.Reconcile None = codes "reconcile down\n"
 idle_words other hub = []
 
--- What is shown behind a line: a tree as the device runs it, in lines or as JSON; the history, the data, and what is
+-- What is shown after a line: a tree as the device runs it, in lines or as JSON; the history, the data, and what is
 -- known of a path, where a hub is up. (The text of a `log` needs the lines before it: it is said of whole runs.)
 abbrev pub Shows : {D : Type 0} → Decls → ScriptStep → List (Turn D) → World D → List ℕ → Type 0
 Shows decls (step.Show device) turns world text =

@@ -7,7 +7,7 @@ use Rattle.orc_decls.specs.declared.declarations.Decls.{Decls}
 use Rattle.orc_device.specs.Nodes.{NodeState}
 use Rattle.orc_journal.specs.Committed.{history_of}
 use Rattle.orc_journal.specs.Orders.{is_ordered}
-use Rattle.orc_rules.specs.Journals.{HoldsEntries}
+use Rattle.orc_rules.specs.Journals.{HoldsEntries, IsReadBack}
 use Rattle.orc_rules.specs.Worlds.{Link, Setting, World, declared, new_hub, over}
 use Rattle.orc_rules.specs.declared.duty.Duty.TheVariants as duty
 
@@ -32,12 +32,14 @@ abbrev pub each_stale : Decls → Option Why → List (Option Why)
 each_stale decls cause = map (λ device. cause) (declared decls)
 
 -- A run begins with a new hub over a journal that was opened, or begun. It holds a legal history, and nothing of it is at
--- stake; each device runs its base,
+-- stake; what a recovery reads is what was written, since the disk tells what it holds, or by what is granted; each device
+-- runs its base,
 -- which it accepts. Where the journal has entries every device is stale, since the hub recovered, and
 -- where it is new none is.
 pub record StartsRun {D : Type 0} (here : Setting D) (world : World D) : Type 0 where
   pub holds : HoldsEntries here.disk here.decls.text here.limit world.journal
   pub uncut : world.journal.cut ≡ []
+  pub read_back : IsReadBack here.disk here.decls.text here.limit here.granted world.journal.disk
   pub ordered : IsTrue (is_ordered world.journal.synced)
   pub legal : IsLegal here.decls (history_of world.journal.synced)
   pub cause : Option Why

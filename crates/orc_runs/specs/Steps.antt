@@ -17,7 +17,7 @@ pub data ScriptStep : Type 0 where
   Restart : ℕ → ScriptStep  -- the device restarts
   Fault : ℕ → OpKind → When → ScriptStep  -- the device's next operation of this kind fails, before its effect or after
   Stop : ScriptStep  -- the controller stops
-  StopAt : ℕ → ℕ → ScriptStep  -- the disk's operation of this number from now on stops it, behind so many bytes
+  StopAt : ℕ → ℕ → ScriptStep  -- the disk's operation of this number from now on stops it, after so many bytes
   Recover : ScriptStep  -- it opens its journal again
   Reconcile : ScriptStep  -- all calls come to their end, and then the devices are reconciled
   Show : ℕ → ScriptStep  -- the tree of a device is printed

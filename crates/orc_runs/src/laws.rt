@@ -4,7 +4,7 @@ ghost use Rattle.orc_runs.specs.Laws.{DecidedIsKept, DevicesAreInStep, DevicesCo
 use crate::claim::runs_have_the_headline;
 use orc_disk::Disk;
 
-/// What a device would come back to is due behind some first calls of the history.
+/// What a device would come back to is due after some first calls of the history, and changes only by a Confirm or a Commit.
 pub fn devices_come_back<D: Disk>()
     ensures { DevicesComeBack D.disk }
 {
@@ -18,21 +18,22 @@ pub fn pending_is_known<D: Disk>()
     runs_have_the_headline::<D>();
 }
 
-/// A device that isn't stale, and on which nobody works, runs what is due.
+/// A device that isn't stale, and on which nobody works, runs what is due, and nothing is pending there.
 pub fn devices_are_in_step<D: Disk>()
     ensures { DevicesAreInStep D.disk }
 {
     runs_have_the_headline::<D>();
 }
 
-/// No confirmed commit is cancelled that is decided.
+/// No confirmed commit is cancelled that is decided, none is confirmed that isn't, and a reconciliation leaves none.
 pub fn decided_is_kept<D: Disk>()
     ensures { DecidedIsKept D.disk }
 {
     runs_have_the_headline::<D>();
 }
 
-/// No reconciliation is refused where each device accepts what is due behind each front of the history.
+/// No reconciliation is refused where each device accepts what is due after each first calls of the history, as they do
+/// where it is empty, and as they still do at the end where they did at entry.
 pub fn reconciliations_are_accepted<D: Disk>()
     ensures { ReconciliationsAreAccepted D.disk }
 {

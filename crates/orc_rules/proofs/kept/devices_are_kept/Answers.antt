@@ -5,8 +5,8 @@ use Rattle.orc_rules.specs.Laws.{setting}
 use Rattle.orc_rules.proofs.kept.devices_are_kept.Goals as goal
 
 pub returns : goal.returns
-returns g c = λ decls kinds limit old new meant seen are of_hub kept own steps.
-    steps_devices (setting g.D.Disk.disk decls kinds limit) are c.plan_stands.ensures of_hub
+returns g c = λ decls kinds limit granted old new meant seen are of_hub kept own steps.
+    steps_devices (setting g.D.Disk.disk decls kinds limit granted) are c.plan_stands.ensures of_hub
     (λ device. kind_is_lawful c.equal_configs_are_one.ensures c.difference_leads.ensures c.tree_is_configuration.ensures decls are (kinds device) (of_hub device) device)
     (planning decls are c.plan_stands.ensures c.planned_stands.ensures c.planned_tree_is_stable.ensures c.unheld_stay.ensures)
     old new meant seen kept own steps

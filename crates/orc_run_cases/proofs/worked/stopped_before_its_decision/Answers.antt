@@ -1,13 +1,16 @@
-use Rattle.orc_run_cases.proofs.Prefix.{starts, world_0}
-use Rattle.orc_run_cases.proofs.StoppedBefore.{prints_before, run_before, whole_before, world_18}
+use Rattle.std.specs.Prelude.{[], ◌∷◌, ◌++◌, take}
+use Rattle.std.proofs.Common.{refl, arith}
+use Rattle.orc_journal.specs.Entries.{entry_bytes}
+use Rattle.orc_journal.specs.Journals.{closing_gate}
+use Rattle.orc_journal.specs.declared.entry.Entry.TheVariants as entry
+use Rattle.orc_run_cases.proofs.StoppedBefore.{given_up}
 use Rattle.orc_run_cases.proofs.worked.stopped_before_its_decision.Goals as goal
 
-pub returns : goal.returns
-returns c = λ schema are. record {
-  first = world_0 schema are.valid;
-  last = world_18 schema are.valid;
-  starts = starts schema are.valid;
-  run = run_before schema are.valid;
-  whole = whole_before schema are.valid;
-  prints = prints_before schema are.valid;
-}
+pub returns-clause-unwritten : goal.returns-clause-unwritten
+returns-clause-unwritten c = λ schema are. given_up schema are 1 0 [] 0 (omega arith) (omega arith) refl
+
+pub returns-clause-torn : goal.returns-clause-torn
+returns-clause-torn c = λ schema are. given_up schema are 1 1 (take 1 (entry_bytes (entry.Decide 1))) 1 (omega arith) (omega arith) refl
+
+pub returns-clause-closed : goal.returns-clause-closed
+returns-clause-closed c = λ schema are. given_up schema are 3 0 (entry_bytes (entry.Decide 1) ++ closing_gate ∷ []) 2 (omega arith) (omega arith) refl

@@ -1,5 +1,6 @@
 use Rattle.orc_runs.proofs.laws.decided_is_kept.Goals as goal
 
 pub returns : goal.returns
-returns g c = λ decls kinds limit script first last run are of_hub of_schema starts.
-    λ turn hub device t kind reply count among up seen due. ((c.runs_have_the_headline.ensures decls kinds limit script first last run are of_hub of_schema starts).resolved_as_decided turn hub device t kind reply count among up seen).0 due
+returns g c = λ decls kinds limit granted script first last run are of_hub of_schema starts.
+    let so = c.runs_have_the_headline.ensures decls kinds limit granted script first last run are of_hub of_schema starts in
+    (so.resolved_as_decided, so.reconciled, so.all_settled)
