@@ -1,0 +1,10 @@
+use Rattle.std.proofs.Common.{false, ◌∙◌}
+use Rattle.orc_hub.proofs.Noting.{taken_back}
+use Rattle.orc_hub.proofs.log.Log.append_intent.Goals as goal
+
+pub returns-in-Err-clause-memory : goal.returns-in-Err-clause-memory
+returns-in-Err-clause-memory g c = λ h.
+    let journal = (c.append.ensures.memory (c.in-Err.is ∙ h)).1 in
+    let unsettled = c.take_back.ensures ∙ taken_back (record { t = c.args.t; devices = c.args.devices.now; is_decided = false }) c.args.self.now.unsettled c.note_intent.new.unsettled
+    c.in_ok-place.place c.in_ok-place.ensures.within c.in_ok-place.ensures.place c.in_ok-place.ensures.ok in
+    λ i. record { journal = journal i; unsettled = unsettled i }

@@ -1,0 +1,15 @@
+pub mod Numbered
+pub mod Queues
+pub mod Logs
+pub mod Askers
+pub mod Orders
+pub mod inside
+pub mod Hubs
+pub mod Keeps
+pub mod Writes
+pub mod Decisions
+pub mod Admits
+pub mod Submits
+pub mod Mends
+pub mod Laws
+pub mod Starts

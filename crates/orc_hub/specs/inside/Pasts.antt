@@ -1,0 +1,17 @@
+-- The past that the entries of a journal tell, for a hub that starts.
+use Rattle.std.specs.Prelude.{◌≡◌, List}
+use Rattle.orc_decls.specs.declared.declarations.Decls.{Decls}
+use Rattle.orc_journal.specs.Committed.{history_of}
+use Rattle.orc_journal.specs.declared.entry.Entry.{Entry}
+use Rattle.orc_state.specs.States.{IsStateUnder}
+use Rattle.orc_hub.specs.Keeps.{AreNumbers}
+use Rattle.orc_hub.specs.Logs.{unsettled_by}
+use Rattle.orc_hub.specs.declared.past.Past.{Past}
+
+-- the past of these entries: no number was given since
+pub record IsPast (decls : Decls) (past : Past) (entries : List Entry) : Type 0 where
+  pub numbers : AreNumbers past.numbers entries
+  pub next : past.numbers.next ≡ 1
+  pub unsettled : past.unsettled ≡ unsettled_by entries
+  pub history : past.state.history ≡ history_of entries
+  pub state : IsStateUnder decls past.state

@@ -1,0 +1,39 @@
+//! The operation due on a device.
+ghost use Rattle.std.specs.Prelude.{◌≡◌, ◌<◌, IfOk, None, OnErr, length, if◌then◌else◌};
+ghost use Rattle.orc_rules.specs.Hubs.{due_on, duty_on, has_met_failure};
+ghost use Rattle.orc_hub.specs.Hubs.{record_of};
+ghost use Rattle.orc_hub.specs.Orders.{WantsEdit};
+
+use crate::duty::next_op;
+use crate::hub::Hub;
+use orc_call::RecFault;
+use orc_device::Op;
+use orc_disk::Disk;
+use orc_text::Memory;
+use std::alloc::Global;
+
+/// Whether a reconciliation has met a failure.
+pub(crate) fn has_met_failure(mends: Option<Option<RecFault>>) -> bool
+    ensures { result ≡ has_met_failure mends }
+{
+    match mends {
+        Some(Some(_)) => true,
+        _ => false,
+    }
+}
+
+impl<D: Disk> Hub<D> {
+    /// A copy of the operation due on a device, or None exactly where none is due: nothing is done there,
+    /// what is done there waits for a decision or has ended, a reconciliation has met a failure, or the hub
+    /// is down. The operation stays due until its report. It takes memory for an edit alone.
+    pub fn order(&self, alloc: Global, device: u32) -> Result<Option<Op>, Memory>
+        requires { device < length self.now.duties }
+        ensures order { IfOk result (λ op. op ≡ (if self.now.down then None else due_on (record_of self.now) device)) }
+        ensures memory { OnErr result (WantsEdit (duty_on self.now.duties device)) }
+    {
+        if self.down || has_met_failure(self.mends) {
+            return Ok(None);
+        }
+        next_op(&self.duties.as_slice()[device as usize], alloc)
+    }
+}
