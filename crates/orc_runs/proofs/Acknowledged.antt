@@ -191,13 +191,17 @@ module _ {D : Type 0} (here : Setting D) (are : AreDecls here.decls) (plans : Pl
     -- so it is that entry at the end, and in what a crash at each later moment leaves
     pub acknowledged : (earlier later : List (Turn D)) (turn : Turn D) (call : Call) (number : ℕ) → turns_of run ≡ earlier ++ turn ∷ later
         → IsAnswered turn turn.seen call (answer.Committed number)
-        → IfSome (here.disk.content last.journal.disk) (HoldsEntry here.decls number call)
+        → IsNumberedEntry (history_read last.journal) number call
+        × IfSome (here.disk.content last.journal.disk) (HoldsEntry here.decls number call)
         × ((file : List ℕ) → here.disk.left_since last.journal.disk (here.disk.moment turn.behind.journal.disk) file → HoldsEntry here.decls number call file)
     acknowledged earlier later turn call number parts says =
         let whole = all_tracked here only_now are plans legally order kinds lawful planning script first last run kept own in
         let is = split_at (IsTracked here only_now are plans legally order kinds lawful planning last) earlier later turn
         (subst (λ (l : List (Turn D)). Each (IsTracked here only_now are plans legally order kinds lawful planning last) l) parts whole.each) in
         let e = entered turn.before turn.behind turn.meant turn.seen is.before.0 is.before.1 is.comes call number says in (
+          (let longer = front_history turn.behind.journal.synced (entries_read last.journal)
+              (front_trans turn.behind.journal.synced last.journal.synced (entries_read last.journal) is.later.synced (read_front here.disk here.decls.text here.limit last.journal)) in
+              subst (λ (h : List Call). IsNumberedEntry h number call) (sym longer.1) (entry_more (history_of turn.behind.journal.synced) longer.0 number call e)),
           if_some (here.disk.content last.journal.disk) (λ file. IsGated file here.decls.text (entries_read last.journal)) (HoldsEntry here.decls number call)
               (λ file gated. has e file (entries_read last.journal) gated (read_so here last.journal whole.kept.0.journal)
               (front_trans turn.behind.journal.synced last.journal.synced (entries_read last.journal) is.later.synced (read_front here.disk here.decls.text here.limit last.journal)))

@@ -219,14 +219,14 @@ IsRefusedAs decls world (Some (event.Decide t said)) call given =
     invalid decls.data_schema (data_after call.actions (state_of decls (history_read world.journal)).data) ≡ Some given
 IsRefusedAs decls world other call given = ⊥
 
--- Why a call got this answer, in a turn of a run from this first world on that came after these turns. A call that is committed is the entry of its number.
--- A number that is reused has an entry of other actions. Busy names the caller's open call. Conflict is what the check of
--- a waiting call's own plan says: it names the first entry after the call's snapshot that wrote what the call read, and
--- the least such write. OutOfSync is told of a waiting call that nothing else refuses, of the first device of those that
--- it holds that is out of sync, with the cause that the hub has for it, and that cause came since a reconciliation ended
--- well last. A device of a call under way refuses with operation-failed alone, and only where it doesn't accept the tree
--- that would be due with the call. A link fault of a device of a call under way came since that was admitted, with its
--- number. JournalFault is told only where the disk failed. Memory needs
+-- Why a call got this answer, in a turn of a run from this first world on that came after these turns. A call that is
+-- committed is the entry of its number. A number that is reused has an entry of other actions. Busy names the caller's
+-- open call. Conflict is what the check of a waiting call's own plan says: it names the first entry after the call's
+-- snapshot that wrote what the call read, and the least such write. OutOfSync is told of a waiting call that nothing else
+-- refuses, of the first device of those that it holds that is out of sync, with the cause that the hub has for it, and
+-- that cause came since a reconciliation ended well last. A device of a call under way refuses with operation-failed
+-- alone, and only where it doesn't accept the tree that would be due with the call. A link fault of a device of a call
+-- under way came since that was admitted, with its number. JournalFault is told only where the disk failed. Memory needs
 -- no cause. And each other answer is what is looked at of the call in this turn.
 abbrev pub AnsweredBecause : {D : Type 0} → Setting D → World D → List (Turn D) → Turn D → Call → Answer → Type 0
 AnsweredBecause here first earlier turn call (answer.Committed number) =
@@ -326,12 +326,14 @@ pub record Headline {D : Type 0} (here : Setting D) (script : List ScriptStep) (
   -- At no moment do the journal's bytes keep it from being opened again.
   pub opens_again : (turn : Turn D) → Contains (turns_of run) turn
       → IfSome (here.disk.content turn.behind.journal.disk) (IsOpenable here.decls)
-  -- Each call that was acknowledged is the entry of its number, in the journal as it is read at the end, and as a crash
-  -- at each later moment leaves it. (A legal history has no caller and number twice: so it is there once.)
+  -- Each call that was acknowledged is the entry of its number, in the history at the end and in the journal as it is read
+  -- then, and as a crash at each later moment leaves it. (A legal history has no caller and number twice: so it is there
+  -- once.)
   pub acknowledged : (earlier later : List (Turn D)) (turn : Turn D) (call : Call) (number : ℕ)
       → turns_of run ≡ earlier ++ turn ∷ later
       → IsAnswered turn turn.seen call (answer.Committed number)
-      → IfSome (here.disk.content last.journal.disk) (HoldsEntry here.decls number call)
+      → IsNumberedEntry (history_read last.journal) number call
+      × IfSome (here.disk.content last.journal.disk) (HoldsEntry here.decls number call)
       × ((file : List ℕ) → here.disk.left_since last.journal.disk (here.disk.moment turn.behind.journal.disk) file
       → HoldsEntry here.decls number call file)
   -- Of each caller the entries that the run added are some of its calls, in the order in which they were submitted. (Calls
