@@ -14,7 +14,7 @@ use Rattle.orc_declarations.specs.Bundles.{bundle_at}
 use Rattle.orc_declarations.specs.Declarations.{declarations_of, nothing_declared}
 use Rattle.orc_declarations.specs.declared.bundle.Bundle.{Bundle}
 use Rattle.orc_script.specs.Scripts.{script_of}
-use Rattle.orc_script.specs.Steps.{are_settled, callers_behind, is_step}
+use Rattle.orc_script.specs.Steps.{callers_behind, is_step}
 use Rattle.orc_script.specs.declared.script.TheConstants.{MOST_CALLERS, MOST_STEPS}
 use Rattle.orc_bundle.specs.declared.scripted.ScriptedBundle.{ScriptedBundle}
 
@@ -51,12 +51,11 @@ scripted_of bytes =
     on_ok (script_of bundle.decls bytes bundle.rest bundle.line) (λ steps.
     Ok (record { decls = bundle.decls; steps = steps })))
 
--- Declarations are lawful, their schemas are sound, and each step is one that these devices allow; behind each call
--- stands `settle`, and there are no more steps and callers than can be.
+-- Declarations are lawful, their schemas are sound, and each step is one that these devices allow; there are no more
+-- steps and callers than can be.
 pub record IsScripted (bundle : ScriptedBundle) : Type 0 where
   pub decls : AreDecls bundle.decls
   pub sound : All IsSound bundle.decls.schemas
   pub steps : IsTrue (list_all (is_step bundle.decls) bundle.steps)
-  pub settled : IsTrue (are_settled bundle.steps)
   pub few : length bundle.steps ≤ MOST_STEPS
   pub callers : length (callers_behind [] bundle.steps) ≤ MOST_CALLERS

@@ -65,7 +65,6 @@ end_same (l ∷ ls) after line is = ap (λ (b : Bool). is_end l || b) (end_same 
 followed_same : (k : Keyword) (before after : List (List ℕ)) (line : List ℕ) → IsSkipped line → is_followed k (before ++ line ∷ after) ≡ is_followed k (before ++ after)
 unfolding is_followed
 followed_same keyword.Call before after line is = end_same before after line is
-followed_same keyword.End before after line is = ap (λ (o : Option (List ℕ)). option_map_or (λ t. is_text t (codes "settle")) o false) (kept_same before after line is)
 followed_same _ before after line is = refl
 
 -- a block in front of the line

@@ -11,7 +11,7 @@ use Rattle.orc_lines.specs.Words.{cut_at, first_word}
 use Rattle.orc_lines.specs.declared.keyword.Keyword.{Keyword}
 use Rattle.orc_lines.specs.declared.keyword.Keyword.TheVariants as keyword
 use Rattle.orc_script.specs.Places.{device_item_of, device_node_of, device_path_of}
-use Rattle.orc_script.specs.Scripts.{a_step, after_base_put, after_base_remove, after_bodied, after_delete, after_json, after_meta, after_redeploy, after_set, after_show, after_step, after_unset, after_write, an_action, behind_literal, is_followed, script_steps, scripted_at, step_words, with_literal, words_at}
+use Rattle.orc_script.specs.Scripts.{a_step, after_base_put, after_base_remove, after_bodied, after_delete, after_on_device, after_fault, after_json, after_meta, after_redeploy, after_set, after_step, after_unset, after_write, an_action, behind_literal, is_followed, script_steps, scripted_at, step_words, with_literal, words_at}
 use Rattle.orc_script.specs.declared.script.Script.{Script}
 use Rattle.orc_script.specs.declared.script.Part.{Part}
 use Rattle.orc_script.specs.declared.script.Part.TheVariants as part
@@ -22,8 +22,14 @@ module _ (d : Decls) (other : List ℕ) where
   e = record d { text = other }
 
   step_apart : (k : Keyword) (s : Script) (rest : List ℕ) (followed : Bool) → a_step k e s rest followed ≡ a_step k d s rest followed
-  unfolding a_step after_show after_json after_meta device_node_of
+  unfolding a_step after_on_device after_fault after_json after_meta device_node_of
+  step_apart keyword.Begin s rest followed = refl
+  step_apart keyword.Step s rest followed = refl
+  step_apart keyword.Tick s rest followed = refl
+  step_apart keyword.Restart s rest followed = refl
+  step_apart keyword.Fault s rest followed = refl
   step_apart keyword.Show s rest followed = refl
+  step_apart keyword.Log s rest followed = refl
   step_apart keyword.Json s rest followed = refl
   step_apart keyword.Meta s rest followed = refl
   step_apart keyword.Stop s rest followed = refl

@@ -178,7 +178,7 @@ module _ (b : ScriptedBundle) (h : Preamble) (kind : ℕ → List ℕ) (json : L
       let few = is.few in
       let small = within in
       let more = bytes_behind front (line ∷ later) in
-      steps_read json b.decls (named b h kind is under) is.decls.distinct [] [] b.steps 0 is.steps w.bodies is.settled (omega arith) is.callers later w.steps (size + length line) found.0 (omega arith)
+      steps_read json b.decls (named b h kind is under) is.decls.distinct [] [] b.steps 0 is.steps w.bodies (omega arith) is.callers later w.steps (size + length line) found.0 (omega arith)
 
   text_kept : take size bytes ≡ b.decls.text
   text_kept =

@@ -35,14 +35,13 @@ use Rattle.orc_decls.specs.declared.declarations.Decls.{Decls}
 use Rattle.orc_lines.specs.Items.{data_path_of, is_long_item, put_of, service_path_of}
 use Rattle.orc_lines.specs.Keywords.{keyword_of}
 use Rattle.orc_lines.specs.declared.keyword.Keyword.TheVariants as keyword
-use Rattle.orc_lines.specs.Lines.{is_settled}
 use Rattle.orc_lines.specs.Names.{is_among}
 use Rattle.orc_lines.specs.Rules.{on_ok}
 use Rattle.orc_script.specs.Places.{device_item_of, device_item_words, device_path_of, device_path_words}
 use Rattle.orc_script.specs.Bodies.{is_long_body, is_long_put}
-use Rattle.orc_script.specs.Scripts.{after_base_put, after_base_remove, after_bodied, after_redeploy, begins_as_path, on_service, service_body_of, service_id_of, after_delete, after_end, after_literal, after_set, after_step, after_unset, after_write, an_action, behind_literal, call_end, is_followed, with_action, with_write, word_at, words_at}
+use Rattle.orc_script.specs.Scripts.{after_base_put, after_base_remove, after_bodied, after_redeploy, begins_as_path, on_service, service_body_of, service_id_of, after_delete, after_end, after_literal, after_set, after_step, after_unset, after_write, an_action, behind_literal, call_end, with_action, with_write, word_at, words_at}
 use Rattle.orc_lines.specs.Words.{cut_at}
-use Rattle.orc_bundle_laws.specs.Written.{AreLinesOf, SpellsAction, SpellsBody, lines_of_action, line_of_write}
+use Rattle.orc_bundle_laws.specs.Written.{SpellsAction, SpellsBody, lines_of_action, line_of_write}
 use Rattle.orc_script.specs.declared.step.ScriptStep.{ScriptStep}
 use Rattle.orc_script.specs.declared.step.ScriptStep.TheVariants as script_step
 use Rattle.orc_script.specs.declared.script.Script.{Script}
@@ -351,10 +350,6 @@ module _ (callers : List (List ℕ)) (done : List ScriptStep) (caller : List ℕ
     closed : (actions : List Action) → HasActions (opened actions) actions
     begun : (actions : List Action) (id : List ℕ) (writes : List DevicePut) → HasActions (literal actions id writes) (actions ++ action.Literal id writes ∷ [])
 
-  -- the next line that is not skipped is `settle`
-  abbrev pub IsFollowed : List (List ℕ) → Type 0
-  IsFollowed ts = (later : List (List ℕ)) → AreLinesOf ts later → is_settled later ≡ true
-
   -- a line of an action closes the literal that is open
 
   at_literal : (d : Decls) (s : Script) (actions : List Action) (id : List ℕ) (later : List (List ℕ)) → HasActions s actions
@@ -411,11 +406,11 @@ module _ (callers : List (List ℕ)) (done : List ScriptStep) (caller : List ℕ
   at_unbase d _ _ rest later (closed actions) = refl
   at_unbase d _ _ rest later (begun actions other writes) = refl
 
-  at_end : (d : Decls) (s : Script) (actions : List Action) (later : List (List ℕ)) → HasActions s actions → is_settled later ≡ true
-      → after_step d s (codes "end") later ≡ after_end (opened actions) true
-  unfolding after_step word_at call_end keyword_of is_followed
-  at_end d _ _ later (closed actions) settled = rw settled refl
-  at_end d _ _ later (begun actions other writes) settled = rw settled refl
+  at_end : (d : Decls) (s : Script) (actions : List Action) (later : List (List ℕ)) → HasActions s actions
+      → after_step d s (codes "end") later ≡ after_end (opened actions)
+  unfolding after_step word_at call_end keyword_of
+  at_end d _ _ later (closed actions) = refl
+  at_end d _ _ later (begun actions other writes) = refl
 
   -- what an action makes
   module _ (actions : List Action) (room : nat_le MOST_ACTIONS (length actions) ≡ false) where
@@ -516,14 +511,14 @@ module _ (callers : List (List ℕ)) (done : List ScriptStep) (caller : List ℕ
         ∙ ap (λ (o : Result (List ℕ × List PathStep) Rule). on_ok o (λ n. Ok (with_action (opened actions) (action.BaseRemove n.0 n.1)))) (device_path_again d name p k)
 
   module _ (d : Decls) (rest : List (List ℕ)) (r : Result (List ScriptStep) (ℕ × Rule)) where
-    end_made : (actions : List Action) → nat_eq (length actions) 0 ≡ false → after_end (opened actions) true ≡ Ok (served actions)
+    end_made : (actions : List Action) → nat_eq (length actions) 0 ≡ false → after_end (opened actions) ≡ Ok (served actions)
     unfolding after_end
     end_made actions some = rw some refl
 
-    end_line : (s : Script) (actions : List Action) → HasActions s actions → nat_eq (length actions) 0 ≡ false → IsFollowed rest
+    end_line : (s : Script) (actions : List Action) → HasActions s actions → nat_eq (length actions) 0 ≡ false
         → Ends d (served actions) rest r → Ends d s (codes "end" ∷ rest) r
-    end_line s actions has some settled =
-        one_line d s (served actions) (codes "end") rest r end_text (λ later are. at_end d s actions later has (settled later are) ∙ end_made actions some)
+    end_line s actions has some =
+        one_line d s (served actions) (codes "end") rest r end_text (λ later are. at_end d s actions later has ∙ end_made actions some)
 
     write_reads : (later : List (List ℕ)) (actions : List Action) (id : List ℕ) (writes : List DevicePut) (w : DevicePut) → IsWrittenOn d w
         → after_step d (literal actions id writes) (line_of_write w) later ≡ Ok (literal actions id (writes ++ w ∷ []))
@@ -627,13 +622,13 @@ module _ (callers : List (List ℕ)) (done : List ScriptStep) (caller : List ℕ
   -- the rest of a call's actions, and the line that ends it
   actions_read : (json : List ℕ → List Put → List ℕ) (d : Decls) (before todo : List Action) (s : Script) (rest : List (List ℕ)) (r : Result (List ScriptStep) (ℕ × Rule))
       → AreNamed d → HasActions s before → list_all (is_action d) todo ≡ true → AllByRecursion (SpellsAction d.data_schema json) todo → services_once (before ++ todo) ≡ true
-      → length (before ++ todo) ≤ MOST_ACTIONS → nat_eq (length (before ++ todo)) 0 ≡ false → IsFollowed rest
+      → length (before ++ todo) ≤ MOST_ACTIONS → nat_eq (length (before ++ todo)) 0 ≡ false
       → Ends d (served (before ++ todo)) rest r → Ends d s (flat_map (lines_of_action json) todo ++ codes "end" ∷ rest) r
-  actions_read json d before [] s rest r known has all spells once few some settled behind =
+  actions_read json d before [] s rest r known has all spells once few some behind =
       let same = append-nil before in
-      end_line d rest r s before has (subst (λ (ys : List Action). nat_eq (length ys) 0 ≡ false) same some) settled
+      end_line d rest r s before has (subst (λ (ys : List Action). nat_eq (length ys) 0 ≡ false) same some)
       (subst (λ (ys : List Action). Ends d (served ys) rest r) same behind)
-  actions_read json d before (a ∷ ys) s rest r known has all spells once few some settled behind =
+  actions_read json d before (a ∷ ys) s rest r known has all spells once few some behind =
       let decls = d in
       let parts = and_parts (is_action decls a) (list_all (is_action decls) ys) all in
       let size = length-append before (a ∷ ys) in
@@ -645,13 +640,13 @@ module _ (callers : List (List ℕ)) (done : List ScriptStep) (caller : List ℕ
       (λ u now. actions_read json d (before ++ a ∷ []) ys u rest r known now parts.1 spells.1
       (subst (λ (xs : List Action). services_once xs ≡ true) seam once)
       (subst (λ (xs : List Action). length xs ≤ MOST_ACTIONS) seam few)
-      (subst (λ (xs : List Action). nat_eq (length xs) 0 ≡ false) seam some) settled
+      (subst (λ (xs : List Action). nat_eq (length xs) 0 ≡ false) seam some)
       (subst (λ (xs : List Action). Ends d (served xs) rest r) seam behind)))
 
   -- all of them
   pub call_read : (json : List ℕ → List Put → List ℕ) (d : Decls) (actions : List Action) (rest : List (List ℕ)) (r : Result (List ScriptStep) (ℕ × Rule))
       → AreNamed d → list_all (is_action d) actions ≡ true → AllByRecursion (SpellsAction d.data_schema json) actions → services_once actions ≡ true
-      → length actions ≤ MOST_ACTIONS → nat_eq (length actions) 0 ≡ false → IsFollowed rest
+      → length actions ≤ MOST_ACTIONS → nat_eq (length actions) 0 ≡ false
       → Ends d (served actions) rest r → Ends d (opened []) (flat_map (lines_of_action json) actions ++ codes "end" ∷ rest) r
-  call_read json d actions rest r known all spells once few some settled behind =
-      actions_read json d [] actions (opened []) rest r known (closed []) all spells once few some settled behind
+  call_read json d actions rest r known all spells once few some behind =
+      actions_read json d [] actions (opened []) rest r known (closed []) all spells once few some behind

@@ -1,15 +1,14 @@
 -- Lines that are written are read.
-use Rattle.std.proofs.Common.{◌≡◌, ℕ, zero, suc, ◌<◌, ◌≤◌, ◌+◌, ◌^◌, ◌≢◌, Bool, true, false, not, ◌==◌, ◌||◌, cond, List, [], ◌∷◌, ◌++◌, codes, ◌⊎◌, inl, inr, length, get_or, map, reverse, Option, refl, ap, sym, ◌∙◌, subst, arith, append_assoc, append-nil, eq-eqb, eqb-true, Some, None, decimal, nat_lt}
+use Rattle.std.proofs.Common.{◌≡◌, ℕ, zero, suc, ◌<◌, ◌≤◌, ◌+◌, ◌^◌, ◌≢◌, Bool, true, false, not, ◌==◌, ◌||◌, cond, List, [], ◌∷◌, ◌++◌, ◌⊎◌, inl, inr, length, get_or, map, reverse, refl, ap, sym, ◌∙◌, subst, arith, append_assoc, eq-eqb, eqb-true, Some, None, decimal, nat_lt}
 use Rattle.std.specs.List.{concat, list_all, list_any}
-use Rattle.std.specs.Option.{option_map_or}
 use Rattle.std.specs.Str.{all_ascii_digits}
 use Rattle.std.specs.Str.Parse.{digits_value}
 use Rattle.std.proofs.lemmas.Bool.{and_parts, and_from, or_from, le-ltb, lt-ltb}
 use Rattle.std.proofs.lemmas.Fmt.{decimal_digit, decimal_nonempty, first_decimal, digits_decimal, digits_value-decimal}
 use Rattle.std.proofs.lemmas.List.{reverse-append, reverse-reverse}
 use Rattle.std.proofs.lemmas.List.Folds.{list_all-append}
-use Rattle.orc_lines.specs.Lines.{as_line, first_kept, is_large, is_settled, is_skipped, lines_of, text_of, without_end, without_return}
-use Rattle.orc_lines.specs.Words.{cut_at, is_number, is_padded, is_text, number_in}
+use Rattle.orc_lines.specs.Lines.{as_line, is_large, is_skipped, lines_of, text_of, without_end, without_return}
+use Rattle.orc_lines.specs.Words.{cut_at, is_number, is_padded, number_in}
 use Rattle.orc_bundle_laws.specs.Written.{AreLinesOf, IsLineOf, none, one, skipped}
 use Rattle.orc_lines.specs.declared.lines.TheConstants.{LARGEST_BUNDLE, LONGEST_LINE}
 use Rattle.orc_lines.specs.inside.Blocks.{lacks}
@@ -101,20 +100,6 @@ among texts lines t f (skipped text line more lines_more is skip utf8 short are)
   behind : (b : Bool) → list_any f lines_more ≡ true → (b || list_any f lines_more) ≡ true
   behind true h = refl
   behind false h = h
-
--- the first line that is not skipped has the first text
-pub kept_in_front : (text : List ℕ) (texts front behind : List (List ℕ)) → is_skipped text ≡ false → AreLinesOf (text ∷ texts) front → first_kept (front ++ behind) ≡ Some text
-kept_in_front text texts front behind kept (one _ line more lines_more says are) =
-    ap (λ (t : List ℕ). cond (is_skipped t) (first_kept (lines_more ++ behind)) (Some t)) says.says
-    ∙ ap (λ (b : Bool). cond b (first_kept (lines_more ++ behind)) (Some text)) kept
-kept_in_front text texts front behind kept (skipped other line more lines_more says skip utf8 short are) =
-    ap (λ (t : List ℕ). cond (is_skipped t) (first_kept (lines_more ++ behind)) (Some t)) says.says
-    ∙ ap (λ (b : Bool). cond b (first_kept (lines_more ++ behind)) (Some other)) skip ∙ kept_in_front text texts lines_more behind kept are
-
--- that is `settle`
-pub settled_first : (texts lines : List (List ℕ)) → AreLinesOf (codes "settle" ∷ texts) lines → is_settled lines ≡ true
-settled_first texts lines are =
-    ap is_settled (sym (append-nil lines)) ∙ ap (λ (o : Option (List ℕ)). option_map_or (λ t. is_text t (codes "settle")) o false) (kept_in_front (codes "settle") texts lines [] refl are)
 
 -- words
 

@@ -7,26 +7,34 @@ use Rattle.orc_decls.specs.Calls.{schema_named}
 use Rattle.orc_decls.specs.declared.rule.Rule.{Rule}
 use Rattle.orc_decls.specs.declared.rule.Rule.TheVariants as rule
 use Rattle.orc_lines.specs.Rules.{on_line, on_ok}
-use Rattle.orc_script.specs.Scripts.{script_steps, a_step, after_json, after_meta, after_show, after_step, after_stop, bare_step, is_full, scripted_at, stop_words, with_step, word_at, words_at}
+use Rattle.orc_script.specs.Scripts.{script_steps, a_step, after_begin, after_on_device, after_fault, after_json, after_meta, after_step, after_stop, after_tick, bare_step, step_on_device, fault_line, link_fault_of, is_caller_more, is_full, scripted_at, stop_words, with_step, word_at, words_at}
 use Rattle.orc_lines.specs.Keywords.{keyword_of}
 use Rattle.orc_lines.specs.Lines.{is_skipped, text_of}
-use Rattle.orc_lines.specs.Names.{place_of}
+use Rattle.orc_lines.specs.Names.{place_of, with_name}
 use Rattle.orc_path.specs.Limits.{is_long_path}
 use Rattle.orc_path.specs.Steps.{PathStep, is_path}
 use Rattle.orc_path.specs.Texts.{path_text}
 use Rattle.orc_script.specs.Places.{device_node_of, device_node_words, is_node_path}
 use Rattle.orc_lines.specs.Words.{cut_at}
+use Rattle.orc_lines.specs.declared.keyword.Keyword.{Keyword}
+use Rattle.orc_lines.specs.declared.keyword.Keyword.TheVariants as keyword
+use Rattle.orc_device.specs.declared.kind.OpKind.{OpKind}
+use Rattle.orc_device.specs.declared.kind.OpKind.TheVariants as kind
+use Rattle.orc_device.specs.declared.kind.When.{When}
+use Rattle.orc_device.specs.declared.kind.When.TheVariants as moment
+use Rattle.orc_script.specs.Operations.{moment_named, operation_named}
+use Rattle.orc_script.specs.Steps.{is_tick}
 use Rattle.orc_decls.specs.declared.declarations.Decls.{Decls}
 use Rattle.orc_script.specs.declared.step.ScriptStep.{ScriptStep}
-use Rattle.orc_script.specs.declared.step.ScriptStep.TheVariants.{Show, Json, Meta, ShowData, Settle, Stop, StopAt, Recover, History}
+use Rattle.orc_script.specs.declared.step.ScriptStep.TheVariants.{Begin, Admit, Step, Decide, Settle, Tick, Restart, Fault, Stop, StopAt, Recover, Reconcile, Show, Json, Log, Meta, ShowData, History}
 use Rattle.orc_lines.specs.declared.lines.TheConstants.{LARGEST_BUNDLE, LONGEST_LINE}
 use Rattle.orc_script.specs.declared.script.Script.{Script}
 use Rattle.orc_script.specs.declared.script.Part.TheVariants as part
 use Rattle.orc_script.specs.declared.script.TheConstants.{MOST_STEPS}
 use Rattle.std.proofs.lemmas.Str.{is_utf8-from_IsUtf8}
-use Rattle.orc_bundle_laws.specs.Written.{AreLinesOf, IsLineOf, none, one, skipped}
+use Rattle.orc_bundle_laws.specs.Written.{AreLinesOf, IsLineOf, failing_text, moment_word, none, one, operation_word, skipped}
 use Rattle.orc_bundle_laws.proofs.Skipped.{script}
-use Rattle.orc_bundle_laws.proofs.Texts.{is_line_byte, IsLawfulName, number_short, part_append, part_known, part_of_word, path_short, word_of_number, word_of_path}
+use Rattle.orc_bundle_laws.proofs.Texts.{is_line_byte, IsLawfulName, IsPart, number_short, part_append, part_known, part_of_word, path_short, word_of_number, word_of_path}
 use Rattle.orc_bundle_laws.proofs.Bytes.{bytes_of}
 use Rattle.orc_bundle_laws.proofs.WrittenItems.{node_known, node_path_again}
 use Rattle.orc_bundle_laws.proofs.WrittenLines.{IsText, cut_word, not_large, number_again}
@@ -91,17 +99,96 @@ bare_text t bytes low kept short = record { part = part_known t bytes low; kept 
 
 -- texts of steps
 
-pub show_text : (name : List ℕ) → IsLawfulName name → IsText (codes "show " ++ name)
-show_text name l =
+-- a word and a name
+pub named_text : (word name : List ℕ) → list_all is_line_byte word ≡ true → list_all (λ b. nat_lt b 128) word ≡ true → is_skipped (word ++ name) ≡ false → length word ≤ 10
+    → IsLawfulName name → IsText (word ++ name)
+named_text word name bytes low kept few l =
     let size = l.size in
-    let whole = length-append (codes "show ") name in
-    record { part = part_append (codes "show ") name (part_known (codes "show ") refl refl) (part_of_word name l.word); kept = refl; short = omega arith }
+    let whole = length-append word name in
+    record { part = part_append word name (part_known word bytes low) (part_of_word name l.word); kept = kept; short = omega arith }
 
-pub json_text : (name : List ℕ) → IsLawfulName name → IsText (codes "json " ++ name)
-json_text name l =
+pub tick_text : (seconds : ℕ) → seconds < 2 ^ 64 → IsText (codes "tick " ++ decimal seconds)
+tick_text seconds fits =
+    let digits = number_short seconds fits in
+    let whole = length-append (codes "tick ") (decimal seconds) in
+    record {
+      part = part_append (codes "tick ") (decimal seconds) (part_known (codes "tick ") refl refl) (part_of_word (decimal seconds) (word_of_number seconds fits));
+      kept = refl;
+      short = omega arith;
+    }
+
+-- words of a line `fault`
+
+-- an ASCII text of a line, which is short
+record IsSmall (t : List ℕ) : Type 0 where
+  part : IsPart t
+  short : length t ≤ 20
+
+small : (t : List ℕ) → list_all is_line_byte t ≡ true → list_all (λ b. nat_lt b 128) t ≡ true → length t ≤ 20 → IsSmall t
+small t bytes low few = record { part = part_known t bytes low; short = few }
+
+small_operation : (operation : OpKind) → IsSmall (operation_word operation)
+small_operation kind.OpenSession = small (codes "OpenSession") refl refl (omega arith)
+small_operation kind.LockRunning = small (codes "LockRunning") refl refl (omega arith)
+small_operation kind.LockCandidate = small (codes "LockCandidate") refl refl (omega arith)
+small_operation kind.Edit = small (codes "Edit") refl refl (omega arith)
+small_operation kind.Validate = small (codes "Validate") refl refl (omega arith)
+small_operation kind.CommitConfirmed = small (codes "CommitConfirmed") refl refl (omega arith)
+small_operation kind.Commit = small (codes "Commit") refl refl (omega arith)
+small_operation kind.Confirm = small (codes "Confirm") refl refl (omega arith)
+small_operation kind.Cancel = small (codes "Cancel") refl refl (omega arith)
+small_operation kind.Discard = small (codes "Discard") refl refl (omega arith)
+small_operation kind.UnlockCandidate = small (codes "UnlockCandidate") refl refl (omega arith)
+small_operation kind.UnlockRunning = small (codes "UnlockRunning") refl refl (omega arith)
+small_operation kind.CloseSession = small (codes "CloseSession") refl refl (omega arith)
+small_operation kind.GetRunning = small (codes "GetRunning") refl refl (omega arith)
+
+small_moment : (at : When) → IsSmall (moment_word at)
+small_moment moment.Before = small (codes "before") refl refl (omega arith)
+small_moment moment.After = small (codes "after") refl refl (omega arith)
+
+pub fault_line_text : (name : List ℕ) (operation : OpKind) (at : When) → IsLawfulName name → IsText (codes "fault " ++ name ++ codes " " ++ failing_text operation at)
+fault_line_text name operation at l =
     let size = l.size in
-    let whole = length-append (codes "json ") name in
-    record { part = part_append (codes "json ") name (part_known (codes "json ") refl refl) (part_of_word name l.word); kept = refl; short = omega arith }
+    let first = small_operation operation in
+    let second = small_moment at in
+    let said = length-append (operation_word operation ++ codes " ") (moment_word at) in
+    let words = length-append (operation_word operation) (codes " ") in
+    let one = length-append (codes "fault ") name in
+    let two = length-append (codes "fault " ++ name) (codes " ") in
+    let three = length-append (codes "fault " ++ name ++ codes " ") (failing_text operation at) in
+    let few = first.short in
+    let less = second.short in
+    record {
+      part = part_append (codes "fault " ++ name ++ codes " ") (failing_text operation at)
+          (part_append (codes "fault " ++ name) (codes " ") (part_append (codes "fault ") name (part_known (codes "fault ") refl refl) (part_of_word name l.word)) (part_known (codes " ") refl refl))
+          (part_append (operation_word operation ++ codes " ") (moment_word at) (part_append (operation_word operation) (codes " ") first.part (part_known (codes " ") refl refl)) second.part);
+      kept = refl;
+      short = omega arith;
+    }
+
+moment_again : (at : When) → moment_named (moment_word at) ≡ Some at
+unfolding moment_named
+moment_again moment.Before = refl
+moment_again moment.After = refl
+
+-- it is read again
+fault_again : (operation : OpKind) (at : When) → link_fault_of (failing_text operation at) ≡ Ok (operation, at)
+unfolding link_fault_of operation_named
+fault_again kind.OpenSession at = let m = moment_again at in rw m refl
+fault_again kind.LockRunning at = let m = moment_again at in rw m refl
+fault_again kind.LockCandidate at = let m = moment_again at in rw m refl
+fault_again kind.Edit at = let m = moment_again at in rw m refl
+fault_again kind.Validate at = let m = moment_again at in rw m refl
+fault_again kind.CommitConfirmed at = let m = moment_again at in rw m refl
+fault_again kind.Commit at = let m = moment_again at in rw m refl
+fault_again kind.Confirm at = let m = moment_again at in rw m refl
+fault_again kind.Cancel at = let m = moment_again at in rw m refl
+fault_again kind.Discard at = let m = moment_again at in rw m refl
+fault_again kind.UnlockCandidate at = let m = moment_again at in rw m refl
+fault_again kind.UnlockRunning at = let m = moment_again at in rw m refl
+fault_again kind.CloseSession at = let m = moment_again at in rw m refl
+fault_again kind.GetRunning at = let m = moment_again at in rw m refl
 
 pub meta_text : (name : List ℕ) (path : List PathStep) → IsLawfulName name → is_path path ≡ true → is_long_path path ≡ false
     → IsText (codes "meta " ++ name ++ codes " " ++ path_text path)
@@ -141,6 +228,14 @@ module _ (d : Decls) (callers : List (List ℕ)) (done : List ScriptStep) (numbe
   abbrev behind : ScriptStep → Script
   behind step = resting callers (done ++ step ∷ []) number
 
+  admit_reads : (later : List (List ℕ)) → after_step d here (codes "admit") later ≡ Ok (behind Admit)
+  unfolding after_step word_at bare_step keyword_of
+  admit_reads later = let full = room done few in rw full refl
+
+  decide_reads : (later : List (List ℕ)) → after_step d here (codes "decide") later ≡ Ok (behind Decide)
+  unfolding after_step word_at bare_step keyword_of
+  decide_reads later = let full = room done few in rw full refl
+
   settle_reads : (later : List (List ℕ)) → after_step d here (codes "settle") later ≡ Ok (behind Settle)
   unfolding after_step word_at bare_step keyword_of
   settle_reads later = let full = room done few in rw full refl
@@ -153,6 +248,10 @@ module _ (d : Decls) (callers : List (List ℕ)) (done : List ScriptStep) (numbe
   unfolding after_step word_at bare_step keyword_of
   recover_reads later = let full = room done few in rw full refl
 
+  reconcile_reads : (later : List (List ℕ)) → after_step d here (codes "reconcile") later ≡ Ok (behind Reconcile)
+  unfolding after_step word_at bare_step keyword_of
+  reconcile_reads later = let full = room done few in rw full refl
+
   history_reads : (later : List (List ℕ)) → after_step d here (codes "history") later ≡ Ok (behind History)
   unfolding after_step word_at bare_step keyword_of
   history_reads later = let full = room done few in rw full refl
@@ -160,6 +259,12 @@ module _ (d : Decls) (callers : List (List ℕ)) (done : List ScriptStep) (numbe
   data_reads : (later : List (List ℕ)) → after_step d here (codes "data") later ≡ Ok (behind ShowData)
   unfolding after_step word_at bare_step keyword_of
   data_reads later = let full = room done few in rw full refl
+
+  pub admit_line : Ends d (behind Admit) rest r → Ends d here (codes "admit" ∷ rest) r
+  admit_line = one_line d here (behind Admit) (codes "admit") rest r (bare_text (codes "admit") refl refl refl (omega arith)) (λ later are. admit_reads later)
+
+  pub decide_line : Ends d (behind Decide) rest r → Ends d here (codes "decide" ∷ rest) r
+  decide_line = one_line d here (behind Decide) (codes "decide") rest r (bare_text (codes "decide") refl refl refl (omega arith)) (λ later are. decide_reads later)
 
   pub settle_line : Ends d (behind Settle) rest r → Ends d here (codes "settle" ∷ rest) r
   settle_line = one_line d here (behind Settle) (codes "settle") rest r (bare_text (codes "settle") refl refl refl (omega arith)) (λ later are. settle_reads later)
@@ -170,6 +275,9 @@ module _ (d : Decls) (callers : List (List ℕ)) (done : List ScriptStep) (numbe
   pub recover_line : Ends d (behind Recover) rest r → Ends d here (codes "recover" ∷ rest) r
   recover_line = one_line d here (behind Recover) (codes "recover") rest r (bare_text (codes "recover") refl refl refl (omega arith)) (λ later are. recover_reads later)
 
+  pub reconcile_line : Ends d (behind Reconcile) rest r → Ends d here (codes "reconcile" ∷ rest) r
+  reconcile_line = one_line d here (behind Reconcile) (codes "reconcile") rest r (bare_text (codes "reconcile") refl refl refl (omega arith)) (λ later are. reconcile_reads later)
+
   pub history_line : Ends d (behind History) rest r → Ends d here (codes "history" ∷ rest) r
   history_line = one_line d here (behind History) (codes "history") rest r (bare_text (codes "history") refl refl refl (omega arith)) (λ later are. history_reads later)
 
@@ -178,19 +286,98 @@ module _ (d : Decls) (callers : List (List ℕ)) (done : List ScriptStep) (numbe
 
   -- steps of more words
 
-  show_reads : (later : List (List ℕ)) (name : List ℕ) (device : ℕ) → IsLawfulName name → place_of d.names name ≡ Some device
-      → after_step d here (codes "show " ++ name) later ≡ Ok (behind (Show device))
-  unfolding after_step words_at a_step keyword_of after_show
-  show_reads later name device l place =
+  -- those that name a device alone
+
+  device_reads : (word : Keyword) (name : List ℕ) (device : ℕ) → IsLawfulName name → place_of d.names name ≡ Some device
+      → after_on_device word d here name ≡ Ok (behind (step_on_device word device))
+  unfolding after_on_device
+  device_reads word name device l place =
       let full = room done few in
       let ident = l.identifier in
       let short = l.short in
       rw ident (rw short (rw full (rw place refl)))
 
-  pub show_line : (name : List ℕ) (device : ℕ) → IsLawfulName name → place_of d.names name ≡ Some device
-      → Ends d (behind (Show device)) rest r → Ends d here ((codes "show " ++ name) ∷ rest) r
-  show_line name device l place =
-      one_line d here (behind (Show device)) (codes "show " ++ name) rest r (show_text name l) (λ later are. show_reads later name device l place)
+  show_is : (later : List (List ℕ)) (name : List ℕ) → after_step d here (codes "show " ++ name) later ≡ after_on_device keyword.Show d here name
+  unfolding after_step words_at a_step keyword_of
+  show_is later name = refl
+
+  step_is : (later : List (List ℕ)) (name : List ℕ) → after_step d here (codes "step " ++ name) later ≡ after_on_device keyword.Step d here name
+  unfolding after_step words_at a_step keyword_of
+  step_is later name = refl
+
+  restart_is : (later : List (List ℕ)) (name : List ℕ) → after_step d here (codes "restart " ++ name) later ≡ after_on_device keyword.Restart d here name
+  unfolding after_step words_at a_step keyword_of
+  restart_is later name = refl
+
+  log_is : (later : List (List ℕ)) (name : List ℕ) → after_step d here (codes "log " ++ name) later ≡ after_on_device keyword.Log d here name
+  unfolding after_step words_at a_step keyword_of
+  log_is later name = refl
+
+  module _ (name : List ℕ) (device : ℕ) (l : IsLawfulName name) (place : place_of d.names name ≡ Some device) where
+    pub show_line : Ends d (behind (Show device)) rest r → Ends d here ((codes "show " ++ name) ∷ rest) r
+    show_line =
+        one_line d here (behind (Show device)) (codes "show " ++ name) rest r (named_text (codes "show ") name refl refl refl (omega arith) l)
+        (λ later are. show_is later name ∙ device_reads keyword.Show name device l place)
+
+    pub step_line : Ends d (behind (Step device)) rest r → Ends d here ((codes "step " ++ name) ∷ rest) r
+    step_line =
+        one_line d here (behind (Step device)) (codes "step " ++ name) rest r (named_text (codes "step ") name refl refl refl (omega arith) l)
+        (λ later are. step_is later name ∙ device_reads keyword.Step name device l place)
+
+    pub restart_line : Ends d (behind (Restart device)) rest r → Ends d here ((codes "restart " ++ name) ∷ rest) r
+    restart_line =
+        one_line d here (behind (Restart device)) (codes "restart " ++ name) rest r (named_text (codes "restart ") name refl refl refl (omega arith) l)
+        (λ later are. restart_is later name ∙ device_reads keyword.Restart name device l place)
+
+    pub log_line : Ends d (behind (Log device)) rest r → Ends d here ((codes "log " ++ name) ∷ rest) r
+    log_line =
+        one_line d here (behind (Log device)) (codes "log " ++ name) rest r (named_text (codes "log ") name refl refl refl (omega arith) l)
+        (λ later are. log_is later name ∙ device_reads keyword.Log name device l place)
+
+  begin_reads : (later : List (List ℕ)) (caller : List ℕ) → IsLawfulName caller → is_caller_more here caller ≡ false
+      → after_step d here (codes "begin " ++ caller) later ≡ Ok (resting (with_name callers caller) (done ++ Begin caller ∷ []) number)
+  unfolding after_step words_at a_step keyword_of after_begin
+  begin_reads later caller l known =
+      let full = room done few in
+      let ident = l.identifier in
+      let short = l.short in
+      rw ident (rw short (rw full (rw known refl)))
+
+  pub begin_line : (caller : List ℕ) → IsLawfulName caller → is_caller_more here caller ≡ false
+      → Ends d (resting (with_name callers caller) (done ++ Begin caller ∷ []) number) rest r → Ends d here ((codes "begin " ++ caller) ∷ rest) r
+  begin_line caller l known =
+      one_line d here (resting (with_name callers caller) (done ++ Begin caller ∷ []) number) (codes "begin " ++ caller) rest r
+      (named_text (codes "begin ") caller refl refl refl (omega arith) l) (λ later are. begin_reads later caller l known)
+
+  tick_reads : (later : List (List ℕ)) (seconds : ℕ) → seconds < 2 ^ 64 → is_tick seconds ≡ true
+      → after_step d here (codes "tick " ++ decimal seconds) later ≡ Ok (behind (Tick seconds))
+  unfolding after_step words_at a_step keyword_of after_tick
+  tick_reads later seconds fits is =
+      let full = room done few in
+      let again = number_again seconds fits in
+      rw again (rw is (rw full refl))
+
+  pub tick_line : (seconds : ℕ) → seconds < 2 ^ 64 → is_tick seconds ≡ true → Ends d (behind (Tick seconds)) rest r → Ends d here ((codes "tick " ++ decimal seconds) ∷ rest) r
+  tick_line seconds fits is =
+      one_line d here (behind (Tick seconds)) (codes "tick " ++ decimal seconds) rest r (tick_text seconds fits) (λ later are. tick_reads later seconds fits is)
+
+  fault_reads : (later : List (List ℕ)) (name : List ℕ) (device : ℕ) (operation : OpKind) (at : When) → IsLawfulName name → place_of d.names name ≡ Some device
+      → after_step d here (codes "fault " ++ name ++ codes " " ++ failing_text operation at) later ≡ Ok (behind (Fault device operation at))
+  unfolding after_step words_at a_step keyword_of after_fault
+  fault_reads later name device operation at l place =
+      let full = room done few in
+      let ident = l.identifier in
+      let short = l.short in
+      let again = fault_again operation at in
+      ap (λ (x : List ℕ). fault_line d here (cut_at 32 x)) (append_assoc name (codes " ") (failing_text operation at))
+      ∙ ap (fault_line d here) (cut_word name (failing_text operation at) l.word)
+      ∙ rw again (rw ident (rw short (rw full (rw place refl))))
+
+  pub fault_read_line : (name : List ℕ) (device : ℕ) (operation : OpKind) (at : When) → IsLawfulName name → place_of d.names name ≡ Some device
+      → Ends d (behind (Fault device operation at)) rest r → Ends d here ((codes "fault " ++ name ++ codes " " ++ failing_text operation at) ∷ rest) r
+  fault_read_line name device operation at l place =
+      one_line d here (behind (Fault device operation at)) (codes "fault " ++ name ++ codes " " ++ failing_text operation at) rest r
+      (fault_line_text name operation at l) (λ later are. fault_reads later name device operation at l place)
 
   json_reads : (later : List (List ℕ)) (name : List ℕ) (device : ℕ) → IsLawfulName name → place_of d.names name ≡ Some device
       → (schema_named d.schemas d.devices name).plain ≡ false → after_step d here (codes "json " ++ name) later ≡ Ok (behind (Json device))
@@ -204,7 +391,7 @@ module _ (d : Decls) (callers : List (List ℕ)) (done : List ScriptStep) (numbe
   pub json_line : (name : List ℕ) (device : ℕ) → IsLawfulName name → place_of d.names name ≡ Some device → (schema_named d.schemas d.devices name).plain ≡ false
       → Ends d (behind (Json device)) rest r → Ends d here ((codes "json " ++ name) ∷ rest) r
   json_line name device l place typed =
-      one_line d here (behind (Json device)) (codes "json " ++ name) rest r (json_text name l) (λ later are. json_reads later name device l place typed)
+      one_line d here (behind (Json device)) (codes "json " ++ name) rest r (named_text (codes "json ") name refl refl refl (omega arith) l) (λ later are. json_reads later name device l place typed)
 
   meta_reads : (later : List (List ℕ)) (name : List ℕ) (device : ℕ) (path : List PathStep) → IsLawfulName name → place_of d.names name ≡ Some device
       → is_node_path (schema_named d.schemas d.devices name) path ≡ true

@@ -2,7 +2,7 @@
 use Rattle.std.proofs.Common.{◌≡◌, inl, ℕ, zero, suc, ◌<◌, ◌≤◌, ◌+◌, ◌^◌, Bool, true, false, not, ◌&&◌, nat_eq, cond, List, [], ◌∷◌, ◌++◌, codes, length, length-append, refl, ap, sym, ◌∙◌, subst, arith, append_assoc, append-nil, Result, Ok, Some, None, decimal, nat_le, nat_lt}
 use Rattle.std.specs.List.{AllByRecursion, IsDistinct, flat_map, list_all, list_any, position_or_len}
 use Rattle.std.specs.Cmp.Lexicographic.{bytes_decides}
-use Rattle.std.proofs.lemmas.Bool.{and_parts, lt-leb, lt-ltb, ltb-true, false≢true}
+use Rattle.std.proofs.lemmas.Bool.{and_parts, lt-leb, lt-ltb, ltb-true}
 use Rattle.orc_call.specs.declared.call.Call.{Call}
 use Rattle.orc_call.specs.declared.call.TheConstants.{MOST_ACTIONS}
 use Rattle.orc_decls.specs.Calls.{services_once}
@@ -10,10 +10,10 @@ use Rattle.orc_decls.specs.Devices.{is_same_text, name_of}
 use Rattle.orc_decls.specs.Calls.{is_action, is_call, is_lawful_name, schema_named}
 use Rattle.orc_decls.specs.declared.declarations.Decls.{Decls}
 use Rattle.orc_decls.specs.declared.rule.Rule.{Rule}
-use Rattle.orc_script.specs.Steps.{are_settled, begins_settled, callers_behind, is_step}
+use Rattle.orc_script.specs.Steps.{callers_behind, callers_with, is_step, is_tick}
 use Rattle.orc_decls.specs.declared.declarations.Decls.{Decls}
 use Rattle.orc_lines.specs.Keywords.{keyword_of}
-use Rattle.orc_lines.specs.Lines.{is_end, is_settled, text_of}
+use Rattle.orc_lines.specs.Lines.{is_end, text_of}
 use Rattle.orc_lines.specs.Names.{is_among, place_of, with_name}
 use Rattle.orc_script.specs.Scripts.{a_step, after_call, after_step, call_words, is_caller_more, is_followed, words_at}
 use Rattle.orc_script.specs.Places.{is_node_path}
@@ -21,16 +21,16 @@ use Rattle.orc_lines.specs.Words.{cut_at, is_text}
 use Rattle.orc_call.specs.declared.call.Put.{Put}
 use Rattle.orc_bundle_laws.specs.Written.{AreLinesOf, SpellsStep, lines_of_action, step_lines}
 use Rattle.orc_script.specs.declared.step.ScriptStep.{ScriptStep}
-use Rattle.orc_script.specs.declared.step.ScriptStep.TheVariants.{Show, Json, Meta, ShowData, Settle, Stop, StopAt, Recover, History}
+use Rattle.orc_script.specs.declared.step.ScriptStep.TheVariants.{Begin, Admit, Step, Decide, Settle, Tick, Restart, Fault, Stop, StopAt, Recover, Reconcile, Show, Json, Log, Meta, ShowData, History}
 use Rattle.orc_script.specs.declared.step.ScriptStep.TheVariants as script_step
 use Rattle.orc_script.specs.declared.script.Script.{Script}
-use Rattle.orc_script.specs.declared.script.TheConstants.{MOST_CALLERS, MOST_STEPS}
+use Rattle.orc_script.specs.declared.script.TheConstants.{LONGEST_TICK, MOST_CALLERS, MOST_STEPS}
 use Rattle.orc_lines.proofs.LinesOf.{untrue}
 use Rattle.orc_bundle_laws.proofs.Texts.{IsLawfulName, lawful_name, number_short, part_append, part_known, part_of_word, word_of_number}
 use Rattle.orc_bundle_laws.proofs.WrittenCalls.{AreNamed, call_read, opened}
 use Rattle.orc_bundle_laws.proofs.WrittenDevices.{same_name}
-use Rattle.orc_bundle_laws.proofs.WrittenLines.{IsText, among, contained_behind, cut_word, number_again, settled_first}
-use Rattle.orc_bundle_laws.proofs.WrittenScript.{Ends, data_line, history_line, json_line, meta_line, no_line, one_line, recover_line, resting, room, settle_line, show_line, stop_at_line, stop_line}
+use Rattle.orc_bundle_laws.proofs.WrittenLines.{IsText, among, contained_behind, cut_word, number_again}
+use Rattle.orc_bundle_laws.proofs.WrittenScript.{Ends, admit_line, begin_line, data_line, decide_line, fault_read_line, history_line, json_line, log_line, meta_line, no_line, one_line, reconcile_line, recover_line, restart_line, resting, room, settle_line, show_line, step_line, stop_at_line, stop_line, tick_line}
 
 -- the line of a call
 
@@ -124,10 +124,9 @@ is_the_end line says = ap (λ (t : List ℕ). is_text t (codes "end")) says
 
 serve_lines : (json : List ℕ → List Put → List ℕ) (d : Decls) (callers : List (List ℕ)) (done : List ScriptStep) (before : ℕ) (call : Call) (rest : List (List ℕ)) (r : Result (List ScriptStep) (ℕ × Rule))
     → AreNamed d → length done < MOST_STEPS → is_call d call ≡ true → SpellsStep d.data_schema json (script_step.Call call) → length (with_name callers call.caller) ≤ MOST_CALLERS
-    → ((later : List (List ℕ)) → AreLinesOf rest later → is_settled later ≡ true)
     → Ends d (resting (with_name callers call.caller) (done ++ script_step.Call call ∷ []) call.number) rest r
     → Ends d (resting callers done before) (step_lines json d.names (script_step.Call call) ++ rest) r
-serve_lines json d callers done before call rest r names few is spells most settled behind =
+serve_lines json d callers done before call rest r names few is spells most behind =
     let k = known d call is in
     let actions = flat_map (lines_of_action json) call.actions in
     let more = actions ++ codes "end" ∷ rest in
@@ -135,7 +134,11 @@ serve_lines json d callers done before call rest r names few is spells most sett
     subst (λ (ts : List (List ℕ)). Ends d (resting callers done before) (line ∷ ts) r) (sym (append_assoc actions (codes "end" ∷ []) rest))
     (call_line d callers done before call.caller call.number more r few k.caller k.number most
     (λ later are. among more later (codes "end") is_end are is_the_end (contained_behind actions (codes "end" ∷ rest) (codes "end") (inl refl)))
-    (call_read (with_name callers call.caller) done call.caller call.number json d call.actions rest r names k.actions spells k.once k.few k.some settled behind))
+    (call_read (with_name callers call.caller) done call.caller call.number json d call.actions rest r names k.actions spells k.once k.few k.some behind))
+
+-- the seconds of a line are few
+pub tick_fits : (seconds : ℕ) → is_tick seconds ≡ true → seconds < 2 ^ 64
+tick_fits seconds h = let most = at_most seconds LONGEST_TICK (and_parts (nat_le 1 seconds) (nat_le seconds LONGEST_TICK) h).1 in omega arith
 
 -- the devices' names
 
@@ -173,32 +176,17 @@ with_more callers name = on (is_among callers name) where
   on true = omega arith
   on false = let size = length-append callers (name ∷ []) in omega arith
 
+step_callers : (callers : List (List ℕ)) (step : ScriptStep) → length callers ≤ length (callers_with callers step)
+step_callers callers (Begin caller) = with_more callers caller
+step_callers callers (script_step.Call call) = with_more callers call.caller
+step_callers callers other = omega arith
+
 callers_more : (callers : List (List ℕ)) (steps : List ScriptStep) → length callers ≤ length (callers_behind callers steps)
 callers_more callers [] = omega arith
-callers_more callers (script_step.Call call ∷ steps) = let one = with_more callers call.caller in let rest = callers_more (with_name callers call.caller) steps in omega arith
-callers_more callers (Show device ∷ steps) = callers_more callers steps
-callers_more callers (Json device ∷ steps) = callers_more callers steps
-callers_more callers (Meta device path ∷ steps) = callers_more callers steps
-callers_more callers (ShowData ∷ steps) = callers_more callers steps
-callers_more callers (Settle ∷ steps) = callers_more callers steps
-callers_more callers (Stop ∷ steps) = callers_more callers steps
-callers_more callers (StopAt count bytes ∷ steps) = callers_more callers steps
-callers_more callers (Recover ∷ steps) = callers_more callers steps
-callers_more callers (History ∷ steps) = callers_more callers steps
-
-settled_lines : (json : List ℕ → List Put → List ℕ) (names : List (List ℕ)) (steps : List ScriptStep) → begins_settled steps ≡ true
-    → (later : List (List ℕ)) → AreLinesOf (flat_map (step_lines json names) steps) later → is_settled later ≡ true
-settled_lines json names [] h later are = absurd (false≢true h)
-settled_lines json names (Settle ∷ steps) h later are = settled_first (flat_map (step_lines json names) steps) later are
-settled_lines json names (script_step.Call call ∷ steps) h later are = absurd (false≢true h)
-settled_lines json names (Show device ∷ steps) h later are = absurd (false≢true h)
-settled_lines json names (Json device ∷ steps) h later are = absurd (false≢true h)
-settled_lines json names (Meta device path ∷ steps) h later are = absurd (false≢true h)
-settled_lines json names (ShowData ∷ steps) h later are = absurd (false≢true h)
-settled_lines json names (Stop ∷ steps) h later are = absurd (false≢true h)
-settled_lines json names (StopAt count bytes ∷ steps) h later are = absurd (false≢true h)
-settled_lines json names (Recover ∷ steps) h later are = absurd (false≢true h)
-settled_lines json names (History ∷ steps) h later are = absurd (false≢true h)
+callers_more callers (step ∷ steps) =
+    let one = step_callers callers step in
+    let rest = callers_more (callers_with callers step) steps in
+    omega arith
 
 -- the rest of the steps
 module _ (json : List ℕ → List Put → List ℕ) (d : Decls) (known_names : AreNamed d) (distinct : IsDistinct is_same_text d.names) where
@@ -218,55 +206,98 @@ module _ (json : List ℕ → List Put → List ℕ) (d : Decls) (known_names : 
   next done step steps h = let size = length-append done (step ∷ []) in omega arith
 
   pub steps_read : (callers : List (List ℕ)) (done todo : List ScriptStep) (number : ℕ)
-      → list_all is_one todo ≡ true → AllByRecursion (SpellsStep d.data_schema json) todo → are_settled todo ≡ true → length done + length todo ≤ MOST_STEPS → length (callers_behind callers todo) ≤ MOST_CALLERS
+      → list_all is_one todo ≡ true → AllByRecursion (SpellsStep d.data_schema json) todo → length done + length todo ≤ MOST_STEPS → length (callers_behind callers todo) ≤ MOST_CALLERS
       → Ends d (resting callers done number) (lines todo) (Ok (done ++ todo))
-  steps_read callers done [] number all spells settled few most =
+  steps_read callers done [] number all spells few most =
       subst (λ (steps : List ScriptStep). Ends d (resting callers done number) [] (Ok steps)) (sym (append-nil done)) (no_line d (resting callers done number))
-  steps_read callers done (Show device ∷ steps) number all spells settled few most =
+  steps_read callers done (Step device ∷ steps) number all spells few most =
+      let parts = and_parts (is_one (Step device)) (list_all is_one steps) all in
+      let within = ltb-true device (length names) parts.0 in
+      step_line d callers done number (lines steps) (Ok (done ++ Step device ∷ steps)) (omega arith) (name_of names device) device
+      (lawful_name (name_of names device) (name_lawful names device known_names.lawful within)) (place_again names device distinct within)
+      (moved _ done (Step device) steps (steps_read callers (done ++ Step device ∷ []) steps number parts.1 spells.1 (next done (Step device) steps few) most))
+  steps_read callers done (Restart device ∷ steps) number all spells few most =
+      let parts = and_parts (is_one (Restart device)) (list_all is_one steps) all in
+      let within = ltb-true device (length names) parts.0 in
+      restart_line d callers done number (lines steps) (Ok (done ++ Restart device ∷ steps)) (omega arith) (name_of names device) device
+      (lawful_name (name_of names device) (name_lawful names device known_names.lawful within)) (place_again names device distinct within)
+      (moved _ done (Restart device) steps (steps_read callers (done ++ Restart device ∷ []) steps number parts.1 spells.1 (next done (Restart device) steps few) most))
+  steps_read callers done (Log device ∷ steps) number all spells few most =
+      let parts = and_parts (is_one (Log device)) (list_all is_one steps) all in
+      let within = ltb-true device (length names) parts.0 in
+      log_line d callers done number (lines steps) (Ok (done ++ Log device ∷ steps)) (omega arith) (name_of names device) device
+      (lawful_name (name_of names device) (name_lawful names device known_names.lawful within)) (place_again names device distinct within)
+      (moved _ done (Log device) steps (steps_read callers (done ++ Log device ∷ []) steps number parts.1 spells.1 (next done (Log device) steps few) most))
+  steps_read callers done (Admit ∷ steps) number all spells few most =
+      admit_line d callers done number (lines steps) (Ok (done ++ Admit ∷ steps)) (omega arith)
+      (moved _ done Admit steps (steps_read callers (done ++ Admit ∷ []) steps number all spells.1 (next done Admit steps few) most))
+  steps_read callers done (Decide ∷ steps) number all spells few most =
+      decide_line d callers done number (lines steps) (Ok (done ++ Decide ∷ steps)) (omega arith)
+      (moved _ done Decide steps (steps_read callers (done ++ Decide ∷ []) steps number all spells.1 (next done Decide steps few) most))
+  steps_read callers done (Reconcile ∷ steps) number all spells few most =
+      reconcile_line d callers done number (lines steps) (Ok (done ++ Reconcile ∷ steps)) (omega arith)
+      (moved _ done Reconcile steps (steps_read callers (done ++ Reconcile ∷ []) steps number all spells.1 (next done Reconcile steps few) most))
+  steps_read callers done (Begin caller ∷ steps) number all spells few most =
+      let parts = and_parts (is_one (Begin caller)) (list_all is_one steps) all in
+      let now = with_name callers caller in
+      let grows = callers_more now steps in
+      begin_line d callers done number (lines steps) (Ok (done ++ Begin caller ∷ steps)) (omega arith) caller
+      (lawful_name caller parts.0) (no_caller_more callers done number caller (omega arith))
+      (moved _ done (Begin caller) steps (steps_read now (done ++ Begin caller ∷ []) steps number parts.1 spells.1 (next done (Begin caller) steps few) most))
+  steps_read callers done (Tick seconds ∷ steps) number all spells few most =
+      let parts = and_parts (is_one (Tick seconds)) (list_all is_one steps) all in
+      tick_line d callers done number (lines steps) (Ok (done ++ Tick seconds ∷ steps)) (omega arith) seconds (tick_fits seconds parts.0) parts.0
+      (moved _ done (Tick seconds) steps (steps_read callers (done ++ Tick seconds ∷ []) steps number parts.1 spells.1 (next done (Tick seconds) steps few) most))
+  steps_read callers done (Fault device operation at ∷ steps) number all spells few most =
+      let parts = and_parts (is_one (Fault device operation at)) (list_all is_one steps) all in
+      let within = ltb-true device (length names) parts.0 in
+      fault_read_line d callers done number (lines steps) (Ok (done ++ Fault device operation at ∷ steps)) (omega arith) (name_of names device) device operation at
+      (lawful_name (name_of names device) (name_lawful names device known_names.lawful within)) (place_again names device distinct within)
+      (moved _ done (Fault device operation at) steps (steps_read callers (done ++ Fault device operation at ∷ []) steps number parts.1 spells.1 (next done (Fault device operation at) steps few) most))
+  steps_read callers done (Show device ∷ steps) number all spells few most =
       let parts = and_parts (is_one (Show device)) (list_all is_one steps) all in
       let within = ltb-true device (length names) parts.0 in
       show_line d callers done number (lines steps) (Ok (done ++ Show device ∷ steps)) (omega arith) (name_of names device) device
       (lawful_name (name_of names device) (name_lawful names device known_names.lawful within)) (place_again names device distinct within)
-      (moved _ done (Show device) steps (steps_read callers (done ++ Show device ∷ []) steps number parts.1 spells.1 settled (next done (Show device) steps few) most))
-  steps_read callers done (Json device ∷ steps) number all spells settled few most =
+      (moved _ done (Show device) steps (steps_read callers (done ++ Show device ∷ []) steps number parts.1 spells.1 (next done (Show device) steps few) most))
+  steps_read callers done (Json device ∷ steps) number all spells few most =
       let parts = and_parts (is_one (Json device)) (list_all is_one steps) all in
       let typed = (schema_named d.schemas d.devices (name_of names device)).plain in
       let fits = and_parts (nat_lt device (length names)) (not typed) parts.0 in
       let within = ltb-true device (length names) fits.0 in
       json_line d callers done number (lines steps) (Ok (done ++ Json device ∷ steps)) (omega arith) (name_of names device) device
       (lawful_name (name_of names device) (name_lawful names device known_names.lawful within)) (place_again names device distinct within) (untrue typed fits.1)
-      (moved _ done (Json device) steps (steps_read callers (done ++ Json device ∷ []) steps number parts.1 spells.1 settled (next done (Json device) steps few) most))
-  steps_read callers done (Meta device path ∷ steps) number all spells settled few most =
+      (moved _ done (Json device) steps (steps_read callers (done ++ Json device ∷ []) steps number parts.1 spells.1 (next done (Json device) steps few) most))
+  steps_read callers done (Meta device path ∷ steps) number all spells few most =
       let parts = and_parts (is_one (Meta device path)) (list_all is_one steps) all in
       let fits = and_parts (nat_lt device (length names)) (is_node_path (schema_named d.schemas d.devices (name_of names device)) path) parts.0 in
       let within = ltb-true device (length names) fits.0 in
       meta_line d callers done number (lines steps) (Ok (done ++ Meta device path ∷ steps)) (omega arith) (name_of names device) device path
       (lawful_name (name_of names device) (name_lawful names device known_names.lawful within)) (place_again names device distinct within) fits.1
-      (moved _ done (Meta device path) steps (steps_read callers (done ++ Meta device path ∷ []) steps number parts.1 spells.1 settled (next done (Meta device path) steps few) most))
-  steps_read callers done (ShowData ∷ steps) number all spells settled few most =
+      (moved _ done (Meta device path) steps (steps_read callers (done ++ Meta device path ∷ []) steps number parts.1 spells.1 (next done (Meta device path) steps few) most))
+  steps_read callers done (ShowData ∷ steps) number all spells few most =
       data_line d callers done number (lines steps) (Ok (done ++ ShowData ∷ steps)) (omega arith)
-      (moved _ done ShowData steps (steps_read callers (done ++ ShowData ∷ []) steps number all spells.1 settled (next done ShowData steps few) most))
-  steps_read callers done (script_step.Call call ∷ steps) number all spells settled few most =
+      (moved _ done ShowData steps (steps_read callers (done ++ ShowData ∷ []) steps number all spells.1 (next done ShowData steps few) most))
+  steps_read callers done (script_step.Call call ∷ steps) number all spells few most =
       let parts = and_parts (is_one (script_step.Call call)) (list_all is_one steps) all in
-      let two = and_parts (begins_settled steps) (are_settled steps) settled in
       let now = with_name callers call.caller in
       let grows = callers_more now steps in
-      serve_lines json d callers done number call (lines steps) (Ok (done ++ script_step.Call call ∷ steps)) known_names (omega arith) parts.0 spells.0 (omega arith) (settled_lines json names steps two.0)
-      (moved _ done (script_step.Call call) steps (steps_read now (done ++ script_step.Call call ∷ []) steps call.number parts.1 spells.1 two.1 (next done (script_step.Call call) steps few) most))
-  steps_read callers done (Settle ∷ steps) number all spells settled few most =
+      serve_lines json d callers done number call (lines steps) (Ok (done ++ script_step.Call call ∷ steps)) known_names (omega arith) parts.0 spells.0 (omega arith)
+      (moved _ done (script_step.Call call) steps (steps_read now (done ++ script_step.Call call ∷ []) steps call.number parts.1 spells.1 (next done (script_step.Call call) steps few) most))
+  steps_read callers done (Settle ∷ steps) number all spells few most =
       settle_line d callers done number (lines steps) (Ok (done ++ Settle ∷ steps)) (omega arith)
-      (moved _ done Settle steps (steps_read callers (done ++ Settle ∷ []) steps number all spells.1 settled (next done Settle steps few) most))
-  steps_read callers done (Stop ∷ steps) number all spells settled few most =
+      (moved _ done Settle steps (steps_read callers (done ++ Settle ∷ []) steps number all spells.1 (next done Settle steps few) most))
+  steps_read callers done (Stop ∷ steps) number all spells few most =
       stop_line d callers done number (lines steps) (Ok (done ++ Stop ∷ steps)) (omega arith)
-      (moved _ done Stop steps (steps_read callers (done ++ Stop ∷ []) steps number all spells.1 settled (next done Stop steps few) most))
-  steps_read callers done (StopAt count bytes ∷ steps) number all spells settled few most =
+      (moved _ done Stop steps (steps_read callers (done ++ Stop ∷ []) steps number all spells.1 (next done Stop steps few) most))
+  steps_read callers done (StopAt count bytes ∷ steps) number all spells few most =
       let parts = and_parts (is_one (StopAt count bytes)) (list_all is_one steps) all in
       let fit = and_parts (nat_lt count (2 ^ 64)) (nat_lt bytes (2 ^ 64)) parts.0 in
       stop_at_line d callers done number (lines steps) (Ok (done ++ StopAt count bytes ∷ steps)) (omega arith) count bytes (ltb-true count (2 ^ 64) fit.0) (ltb-true bytes (2 ^ 64) fit.1)
-      (moved _ done (StopAt count bytes) steps (steps_read callers (done ++ StopAt count bytes ∷ []) steps number parts.1 spells.1 settled (next done (StopAt count bytes) steps few) most))
-  steps_read callers done (Recover ∷ steps) number all spells settled few most =
+      (moved _ done (StopAt count bytes) steps (steps_read callers (done ++ StopAt count bytes ∷ []) steps number parts.1 spells.1 (next done (StopAt count bytes) steps few) most))
+  steps_read callers done (Recover ∷ steps) number all spells few most =
       recover_line d callers done number (lines steps) (Ok (done ++ Recover ∷ steps)) (omega arith)
-      (moved _ done Recover steps (steps_read callers (done ++ Recover ∷ []) steps number all spells.1 settled (next done Recover steps few) most))
-  steps_read callers done (History ∷ steps) number all spells settled few most =
+      (moved _ done Recover steps (steps_read callers (done ++ Recover ∷ []) steps number all spells.1 (next done Recover steps few) most))
+  steps_read callers done (History ∷ steps) number all spells few most =
       history_line d callers done number (lines steps) (Ok (done ++ History ∷ steps)) (omega arith)
-      (moved _ done History steps (steps_read callers (done ++ History ∷ []) steps number all spells.1 settled (next done History steps few) most))
+      (moved _ done History steps (steps_read callers (done ++ History ∷ []) steps number all spells.1 (next done History steps few) most))

@@ -1,5 +1,5 @@
 -- No line of a written bundle has a line feed or a carriage return.
-use Rattle.std.proofs.Common.{◌≡◌, ℕ, ◌^◌, Bool, true, false, not, ◌&&◌, ◌||◌, List, [], ◌∷◌, ◌++◌, codes, length, map, refl, ap, sym, ◌∙◌, nat_le, nat_lt, decimal, Option, Some, None, is_some}
+use Rattle.std.proofs.Common.{◌≡◌, ℕ, ◌<◌, ◌≤◌, ◌^◌, Bool, true, false, not, ◌&&◌, ◌||◌, List, [], ◌∷◌, ◌++◌, codes, length, map, refl, ap, sym, ◌∙◌, nat_le, nat_lt, decimal, Option, Some, None, is_some, arith}
 use Rattle.std.specs.Option.{option_map_or}
 use Rattle.std.specs.List.{AllByRecursion, flat_map, list_all}
 use Rattle.std.proofs.lemmas.Bool.{and_parts, and_from, false≢true, ltb-true}
@@ -12,6 +12,7 @@ use Rattle.orc_call.specs.declared.call.Action.TheVariants as action
 use Rattle.orc_call.specs.declared.call.DevicePut.{DevicePut}
 use Rattle.orc_call.specs.declared.call.Put.{Put}
 use Rattle.orc_decls.specs.Devices.{name_of}
+use Rattle.orc_lines.specs.Lines.{is_skipped}
 use Rattle.orc_schema.specs.Schemas.{SchemaTable}
 use Rattle.orc_path.specs.Reading.{path_of}
 use Rattle.orc_services.specs.Services.{list_with}
@@ -23,9 +24,9 @@ use Rattle.orc_decls.specs.declared.lawful.TheConstants.{MOST_WRITES}
 use Rattle.orc_script.specs.Steps.{is_step}
 use Rattle.orc_decls.specs.declared.declarations.Decls.{Decls}
 use Rattle.orc_bundle_laws.specs.Laws.{Preamble}
-use Rattle.orc_bundle_laws.specs.Written.{SpellsAction, SpellsStep, base_line, data_line, device_lines, forbid_line, line_of_write, lines_of_action, max_line, no_json, step_lines}
+use Rattle.orc_bundle_laws.specs.Written.{SpellsAction, SpellsStep, base_line, data_line, device_lines, failing_text, forbid_line, line_of_write, lines_of_action, max_line, no_json, step_lines}
 use Rattle.orc_script.specs.declared.step.ScriptStep.{ScriptStep}
-use Rattle.orc_script.specs.declared.step.ScriptStep.TheVariants.{Show, Json, Meta, ShowData, Settle, Stop, StopAt, Recover, History}
+use Rattle.orc_script.specs.declared.step.ScriptStep.TheVariants.{Begin, Admit, Step, Decide, Settle, Tick, Restart, Fault, Stop, StopAt, Recover, Reconcile, Show, Json, Log, Meta, ShowData, History}
 use Rattle.orc_script.specs.declared.step.ScriptStep.TheVariants as script_step
 use Rattle.orc_bundle_laws.proofs.Texts.{IsLawfulName, is_line_byte, lawful_name, lawful_under}
 use Rattle.orc_bundle_laws.proofs.WrittenBases.{AreKnown}
@@ -34,8 +35,8 @@ use Rattle.orc_bundle_laws.proofs.WrittenDevices.{base_text, data_text, device_l
 use Rattle.orc_script.specs.Places.{is_node_path}
 use Rattle.orc_bundle_laws.proofs.WrittenItems.{node_known}
 use Rattle.orc_bundle_laws.proofs.WrittenLines.{IsText}
-use Rattle.orc_bundle_laws.proofs.WrittenScript.{json_text, meta_text, show_text, stop_at_text}
-use Rattle.orc_bundle_laws.proofs.WrittenSteps.{call_text, known, name_lawful}
+use Rattle.orc_bundle_laws.proofs.WrittenScript.{fault_line_text, meta_text, named_text, stop_at_text, tick_text}
+use Rattle.orc_bundle_laws.proofs.WrittenSteps.{call_text, known, name_lawful, tick_fits}
 
 and_false : (b : Bool) → (b && false) ≡ false
 and_false true = refl
@@ -150,14 +151,29 @@ module _ (d : Decls) (known_names : AreNamed d) (unserved : d.services ≡ []) w
       let parts = and_parts (is_action decls a) (list_all (is_action decls) ys) h in
       clean_append (lines_of_action no_json a) (flat_map (lines_of_action no_json) ys) (action_clean a parts.0) (actions_clean ys parts.1)
 
+  named_clean : (word : List ℕ) (device : ℕ) → is_clean word ≡ true → list_all (λ b. nat_lt b 128) word ≡ true → is_skipped (word ++ name_of d.names device) ≡ false → length word ≤ 10
+      → device < length d.names → list_all is_clean ((word ++ name_of d.names device) ∷ []) ≡ true
+  named_clean word device bytes low kept few within =
+      let name = name_of d.names device in
+      clean_more (word ++ name) [] (named_text word name bytes low kept few (lawful_name name (name_lawful d.names device known_names.lawful within))) refl
+
   step_clean : (step : ScriptStep) → is_step decls step ≡ true → list_all is_clean (step_lines no_json d.names step) ≡ true
-  step_clean (Show device) h =
-      let within = ltb-true device (length d.names) h in
-      clean_more (codes "show " ++ name_of d.names device) [] (show_text (name_of d.names device) (lawful_name (name_of d.names device) (name_lawful d.names device known_names.lawful within))) refl
+  step_clean (Begin caller) h = clean_more (codes "begin " ++ caller) [] (named_text (codes "begin ") caller refl refl refl (omega arith) (lawful_name caller h)) refl
+  step_clean Admit h = refl
+  step_clean (Step device) h = named_clean (codes "step ") device refl refl refl (omega arith) (ltb-true device (length d.names) h)
+  step_clean Decide h = refl
+  step_clean (Tick seconds) h = clean_more (codes "tick " ++ decimal seconds) [] (tick_text seconds (tick_fits seconds h)) refl
+  step_clean (Restart device) h = named_clean (codes "restart ") device refl refl refl (omega arith) (ltb-true device (length d.names) h)
+  step_clean (Fault device operation at) h =
+      let name = name_of d.names device in
+      clean_more (codes "fault " ++ name ++ codes " " ++ failing_text operation at) []
+      (fault_line_text name operation at (lawful_name name (name_lawful d.names device known_names.lawful (ltb-true device (length d.names) h)))) refl
+  step_clean Reconcile h = refl
+  step_clean (Show device) h = named_clean (codes "show ") device refl refl refl (omega arith) (ltb-true device (length d.names) h)
   step_clean (Json device) h =
       let fits = and_parts (nat_lt device (length d.names)) (not (schema_named d.schemas d.devices (name_of d.names device)).plain) h in
-      let within = ltb-true device (length d.names) fits.0 in
-      clean_more (codes "json " ++ name_of d.names device) [] (json_text (name_of d.names device) (lawful_name (name_of d.names device) (name_lawful d.names device known_names.lawful within))) refl
+      named_clean (codes "json ") device refl refl refl (omega arith) (ltb-true device (length d.names) fits.0)
+  step_clean (Log device) h = named_clean (codes "log ") device refl refl refl (omega arith) (ltb-true device (length d.names) h)
   step_clean (Meta device path) h =
       let schema = schema_named d.schemas d.devices (name_of d.names device) in
       let fits = and_parts (nat_lt device (length d.names)) (is_node_path schema path) h in

@@ -18,10 +18,14 @@ use Rattle.orc_call.specs.declared.call.Put.{Put}
 use Rattle.orc_decls.specs.Devices.{name_of}
 use Rattle.orc_decls.specs.declared.declarations.Decls.{Decls}
 use Rattle.orc_decls.specs.declared.declarations.Device.{Device}
+use Rattle.orc_device.specs.declared.kind.OpKind.{OpKind}
+use Rattle.orc_device.specs.declared.kind.OpKind.TheVariants as kind
+use Rattle.orc_device.specs.declared.kind.When.{When}
+use Rattle.orc_device.specs.declared.kind.When.TheVariants as moment
 use Rattle.orc_lines.specs.Lines.{as_line, is_skipped, text_of}
 use Rattle.orc_bundle.specs.declared.scripted.ScriptedBundle.{ScriptedBundle}
 use Rattle.orc_script.specs.declared.step.ScriptStep.{ScriptStep}
-use Rattle.orc_script.specs.declared.step.ScriptStep.TheVariants.{Show, Json, Meta, ShowData, Settle, Stop, StopAt, Recover, History}
+use Rattle.orc_script.specs.declared.step.ScriptStep.TheVariants.{Begin, Admit, Step, Decide, Settle, Tick, Restart, Fault, Stop, StopAt, Recover, Reconcile, Show, Json, Log, Meta, ShowData, History}
 use Rattle.orc_script.specs.declared.step.ScriptStep.TheVariants as script_step
 use Rattle.orc_lines.specs.declared.lines.TheConstants.{LARGEST_BUNDLE, LONGEST_LINE}
 
@@ -65,19 +69,55 @@ lines_of_action json (Unset path) = (codes "unset " ++ path_text path) ∷ []
 lines_of_action json (BasePut put) = (codes "base " ++ put.device ++ codes " " ++ item_text put.path put.item) ∷ []
 lines_of_action json (BaseRemove device path) = (codes "unbase " ++ device ++ codes " " ++ path_text path) ∷ []
 
+-- a kind of operations
+abbrev pub operation_word : OpKind → List ℕ
+operation_word kind.OpenSession = codes "OpenSession"
+operation_word kind.LockRunning = codes "LockRunning"
+operation_word kind.LockCandidate = codes "LockCandidate"
+operation_word kind.Edit = codes "Edit"
+operation_word kind.Validate = codes "Validate"
+operation_word kind.CommitConfirmed = codes "CommitConfirmed"
+operation_word kind.Commit = codes "Commit"
+operation_word kind.Confirm = codes "Confirm"
+operation_word kind.Cancel = codes "Cancel"
+operation_word kind.Discard = codes "Discard"
+operation_word kind.UnlockCandidate = codes "UnlockCandidate"
+operation_word kind.UnlockRunning = codes "UnlockRunning"
+operation_word kind.CloseSession = codes "CloseSession"
+operation_word kind.GetRunning = codes "GetRunning"
+
+-- before an operation takes effect, or after
+abbrev pub moment_word : When → List ℕ
+moment_word moment.Before = codes "before"
+moment_word moment.After = codes "after"
+
+-- what a line `fault` says of an operation
+abbrev pub failing_text : OpKind → When → List ℕ
+failing_text operation at = operation_word operation ++ codes " " ++ moment_word at
+
 -- a step of the script, where these devices are declared
 abbrev pub step_lines : (List ℕ → List Put → List ℕ) → List (List ℕ) → ScriptStep → List (List ℕ)
-step_lines json names (Show device) = (codes "show " ++ name_of names device) ∷ []
-step_lines json names (Json device) = (codes "json " ++ name_of names device) ∷ []
-step_lines json names (Meta device path) = (codes "meta " ++ name_of names device ++ codes " " ++ path_text path) ∷ []
-step_lines json names ShowData = codes "data" ∷ []
+step_lines json names (Begin caller) = (codes "begin " ++ caller) ∷ []
 step_lines json names (script_step.Call call) =
     (codes "call " ++ call.caller ++ codes " " ++ decimal call.number)
     ∷ flat_map (lines_of_action json) call.actions ++ codes "end" ∷ []
+step_lines json names Admit = codes "admit" ∷ []
+step_lines json names (Step device) = (codes "step " ++ name_of names device) ∷ []
+step_lines json names Decide = codes "decide" ∷ []
 step_lines json names Settle = codes "settle" ∷ []
+step_lines json names (Tick seconds) = (codes "tick " ++ decimal seconds) ∷ []
+step_lines json names (Restart device) = (codes "restart " ++ name_of names device) ∷ []
+step_lines json names (Fault device operation at) =
+    (codes "fault " ++ name_of names device ++ codes " " ++ failing_text operation at) ∷ []
 step_lines json names Stop = codes "stop" ∷ []
 step_lines json names (StopAt count bytes) = (codes "stop " ++ decimal count ++ codes " " ++ decimal bytes) ∷ []
 step_lines json names Recover = codes "recover" ∷ []
+step_lines json names Reconcile = codes "reconcile" ∷ []
+step_lines json names (Show device) = (codes "show " ++ name_of names device) ∷ []
+step_lines json names (Json device) = (codes "json " ++ name_of names device) ∷ []
+step_lines json names (Log device) = (codes "log " ++ name_of names device) ∷ []
+step_lines json names (Meta device path) = (codes "meta " ++ name_of names device ++ codes " " ++ path_text path) ∷ []
+step_lines json names ShowData = codes "data" ∷ []
 step_lines json names History = codes "history" ∷ []
 
 -- the declarations behind those of modules, types and the data schema

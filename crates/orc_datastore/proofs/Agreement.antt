@@ -22,7 +22,7 @@ use Rattle.orc_datastore.specs.Actions.{is_named_by, live_after, live_step, new_
 use Rattle.orc_datastore.specs.Clashes.{differs, least, lesser_unequal, rivals, unequal_among, unequal_of, unequal_on}
 use Rattle.orc_call.specs.declared.call.Action.{Action}
 use Rattle.orc_call.specs.declared.call.Action.TheVariants.{Literal}
-use Rattle.orc_datastore.specs.declared.datastore.Service.{Service}
+use Rattle.orc_datastore.specs.declared.service.Service.{Service}
 use Rattle.orc_decls.proofs.Lists.{not_true, filter_from, filter_nil, passes, true_not_false}
 use Rattle.orc_datastore.proofs.Named.{made_named}
 

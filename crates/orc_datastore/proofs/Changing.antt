@@ -16,7 +16,7 @@ use Rattle.orc_datastore.specs.inside.Behind.{changed_by}
 use Rattle.orc_datastore.specs.inside.Placed.{AreNamedOnce}
 use Rattle.orc_datastore.specs.inside.Turns.{AreFresh, comers, left_by, turn_id, turns_of}
 use Rattle.orc_datastore.specs.inside.Keeping.{AreBehind, AreKept, IsOpenTo, placed}
-use Rattle.orc_datastore.specs.declared.datastore.Service.{Service}
+use Rattle.orc_datastore.specs.declared.service.Service.{Service}
 use Rattle.orc_datastore.specs.declared.turns.Turn.{Turn}
 use Rattle.orc_datastore.proofs.Placing.{after-is, comers-fresh, live-behind, placed-bases, placed-kept}
 

@@ -31,7 +31,7 @@ use Rattle.orc_datastore.specs.Actions.{live_after, name_each_once, new_services
 use Rattle.orc_datastore.specs.Clashes.{clash_at, lesser_unequal, unequal_of, unequal_on, IsClash}
 use Rattle.orc_datastore.specs.inside.Turns.{held_by}
 use Rattle.orc_datastore.specs.inside.Keeping.{IsStoreFor, clash_on}
-use Rattle.orc_datastore.specs.declared.datastore.Service.{Service}
+use Rattle.orc_datastore.specs.declared.service.Service.{Service}
 use Rattle.orc_datastore.proofs.Agreement.{AreUnique, first_in, in_cases, later_in, none_in_nil, on_none}
 use Rattle.orc_decls.proofs.Lists.{true_not_false}
 use Rattle.orc_datastore.proofs.LeastClash.{At, LeastAt, clash_has, least_at, some_is}

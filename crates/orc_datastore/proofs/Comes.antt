@@ -2,7 +2,6 @@
 use Rattle.std.proofs.Common.{◌≡◌, ℕ, true, List, [], ◌∷◌, All, IsTrue, None, Some, refl, sym, ap, subst, ◌∙◌}
 use Rattle.std.specs.Prelude.{Option, option_map}
 use Rattle.std.specs.Option.{option_or}
-use Rattle.std.specs.List.{list_all}
 use Rattle.std.specs.declared.result.Result.{Result}
 use Rattle.std.specs.declared.result.Result.TheVariants.{Ok, Err}
 use Rattle.std.proofs.lemmas.List.Elements.{All-nil, All-cons, All-head, All-tail}
@@ -17,7 +16,7 @@ use Rattle.orc_template.specs.Expansions.{Expanding, Failed}
 use Rattle.orc_template.specs.Laws.{WrittenIsTyped}
 use Rattle.orc_services.specs.Expanded.{as_literal, expanded_action, expanded_actions, writes_of}
 use Rattle.orc_services.specs.Fitting.{FitActions, fits_action}
-use Rattle.orc_services.specs.Services.{Instance, Serving, expansion_at, expansion_of, instance_of}
+use Rattle.orc_services.specs.Services.{Instance, Serving, expansion_at, instance_of}
 use Rattle.orc_datastore.specs.Actions.{data_after, name_each_once}
 use Rattle.orc_decls.specs.Calls.{is_action, is_call, is_write, schema_named}
 use Rattle.orc_decls.specs.Declarations.{AreDecls}

@@ -1,28 +1,17 @@
 -- Names and paths of the data, and that a call that isn't refused leaves it valid.
-use Rattle.std.proofs.Common.{◌≡◌, ℕ, ◌<◌, true, false, ◌&&◌, not, List, [], ◌∷◌, None, Some, refl, sym, ap, ◌∙◌, arith}
+use Rattle.std.proofs.Common.{◌≡◌, ℕ, true, false, List, [], ◌∷◌, None, Some, refl, sym, ap, ◌∙◌}
 use Rattle.std.specs.declared.option.Option.{Option}
 use Rattle.std.specs.Option.{option_or}
-use Rattle.std.specs.List.{list_all}
-use Rattle.std.specs.Cmp.{first_so, second_so}
-use Rattle.std.proofs.lemmas.Bool.{and_from}
-use Rattle.orc_text.specs.Characters.{is_plain_text}
-use Rattle.orc_text.proofs.Plain.{is_plain_text-nil, is_plain_text-append}
-use Rattle.orc_path.specs.Alphabet.{is_identifier, is_key, is_name_byte, is_name_start}
-use Rattle.orc_path.specs.Limits.{is_long_name}
-use Rattle.orc_path.specs.inside.Reading.{is_key_byte}
-use Rattle.orc_path.proofs.Plain.{is_plain_text-byte}
-use Rattle.orc_path.specs.Steps.{PathStep, is_path}
+use Rattle.orc_path.specs.Steps.{PathStep}
 use Rattle.orc_check.specs.Validity.{Breach, broken_of}
 use Rattle.orc_call.specs.declared.answer.Answer.TheVariants.{Invalid}
 use Rattle.orc_call.specs.declared.call.Call.{Call}
-use Rattle.orc_decls.specs.Devices.{device_entry}
 use Rattle.orc_datastore.specs.Actions.{data_after}
 use Rattle.orc_datastore.specs.inside.Behind.{begins_as_path}
 use Rattle.orc_path.specs.Reading.{path_of}
 use Rattle.orc_path.specs.Texts.{path_text}
 use Rattle.orc_path.proofs.PathOf.{text_of_path}
 use Rattle.orc_datastore.specs.Next.{after, clash, existence, invalid, refusal, expanded_call, expanded_to, unexpanded}
-use Rattle.orc_decls.specs.Calls.{is_lawful_name}
 use Rattle.orc_decls.specs.declared.declarations.Decls.{Decls}
 use Rattle.orc_datastore.specs.States.{Datastore}
 use Rattle.orc_datastore.proofs.Agreement.{map_none, or_none}

@@ -10,7 +10,6 @@ use Rattle.std.proofs.lemmas.Bool.{cases_lt}
 use Rattle.std.proofs.lemmas.List.{length-append}
 use Rattle.orc_call.specs.declared.answer.Answer.{Answer}
 use Rattle.orc_call.specs.declared.call.Action.{Action}
-use Rattle.orc_call.specs.declared.call.Call.{Call}
 use Rattle.orc_refs.specs.Stores.{Store, written_by}
 use Rattle.orc_refs.specs.Moves.{IsMoved, StartAt, are_distinct, edit_fits, writes_after}
 use Rattle.orc_refs.specs.Clashes.{ClashesAt}
@@ -23,7 +22,7 @@ use Rattle.orc_datastore.specs.Touched.{is_touched_among, touched_among}
 use Rattle.orc_services.specs.Fitting.{FitActions}
 use Rattle.orc_datastore.specs.inside.Turns.{edits_of, move_of, turns_of}
 use Rattle.orc_datastore.specs.inside.Keeping.{AreChanges, ComesTo, IsBehind, IsChangeOf, IsOpenTo, IsStoreBehind, IsStoreFor, StaysOn, clash_on, picked}
-use Rattle.orc_datastore.specs.declared.datastore.Service.{Service}
+use Rattle.orc_datastore.specs.declared.service.Service.{Service}
 use Rattle.orc_datastore.specs.declared.turns.Turn.{Turn}
 use Rattle.orc_datastore.proofs.Agreement.{after_unique}
 use Rattle.orc_datastore.proofs.Clashing.{clash_found, no_clash_on}

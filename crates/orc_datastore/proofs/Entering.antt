@@ -7,7 +7,7 @@ use Rattle.orc_call.specs.declared.call.Action.{Action}
 use Rattle.orc_call.specs.declared.call.Action.TheVariants.{Literal, Delete}
 use Rattle.orc_datastore.specs.inside.Sights.{service_key}
 use Rattle.orc_datastore.specs.inside.Turns.{comers, turn_id, turns_of}
-use Rattle.orc_datastore.specs.declared.datastore.Service.{Service}
+use Rattle.orc_datastore.specs.declared.service.Service.{Service}
 use Rattle.orc_datastore.specs.declared.turns.Turn.{Turn}
 use Rattle.orc_datastore.specs.declared.turns.Turn.TheVariants.{Comes, Goes}
 use Rattle.orc_datastore.proofs.Kept.{made-complete}

@@ -1,20 +1,15 @@
 -- What each call keeps of a state.
-use Rattle.std.proofs.Common.{◌≡◌, ℕ, ◌<◌, ◌^◌, List, [], ◌∷◌, inl, inr, length, All, IsTrue, None, Some, refl, sym, ap, subst, ◌∙◌, arith}
-use Rattle.std.specs.declared.option.Option.{Option}
-use Rattle.std.specs.declared.result.Result.{Result}
-use Rattle.std.specs.declared.result.Result.TheVariants.{Ok, Err}
-use Rattle.std.specs.Prelude.{IfOk}
+use Rattle.std.proofs.Common.{◌≡◌, ℕ, ◌<◌, ◌^◌, List, [], ◌∷◌, inl, inr, length, All, IsTrue, None, sym, ap, subst, ◌∙◌, arith}
 use Rattle.std.specs.List.{flat_map, Contains}
 use Rattle.std.specs.FinMap.{empty}
 use Rattle.std.proofs.lemmas.List.{length-map}
 use Rattle.std.proofs.lemmas.List.Elements.{All-nil, All-append, All-weaker, All-contains, All-contains_itself}
 use Rattle.std.proofs.lemmas.List.Sums.{AllPass-from_list_all}
 use Rattle.orc_path.specs.Configurations.{Config}
-use Rattle.orc_call.specs.declared.answer.Answer.{Answer}
 use Rattle.orc_call.specs.declared.call.Call.{Call}
 use Rattle.orc_call.specs.declared.call.Action.{Action}
 use Rattle.orc_decls.specs.Devices.{names_of}
-use Rattle.orc_datastore.specs.States.{opening, puts_on, Datastore}
+use Rattle.orc_datastore.specs.States.{puts_on, Datastore}
 use Rattle.orc_decls.specs.Openings.{put_all}
 use Rattle.orc_datastore.specs.Actions.{bases_after, live_after, new_services}
 use Rattle.orc_datastore.specs.Next.{IsStateOf, after, refusal, expanded_call, expanded_to}
@@ -22,7 +17,7 @@ use Rattle.orc_decls.specs.Calls.{is_lawful_name}
 use Rattle.orc_decls.specs.Declarations.{AreDecls}
 use Rattle.orc_decls.specs.declared.declarations.Decls.{Decls}
 use Rattle.orc_decls.specs.declared.declarations.Device.{Device}
-use Rattle.orc_datastore.specs.declared.datastore.Service.{Service}
+use Rattle.orc_datastore.specs.declared.service.Service.{Service}
 use Rattle.orc_datastore.proofs.Agreement.{IsMade, Origin, origin, made_is_made}
 use Rattle.orc_datastore.proofs.Bases.{bases-count}
 use Rattle.orc_datastore.proofs.DataLaws.{after_valid}

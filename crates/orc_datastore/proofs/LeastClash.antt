@@ -20,10 +20,8 @@ use Rattle.orc_path.specs.declared.item.Item.{Item}
 use Rattle.orc_path.specs.declared.item.Item.TheVariants.{Entry, Leaf}
 use Rattle.orc_datastore.specs.States.{has_id, others, part}
 use Rattle.orc_decls.specs.Devices.{is_same_text}
-use Rattle.orc_datastore.specs.Actions.{names}
 use Rattle.orc_datastore.specs.Clashes.{differs, least, lesser, rivals, unequal_among, unequal_of, IsClash}
-use Rattle.orc_datastore.specs.Next.{clash}
-use Rattle.orc_datastore.specs.declared.datastore.Service.{Service}
+use Rattle.orc_datastore.specs.declared.service.Service.{Service}
 use Rattle.orc_decls.proofs.Lists.{filter_from, passes, not_true}
 use Rattle.orc_datastore.proofs.Agreement.{no_unequal_among, same_items, none_in_nil, first_in, later_in, in_cases, in_filter}
 

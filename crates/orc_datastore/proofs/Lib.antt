@@ -30,3 +30,5 @@ pub mod Residents
 pub mod Sighting
 mod Entering
 mod Numbers
+mod Spreading
+mod Marking

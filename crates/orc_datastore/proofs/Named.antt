@@ -5,15 +5,15 @@ use Rattle.std.specs.Option.{option_map_or}
 use Rattle.std.specs.List.{filter, flat_map, Contains}
 use Rattle.std.specs.Cmp.{first_so, second_so}
 use Rattle.std.specs.Cmp.Lexicographic.{bytes_decides}
-use Rattle.std.proofs.lemmas.List.Elements.{filter-append, All-nil, All-cons, All-append, All-weaker, All-contains, All-contains_itself}
+use Rattle.std.proofs.lemmas.List.Elements.{filter-append, All-nil, All-cons, All-append, All-weaker, All-contains_itself}
 use Rattle.orc_call.specs.declared.answer.Answer.TheVariants.{Exists}
 use Rattle.orc_call.specs.declared.call.Action.{Action}
 use Rattle.orc_call.specs.declared.call.Action.TheVariants.{Literal}
-use Rattle.orc_datastore.specs.States.{expansion, has_id, lives}
+use Rattle.orc_datastore.specs.States.{expansion, lives}
 use Rattle.orc_decls.specs.Devices.{is_same_text}
 use Rattle.orc_datastore.specs.Actions.{is_named_by, live_after, new_services, name_each_once, named, names, touched}
-use Rattle.orc_datastore.specs.Next.{existence, existence_of}
-use Rattle.orc_datastore.specs.declared.datastore.Service.{Service}
+use Rattle.orc_datastore.specs.Next.{existence_of}
+use Rattle.orc_datastore.specs.declared.service.Service.{Service}
 use Rattle.orc_decls.proofs.Lists.{or_first, or_second, not_true, filter_neither, filter_all, filter_none, filter_passes}
 
 -- texts

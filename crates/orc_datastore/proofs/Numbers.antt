@@ -1,5 +1,8 @@
 -- A number in decimal digits can be a key, and the path of what is known of a device is a path.
-use Rattle.std.proofs.Common.{◌≡◌, ℕ, ◌+◌, ◌%◌, ◌<◌, ◌≤◌, ◌^◌, true, ◌&&◌, List, [], ◌∷◌, ap, arith}
+use Rattle.std.proofs.Common.{◌≡◌, ℕ, ◌+◌, ◌%◌, ◌<◌, ◌≤◌, ◌^◌, true, ◌&&◌, List, [], ◌∷◌, None, Some, sym, ap, ◌∙◌, arith}
+use Rattle.std.specs.declared.option.Option.{Option}
+use Rattle.std.specs.declared.result.Result.{Result}
+use Rattle.std.specs.declared.result.Result.TheVariants.{Ok, Err}
 use Rattle.std.proofs.lemmas.Bool.{and_from}
 use Rattle.std.specs.Fmt.{decimal}
 use Rattle.std.proofs.lemmas.Fmt.{decimal_by_steps}
@@ -24,3 +27,15 @@ decimal_key =
 pub row_path : (id : List ℕ) (device : ℕ) → is_key id ≡ true → device < 2 ^ 32 → is_path (device_row id device) ≡ true
 row_path id device h small =
     and_from _ _ (ap (λ t. t && true) h) (ap (λ t. (t && true) && true) (decimal_key device (omega (arith, small))))
+
+-- a number that is read, or none
+
+abbrev to_some : {E : Type 0} → Result ℕ E → Option ℕ
+to_some (Ok n) = Some n
+to_some (Err e) = None
+
+pub told : {E : Type 0} (r : Result ℕ E) (n m : ℕ) → r ≡ Ok n → r ≡ Ok m → Some n ≡ Some m
+told r n m is so = ap to_some (sym is ∙ so)
+
+pub untold : {E : Type 0} (r : Result ℕ E) (e : E) (m : ℕ) → r ≡ Err e → r ≡ Ok m → None ≡ Some m
+untold r e m is so = ap to_some (sym is ∙ so)

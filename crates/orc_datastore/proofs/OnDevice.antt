@@ -28,7 +28,7 @@ use Rattle.orc_datastore.specs.Touched.{is_held_by, is_touched_by, is_written_by
 use Rattle.orc_services.specs.Fitting.{fits_action, FitActions}
 use Rattle.orc_datastore.specs.inside.Turns.{edits_of, held_by, move_of, turns_of}
 use Rattle.orc_datastore.specs.inside.Keeping.{IsBehind, IsStoreFor, StaysOn, on_device}
-use Rattle.orc_datastore.specs.declared.datastore.Service.{Service}
+use Rattle.orc_datastore.specs.declared.service.Service.{Service}
 use Rattle.orc_datastore.proofs.Agreement.{first_in, later_in}
 use Rattle.orc_decls.proofs.Lists.{any_none, not_true, or_first, or_second, true_not_false}
 use Rattle.orc_datastore.proofs.Named.{IsOnceIn, once_first, once_later, other_way}

@@ -5,9 +5,9 @@ use Rattle.orc_call.specs.declared.call.Action.{Action}
 use Rattle.orc_call.specs.declared.call.Action.TheVariants.{Literal}
 use Rattle.orc_datastore.specs.States.{expansion}
 use Rattle.orc_decls.specs.Devices.{is_same_text}
-use Rattle.orc_datastore.specs.Actions.{live_after, live_step, names, new_services}
+use Rattle.orc_datastore.specs.Actions.{live_after, live_step, names}
 use Rattle.orc_datastore.specs.inside.Placed.{AreNamedOnce}
-use Rattle.orc_datastore.specs.declared.datastore.Service.{Service}
+use Rattle.orc_datastore.specs.declared.service.Service.{Service}
 
 -- this name is that of none of these services
 abbrev Apart : List ℕ → List Service → Type 0

@@ -1,18 +1,16 @@
 -- The stores of devices on which no service writes.
-use Rattle.std.proofs.Common.{◌≡◌, ℕ, zero, suc, Bool, List, [], ◌∷◌, ◌++◌, map, All, None, Some, cond, slice_get, refl, sym, ap, subst, ◌∙◌}
+use Rattle.std.proofs.Common.{◌≡◌, ℕ, List, [], ◌∷◌, ◌++◌, map, All, None, cond, refl, sym, ap, subst, ◌∙◌}
 use Rattle.std.specs.declared.option.Option.{Option}
 use Rattle.std.specs.Option.{option_map_or}
-use Rattle.std.specs.List.{Contains}
 use Rattle.std.specs.FinMap.{get, get-empty}
 use Rattle.std.proofs.lemmas.List.Elements.{All-nil, All-cons, All-contains, All-append}
 use Rattle.orc_path.specs.Steps.{PathStep}
 use Rattle.orc_path.specs.Order.{path_cmp}
 use Rattle.orc_path.specs.Configurations.{Config}
-use Rattle.orc_path.specs.declared.item.Item.{Item}
 use Rattle.orc_refs.specs.Ids.{holds_id}
-use Rattle.orc_refs.specs.Stores.{IsStore, Store, empty_store, ids_at, written_by}
+use Rattle.orc_refs.specs.Stores.{IsStore, Store, empty_store, written_by}
 use Rattle.orc_datastore.specs.inside.Keeping.{AreKept, IsStoreFor}
-use Rattle.orc_datastore.specs.declared.datastore.Service.{Service}
+use Rattle.orc_datastore.specs.declared.service.Service.{Service}
 use Rattle.orc_datastore.proofs.LeastClash.{at_place}
 
 nobody : (base : Config) (id : List ℕ) (path : List PathStep) → written_by (empty_store base) id path ≡ None

@@ -8,7 +8,7 @@ use Rattle.orc_datastore.specs.States.{has_id, lives, others}
 use Rattle.orc_decls.specs.Devices.{is_same_text}
 use Rattle.orc_datastore.specs.inside.Placed.{AreNamedOnce, AreNoted, HasNames, IsPlaced, KeepsNames, KeepsNoted, filled, is_at, noted, place_among}
 use Rattle.orc_datastore.specs.inside.Turns.{left_by}
-use Rattle.orc_datastore.specs.declared.datastore.Service.{Service}
+use Rattle.orc_datastore.specs.declared.service.Service.{Service}
 use Rattle.std.proofs.lemmas.Bool.{or_right, false_from_ne_true}
 use Rattle.std.proofs.lemmas.List.Elements.{All-more, All-tail, All-weaker}
 use Rattle.orc_decls.proofs.Lists.{true_not_false}

@@ -1,7 +1,6 @@
 -- The stores in their places, and the living services, behind a call.
-use Rattle.std.proofs.Common.{◌≡◌, ℕ, zero, suc, ◌+◌, ◌<◌, Bool, true, false, cond, not, ◌&&◌, ◌||◌, List, [], ◌∷◌, ◌++◌, ◌⊎◌, inl, inr, map, length, All, None, Some, get_or, slice_get, slice_set, refl, sym, ap, subst, ◌∙◌, arith, append-nil}
+use Rattle.std.proofs.Common.{◌≡◌, ℕ, zero, suc, ◌+◌, ◌<◌, Bool, true, false, cond, not, ◌&&◌, ◌||◌, List, [], ◌∷◌, ◌++◌, ◌⊎◌, inl, inr, map, length, All, None, Some, get_or, slice_get, slice_set, refl, sym, ap, subst, ◌∙◌, arith}
 use Rattle.std.specs.declared.option.Option.{Option}
-use Rattle.std.specs.declared.result.Result.TheVariants.{Ok}
 use Rattle.std.specs.Option.{option_or}
 use Rattle.std.specs.Cmp.Lexicographic.{bytes_decides}
 use Rattle.std.specs.List.{filter, flat_map, fold, list_any, AllByRecursion, Contains}
@@ -9,12 +8,11 @@ use Rattle.std.proofs.lemmas.Bool.{cases_lt}
 use Rattle.std.proofs.lemmas.List.{length-map}
 use Rattle.std.proofs.lemmas.Option.{slice_get_read}
 use Rattle.std.proofs.lemmas.Map.Keys.{IsDistinct-head, IsDistinct-tail}
-use Rattle.std.proofs.lemmas.List.Elements.{All-nil, All-cons, filter-append, filter_agree}
+use Rattle.std.proofs.lemmas.List.Elements.{All-nil, All-cons, filter_agree}
 use Rattle.orc_path.specs.Configurations.{Config, overlay}
 use Rattle.orc_call.specs.declared.answer.Answer.{Answer}
 use Rattle.orc_call.specs.declared.call.Action.{Action}
 use Rattle.orc_call.specs.declared.call.Action.TheVariants.{Literal, Delete}
-use Rattle.orc_call.specs.declared.call.Call.{Call}
 use Rattle.orc_refs.specs.Live.{StoreIsOverlay, are_apart, overlaid}
 use Rattle.orc_refs.specs.Stores.{Store}
 use Rattle.orc_datastore.specs.States.{Datastore, config_of, expansion, has_id, lives, others, part, tree_due}
@@ -26,8 +24,7 @@ use Rattle.orc_datastore.specs.inside.Behind.{changed_by}
 use Rattle.orc_datastore.specs.inside.Placed.{AreNamedOnce}
 use Rattle.orc_datastore.specs.inside.Turns.{AreFresh, comers, left_by, turn_id, turns_of}
 use Rattle.orc_datastore.specs.inside.Keeping.{AreChanges, AreKept, IsBehind, IsStoreFor, clash_on, on_device, picked, placed}
-use Rattle.orc_decls.specs.declared.declarations.Decls.{Decls}
-use Rattle.orc_datastore.specs.declared.datastore.Service.{Service}
+use Rattle.orc_datastore.specs.declared.service.Service.{Service}
 use Rattle.orc_datastore.proofs.Agreement.{AreUnique, in_cases, none_in_nil, some}
 use Rattle.orc_datastore.proofs.Kept.{behind-complete}
 use Rattle.orc_decls.proofs.Lists.{filter_all, not_true, or_first, or_second, or_true, true_not_false}

@@ -1,6 +1,5 @@
 -- What a device shows of expanded actions that aren't done.
-use Rattle.std.proofs.Common.{◌≡◌, ℕ, zero, suc, ◌+◌, ◌<◌, Bool, true, false, List, [], ◌∷◌, ◌++◌, map, length, IsTrue, None, Some, slice_get, refl, sym, ap, subst, ◌∙◌, arith}
-use Rattle.std.specs.declared.option.Option.{Option}
+use Rattle.std.proofs.Common.{◌≡◌, ℕ, zero, suc, ◌+◌, ◌<◌, Bool, true, false, List, [], ◌∷◌, ◌++◌, map, length, None, Some, slice_get, refl, sym, ap, subst, ◌∙◌, arith}
 use Rattle.std.specs.declared.result.Result.{Result}
 use Rattle.std.specs.declared.result.Result.TheVariants.{Ok, Err}
 use Rattle.std.specs.Prelude.{IfOk}
@@ -18,14 +17,14 @@ use Rattle.orc_tree.specs.declared.change.Change.{Change}
 use Rattle.orc_tree.specs.declared.change.ChangeSet.{ChangeSet}
 use Rattle.orc_datastore.specs.States.{Datastore, config_of, part, tree_due}
 use Rattle.orc_decls.specs.Devices.{name_of}
-use Rattle.orc_datastore.specs.Actions.{base_step, bases_after, live_after, name_each_once}
+use Rattle.orc_datastore.specs.Actions.{base_step, bases_after, live_after}
 use Rattle.orc_datastore.specs.Sets.{AreSets, on_devices, set_between, sets_between}
 use Rattle.orc_datastore.specs.Touched.{is_touched_among}
 use Rattle.orc_datastore.specs.inside.Keeping.{AreKept, IsBehind, IsOpenTo, IsStoreFor, clash_on, on_device}
 use Rattle.orc_datastore.specs.inside.Placed.{AreNamedOnce}
 use Rattle.orc_datastore.specs.inside.Previews.{IsSetAt, Shows}
 use Rattle.orc_datastore.specs.inside.Turns.{edits_of}
-use Rattle.orc_datastore.specs.declared.datastore.Service.{Service}
+use Rattle.orc_datastore.specs.declared.service.Service.{Service}
 use Rattle.orc_datastore.proofs.Changing.{Course}
 use Rattle.orc_datastore.proofs.Devices.{behind-clear, came-behind}
 use Rattle.orc_datastore.proofs.Once.{once_after}

@@ -1,5 +1,5 @@
 -- The numbers from 0 on that pass a test.
-use Rattle.std.proofs.Common.{◌≡◌, ℕ, zero, suc, ◌+◌, Bool, true, false, cond, List, [], ◌∷◌, ◌++◌, refl, sym, ap, ◌∙◌, append-nil, arith}
+use Rattle.std.proofs.Common.{◌≡◌, ℕ, zero, suc, ◌+◌, ◌<◌, Bool, true, false, cond, List, [], ◌∷◌, ◌++◌, refl, sym, ap, ◌∙◌, append-nil, arith}
 use Rattle.std.specs.List.{filter, range_with_len}
 use Rattle.std.proofs.lemmas.List.Elements.{filter-append}
 
@@ -28,3 +28,10 @@ pub filter-more_no : (p : ℕ → Bool) (d : ℕ) (test : Bool) (list : List ℕ
 filter-more_no p d test list is fails so =
     so ∙ sym (append-nil (filter p (range_with_len 0 d)))
     ∙ ap (λ b. filter p (range_with_len 0 d) ++ cond b (d ∷ []) []) (sym fails ∙ is) ∙ sym (filter-more p d)
+
+-- where two tests agree on all of them
+pub filter_in : (p q : ℕ → Bool) (k n : ℕ) → ((d : ℕ) → d < k + n → p d ≡ q d) → filter p (range_with_len k n) ≡ filter q (range_with_len k n)
+filter_in p q k zero h = refl
+filter_in p q k (suc n) h =
+    ap (λ t. cond t (k ∷ filter p (range_with_len (k + 1) n)) (filter p (range_with_len (k + 1) n))) (h k (omega arith))
+    ∙ ap (λ l. cond (q k) (k ∷ l) l) (filter_in p q (k + 1) n (λ d less. h d (omega (arith, less))))

@@ -26,7 +26,7 @@ use Rattle.orc_datastore.specs.Touched.{is_held_by}
 use Rattle.orc_datastore.specs.Snapshots.{KnowsLiving, device_row, device_step, is_entered, service_entry, service_step}
 use Rattle.orc_datastore.specs.inside.Sights.{enter_living, enter_parts, leave_living}
 use Rattle.orc_datastore.specs.inside.Turns.{left_by}
-use Rattle.orc_datastore.specs.declared.datastore.Service.{Service}
+use Rattle.orc_datastore.specs.declared.service.Service.{Service}
 use Rattle.orc_datastore.proofs.Named.{is_text_itself}
 
 -- tests that say the same

@@ -44,8 +44,9 @@ use Rattle.orc_datastore.specs.Touched.{is_touched_among, is_written_by, touched
 use Rattle.orc_datastore.specs.inside.Sights.{all_expansions, expansions_by, knows_device, knows_service, literal_parts, planned_by, planned_known, planned_sight, unless_fault, service_key, touched_known}
 use Rattle.orc_decls.specs.declared.declarations.Decls.{Decls}
 use Rattle.orc_datastore.specs.declared.plan.Plan.{Plan}
-use Rattle.orc_datastore.specs.declared.datastore.Service.{Service}
+use Rattle.orc_datastore.specs.declared.service.Service.{Service}
 use Rattle.orc_decls.proofs.NameTexts.{name_key}
+use Rattle.orc_datastore.proofs.Ranges.{filter_in}
 use Rattle.orc_datastore.proofs.Expanded.{err_no_ok, ok_same, one_serves, parted}
 use Rattle.orc_decls.proofs.Fits.{service_entry}
 
@@ -116,12 +117,6 @@ touches_same : (live : List Service) (known : Config) (name : List ℕ) (d : ℕ
 touches_same live known name d k small (Literal id writes) = ap (λ t. is_written_by writes name || t) (k.devices id d small)
 touches_same live known name d k small (Delete id) = k.devices id d small
 touches_same live known name d k small other = refl
-
-filter_in : (p q : ℕ → Bool) (k n : ℕ) → ((d : ℕ) → d < k + n → p d ≡ q d) → filter p (range_with_len k n) ≡ filter q (range_with_len k n)
-filter_in p q k zero h = refl
-filter_in p q k (suc n) h =
-    ap (λ t. cond t (k ∷ filter p (range_with_len (k + 1) n)) (filter p (range_with_len (k + 1) n))) (h k (omega arith))
-    ∙ ap (λ l. cond (q k) (k ∷ l) l) (filter_in p q (k + 1) n (λ d less. h d (omega (arith, less))))
 
 pub touched_same : (state : Datastore) (known : Config) (names : List (List ℕ)) (actions : List Action) → KnowsLiving state.live known
     → length names < 2 ^ 32 → touched_known names known actions ≡ touched_among names state actions

@@ -37,7 +37,7 @@ use Rattle.orc_decls.specs.Declarations.{AreDecls}
 use Rattle.orc_datastore.specs.Laws.{AreActions, TreeIsTyped}
 use Rattle.orc_decls.specs.declared.declarations.Decls.{Decls}
 use Rattle.orc_decls.specs.declared.declarations.Device.{Device}
-use Rattle.orc_datastore.specs.declared.datastore.Service.{Service}
+use Rattle.orc_datastore.specs.declared.service.Service.{Service}
 use Rattle.orc_datastore.proofs.Bases.{KeepsBase, base_kept}
 use Rattle.orc_decls.proofs.Fits.{base-items, list_all_weaker, write-item}
 use Rattle.std.proofs.lemmas.Option.{same_Some, slice_get-map}

@@ -1,5 +1,5 @@
 -- What a store knows of a path is what the living services write there.
-use Rattle.std.proofs.Common.{◌≡◌, ◌≢◌, ℕ, Bool, true, false, cond, not, ◌||◌, List, [], ◌∷◌, suc, ◌<◌, map, length, All, IsTrue, IfSome, None, Some, is_none, is_some, get_or, slice_get, refl, sym, ap, subst, ◌∙◌, ◌↔◌}
+use Rattle.std.proofs.Common.{◌≡◌, ℕ, Bool, true, false, cond, ◌||◌, List, [], ◌∷◌, suc, ◌<◌, map, length, IsTrue, IfSome, None, Some, is_none, is_some, get_or, slice_get, refl, sym, ap, subst, ◌∙◌, ◌↔◌}
 use Rattle.std.specs.declared.option.Option.{Option}
 use Rattle.std.specs.declared.cmp.Ordering.{Ordering}
 use Rattle.std.specs.declared.cmp.Ordering.TheVariants.{Less, Equal, Greater}
@@ -8,7 +8,7 @@ use Rattle.std.specs.Option.{option_copied}
 use Rattle.std.specs.List.{filter, list_any, AllByRecursion, Contains, IsDistinct}
 use Rattle.std.specs.Set.{is_member}
 use Rattle.std.specs.Cmp.{first_so, second_so}
-use Rattle.std.specs.Cmp.Lexicographic.{bytes_decides, nat_list_cmp_total, pointwise}
+use Rattle.std.specs.Cmp.Lexicographic.{bytes_decides, nat_list_cmp_total}
 use Rattle.std.specs.FinMap.{get}
 use Rattle.std.proofs.lemmas.Cmp.{nat_list_eq_equiv}
 use Rattle.std.proofs.lemmas.Map.Keys.{IsDistinct-cons, IsDistinct-head, IsDistinct-tail}
@@ -25,7 +25,7 @@ use Rattle.orc_decls.specs.Devices.{is_same_text}
 use Rattle.orc_datastore.specs.Metas.{AreNamesOf, IsMeta, writers}
 use Rattle.orc_datastore.specs.inside.Keeping.{AreKept, IsStoreFor}
 use Rattle.orc_datastore.specs.inside.Placed.{AreNamedOnce}
-use Rattle.orc_datastore.specs.declared.datastore.Service.{Service}
+use Rattle.orc_datastore.specs.declared.service.Service.{Service}
 use Rattle.orc_datastore.proofs.Agreement.{AreUnique, first_in, in_filter, later_in}
 use Rattle.orc_datastore.proofs.Clashing.{own_writes, writer_of}
 use Rattle.orc_datastore.proofs.LeastClash.{any_of}

@@ -1,5 +1,5 @@
 -- What the actions of a call come to writes only what may stand on its devices.
-use Rattle.std.proofs.Common.{◌≡◌, ℕ, zero, suc, ◌<◌, Bool, true, false, not, cond, ◌&&◌, nat_lt, List, [], ◌∷◌, ◌++◌, map, length, All, Some, None, is_some, refl, sym, ap, subst, ◌∙◌, arith}
+use Rattle.std.proofs.Common.{◌≡◌, ℕ, zero, suc, ◌<◌, Bool, true, false, not, ◌&&◌, nat_lt, List, [], ◌∷◌, ◌++◌, map, length, All, Some, None, is_some, refl, sym, ap, subst, ◌∙◌, arith}
 use Rattle.std.specs.Prelude.{Option, option_map, slice_get, if◌then◌else◌}
 use Rattle.std.specs.Option.{option_and_then, option_map_or}
 use Rattle.std.specs.declared.result.Result.{Result}
@@ -7,7 +7,7 @@ use Rattle.std.specs.declared.result.Result.TheVariants.{Ok, Err}
 use Rattle.std.specs.List.{list_all, AllByRecursion, IsDistinct}
 use Rattle.std.specs.Cmp.{first_so, second_so}
 use Rattle.std.specs.Cmp.Lexicographic.{bytes_decides}
-use Rattle.std.specs.FinMap.{entries, get}
+use Rattle.std.specs.FinMap.{entries}
 use Rattle.std.proofs.lemmas.Bool.{and_from, ltb-true}
 use Rattle.std.proofs.lemmas.List.Elements.{All-nil, All-cons, All-head, All-tail}
 use Rattle.std.proofs.lemmas.Option.{same_Some, slice_get-map}
@@ -27,7 +27,7 @@ use Rattle.orc_call.specs.declared.call.DevicePut.{DevicePut}
 use Rattle.orc_template.specs.Devices.{schema_of_device}
 use Rattle.orc_template.specs.Expansions.{Expanding, Failed}
 use Rattle.orc_template.specs.Laws.{AreDeviceTrees, IsConfigUnder, MayStand, WrittenIsTyped}
-use Rattle.orc_services.specs.Services.{Instance, Serving, expansion_at, expansion_of, instance_of}
+use Rattle.orc_services.specs.Services.{Instance, Serving, expansion_at, instance_of}
 use Rattle.orc_services.specs.Expanded.{as_literal, expanded_actions, expanded_action, write_of, writes_of, writes_to}
 use Rattle.orc_decls.specs.Devices.{is_same_text, names_of}
 use Rattle.orc_datastore.specs.Next.{serving_on, expanded_to}

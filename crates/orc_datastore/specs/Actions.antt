@@ -5,7 +5,7 @@ use Rattle.std.specs.Option.{option_map_or}
 use Rattle.std.specs.List.{flat_map, fold, list_any}
 use Rattle.orc_path.specs.Configurations.{Config, put_item, drop_item}
 use Rattle.orc_call.specs.declared.call.Action.{Action}
-use Rattle.orc_call.specs.declared.call.Action.TheVariants.{Create, Modify, Redeploy, Literal, Delete, Set, Unset, BasePut, BaseRemove}
+use Rattle.orc_call.specs.declared.call.Action.TheVariants.{Create, Modify, Literal, Delete, Set, Unset, BasePut, BaseRemove}
 use Rattle.orc_path.specs.Steps.{PathStep}
 use Rattle.orc_path.specs.Reading.{path_of}
 use Rattle.orc_path.specs.declared.item.Item.TheVariants.{Entry}
@@ -13,7 +13,7 @@ use Rattle.orc_call.specs.declared.call.Put.{Put}
 use Rattle.orc_datastore.specs.States.{expansion}
 use Rattle.orc_decls.specs.Devices.{is_same_text}
 use Rattle.orc_decls.specs.Openings.{put_all}
-use Rattle.orc_datastore.specs.declared.datastore.Service.{Service}
+use Rattle.orc_datastore.specs.declared.service.Service.{Service}
 
 -- The service that an expanded action names, if it names one. An action on a service of a list that isn't expanded
 -- names none and changes nothing.

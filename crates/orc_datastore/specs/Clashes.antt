@@ -13,7 +13,7 @@ use Rattle.orc_call.specs.declared.answer.Answer.{Answer}
 use Rattle.orc_call.specs.declared.answer.Answer.TheVariants.{Clash}
 use Rattle.orc_datastore.specs.States.{has_id, others, part}
 use Rattle.orc_decls.specs.Devices.{is_same_text}
-use Rattle.orc_datastore.specs.declared.datastore.Service.{Service}
+use Rattle.orc_datastore.specs.declared.service.Service.{Service}
 
 -- whether two items that stand at one path differ
 abbrev pub differs : Item → Option Item → Bool

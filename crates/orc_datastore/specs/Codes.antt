@@ -3,14 +3,13 @@ use Rattle.std.specs.Prelude.{ℕ, List, refl}
 use Rattle.std.specs.Coded.{Coded, code_by, coded×, coded_ℕ, coded_list}
 use Rattle.orc_path.specs.Codes.{config_code}
 use Rattle.orc_path.specs.Configurations.{Config}
+use Rattle.orc_datastore.specs.Services.{living_service_code}
 use Rattle.orc_datastore.specs.Snapshots.{Snapshot}
 use Rattle.orc_datastore.specs.States.{Datastore}
-use Rattle.orc_datastore.specs.declared.datastore.Service.{Service}
+use Rattle.orc_datastore.specs.declared.service.Service.{Service}
 
 abbrev pub service_code : Coded Service
-service_code =
-    code_by (List ℕ × List Config) (coded× (coded_list coded_ℕ) (coded_list config_code))
-    (λ service. (service.id, service.parts)) (λ pair. record { id = pair.0; parts = pair.1 }) (λ _. refl)
+service_code = living_service_code
 
 abbrev pub datastore_code : Coded Datastore
 datastore_code =

@@ -1,3 +1,4 @@
+pub mod Services
 pub mod States
 pub mod Actions
 pub mod Codes

@@ -8,7 +8,7 @@ use Rattle.orc_path.specs.Steps.{PathStep}
 use Rattle.orc_refs.specs.Ids.{are_rising, holds_id}
 use Rattle.orc_refs.specs.declared.moves.Meta.{Meta}
 use Rattle.orc_datastore.specs.States.{Datastore, config_of, has_id, part}
-use Rattle.orc_datastore.specs.declared.datastore.Service.{Service}
+use Rattle.orc_datastore.specs.declared.service.Service.{Service}
 
 -- the living services that write an item at a path of a device
 abbrev pub writers : Datastore → ℕ → List PathStep → List Service

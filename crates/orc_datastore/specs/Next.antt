@@ -17,7 +17,7 @@ use Rattle.orc_datastore.specs.States.{IsComplete, lives, Datastore}
 use Rattle.orc_datastore.specs.Actions.{bases_after, data_after, live_after, touched}
 use Rattle.orc_datastore.specs.Clashes.{clash_from}
 use Rattle.orc_decls.specs.declared.declarations.Decls.{Decls}
-use Rattle.orc_datastore.specs.declared.datastore.Service.{Service}
+use Rattle.orc_datastore.specs.declared.service.Service.{Service}
 
 -- the action creates a service that lives, or modifies, redeploys or deletes one that does not
 abbrev pub service_fault : (List ℕ → Bool) → Action → Option Answer

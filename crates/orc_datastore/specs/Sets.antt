@@ -9,7 +9,7 @@ use Rattle.orc_tree.specs.declared.change.Change.{Change}
 use Rattle.orc_tree.specs.declared.change.ChangeSet.{ChangeSet}
 use Rattle.orc_change.specs.Differences.{difference}
 use Rattle.orc_datastore.specs.Actions.{bases_after, live_after}
-use Rattle.orc_datastore.specs.Next.{after, clash, expanded_call, expanded_to}
+use Rattle.orc_datastore.specs.Next.{after, clash}
 use Rattle.orc_datastore.specs.States.{Datastore, tree_due}
 use Rattle.orc_datastore.specs.Touched.{touched_among, touched_devices}
 use Rattle.orc_decls.specs.declared.declarations.Decls.{Decls}

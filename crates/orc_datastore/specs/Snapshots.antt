@@ -9,7 +9,7 @@ use Rattle.orc_datastore.specs.Next.{IsStateOf}
 use Rattle.orc_datastore.specs.States.{Datastore, lives}
 use Rattle.orc_datastore.specs.Touched.{is_held_by}
 use Rattle.orc_decls.specs.declared.declarations.Decls.{Decls}
-use Rattle.orc_datastore.specs.declared.datastore.Service.{Service}
+use Rattle.orc_datastore.specs.declared.service.Service.{Service}
 
 -- The number of calls that were committed; the data; and an entry for each living service with one below it for each
 -- device on which the service has an item.

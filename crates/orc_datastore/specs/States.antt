@@ -10,7 +10,7 @@ use Rattle.orc_refs.specs.Live.{overlaid}
 use Rattle.orc_decls.specs.Devices.{is_same_text}
 use Rattle.orc_decls.specs.Openings.{declared_base, opening_data, put_all}
 use Rattle.orc_decls.specs.declared.declarations.Decls.{Decls}
-use Rattle.orc_datastore.specs.declared.datastore.Service.{Service}
+use Rattle.orc_datastore.specs.declared.service.Service.{Service}
 
 -- The state: the data; the base of each device, which no service wrote; and the living services with what they write,
 -- in the order in which they were made.

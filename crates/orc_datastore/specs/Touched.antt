@@ -11,7 +11,7 @@ use Rattle.orc_datastore.specs.States.{has_id, part, Datastore}
 use Rattle.orc_decls.specs.Devices.{is_same_text, name_of}
 use Rattle.orc_datastore.specs.Next.{expanded_call, expanded_to}
 use Rattle.orc_decls.specs.declared.declarations.Decls.{Decls}
-use Rattle.orc_datastore.specs.declared.datastore.Service.{Service}
+use Rattle.orc_datastore.specs.declared.service.Service.{Service}
 
 -- one of the writes is on the device of this name
 abbrev pub is_written_by : List DevicePut → List ℕ → Bool

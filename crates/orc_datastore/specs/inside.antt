@@ -5,3 +5,5 @@ pub mod Turns
 pub mod Keeping
 pub mod Sights
 pub mod Previews
+pub mod Written
+pub mod Marks

@@ -3,7 +3,7 @@ ghost use Rattle.std.specs.Prelude.{◌≡◌, ◌≢◌, ◌<◌, ◌^◌, [], 
 ghost use Rattle.orc_check.specs.Validity.{broken_of};
 ghost use Rattle.orc_revalidate.specs.Changes.{DiffersInside};
 ghost use Rattle.orc_services.specs.Fitting.{FitActions};
-ghost use Rattle.orc_datastore.specs.States.{IsComplete, opening, part, tree_due};
+ghost use Rattle.orc_datastore.specs.States.{IsComplete, opening, tree_due};
 ghost use Rattle.orc_decls.specs.Openings.{declared_base, fits_puts};
 ghost use Rattle.orc_datastore.specs.Actions.{data_after, name_each_once};
 ghost use Rattle.orc_decls.specs.Declarations.{AreDecls};
@@ -31,13 +31,6 @@ use orc_tree::Tree;
 use std::alloc::Global;
 use std::marker::Model;
 use std::mem;
-
-/// A living service and the items that it writes, on each device in the order of declaration.
-#[derive(Drop)]
-pub struct Service {
-    pub id: Text,
-    pub parts: Row<Tree>,
-}
 
 /// The data; the store of each device, which has its base and its tree; and the living services, once
 /// with what they write and once as a snapshot knows them.
@@ -68,16 +61,6 @@ impl Model for Datastore {
     } };
 
     ghost invariant = { λ state. AreKept state.stores state.live × KnowsLiving state.live state.known };
-}
-
-impl Service {
-    /// What the service writes on a device.
-    pub fn part(&self, device: u32) -> &Tree
-        requires { device < length self.now.parts }
-        ensures { result.now ≡ part self.now device }
-    {
-        &self.parts.as_slice()[device as usize]
-    }
 }
 
 impl Datastore {
@@ -161,27 +144,27 @@ impl Datastore {
     pub(crate) fn change(
         &mut self,
         alloc: Global,
-        names: &[Text],
+        decls: &Decls,
         actions: &[Action],
         next_data: Tree,
     ) -> Result<Option<Answer>, Memory>
         requires fit { FitActions actions.now }
         requires once { IsTrue (name_each_once actions.now) }
         requires keys { All (λ action. IsTrue (service_key action)) actions.now }
-        requires few { length names.now < 2 ^ 32 }
-        requires bases { length self.old.bases ≡ length names.now }
+        requires few { length decls.now.names < 2 ^ 32 }
+        requires bases { length self.old.bases ≡ length decls.now.names }
         requires complete { IsComplete self.old }
-        ensures clash { IfOk result (λ refused. refused ≡ clash names.now self.old.live actions.now) }
+        ensures clash { IfOk result (λ refused. refused ≡ clash decls.now.names self.old.live actions.now) }
         ensures done { result ≡ Ok None
-            → self.new ≡ changed_by names.now actions.now next_data self.old }
+            → self.new ≡ changed_by decls.now.names actions.now next_data self.old }
         ensures refused { result ≢ Ok None → self.new ≡ self.old }
     {
-        let turns = turns(alloc, names, actions)?;
-        let touched = touched_among(alloc, names, self, actions)?;
+        let turns = turns(alloc, decls, actions)?;
+        let touched = touched_among(alloc, decls, self, actions)?;
         self.live.names_differ();
         let found = stores_behind(
             alloc,
-            names,
+            decls,
             &self.live,
             actions,
             turns.as_slice(),

@@ -1,14 +1,14 @@
 //! What a call holds while it is under way, as a snapshot knows it.
-ghost use Rattle.std.specs.Prelude.{◌≡◌, ◌++◌, ◌<◌, ◌^◌, All, IfOk, IsTrue, length, map};
+ghost use Rattle.std.specs.Prelude.{◌≡◌, ◌++◌, ◌<◌, ◌^◌, All, IfOk, IsTrue, OnOk, length, map};
 ghost use Rattle.std.specs.List.{list_any};
 ghost use Rattle.orc_expr.specs.declared.read.Read.TheVariants as read;
 ghost use Rattle.orc_decls.specs.Devices.{name_of};
 ghost use Rattle.orc_datastore.specs.Touched.{touches_device};
+ghost use Rattle.orc_datastore.specs.inside.Marks.{AddsMarks};
 ghost use Rattle.orc_datastore.specs.inside.Sights.{held_known, knows_device, service_key, touched_known};
 
-use crate::known::knows_device;
+use crate::marks::{mark_edited, mark_known, marked, no_marks};
 use crate::targets::{services_named, targets};
-use crate::touched::is_written_by;
 use orc_call::Action;
 use orc_decls::Decls;
 use orc_expr::{Read, ReadSet};
@@ -17,69 +17,65 @@ use orc_text::{Memory, Row, Text};
 use orc_tree::Tree;
 use std::alloc::Global;
 
-// Whether an expanded action touches the device of this name and number.
-fn touches_device(
+// Marks the devices that an expanded action touches.
+#[tactic(auto, using(crate::proofs::Marking::marks_both))]
+fn mark_touched(
+    marks: &mut Vec<bool>,
     alloc: Global,
+    decls: &Decls,
     known: &Tree,
-    name: &Text,
-    device: u32,
     action: &Action,
-) -> Result<bool, Memory>
-    requires { IsTrue (service_key action.now) }
-    ensures { IfOk result (λ touched. touched ≡ touches_device name.now (knows_device known.now) device action.now) }
+) -> Result<(), Memory>
+    requires key { IsTrue (service_key action.now) }
+    requires count { length marks.old.items ≡ length decls.now.names }
+    requires few { length decls.now.names < 2 ^ 32 }
+    ensures { OnOk result (AddsMarks
+        (λ d. touches_device (name_of decls.now.names d) (knows_device known.now) d action.now)
+        marks.old.items marks.new.items) }
 {
+    mark_edited(marks, decls, action);
     match action {
-        Action::Literal(id, writes) => {
-            if is_written_by(writes.as_slice(), name) {
-                return Ok(true);
-            }
-            knows_device(alloc, known, id, device)
-        }
-        Action::Delete(id) => knows_device(alloc, known, id, device),
-        Action::BasePut(put) => Ok(put.device == *name),
-        Action::BaseRemove(own, _) => Ok(*own == *name),
-        _ => Ok(false),
+        Action::Literal(id, _) | Action::Delete(id) => mark_known(marks, alloc, known, id),
+        _ => Ok(()),
     }
 }
 
-// Whether one of the expanded actions touches the device of this name and number.
-fn is_touched(
+// Marks the devices that expanded actions touch.
+#[tactic(auto, using(crate::proofs::Marking::marked_start, crate::proofs::Marking::marked_turn, crate::proofs::Marking::marked_end))]
+fn mark_all(
+    marks: &mut Vec<bool>,
     alloc: Global,
+    decls: &Decls,
     known: &Tree,
-    name: &Text,
-    device: u32,
     actions: &[Action],
-) -> Result<bool, Memory>
-    requires { All (λ action. IsTrue (service_key action)) actions.now }
-    ensures { IfOk result (λ touched.
-        touched ≡ list_any (touches_device name.now (knows_device known.now) device) actions.now) }
+) -> Result<(), Memory>
+    requires keys { All (λ action. IsTrue (service_key action)) actions.now }
+    requires count { length marks.old.items ≡ length decls.now.names }
+    requires few { length decls.now.names < 2 ^ 32 }
+    ensures { OnOk result (AddsMarks
+        (λ d. list_any (touches_device (name_of decls.now.names d) (knows_device known.now) d) actions.now)
+        marks.old.items marks.new.items) }
 {
     for action in actions {
-        if touches_device(alloc, known, name, device, action)? {
-            return Ok(true);
-        }
+        mark_touched(marks, alloc, decls, known, action)?;
     }
-    Ok(false)
+    Ok(())
 }
 
 // The numbers of the devices that expanded actions touch, ascending.
 fn touched_known(
     alloc: Global,
-    names: &[Text],
+    decls: &Decls,
     known: &Tree,
     actions: &[Action],
 ) -> Result<Row<u32>, Memory>
-    requires few { length names.now < 2 ^ 32 }
+    requires few { length decls.now.names < 2 ^ 32 }
     requires keys { All (λ action. IsTrue (service_key action)) actions.now }
-    ensures { IfOk result (λ devices. devices ≡ touched_known names.now known.now actions.now) }
+    ensures { IfOk result (λ devices. devices ≡ touched_known decls.now.names known.now actions.now) }
 {
-    let mut devices = Row::new(alloc);
-    for device in 0..names.len() as u32 {
-        if is_touched(alloc, known, &names[device as usize], device, actions)? {
-            devices.push(device)?;
-        }
-    }
-    Ok(devices)
+    let mut marks = no_marks(alloc, decls.names().len())?;
+    mark_all(&mut marks, alloc, decls, known, actions)?;
+    marked(alloc, marks.as_slice())
 }
 
 // The reads that are handed in, and behind them one of each of these services.
@@ -107,7 +103,7 @@ pub(crate) fn held(
     requires keys { All (λ action. IsTrue (service_key action)) made.now }
     ensures { IfOk result (λ held. held ≡ held_known decls.now known.now actions.now made.now reads.reads) }
 {
-    let devices = touched_known(alloc, decls.names(), known, made)?;
+    let devices = touched_known(alloc, decls, known, made)?;
     let services = services_named(alloc, actions)?;
     let reads = with_services(alloc, reads, services.as_slice())?;
     let targets = targets(alloc, actions)?;

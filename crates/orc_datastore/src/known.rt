@@ -1,16 +1,17 @@
 //! What lives, and on which devices: an entry for each living service, and one below it for each device
 //! on which the service has an item.
-ghost use Rattle.std.specs.Prelude.{◌≡◌, ◌==◌, ◌^◌, ◌<◌, All, IfOk, IsTrue, OnOk, length};
+ghost use Rattle.std.specs.Prelude.{◌≡◌, ◌∷◌, [], ℕ, List, Some, true, ◌^◌, ◌<◌, All, IfOk, IsTrue, OnOk, length};
 ghost use Rattle.std.specs.Fmt.{decimal};
-ghost use Rattle.std.specs.FinMap.{len};
-ghost use Rattle.std.specs.List.{fold};
+ghost use Rattle.std.specs.List.{fold, list_any};
+ghost use Rattle.std.specs.Ordering.{eq_by_cmp};
+ghost use Rattle.orc_path.specs.Order.{path_cmp};
 ghost use Rattle.orc_path.specs.Alphabet.{is_key};
 ghost use Rattle.orc_datastore.specs.Snapshots.{device_row, device_step, service_entry, service_step};
-ghost use Rattle.orc_datastore.specs.inside.Sights.{enter_living, enter_parts, known_behind, knows_device, knows_service, leave_living};
+ghost use Rattle.orc_datastore.specs.inside.Sights.{device_list, enter_living, enter_parts, known_behind, knows_device, knows_service, leave_living};
 
 use crate::Service;
 use orc_decls::{path_of_step, step_of};
-use orc_path::{Item, Path, Step};
+use orc_path::{Item, Name, Path, Step};
 use orc_text::{Memory, Row, Text};
 use orc_tree::Tree;
 use std::alloc::Global;
@@ -68,6 +69,54 @@ pub(crate) fn knows_service(alloc: Global, known: &Tree, id: &Text) -> Result<bo
     Ok(known.get(&path).is_some())
 }
 
+// The list of the devices below the entry of the service of a name.
+fn device_list(alloc: Global, id: &Text) -> Result<Path, Memory>
+    requires { IsTrue (is_key id.now) }
+    ensures { IfOk result (λ path. path ≡ device_list id.now) }
+{
+    let Ok(node) = Name::new(alloc, "device") else {
+        return Err(Memory);
+    };
+    let mut steps = Row::new(alloc);
+    steps.push(service_step(alloc, id)?)?;
+    let keys = Row::new(alloc);
+    steps.push(Step { node, keys })?;
+    Ok(Path { steps })
+}
+
+/// The entries of devices below that of the service of a name.
+pub(crate) fn device_rows(alloc: Global, known: &Tree, id: &Text) -> Result<Vec<Path>, Memory>
+    requires { IsTrue (is_key id.now) }
+    ensures { IfOk result (λ rows. (device : ℕ) → knows_device known.now id.now device ≡ true
+        → list_any (eq_by_cmp path_cmp (device_row id.now device)) rows.items ≡ true) }
+{
+    let list = device_list(alloc, id)?;
+    known.keys_under(alloc, &list)
+}
+
+/// The number in the entry of a device.
+pub(crate) fn row_number(row: &Path) -> Option<u32>
+    ensures { (id : List ℕ) (device : ℕ) → device < 2 ^ 32 → row.now ≡ device_row id device → result ≡ Some device }
+{
+    match row.steps.as_slice() {
+        [_, step] => key_number(step.keys.as_slice()),
+        _ => None,
+    }
+}
+
+// The number that one key is in decimal digits.
+fn key_number(keys: &[Text]) -> Option<u32>
+    ensures { (device : ℕ) → device < 2 ^ 32 → keys.now ≡ decimal device ∷ [] → result ≡ Some device }
+{
+    match keys {
+        [key] => match key.as_str().parse::<u32>() {
+            Ok(number) => Some(number),
+            Err(_) => None,
+        },
+        _ => None,
+    }
+}
+
 /// Whether the living service of this name has an item on the device.
 pub(crate) fn knows_device(
     alloc: Global,
@@ -82,22 +131,15 @@ pub(crate) fn knows_device(
     Ok(known.get(&path).is_some())
 }
 
-// Whether a configuration has no item.
-fn is_blank(tree: &Tree) -> bool
-    ensures { result ≡ (len tree.now == 0) }
+// Enters each device on which a service has an item.
+fn enter_parts(known: &mut Tree, alloc: Global, service: &Service) -> Result<(), Memory>
+    requires key { IsTrue (is_key service.now.id) }
+    requires few { length service.now.parts < 2 ^ 32 }
+    ensures { OnOk result (known.new ≡ enter_parts service.now.id 0 service.now.parts known.old) }
 {
-    tree.is_empty()
-}
-
-// Enters each device on which one of these parts of the service of a name has an item.
-fn enter_parts(known: &mut Tree, alloc: Global, id: &Text, parts: &[Tree]) -> Result<(), Memory>
-    requires key { IsTrue (is_key id.now) }
-    requires few { length parts.now < 2 ^ 32 }
-    ensures { OnOk result (known.new ≡ enter_parts id.now 0 parts.now known.old) }
-{
-    for (device, part) in parts.iter().enumerate() {
-        if !is_blank(part) {
-            known.set(device_row(alloc, id, device as u32)?, Item::Entry)?;
+    for device in 0..service.devices() as u32 {
+        if service.is_on(device) {
+            known.set(device_row(alloc, service.id(), device)?, Item::Entry)?;
         }
     }
     Ok(())
@@ -109,8 +151,8 @@ fn enter(known: &mut Tree, alloc: Global, service: &Service) -> Result<(), Memor
     requires few { length service.now.parts < 2 ^ 32 }
     ensures { OnOk result (known.new ≡ enter_living known.old service.now) }
 {
-    known.set(service_entry(alloc, &service.id)?, Item::Entry)?;
-    enter_parts(known, alloc, &service.id, service.parts.as_slice())
+    known.set(service_entry(alloc, service.id())?, Item::Entry)?;
+    enter_parts(known, alloc, service)
 }
 
 // Removes the entries of the services of these names.

@@ -32,7 +32,7 @@ impl Model for Living {
     ghost use Rattle.std.specs.Coded.{coded_list};
     ghost use Rattle.orc_datastore.specs.Codes.{service_code};
     ghost use Rattle.orc_datastore.specs.inside.Placed.{filled, AreNoted};
-    ghost use Rattle.orc_datastore.specs.declared.datastore.Service.{Service};
+    ghost use Rattle.orc_datastore.specs.declared.service.Service.{Service};
 
     ghost Value = { List Service };
 
@@ -101,7 +101,7 @@ fn holds(slots: &[Option<Service>], place: usize, id: &Text) -> bool
     ensures { result ≡ is_at slots.now id.now place }
 {
     match slots.get(place) {
-        Some(Some(service)) => service.id == *id,
+        Some(Some(service)) => *service.id() == *id,
         _ => false,
     }
 }
@@ -146,7 +146,7 @@ fn note_names(
     ensures names { OnOk result (HasNames places.new services.now) }
 {
     for service in services {
-        note_name(alloc, places, &service.id)?;
+        note_name(alloc, places, service.id())?;
     }
     Ok(())
 }
@@ -204,7 +204,7 @@ fn put_in(slots: &mut Vec<Option<Service>>, places: &mut BTreeMap<Text, usize>, 
     ensures room { UsesRoom slots.old slots.new }
     ensures names { KeepsNames places.old places.new }
 {
-    note_place(places, &service.id, slots.len());
+    note_place(places, service.id(), slots.len());
     fill_slot(slots, service);
 }
 

@@ -4,7 +4,7 @@ ghost use Rattle.orc_services.specs.Fitting.{FitActions, fits_action};
 ghost use Rattle.orc_datastore.specs.inside.Sights.{all_expansions, expansions_by, literal_parts, planned_known, service_key};
 
 use crate::expanding::expanded_reading;
-use crate::expansion::expansion;
+use crate::expansion::{gathered, written_by};
 use crate::held::held;
 use orc_call::{Action, Answer};
 use orc_decls::Decls;
@@ -26,14 +26,16 @@ pub struct Plan {
 }
 
 // What a literal service writes, by the devices' numbers.
-fn literal_parts(alloc: Global, names: &[Text], action: &Action) -> Result<Expansion, Memory>
-    requires { IsTrue (fits_action action.now) }
-    ensures { IfOk result (λ expansion. expansion ≡ literal_parts names.now action.now) }
+fn literal_parts(alloc: Global, decls: &Decls, action: &Action) -> Result<Expansion, Memory>
+    requires fit { IsTrue (fits_action action.now) }
+    requires few { length decls.now.names < 2 ^ 32 }
+    ensures { IfOk result (λ expansion. expansion ≡ literal_parts decls.now.names action.now) }
 {
     match action {
         Action::Literal(_, writes) => {
-            let parts = expansion(alloc, names, writes.as_slice())?;
-            Expansion::gathered(alloc, parts.as_slice())
+            let written = written_by(alloc, decls, writes.as_slice())?;
+            let parts = gathered(alloc, decls.names().len(), written.as_slice())?;
+            Ok(Expansion { parts })
         }
         _ => Ok(Expansion {
             parts: Row::new(alloc),
@@ -46,16 +48,17 @@ fn literal_parts(alloc: Global, names: &[Text], action: &Action) -> Result<Expan
 fn push_expansion(
     expansions: &mut Row<(Text, Expansion)>,
     alloc: Global,
-    names: &[Text],
+    decls: &Decls,
     action: &Action,
     made: &Action,
 ) -> Result<(), Memory>
-    requires { IsTrue (fits_action made.now) }
-    ensures { OnOk result (expansions.new ≡ expansions.old ++ expansions_by names.now action.now made.now) }
+    requires fit { IsTrue (fits_action made.now) }
+    requires few { length decls.now.names < 2 ^ 32 }
+    ensures { OnOk result (expansions.new ≡ expansions.old ++ expansions_by decls.now.names action.now made.now) }
 {
     match action {
         Action::Create(id, _) | Action::Modify(id, _) | Action::Redeploy(id) => {
-            expansions.push((id.copy(alloc)?, literal_parts(alloc, names, made)?))
+            expansions.push((id.copy(alloc)?, literal_parts(alloc, decls, made)?))
         }
         _ => Ok(()),
     }
@@ -64,19 +67,20 @@ fn push_expansion(
 // The expansions of the services that actions create, modify or redeploy, by what these came to.
 fn all_expansions(
     alloc: Global,
-    names: &[Text],
+    decls: &Decls,
     actions: &[Action],
     made: &[Action],
 ) -> Result<Row<(Text, Expansion)>, Memory>
-    requires { FitActions made.now }
-    ensures { IfOk result (λ expansions. expansions ≡ all_expansions names.now actions.now made.now) }
+    requires fit { FitActions made.now }
+    requires few { length decls.now.names < 2 ^ 32 }
+    ensures { IfOk result (λ expansions. expansions ≡ all_expansions decls.now.names actions.now made.now) }
 {
     let mut expansions = Row::new(alloc);
     let mut left = actions;
     for one in made {
         match left {
             [action, later @ ..] => {
-                push_expansion(&mut expansions, alloc, names, action, one)?;
+                push_expansion(&mut expansions, alloc, decls, action, one)?;
                 left = later;
             }
             [] => {}
@@ -104,8 +108,7 @@ pub(crate) fn planned_known(
     match expanded_reading(alloc, decls, data, actions, &mut reads)? {
         Ok(made) => {
             let held = held(alloc, decls, known, actions, made.as_slice(), reads)?;
-            let names = decls.names();
-            let expansions = all_expansions(alloc, names, actions, made.as_slice())?;
+            let expansions = all_expansions(alloc, decls, actions, made.as_slice())?;
             Ok(Ok(Plan {
                 front,
                 held,

@@ -47,7 +47,7 @@ impl Datastore {
         ensures { IfOk result (AreSets decls.now.names actions.now self.now) }
     {
         written_is_typed();
-        sets_among(alloc, decls.names(), self, actions)
+        sets_among(alloc, decls, self, actions)
     }
 
     /// Does a call that comes to these actions and meets no clash, with the data behind it. After want of
@@ -71,7 +71,7 @@ impl Datastore {
         ensures kept { IsStateOf decls.now self.new }
     {
         written_is_typed();
-        match self.change(alloc, decls.names(), actions, next)? {
+        match self.change(alloc, decls, actions, next)? {
             None => Ok(()),
             Some(_) => unreachable!(),
         }

@@ -10,11 +10,13 @@ ghost use Rattle.orc_datastore.specs.inside.Previews.{IsSetAt, Shows};
 ghost use Rattle.orc_datastore.specs.inside.Turns.{turns_of};
 
 use crate::Datastore;
-use crate::touched::{is_touched, taken};
+use crate::marks::is_marked;
+use crate::touched::touched_marks;
 use crate::turns::{Turn, edits_on, moves_on, turns};
 use orc_call::{Action, Answer};
+use orc_decls::{Decls, device_name};
 use orc_refs::{BaseEdit, Move, Refs, RefsFault, store_is_overlay};
-use orc_text::{Memory, Row, Text};
+use orc_text::{Memory, Row};
 use orc_tree::ChangeSet;
 use std::alloc::Global;
 
@@ -42,23 +44,23 @@ fn shown(
 // What actions would change in the tree of a device, or the clash that they would meet there.
 fn set_at(
     alloc: Global,
-    names: &[Text],
+    decls: &Decls,
     state: &Datastore,
     actions: &[Action],
     turns: &[Turn],
     device: u32,
 ) -> Result<Result<ChangeSet, Answer>, Memory>
-    requires device { device < length names.now }
-    requires turns { turns.now ≡ flat_map (turns_of names.now) actions.now }
+    requires device { device < length decls.now.names }
+    requires turns { turns.now ≡ flat_map (turns_of decls.now.names) actions.now }
     requires fit { FitActions actions.now }
     requires once { IsTrue (name_each_once actions.now) }
-    requires bases { length state.now.bases ≡ length names.now }
-    ensures { IfOk result (IsSetAt names.now actions.now state.now device) }
+    requires bases { length state.now.bases ≡ length decls.now.names }
+    ensures { IfOk result (IsSetAt decls.now.names actions.now state.now device) }
 {
     store_is_overlay();
     state.live.names_differ();
     let moves = moves_on(alloc, &state.live, turns, device)?;
-    let edits = edits_on(alloc, &names[device as usize], actions)?;
+    let edits = edits_on(alloc, device_name(decls.names(), device), actions)?;
     let store = &state.stores.as_slice()[device as usize];
     shown(alloc, store, moves.as_slice(), edits.as_slice(), device)
 }
@@ -67,24 +69,24 @@ fn set_at(
 /// changes; or the clash for which they aren't done.
 pub(crate) fn sets_among(
     alloc: Global,
-    names: &[Text],
+    decls: &Decls,
     state: &Datastore,
     actions: &[Action],
 ) -> Result<Result<Row<(u32, ChangeSet)>, Answer>, Memory>
-    requires few { length names.now < 2 ^ 32 }
+    requires few { length decls.now.names < 2 ^ 32 }
     requires fit { FitActions actions.now }
     requires once { IsTrue (name_each_once actions.now) }
     requires complete { IsComplete state.now }
-    requires bases { length state.now.bases ≡ length names.now }
-    ensures { IfOk result (AreSets names.now actions.now state.now) }
+    requires bases { length state.now.bases ≡ length decls.now.names }
+    ensures { IfOk result (AreSets decls.now.names actions.now state.now) }
 {
     state.live.names_differ();
-    let turns = turns(alloc, names, actions)?;
-    let taken = taken(alloc, &state.live, actions)?;
+    let turns = turns(alloc, decls, actions)?;
+    let marks = touched_marks(alloc, decls, state, actions)?;
     let mut sets = Row::new(alloc);
-    for device in 0..names.len() as u32 {
-        if is_touched(names, state, actions, taken.as_slice(), device) {
-            match set_at(alloc, names, state, actions, turns.as_slice(), device)? {
+    for device in 0..decls.names().len() as u32 {
+        if is_marked(marks.as_slice(), device) {
+            match set_at(alloc, decls, state, actions, turns.as_slice(), device)? {
                 Ok(set) => sets.push((device, set))?,
                 Err(answer) => return Ok(Err(answer)),
             }

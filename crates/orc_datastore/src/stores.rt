@@ -13,9 +13,10 @@ ghost use Rattle.orc_datastore.specs.inside.Keeping.{AreBehind, AreKept, ComesTo
 use crate::living::Living;
 use crate::turns::{Turn, edits_on, moves_on};
 use orc_call::{Action, Answer};
+use orc_decls::{Decls, device_name};
 use orc_io::Steps;
 use orc_refs::{BaseEdit, Move, Refs, RefsFault};
-use orc_text::{Memory, Row, Text};
+use orc_text::{Memory, Row};
 use orc_tree::ChangeSet;
 use std::alloc::Global;
 use std::marker::Brand;
@@ -68,22 +69,22 @@ fn moved(
 // The store of a device behind actions, or the clash that they meet there.
 fn store_behind(
     alloc: Global,
-    names: &[Text],
+    decls: &Decls,
     live: &Living,
     actions: &[Action],
     turns: &[Turn],
     store: &Refs,
     device: u32,
 ) -> Result<Result<Refs, Answer>, Memory>
-    requires device { device < length names.now }
-    requires turns { turns.now ≡ flat_map (turns_of names.now) actions.now }
+    requires device { device < length decls.now.names }
+    requires turns { turns.now ≡ flat_map (turns_of decls.now.names) actions.now }
     requires fit { FitActions actions.now }
     requires call { IsOpenTo live.now actions.now }
     requires store { IsStoreFor live.now device store.now }
-    ensures { IfOk result (IsStoreBehind names.now live.now actions.now device store.now) }
+    ensures { IfOk result (IsStoreBehind decls.now.names live.now actions.now device store.now) }
 {
     let moves = moves_on(alloc, live, turns, device)?;
-    let edits = edits_on(alloc, &names[device as usize], actions)?;
+    let edits = edits_on(alloc, device_name(decls.names(), device), actions)?;
     moved(alloc, store, moves.as_slice(), edits.as_slice(), device)
 }
 
@@ -91,7 +92,7 @@ fn store_behind(
 // another device, whose store stays and is not looked at.
 fn change_of(
     alloc: Global,
-    names: &[Text],
+    decls: &Decls,
     live: &Living,
     actions: &[Action],
     turns: &[Turn],
@@ -99,19 +100,19 @@ fn change_of(
     store: &Refs,
     device: u32,
 ) -> Result<Result<Option<Refs>, Answer>, Memory>
-    requires device { device < length names.now }
-    requires turns { turns.now ≡ flat_map (turns_of names.now) actions.now }
+    requires device { device < length decls.now.names }
+    requires turns { turns.now ≡ flat_map (turns_of decls.now.names) actions.now }
     requires fit { FitActions actions.now }
     requires call { IsOpenTo live.now actions.now }
     requires stays { list_any (λ d. d == device) touched.now ≡ false
-        → StaysOn names.now live.now actions.now device }
+        → StaysOn decls.now.names live.now actions.now device }
     requires store { IsStoreFor live.now device store.now }
-    ensures { IfOk result (IsChangeOf names.now live.now actions.now device store.now) }
+    ensures { IfOk result (IsChangeOf decls.now.names live.now actions.now device store.now) }
 {
     if !touched.contains(&device) {
         return Ok(Ok(None));
     }
-    match store_behind(alloc, names, live, actions, turns, store, device)? {
+    match store_behind(alloc, decls, live, actions, turns, store, device)? {
         Ok(store) => Ok(Ok(Some(store))),
         Err(answer) => Ok(Err(answer)),
     }
@@ -121,27 +122,27 @@ fn change_of(
 /// clash on the least device that has one.
 pub(crate) fn stores_behind(
     alloc: Global,
-    names: &[Text],
+    decls: &Decls,
     live: &Living,
     actions: &[Action],
     turns: &[Turn],
     touched: &[u32],
     stores: &[Refs],
 ) -> Result<Result<Row<Option<Refs>>, Answer>, Memory>
-    requires few { length names.now < 2 ^ 32 }
-    requires count { length stores.now ≡ length names.now }
-    requires turns { turns.now ≡ flat_map (turns_of names.now) actions.now }
+    requires few { length decls.now.names < 2 ^ 32 }
+    requires count { length stores.now ≡ length decls.now.names }
+    requires turns { turns.now ≡ flat_map (turns_of decls.now.names) actions.now }
     requires fit { FitActions actions.now }
     requires call { IsOpenTo live.now actions.now }
-    requires stays { (device : ℕ) → device < length names.now
-        → list_any (λ d. d == device) touched.now ≡ false → StaysOn names.now live.now actions.now device }
+    requires stays { (device : ℕ) → device < length decls.now.names
+        → list_any (λ d. d == device) touched.now ≡ false → StaysOn decls.now.names live.now actions.now device }
     requires kept { AreKept stores.now live.now }
-    ensures { IfOk result (AreBehind names.now live.now actions.now stores.now) }
+    ensures { IfOk result (AreBehind decls.now.names live.now actions.now stores.now) }
 {
     let mut changes = Row::new(alloc);
     for (device, store) in stores.iter().enumerate() {
         let device = device as u32;
-        match change_of(alloc, names, live, actions, turns, touched, store, device)? {
+        match change_of(alloc, decls, live, actions, turns, touched, store, device)? {
             Ok(change) => changes.push(change)?,
             Err(answer) => return Ok(Err(answer)),
         }

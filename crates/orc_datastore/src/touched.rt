@@ -1,56 +1,77 @@
 //! The devices that a call touches.
-ghost use Rattle.std.specs.Prelude.{◌≡◌, ◌<◌, ◌^◌, ◌||◌, All, IfOk, length, map};
+ghost use Rattle.std.specs.Prelude.{◌≡◌, ◌<◌, ◌^◌, IfOk, IsTrue, OnOk, length};
 ghost use Rattle.std.specs.List.{list_any};
-ghost use Rattle.std.specs.Option.{option_copied};
+ghost use Rattle.std.specs.Option.{option_copied, option_to_list};
 ghost use Rattle.orc_datastore.specs.States.{IsComplete};
+ghost use Rattle.orc_datastore.specs.Touched.{is_touched_among, touched_among};
 ghost use Rattle.orc_decls.specs.Devices.{name_of};
-ghost use Rattle.orc_datastore.specs.Touched.{is_touched_by, is_written_by, touched_among};
-ghost use Rattle.orc_datastore.specs.inside.Touching.{is_edited, is_edited_by, is_on, taken_by, taken_of};
+ghost use Rattle.orc_datastore.specs.inside.Marks.{AddsMarks, AreTouched, marks_on};
+ghost use Rattle.orc_datastore.specs.inside.Touching.{is_edited_by, is_on, taken_by};
 
 use crate::living::Living;
+use crate::marks::{mark_edited, mark_service, marked, no_marks};
 use crate::{Datastore, Service};
-use orc_call::{Action, DevicePut};
-use orc_text::{Memory, Row, Text};
+use orc_call::Action;
+use orc_decls::Decls;
+use orc_text::{Memory, Row};
 use std::alloc::Global;
 
 /// The numbers of the devices that expanded actions touch.
 pub(crate) fn touched_among(
     alloc: Global,
-    names: &[Text],
+    decls: &Decls,
     state: &Datastore,
     actions: &[Action],
 ) -> Result<Row<u32>, Memory>
-    requires few { length names.now < 2 ^ 32 }
-    requires complete { IsComplete state.now }
-    requires bases { length state.now.bases ≡ length names.now }
-    ensures { IfOk result (λ devices. devices ≡ touched_among names.now state.now actions.now) }
+    requires few { length decls.now.names < 2 ^ 32 }
+    ensures { IfOk result (λ devices. devices ≡ touched_among decls.now.names state.now actions.now) }
 {
-    let taken = taken(alloc, &state.live, actions)?;
-    let mut devices = Row::new(alloc);
-    for device in 0..names.len() as u32 {
-        if is_touched(names, state, actions, taken.as_slice(), device) {
-            devices.push(device)?;
-        }
-    }
-    Ok(devices)
+    let marks = touched_marks(alloc, decls, state, actions)?;
+    marked(alloc, marks.as_slice())
 }
 
-// The living services that actions take away, each looked up once.
-pub(crate) fn taken<'a>(
+/// A mark for each device that expanded actions touch.
+pub(crate) fn touched_marks(
     alloc: Global,
-    live: &'a Living,
+    decls: &Decls,
+    state: &Datastore,
     actions: &[Action],
-) -> Result<Vec<&'a Service>, Memory>
-    ensures { IfOk result (λ services.
-        map (λ service. service.now) services.items ≡ taken_of live.now actions.now) }
+) -> Result<Vec<bool>, Memory>
+    requires few { length decls.now.names < 2 ^ 32 }
+    ensures { IfOk result (λ marks. AreTouched decls.now.names state.now actions.now marks.items) }
 {
-    let mut taken = Vec::new(alloc);
+    state.live.names_differ();
+    let mut marks = no_marks(alloc, decls.names().len())?;
+    mark_all(&mut marks, decls, &state.live, actions);
+    Ok(marks)
+}
+
+// Marks the devices that expanded actions edit, and those on which a living service that they take away has an
+// item.
+#[tactic(auto, using(crate::proofs::Marking::marked_start, crate::proofs::Marking::marked_turn, crate::proofs::Marking::marked_end))]
+fn mark_all(marks: &mut Vec<bool>, decls: &Decls, live: &Living, actions: &[Action])
+    requires count { length marks.old.items ≡ length decls.now.names }
+    requires few { length decls.now.names < 2 ^ 32 }
+    ensures { AddsMarks (λ d. list_any (λ action. marks_on decls.now.names live.now action d) actions.now)
+        marks.old.items marks.new.items }
+{
     for action in actions {
-        if let Some(service) = taken_by(live, action) {
-            taken.push(service)?;
-        }
+        mark_action(marks, decls, live, action);
     }
-    Ok(taken)
+}
+
+// Marks the devices that an expanded action edits, and those on which the living service that it takes away has
+// an item.
+#[tactic(auto, using(crate::proofs::Marking::marks_both))]
+fn mark_action(marks: &mut Vec<bool>, decls: &Decls, live: &Living, action: &Action)
+    requires count { length marks.old.items ≡ length decls.now.names }
+    requires few { length decls.now.names < 2 ^ 32 }
+    ensures { AddsMarks (marks_on decls.now.names live.now action.now) marks.old.items marks.new.items }
+{
+    mark_edited(marks, decls, action);
+    if let Some(service) = taken_by(live, action) {
+        mark_service(marks, service);
+    }
 }
 
 // The living service that an action takes away.
@@ -61,82 +82,4 @@ fn taken_by<'a>(live: &'a Living, action: &Action) -> Option<&'a Service>
         Action::Literal(id, _) | Action::Delete(id) => live.find(id),
         _ => None,
     }
-}
-
-// Whether one of the actions touches the device, given the living services that they take away.
-pub(crate) fn is_touched(
-    names: &[Text],
-    state: &Datastore,
-    actions: &[Action],
-    taken: &[&Service],
-    device: u32,
-) -> bool
-    requires device { device < length names.now }
-    requires complete { IsComplete state.now }
-    requires bases { length state.now.bases ≡ length names.now }
-    requires taken { map (λ service. service.now) taken.now ≡ taken_of state.now.live actions.now }
-    ensures { result ≡ list_any (is_touched_by names.now state.now device) actions.now }
-{
-    state.live.names_differ();
-    touches(names, actions, taken, device)
-}
-
-// Whether one of the actions makes a service that writes on the device or edits its base, or one of
-// the services that they take away has an item on it.
-fn touches(names: &[Text], actions: &[Action], taken: &[&Service], device: u32) -> bool
-    requires device { device < length names.now }
-    requires complete { All (λ service. device < length service.now.parts) taken.now }
-    ensures { result
-        ≡ (is_edited (name_of names.now device) actions.now
-        || list_any (λ service. is_on device service.now) taken.now) }
-{
-    is_edited(actions, &names[device as usize]) || is_any_on(taken, device)
-}
-
-// Whether one of the actions makes a service that writes on the device of this name, or edits its
-// base.
-fn is_edited(actions: &[Action], name: &Text) -> bool
-    ensures { result ≡ is_edited name.now actions.now }
-{
-    actions.iter().any(|action| is_edited_by(action, name))
-}
-
-// Whether the action makes a service that writes on the device of this name, or edits its base.
-fn is_edited_by(action: &Action, name: &Text) -> bool
-    ensures { result ≡ is_edited_by name.now action.now }
-{
-    match action {
-        Action::Literal(_, writes) => is_written_by(writes.as_slice(), name),
-        Action::BasePut(put) => put.device == *name,
-        Action::BaseRemove(device, _) => *device == *name,
-        _ => false,
-    }
-}
-
-/// Whether one of the writes is on the device of this name.
-pub(crate) fn is_written_by(writes: &[DevicePut], name: &Text) -> bool
-    ensures { result ≡ is_written_by writes.now name.now }
-{
-    writes.iter().any(|write| write.device == *name)
-}
-
-// Whether one of the services has an item on the device.
-fn is_any_on(services: &[&Service], device: u32) -> bool
-    requires { All (λ service. device < length service.now.parts) services.now }
-    ensures { result ≡ list_any (λ service. is_on device service.now) services.now }
-{
-    for service in services {
-        if is_on(service, device) {
-            return true;
-        }
-    }
-    false
-}
-
-// Whether the service has an item on the device.
-fn is_on(service: &Service, device: u32) -> bool
-    requires { device < length service.now.parts }
-    ensures { result ≡ is_on device service.now }
-{
-    !service.part(device).is_empty()
 }

@@ -1,6 +1,5 @@
 //! What a call does to the services that it names, and what that asks of the store of one device.
-ghost use Rattle.std.specs.Prelude.{◌≡◌, ◌++◌, map, IfOk, IsTrue, OnOk, slice_get};
-ghost use Rattle.std.specs.Option.{option_copied};
+ghost use Rattle.std.specs.Prelude.{◌≡◌, ◌++◌, ◌<◌, ◌^◌, length, map, IfOk, IsTrue, OnOk};
 ghost use Rattle.std.specs.List.{flat_map};
 ghost use Rattle.orc_refs.specs.Moves.{AreWhole, BringWhole, items_of};
 ghost use Rattle.orc_datastore.specs.States.{part};
@@ -8,12 +7,12 @@ ghost use Rattle.orc_services.specs.Fitting.{fits_action, FitActions};
 ghost use Rattle.orc_datastore.specs.inside.Turns.{comers, edits_of, held_by, move_of, turn_id, turns_of};
 
 use crate::Service;
-use crate::expansion::expansion;
+use crate::expansion::written_by;
 use crate::living::Living;
 use orc_call::{Action, Put};
+use orc_decls::Decls;
 use orc_refs::{BaseEdit, Move, items_of};
 use orc_text::{Memory, Row, Text};
-use orc_tree::Tree;
 use std::alloc::Global;
 
 /// What an expanded call does to a service that it names.
@@ -29,17 +28,18 @@ pub(crate) enum Turn {
 fn push_turn(
     alloc: Global,
     turns: &mut Vec<Turn>,
-    names: &[Text],
+    decls: &Decls,
     action: &Action,
 ) -> Result<(), Memory>
-    requires { IsTrue (fits_action action.now) }
-    ensures { OnOk result (turns.new.items ≡ turns.old.items ++ turns_of names.now action.now) }
+    requires fit { IsTrue (fits_action action.now) }
+    requires few { length decls.now.names < 2 ^ 32 }
+    ensures { OnOk result (turns.new.items ≡ turns.old.items ++ turns_of decls.now.names action.now) }
 {
     match action {
         Action::Literal(id, writes) => {
-            let parts = expansion(alloc, names, writes.as_slice())?;
-            let id = id.copy(alloc)?;
-            turns.push(Turn::Comes(Service { id, parts }))?;
+            let written = written_by(alloc, decls, writes.as_slice())?;
+            let service = Service::new(id.copy(alloc)?, decls.names().len(), written);
+            turns.push(Turn::Comes(service))?;
             Ok(())
         }
         Action::Delete(id) => {
@@ -52,13 +52,14 @@ fn push_turn(
 }
 
 /// What actions do to the services that they name, in order.
-pub(crate) fn turns(alloc: Global, names: &[Text], actions: &[Action]) -> Result<Vec<Turn>, Memory>
-    requires { FitActions actions.now }
-    ensures { IfOk result (λ turns. turns.items ≡ flat_map (turns_of names.now) actions.now) }
+pub(crate) fn turns(alloc: Global, decls: &Decls, actions: &[Action]) -> Result<Vec<Turn>, Memory>
+    requires fit { FitActions actions.now }
+    requires few { length decls.now.names < 2 ^ 32 }
+    ensures { IfOk result (λ turns. turns.items ≡ flat_map (turns_of decls.now.names) actions.now) }
 {
     let mut turns = Vec::new(alloc);
     for action in actions {
-        push_turn(alloc, &mut turns, names, action)?;
+        push_turn(alloc, &mut turns, decls, action)?;
     }
     Ok(turns)
 }
@@ -103,16 +104,9 @@ fn turn_id(turn: &Turn) -> &Text
     ensures { result.now ≡ turn_id turn.now }
 {
     match turn {
-        Turn::Comes(service) => &service.id,
+        Turn::Comes(service) => service.id(),
         Turn::Goes(id) => id,
     }
-}
-
-// What a service writes on a device, by its parts, where there is one of the device.
-fn part_of(parts: &[Tree], device: u32) -> Option<&Tree>
-    ensures { option_copied result ≡ slice_get parts.now device }
-{
-    parts.get(device as usize)
 }
 
 // The items that a service writes on a device.
@@ -120,7 +114,7 @@ fn items_on(alloc: Global, service: &Service, device: u32) -> Result<Row<Put>, M
     ensures items { IfOk result (λ items. items ≡ items_of (part service.now device)) }
     ensures whole { IfOk result AreWhole }
 {
-    match part_of(service.parts.as_slice(), device) {
+    match service.part(device) {
         Some(tree) => items_of(alloc, tree),
         None => Ok(Row::new(alloc)),
     }
@@ -150,10 +144,10 @@ fn push_move(
 {
     match turn {
         Turn::Comes(service) => {
-            let old = held_by(alloc, live, &service.id, device)?;
+            let old = held_by(alloc, live, service.id(), device)?;
             let new = items_on(alloc, service, device)?;
             moves.push(Move {
-                service: service.id.copy(alloc)?,
+                service: service.id().copy(alloc)?,
                 old,
                 new,
             })?;

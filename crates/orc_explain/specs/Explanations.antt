@@ -53,6 +53,32 @@ call_line_words keyword.End =
     codes "The line `end` ends a call that has an action, and `settle` is the next line."
 call_line_words _ = known_words
 
+-- a step that drives devices, or another line
+unfoldable pub device_line_words : Keyword → List ℕ
+device_line_words keyword.Begin =
+    codes "The step `begin CALLER` stands below the line `script`, and not within a call; it isn't served yet."
+device_line_words keyword.Admit =
+    codes "The step `admit` has nothing behind that word, and stands below the line `script` and not within a "
+    ++ codes "call; it isn't served yet."
+device_line_words keyword.Step =
+    codes "The step `step DEVICE` stands below the line `script`, and not within a call; it isn't served yet."
+device_line_words keyword.Decide =
+    codes "The step `decide` has nothing behind that word, and stands below the line `script` and not within a "
+    ++ codes "call; it isn't served yet."
+device_line_words keyword.Tick =
+    codes "The step `tick SECONDS` stands below the line `script`, and not within a call; it isn't served yet."
+device_line_words keyword.Restart =
+    codes "The step `restart DEVICE` stands below the line `script`, and not within a call; it isn't served yet."
+device_line_words keyword.Fault =
+    codes "The step `fault DEVICE OPERATION before` or `fault DEVICE OPERATION after`, with the name of an operation "
+    ++ codes "as `log` prints it, stands below the line `script` and not within a call; it isn't served yet."
+device_line_words keyword.Reconcile =
+    codes "The step `reconcile` has nothing behind that word, and stands below the line `script` and not within a "
+    ++ codes "call; it isn't served yet."
+device_line_words keyword.Log =
+    codes "The step `log DEVICE` stands below the line `script`, and not within a call; it isn't served yet."
+device_line_words word = call_line_words word
+
 -- a step of the script, or another line
 unfoldable pub step_line_words : Keyword → List ℕ
 step_line_words keyword.Show =
@@ -74,7 +100,7 @@ step_line_words keyword.Recover =
 step_line_words keyword.History =
     codes "The step `history` has nothing behind that word, and stands below the line `script` and not within "
     ++ codes "a call."
-step_line_words word = call_line_words word
+step_line_words word = device_line_words word
 
 -- a declaration, or another line
 unfoldable pub form_words : Keyword → List ℕ

@@ -2,7 +2,7 @@
 ghost use Rattle.std.specs.Prelude.{◌≡◌, ◌++◌, ◌-◌, codes, drop, take, length, IfOk, OnOk};
 ghost use Rattle.std.specs.List.{list_any};
 ghost use Rattle.std.specs.String.{string_bytes};
-ghost use Rattle.orc_explain.specs.Explanations.{explained, explanation_of, line_explained, looked_at, no_line_explained, allowed_words, call_explained, call_line_words, duplicate_words, form_words, known_words, line_words, rule_words, step_line_words, unknown_words, whole_form};
+ghost use Rattle.orc_explain.specs.Explanations.{explained, explanation_of, line_explained, looked_at, no_line_explained, allowed_words, call_explained, call_line_words, device_line_words, duplicate_words, form_words, known_words, line_words, rule_words, step_line_words, unknown_words, whole_form};
 ghost use Rattle.orc_lines.specs.Lines.{is_end, lines_of};
 
 use orc_decls::Rule;
@@ -302,6 +302,47 @@ fn step_line_words(word: Keyword) -> &'static str
         Keyword::History => {
             "The step `history` has nothing behind that word, and stands below the line `script` and \
              not within a call."
+        }
+        _ => device_line_words(word),
+    }
+}
+
+// The same of a step that drives devices, or another line.
+#[tactic(auto, unfolding(crate::specs::Explanations::device_line_words))]
+fn device_line_words(word: Keyword) -> &'static str
+    ensures { result.now ≡ device_line_words word }
+{
+    match word {
+        Keyword::Begin => {
+            "The step `begin CALLER` stands below the line `script`, and not within a call; it isn't served yet."
+        }
+        Keyword::Admit => {
+            "The step `admit` has nothing behind that word, and stands below the line `script` and not within a \
+             call; it isn't served yet."
+        }
+        Keyword::Step => {
+            "The step `step DEVICE` stands below the line `script`, and not within a call; it isn't served yet."
+        }
+        Keyword::Decide => {
+            "The step `decide` has nothing behind that word, and stands below the line `script` and not within a \
+             call; it isn't served yet."
+        }
+        Keyword::Tick => {
+            "The step `tick SECONDS` stands below the line `script`, and not within a call; it isn't served yet."
+        }
+        Keyword::Restart => {
+            "The step `restart DEVICE` stands below the line `script`, and not within a call; it isn't served yet."
+        }
+        Keyword::Fault => {
+            "The step `fault DEVICE OPERATION before` or `fault DEVICE OPERATION after`, with the name of an operation \
+             as `log` prints it, stands below the line `script` and not within a call; it isn't served yet."
+        }
+        Keyword::Reconcile => {
+            "The step `reconcile` has nothing behind that word, and stands below the line `script` and not within a \
+             call; it isn't served yet."
+        }
+        Keyword::Log => {
+            "The step `log DEVICE` stands below the line `script`, and not within a call; it isn't served yet."
         }
         _ => call_line_words(word),
     }

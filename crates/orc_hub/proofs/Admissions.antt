@@ -14,14 +14,16 @@ use Rattle.orc_journal.specs.declared.entry.Entry.{Entry}
 use Rattle.orc_plans.specs.Plans.{PlannedStands}
 use Rattle.orc_queue.specs.declared.held.Held.{Held}
 use Rattle.orc_rules.specs.Admissions.{intent_entry, started, transaction_begun}
+use Rattle.orc_rules.specs.Asked.{answered_at}
 use Rattle.orc_rules.specs.Fits.{FitsNow, IsFirstFit}
 use Rattle.orc_rules.specs.Standing.{IsWaiting}
+use Rattle.orc_rules.specs.declared.asked.Asked.{Asked}
 use Rattle.orc_rules.specs.declared.transaction.Transaction.{Transaction}
 use Rattle.orc_rules.specs.declared.transaction.Waiting.{Waiting}
 use Rattle.orc_tree.specs.declared.change.ChangeSet.{ChangeSet}
 use Rattle.orc_hub.specs.Admits.{HasFields, NoneFits, WritesIntent, WritesIntentOf, waiting_name}
 use Rattle.orc_hub.specs.Hubs.{record_of, with_record}
-use Rattle.orc_hub.specs.Queues.{FitsAt, IsFirstToFit, NoneToFit}
+use Rattle.orc_queue.specs.Queues.{FitsAt, IsFirstToFit, NoneToFit}
 use Rattle.orc_hub.specs.Writes.{HasBroken, HasNoRoom, HasWritten}
 use Rattle.orc_hub.specs.declared.hub.Admit.{Admit}
 use Rattle.orc_hub.specs.declared.hub.Admit.TheVariants as admit
@@ -61,22 +63,22 @@ module _ {D : Type 0} (disk : DiskMeaning D) (hub : Hub D) (it : Waiting) (sets 
   back : take (length active - 1) active ≡ hub.active
   back = subst (λ (l : List Transaction). take (length l - 1) l ≡ hub.active) (sym noted) (less_one hub.active (transaction_begun (length hub.state.history) it))
 
-  broken : (e : Entry) (new : Hub D) → HasBroken disk (record hub { active = active }) e new → HasBroken disk hub e new
-  broken e new b = record { failed = b.failed; down = b.down; decls = b.decls }
+  broken : (e : Entry) (answers : List Asked) (new : Hub D) → HasBroken disk (record hub { active = active }) e answers new → HasBroken disk hub e answers new
+  broken e answers new b = record { failed = b.failed; fits = b.fits; leaves = b.leaves; down = b.down; decls = b.decls; answers = b.answers }
 
   pub written : (result : Admit) (new : Hub D) → WritesIntentOf disk (record hub { active = active }) it.t it.asker name entry sets result new
       → WritesIntent disk hub it sets result new
   written (admit.Admitted given) new w = (
     w.0,
-    subst (λ (e : Entry). HasWritten disk hub e new) intent (record { appended = w.1.appended; unsettled = w.1.unsettled }),
+    subst (λ (e : Entry). HasWritten disk hub e new) intent (record { appended = w.1.appended; unsettled = w.1.unsettled; leaves = w.1.leaves }),
     w.2 ∙ ap (λ (l : List Transaction). record hub { log = new.log; active = l; duties = started it.t sets hub.duties }) noted,
   )
   written (admit.Answered caller number given) new w = (
     w.0 ∙ named,
     ⊎_elim
         (λ same. inl (same.0, same.1 ∙ ap (λ (l : List Transaction). with_record (record hub { active = l }) (answered it.asker given (record_of (record hub { active = l })))) back))
-        (λ failed. inr (failed.0, subst (λ (e : Entry). HasBroken disk hub e new) intent (broken entry new failed.1))) w.1,
+        (λ failed. inr (failed.0, subst (λ (e : Entry). HasBroken disk hub e (answered_at it.asker given hub.askers) new) intent (broken entry (answered_at it.asker given hub.askers) new failed.1))) w.1,
   )
   written (admit.Full len) new w =
-      subst (λ (e : Entry). HasNoRoom hub e len new) intent (record { length = w.length; too_long = w.too_long; journal = w.journal; down = w.down; decls = w.decls })
+      subst (λ (e : Entry). HasNoRoom hub e len new) intent (record { length = w.length; too_long = w.too_long; journal = w.journal; down = w.down; decls = w.decls; answers = w.answers })
   written admit.Nothing new w = w

@@ -3,7 +3,7 @@ use Rattle.std.proofs.Common.{◌≡◌, ℕ, ◌+◌, true, false, List, [], Is
 use Rattle.std.specs.List.{flat_map, range_with_len, slice_get}
 use Rattle.std.proofs.lemmas.List.{length-append, length-map}
 use Rattle.std.proofs.lemmas.List.Elements.{All-nil}
-use Rattle.std.proofs.lemmas.Option.{slice_get_within}
+use Rattle.std.proofs.lemmas.Option.{none-some, slice_get_within}
 use Rattle.std.proofs.lemmas.List.FromFn.{length-range_with_len}
 use Rattle.orc_call.specs.declared.answer.Why.{Why}
 use Rattle.orc_decls.specs.Declarations.{AreDecls}
@@ -104,6 +104,7 @@ module _ {D : Type 0} (decls : Decls) (journal : OpenJournal D) (past : Past) (d
         (subst (λ (l : List Waiting). AreAskers asked l []) (sym waits) (none_asked asked));
     duties = length_declared decls Free duties free;
     stale = length_declared decls (known_at_start journal.fresh) stale known;
+    mending = λ met mends. absurd (none-some met mends);
   }
 
 -- the place of an entry

@@ -1,11 +1,11 @@
 -- What submissions and admissions keep of the hub.
-use Rattle.std.proofs.Common.{◌≡◌, ◌≢◌, ◌⊎◌, inl, inr, ⊎_elim, ℕ, ◌+◌, ◌<◌, ◌≤◌, Bool, true, false, not, ◌&&◌, cond, nat_eq, nat_lt, List, [], ◌∷◌, ◌++◌, Option, None, Some, is_some, Err, Ok, All, IsTrue, length, take, get_or, set, append-nil, refl, sym, ap, subst, ◌∙◌, arith, lt-ltb, ltb-true, eqb-true}
+use Rattle.std.proofs.Common.{◌≡◌, ◌≢◌, ◌⊎◌, inl, inr, ⊎_elim, ℕ, ◌+◌, ◌<◌, ◌≤◌, Bool, true, false, not, ◌&&◌, cond, nat_eq, nat_lt, List, [], ◌∷◌, ◌++◌, Option, None, Some, is_some, Err, Ok, All, IsTrue, length, take, get_or, set, append-nil, refl, sym, ap, subst, ◌∙◌, arith, lt-ltb, ltb-true, eqb-true, eq-eqb}
 use Rattle.std.specs.Prelude.{Result, slice_get}
 use Rattle.std.specs.Cmp.{first_so, second_so}
 use Rattle.std.proofs.lemmas.Bool.{false≢true}
 use Rattle.std.proofs.lemmas.List.{length-set}
 use Rattle.std.proofs.lemmas.List.Elements.{All-push, All-weaker}
-use Rattle.std.proofs.lemmas.Option.{same_Some, slice_get-get_or}
+use Rattle.std.proofs.lemmas.Option.{none-some, same_Some, slice_get-get_or}
 use Rattle.orc_call.specs.declared.answer.Answer.{Answer}
 use Rattle.orc_call.specs.declared.answer.Answer.TheVariants as answer
 use Rattle.orc_call.specs.declared.call.Call.{Call}
@@ -61,6 +61,12 @@ length_started t (one ∷ sets) duties =
 
 -- numbers
 
+one_truth : (a b : Bool) → (a ≡ true → b ≡ true) → (b ≡ true → a ≡ true) → a ≡ b
+one_truth true true f g = refl
+one_truth false false f g = refl
+one_truth true false f g = absurd (false≢true (f refl))
+one_truth false true f g = absurd (false≢true (g refl))
+
 module _ (old new : Numbers) (t : ℕ) (least : IsLeastFree old t) (gives : GivesNumber old new t) where
   noted_same : (u : ℕ) → is_noted new u ≡ is_noted old u
   noted_same u = ap (λ s. is_noted (record old { noted = s }) u) gives.noted
@@ -91,6 +97,29 @@ module _ (old new : Numbers) (t : ℕ) (least : IsLeastFree old t) (gives : Give
       on : (b : Bool) → nat_eq t u ≡ b → cond b true (is_given old u) ≡ true → is_given new u ≡ true
       on true e so = subst (λ (n : ℕ). is_given new n ≡ true) (eqb-true t u e) (is_so t least.unnoted least.positive (omega arith))
       on false e so = given_still u so
+
+  -- those that are given are those that were, and this one
+  given_less : (u : ℕ) → is_given new u ≡ true → updated_at (is_given old) t true u ≡ true
+  given_less u h = on (nat_eq t u) refl
+    where
+      so : (is_noted new u ≡ false) × (nat_lt 0 u ≡ true) × (nat_lt u new.next ≡ true)
+      so = parts (is_noted new u) (nat_lt 0 u) (nat_lt u new.next) h
+
+      was : nat_eq t u ≡ false → is_given old u ≡ true
+      was e =
+          let positive = ltb-true 0 u so.1 in
+          let below = ltb-true u new.next so.2 in
+          let apart : t ≡ u → ⊥ = λ same. false≢true (sym e ∙ eq-eqb t u same) in
+          let next = gives.next in
+          let less : u < t = omega (arith, below, next, apart) in
+          ⊎_elim (λ given. given) (λ noted. absurd (false≢true (sym so.0 ∙ noted_same u ∙ noted))) (least.least u (omega (arith, positive)) less)
+
+      on : (b : Bool) → nat_eq t u ≡ b → cond b true (is_given old u) ≡ true
+      on true e = refl
+      on false e = was e
+
+  pub given_same : (u : ℕ) → is_given new u ≡ updated_at (is_given old) t true u
+  given_same u = one_truth (is_given new u) (updated_at (is_given old) t true u) (given_less u) (given_more u)
 
   pub numbers_given : (entries : List Entry) → AreNumbers old entries → AreNumbers new entries
   numbers_given entries own = record {
@@ -125,6 +154,7 @@ module _ {D : Type 0} (disk : DiskMeaning D) (hub : Hub D) (entries : List Entry
       };
       duties = own.duties;
       stale = own.stale;
+      mending = own.mending;
     }
 
     pub turns_away_so : (given : Answer) (result : Admit) (new : Hub D) → TurnsAway (record hub { waiting = without place hub.waiting }) it.asker (waiting_name it) given result new
@@ -135,7 +165,7 @@ module _ {D : Type 0} (disk : DiskMeaning D) (hub : Hub D) (entries : List Entry
     turns_away_so given admit.Nothing new w = absurd w
 
     -- it gets its Intent
-    begun : KeepsOrder → IsFirstFit hub.active hub.waiting place → (sets : List (ℕ × ChangeSet)) → Passes hub.decls hub.state.history it.call it.plan sets → (new : Hub D)
+    begun : KeepsOrder → hub.mends ≡ None → IsFirstFit hub.active hub.waiting place → (sets : List (ℕ × ChangeSet)) → Passes hub.decls hub.state.history it.call it.plan sets → (new : Hub D)
         → HasWritten disk (record hub { waiting = without place hub.waiting }) (intent_entry it) new
         → new ≡ record hub {
           log = new.log;
@@ -144,7 +174,7 @@ module _ {D : Type 0} (disk : DiskMeaning D) (hub : Hub D) (entries : List Entry
           duties = started it.t sets hub.duties;
         }
         → IsHub disk new (entries ++ intent_entry it ∷ [])
-    begun law first sets passes new w is =
+    begun law mended first sets passes new w is =
         let e = intent_entry it in
         let unnamed : IsUnnamed entries it.t = All-at (λ (one : Waiting). IsUnnamed entries one.t) hub.waiting place it own.kept.unused there in
         let given : is_given hub.numbers it.t ≡ true = All-at (λ (one : Waiting). is_given hub.numbers one.t ≡ true) hub.waiting place it own.kept.numbered there in
@@ -165,17 +195,18 @@ module _ {D : Type 0} (disk : DiskMeaning D) (hub : Hub D) (entries : List Entry
           };
           duties = length_started it.t sets hub.duties ∙ own.duties;
           stale = own.stale;
+          mending = λ met mends. absurd (none-some met (sym mended ∙ mends));
         })
 
-    pub begins_so : KeepsOrder → IsFirstFit hub.active hub.waiting place → (sets : List (ℕ × ChangeSet)) → Passes hub.decls hub.state.history it.call it.plan sets
+    pub begins_so : KeepsOrder → hub.mends ≡ None → IsFirstFit hub.active hub.waiting place → (sets : List (ℕ × ChangeSet)) → Passes hub.decls hub.state.history it.call it.plan sets
         → (result : Admit) (new : Hub D) → WritesIntent disk (record hub { waiting = without place hub.waiting }) it sets result new → new.down ≡ false
         → IsHub disk new (entries ++ row_by result it)
-    begins_so law first sets passes (admit.Admitted t) new w up = begun law first sets passes new w.1 w.2
-    begins_so law first sets passes (admit.Answered caller number said) new w up =
+    begins_so law mended first sets passes (admit.Admitted t) new w up = begun law mended first sets passes new w.1 w.2
+    begins_so law mended first sets passes (admit.Answered caller number said) new w up =
         subst (IsHub disk new) (sym (append-nil entries))
         (⊎_elim (λ memory. subst (λ (h : Hub D). IsHub disk h entries) (sym memory.1) (turned said)) (λ broken. absurd (false≢true (sym up ∙ broken.1.down))) w.1)
-    begins_so law first sets passes (admit.Full len) new w up = absurd (false≢true (sym up ∙ w.down))
-    begins_so law first sets passes admit.Nothing new w up = absurd w
+    begins_so law mended first sets passes (admit.Full len) new w up = absurd (false≢true (sym up ∙ w.down))
+    begins_so law mended first sets passes admit.Nothing new w up = absurd w
 
   -- a submission
   module _ (call : Call) where
@@ -199,6 +230,7 @@ module _ {D : Type 0} (disk : DiskMeaning D) (hub : Hub D) (entries : List Entry
           askers = askers;
           duties = own.duties;
           stale = own.stale;
+          mending = own.mending;
         })
 
     answered_so : (said : Answer) (asked : List Asked) → KeepsAnswer call said hub.askers asked → AreAskers asked hub.waiting hub.active
@@ -257,6 +289,7 @@ module _ {D : Type 0} (disk : DiskMeaning D) (hub : Hub D) (entries : List Entry
           };
           duties = own.duties;
           stale = own.stale;
+          mending = own.mending;
         })
 
     pub submits_so : PlanIsAtFront → IsTrue (is_call hub.decls call) → (front : ℕ) → front ≤ length hub.state.history → (plan : Result Plan Answer)

@@ -1,7 +1,8 @@
 -- A transaction whose decision is due is committed, or given up: told of the hub before.
-use Rattle.std.proofs.Common.{◌≡◌, ◌⊎◌, inl, inr, ℕ, ◌+◌, false, true, ◌||◌, List, [], ◌∷◌, ◌++◌, None, length, refl, sym, ap, subst, ◌∙◌, arith}
+use Rattle.std.proofs.Common.{◌≡◌, ◌⊎◌, ⊎_elim, inl, inr, ℕ, ◌+◌, false, true, ◌||◌, List, [], ◌∷◌, ◌++◌, None, length, refl, sym, ap, subst, ◌∙◌, arith}
 use Rattle.std.specs.declared.result.Result.TheVariants.{Ok, Err}
 use Rattle.std.proofs.lemmas.List.{length-append}
+use Rattle.orc_call.specs.Answers.{HoldsText}
 use Rattle.orc_call.specs.declared.answer.Answer.{Answer}
 use Rattle.orc_call.specs.declared.answer.Answer.TheVariants as answer
 use Rattle.orc_disk.specs.Meanings.{DiskMeaning}
@@ -16,6 +17,7 @@ use Rattle.orc_hub.specs.Askers.{named_at}
 use Rattle.orc_hub.specs.Decisions.{CommitsOne, GivesUp, GivesUpFor, WritesAbort, WritesDecide, asker_name}
 use Rattle.orc_hub.specs.declared.hub.Decided.{Decided}
 use Rattle.orc_hub.specs.declared.hub.Hub.{Hub}
+use Rattle.orc_hub.proofs.Plainly.{verdict_plain}
 
 -- where it isn't to be settled, its decision is due
 pub decision_due : (duties : List Duty) (it : Transaction) → is_settling it.phase ≡ false → is_entry_due duties it ≡ true → is_decision_due duties it ≡ true
@@ -39,14 +41,18 @@ module _ {D : Type 0} (disk : DiskMeaning D) (hub : Hub D) (it : Transaction) (n
 
   pub given_up : (given : Answer) (between : Hub D) (result : Decided) (new : Hub D) → between ≡ hub → GivesUpFor disk hub it given
       → WritesAbort disk between it.t it.asker (named_at between.askers it.asker) given result new
-      ⊎ WritesAbort disk between it.t it.asker (named_at between.askers it.asker) answer.Memory result new
+      ⊎ (HoldsText given × WritesAbort disk between it.t it.asker (named_at between.askers it.asker) answer.Memory result new)
       → GivesUp disk hub it result new
   given_up given between result new is cause (inl w) = record { given = given; cause = cause; written = back given w }
     where
       back : (a : Answer) → WritesAbort disk between it.t it.asker (named_at between.askers it.asker) a result new → WritesAbort disk hub it.t it.asker (asker_name it) a result new
       back a v = subst (λ (name : List ℕ × ℕ). WritesAbort disk hub it.t it.asker name a result new) named
           (subst (λ (h : Hub D). WritesAbort disk h it.t it.asker (named_at h.askers it.asker) a result new) is v)
-  given_up given between result new is cause (inr w) = record { given = answer.Memory; cause = inl refl; written = back answer.Memory w }
+  given_up given between result new is cause (inr w) = record {
+    given = answer.Memory;
+    cause = ⊎_elim (λ said. absurd (verdict_plain hub.duties it.t it.plan.held.devices given said w.0)) (λ prepared. inr (prepared.0, inl refl)) cause;
+    written = back answer.Memory w.1;
+  }
     where
       back : (a : Answer) → WritesAbort disk between it.t it.asker (named_at between.askers it.asker) a result new → WritesAbort disk hub it.t it.asker (asker_name it) a result new
       back a v = subst (λ (name : List ℕ × ℕ). WritesAbort disk hub it.t it.asker name a result new) named

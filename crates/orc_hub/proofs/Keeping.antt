@@ -2,13 +2,14 @@
 use Rattle.std.proofs.Common.{◌≡◌, ◌≢◌, ◌⊎◌, inl, inr, ⊎_elim, ℕ, ◌+◌, ◌<◌, Bool, true, false, not, ◌&&◌, nat_eq, List, [], ◌∷◌, ◌++◌, Option, None, Some, option_to_list, All, Contains, IsTrue, map, length, set, refl, sym, ap, subst, ◌∙◌}
 use Rattle.std.specs.Prelude.{slice_get}
 use Rattle.std.specs.List.{filter}
-use Rattle.std.specs.Option.{option_map_or}
+use Rattle.std.specs.Option.{option_map_or, option_or}
 use Rattle.std.specs.Cmp.{first_so}
 use Rattle.std.proofs.lemmas.Bool.{false≢true}
 use Rattle.std.proofs.lemmas.List.{length-map, length-set}
 use Rattle.std.proofs.lemmas.List.Elements.{All-contains, All-pop, All-push}
 use Rattle.std.proofs.lemmas.List.Sums.{fold_push}
 use Rattle.orc_call.specs.declared.answer.Answer.{Answer}
+use Rattle.orc_call.specs.declared.answer.RecFault.{RecFault}
 use Rattle.orc_call.specs.declared.call.Call.{Call}
 use Rattle.orc_datastore.specs.Legal.{IsSame}
 use Rattle.orc_device.specs.declared.reply.Reply.{Reply}
@@ -23,7 +24,7 @@ use Rattle.orc_plans.specs.Plans.{PlanStands}
 use Rattle.orc_rules.specs.Asked.{answered_at}
 use Rattle.orc_rules.specs.Due.{is_decision_due}
 use Rattle.orc_rules.specs.Duties.{duty_end, duty_took, duty_told, stale_by}
-use Rattle.orc_rules.specs.Hubs.{answered, duty_on, hub_reported, hub_told, with_changed}
+use Rattle.orc_rules.specs.Hubs.{answered, duty_on, hub_reported, hub_told, mend_fault, with_changed}
 use Rattle.orc_rules.specs.Kept.{HubKept, IsOpenIn}
 use Rattle.orc_rules.specs.Transactions.{in_phase, is_other, is_preparing, is_settling, retired}
 use Rattle.orc_rules.specs.Verdicts.{are_heard}
@@ -32,7 +33,7 @@ use Rattle.orc_rules.specs.declared.transaction.Phase.{Phase}
 use Rattle.orc_rules.specs.declared.transaction.Phase.TheVariants as phase
 use Rattle.orc_rules.specs.declared.transaction.Transaction.{Transaction}
 use Rattle.orc_rules.specs.declared.transaction.Waiting.{Waiting}
-use Rattle.orc_rules.proofs.Entering.{apart_of}
+use Rattle.orc_rules.proofs.Entering.{All-at, apart_of}
 use Rattle.orc_rules.proofs.Fronts.{history_of-append}
 use Rattle.orc_rules.proofs.Leaving.{leaves_hub, phase_leaves, stayed}
 use Rattle.orc_rules.proofs.Legality.{same_history}
@@ -52,6 +53,7 @@ use Rattle.orc_hub.specs.declared.log.Unsettled.{Unsettled}
 use Rattle.orc_hub.specs.declared.numbers.Numbers.{Numbers}
 use Rattle.orc_hub.specs.Numbered.{is_given, is_noted}
 use Rattle.orc_hub.proofs.Asking.{asks_still}
+use Rattle.orc_hub.proofs.Lefts.{begun_before, still_left}
 
 -- lengths
 
@@ -104,11 +106,18 @@ module _ {D : Type 0} (disk : DiskMeaning D) where
         };
         duties = length_changed (λ (duty : Duty). duty_took duty reply faults) device hub.duties ∙ own.duties;
         stale = length_changed (stale_by (duty_on hub.duties device) reply faults) device hub.stale ∙ own.stale;
+        mending = λ met mends.
+            let begun = begun_before (λ (so_far : Option RecFault). option_or so_far (mend_fault device (duty_end (duty_on hub.duties device) reply faults))) hub.mends met mends in
+            still_left duties hub.active hub.duties device reply faults (own.mending begun.0 begun.1);
       }
 
   -- a transaction that isn't decided
   module _ (hub : Hub D) (entries : List Entry) (own : IsHub disk hub entries) (place : ℕ) (it : Transaction) (is : slice_get hub.active place ≡ Some it)
       (preparing : is_preparing it.phase ≡ true) where
+    none_left : (met : Option RecFault) → hub.mends ≡ Some met → ⊥
+    none_left met mends =
+        false≢true (sym (ap is_preparing (All-at (λ (x : Transaction). x.phase ≡ phase.Left) hub.active place it (own.mending met mends).left is)) ∙ preparing)
+
     open_in : IsOpenIn entries it
     open_in = own.kept.intents place it is preparing
 
@@ -151,6 +160,7 @@ module _ {D : Type 0} (disk : DiskMeaning D) where
           askers = others_ask said phase.Aborted refl duties;
           duties = length-map hub.duties (duty_told it.t false) ∙ own.duties;
           stale = own.stale;
+          mending = λ met mends. absurd (none_left met mends);
         })
 
     pub gives_up_so : KeepsOrder → (given : Answer) (result : Decided) (new : Hub D) → WritesAbort disk hub it.t it.asker (asker_name it) given result new → new.down ≡ false
@@ -183,6 +193,7 @@ module _ {D : Type 0} (disk : DiskMeaning D) where
           askers = others_ask said phase.Decided refl duties;
           duties = length-map hub.duties (duty_told it.t true) ∙ own.duties;
           stale = own.stale;
+          mending = λ met mends. absurd (none_left met mends);
         })
 
     pub commits_so : KeepsOrder → PlanStands → (behind : State) (n : ℕ) → IsCommitted hub.decls hub.state it.call n behind → (result : Decided) (new : Hub D)
@@ -197,6 +208,10 @@ module _ {D : Type 0} (disk : DiskMeaning D) where
   -- it is settled
   module _ (hub : Hub D) (entries : List Entry) (own : IsHub disk hub entries) (place : ℕ) (it : Transaction) (is : slice_get hub.active place ≡ Some it)
       (settling : is_settling it.phase ≡ true) where
+    none_settling : (met : Option RecFault) → hub.mends ≡ Some met → ⊥
+    none_settling met mends =
+        false≢true (sym (ap is_settling (All-at (λ (x : Transaction). x.phase ≡ phase.Left) hub.active place it (own.mending met mends).left is)) ∙ settling)
+
     settled : KeepsOrder → (new : Hub D) → HasWritten disk hub (entry.Settled it.t) new
         → new ≡ record hub { log = new.log; active = filter (is_other it.t) hub.active } → IsHub disk new (entries ++ entry.Settled it.t ∷ [])
     settled law new w is' =
@@ -217,6 +232,7 @@ module _ {D : Type 0} (disk : DiskMeaning D) where
           };
           duties = own.duties;
           stale = own.stale;
+          mending = λ met mends. absurd (none_settling met mends);
         })
 
     pub settles_so : KeepsOrder → (result : Decided) (new : Hub D) → WritesSettled disk hub it.t result new → new.down ≡ false → IsHub disk new (entries ++ entry.Settled it.t ∷ [])

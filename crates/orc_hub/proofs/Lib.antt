@@ -1,5 +1,4 @@
 mod Told
-mod Loops
 mod Places
 mod Dues
 mod Encodable
@@ -13,15 +12,18 @@ mod Numbering
 mod DecisionDue
 mod Waiting
 mod Commits
-mod Submissions
+pub mod Submissions
 mod Admissions
-mod Asking
+pub mod Asking
+mod Lefts
 mod Keeping
 mod Settlings
-mod Coming
+pub mod Coming
 mod Pasts
 mod Replayed
 mod AtStart
 mod Wholly
-mod Unsettling
-mod Ending
+pub mod Unsettling
+pub mod Ending
+mod EditsDue
+mod Plainly

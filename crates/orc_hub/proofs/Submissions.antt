@@ -36,17 +36,18 @@ module _ {D : Type 0} (old : Hub D) (call : Call) (front : ℕ) (plan : Result P
   wanted : (said : Answer) → said ≡ answer.Memory → AnswersSubmission old.decls (record_of old) old.state.history call front said
   wanted said is = subst (λ (a : Answer). AnswersSubmission old.decls (record_of old) old.state.history call front a) (sym is) wanting
 
-  -- it is answered at once
-  pub now_is : (due : Answer) → AnswersSubmission old.decls (record_of old) old.state.history call front due → (result : Submitted) (new : Hub D)
-      → AnswersNow old call due result new → Submits old call front plan result new
-  now_is due cause (submitted.Answered said) new w = inr (
-    up,
-    ⊎_elim (λ same. subst (λ (a : Answer). AnswersSubmission old.decls (record_of old) old.state.history call front a) (sym same) cause) (λ memory. wanted said memory) w.0,
-    w.1,
-  )
-  now_is due cause (submitted.Queued t) new w = absurd w
-
   module _ (closed : open_of old.askers call.caller ≡ None) where
+    -- it is answered at once
+    pub now_is : (due : Answer) → AnswersSubmission old.decls (record_of old) old.state.history call front due → (result : Submitted) (new : Hub D)
+        → AnswersNow old call due result new → Submits old call front plan result new
+    now_is due cause (submitted.Answered said) new w = inr (
+      up,
+      ⊎_elim (λ same. subst (λ (a : Answer). AnswersSubmission old.decls (record_of old) old.state.history call front a) (sym same) cause) (λ memory. wanted said memory) w.0,
+      w.1,
+      λ _. closed,
+    )
+    now_is due cause (submitted.Queued t) new w = absurd w
+
     pub again_is : (said : Answer) → AnswersAgain old.state.history call said → AnswersSubmission old.decls (record_of old) old.state.history call front said
     again_is said (again number entry) = repeats number closed entry
     again_is said (reused number entry there same differ) = renumbers number entry closed there same differ
@@ -55,7 +56,7 @@ module _ {D : Type 0} (old : Hub D) (call : Call) (front : ℕ) (plan : Result P
     free_is : (p : Result Plan Answer) → plan ≡ p → (p ≡ Err answer.Memory) ⊎ (p ≡ planned old.decls (state_of old.decls (take front old.state.history)) front call)
         → IsNew old.state.history call → (result : Submitted) (new : Hub D)
         → MatchResult p (λ it. Queues old call it result new) (λ said. AnswersNow old call said result new) → Submits old call front plan result new
-    free_is (Ok it) is of fresh (submitted.Answered said) new w = inr (up, wanted said w.0, w.1)
+    free_is (Ok it) is of fresh (submitted.Answered said) new w = inr (up, wanted said w.0, w.1, λ _. closed)
     free_is (Ok it) is of fresh (submitted.Queued t) new w = (up, record { closed = closed; new = fresh }, (it, is, w))
     free_is (Err given) is of fresh result new w = now_is given (cause given of) result new w
       where
@@ -79,6 +80,7 @@ module _ {D : Type 0} (old : Hub D) (call : Call) (front : ℕ) (plan : Result P
           (ap (λ (o : Option ℕ). cond (is_some o) old.askers (slot_set old.askers call (slot_of old.askers call) (Some (answer.Busy number)) false)) is) kept;
       rest = refl;
     },
+    λ memory. (let no : answer.Busy number ≡ answer.Memory = memory in cc),
   )
 
 -- the number of a call that waits is the next one

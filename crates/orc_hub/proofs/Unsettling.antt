@@ -31,18 +31,18 @@ apart_more one (x ∷ xs) differs apart (suc n) = (
   apart_more one xs (All-tail (λ other. one.t ≢ other.t) x xs differs) apart.1 n,
 )
 
-all_more : (P : Unsettled → Type 0) (one : Unsettled) (xs : List Unsettled) → P one → All P xs → (n : ℕ) → All P (take n xs ++ one ∷ drop n xs)
+pub all_more : (P : Unsettled → Type 0) (one : Unsettled) (xs : List Unsettled) → P one → All P xs → (n : ℕ) → All P (take n xs ++ one ∷ drop n xs)
 all_more P one xs own all n = All-append P (take n xs) (one ∷ drop n xs) (All-take P n xs all) (All-cons P one (drop n xs) own (All-drop P n xs all))
 
 -- one is decided
-same_number : (t : ℕ) (one : Unsettled) → (decided_by t one).t ≡ one.t
+pub same_number : (t : ℕ) (one : Unsettled) → (decided_by t one).t ≡ one.t
 same_number t one = on (nat_eq one.t t) refl
   where
     on : (b : Bool) → nat_eq one.t t ≡ b → (decided_by t one).t ≡ one.t
     on true e = ap (λ (b : Bool). (cond b (record one { is_decided = true }) one).t) e
     on false e = ap (λ (b : Bool). (cond b (record one { is_decided = true }) one).t) e
 
-all_decided : (P : ℕ → Type 0) (t : ℕ) (xs : List Unsettled) → All (λ one. P one.t) xs → All (λ one. P one.t) (map (decided_by t) xs)
+pub all_decided : (P : ℕ → Type 0) (t : ℕ) (xs : List Unsettled) → All (λ one. P one.t) xs → All (λ one. P one.t) (map (decided_by t) xs)
 all_decided P t xs all =
     All-map (λ (one : Unsettled). P one.t) (decided_by t) xs
     (All-weaker (λ (one : Unsettled). P one.t) (λ (one : Unsettled). P (decided_by t one).t) (λ one h. subst P (sym (same_number t one)) h) xs all)
@@ -78,7 +78,7 @@ module _ (t : ℕ) (x : Unsettled) (xs : List Unsettled) where
   one : (m : ℕ) → 1 + m ≡ suc m
   one m = omega arith
 
-  settled_cons : (b : Bool) → nat_eq x.t t ≡ b → settled_by t (x ∷ xs) ≡ cond b xs (x ∷ settled_by t xs)
+  pub settled_cons : (b : Bool) → nat_eq x.t t ≡ b → settled_by t (x ∷ xs) ≡ cond b xs (x ∷ settled_by t xs)
   settled_cons true e =
       let m = position_or_len (has_number t) xs in
       ap (λ (c : Bool). at (cond (not c) (1 + m) 0) (nat_lt (cond (not c) (1 + m) 0) (suc (length xs)))) e
@@ -88,7 +88,7 @@ module _ (t : ℕ) (x : Unsettled) (xs : List Unsettled) where
       ap (λ (c : Bool). at (cond (not c) (1 + m) 0) (nat_lt (cond (not c) (1 + m) 0) (suc (length xs)))) e
       ∙ ap (λ (n : ℕ). at n (nat_lt n (suc (length xs)))) (one m) ∙ ap (at (suc m)) (less_again m (length xs)) ∙ later m (nat_lt m (length xs))
 
-all_settled : (P : Unsettled → Type 0) (t : ℕ) (xs : List Unsettled) → All P xs → All P (settled_by t xs)
+pub all_settled : (P : Unsettled → Type 0) (t : ℕ) (xs : List Unsettled) → All P xs → All P (settled_by t xs)
 all_settled P t [] all = all
 all_settled P t (x ∷ xs) all = on (nat_eq x.t t) refl (all_settled P t xs (All-tail P x xs all))
   where
@@ -104,7 +104,7 @@ apart_settled t (x ∷ xs) apart = on (nat_eq x.t t) refl (apart_settled t xs ap
     on true e rest = subst AreApart (sym (settled_cons t x xs true e)) apart.1
     on false e rest = subst AreApart (sym (settled_cons t x xs false e)) (all_settled (λ other. x.t ≢ other.t) t xs apart.0, rest)
 
-gone : (t : ℕ) (xs : List Unsettled) → AreApart xs → All (λ one. one.t ≢ t) (settled_by t xs)
+pub gone : (t : ℕ) (xs : List Unsettled) → AreApart xs → All (λ one. one.t ≢ t) (settled_by t xs)
 gone t [] apart = All-nil _
 gone t (x ∷ xs) apart = on (nat_eq x.t t) refl (gone t xs apart.1)
   where
@@ -130,7 +130,7 @@ all_still : (entries : List Entry) (e : Entry) (xs : List Unsettled) → ((t : �
 all_still entries e xs other all =
     All-weaker (λ one. MayFollow entries (Settled one.t)) (λ one. MayFollow (entries ++ e ∷ []) (Settled one.t)) (λ one may. still entries e one.t (other one.t) may) xs all
 
-both : {P Q R : Unsettled → Type 0} → ((x : Unsettled) → P x → Q x → R x) → (xs : List Unsettled) → All P xs → All Q xs → All R xs
+pub both : {P Q R : Unsettled → Type 0} → ((x : Unsettled) → P x → Q x → R x) → (xs : List Unsettled) → All P xs → All Q xs → All R xs
 both f [] p q = All-nil _
 both {P = P} {Q = Q} {R = R} f (x ∷ xs) p q = All-cons R x xs (f x (All-head P x xs p) (All-head Q x xs q)) (both f xs (All-tail P x xs p) (All-tail Q x xs q))
 

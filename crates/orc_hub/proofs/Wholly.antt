@@ -1,9 +1,10 @@
 -- Each call keeps the hub.
-use Rattle.std.proofs.Common.{◌≡◌, ◌⊎◌, ⊎_elim, ℕ, ◌+◌, ◌≤◌, true, false, List, [], ◌∷◌, ◌++◌, IsTrue, Result, Ok, Err, Some, length, take, refl, sym, ap, subst, ◌∙◌, append-nil}
+use Rattle.std.proofs.Common.{◌≡◌, ◌⊎◌, ⊎_elim, ℕ, ◌+◌, ◌≤◌, true, false, List, [], ◌∷◌, ◌++◌, IsTrue, Result, Ok, Err, None, Some, get_or, length, take, refl, sym, ap, subst, ◌∙◌, append-nil}
 use Rattle.std.specs.Prelude.{OnErr, OnOk, map, slice_get}
 use Rattle.std.specs.List.{range_with_len}
 use Rattle.std.proofs.lemmas.Bool.{false≢true}
 use Rattle.std.proofs.lemmas.List.{length-map}
+use Rattle.std.proofs.lemmas.List.Elements.{All-map}
 use Rattle.std.proofs.lemmas.List.FromFn.{length-range_with_len}
 use Rattle.orc_call.specs.declared.answer.Answer.{Answer}
 use Rattle.orc_call.specs.declared.answer.Answer.TheVariants as answer
@@ -14,22 +15,25 @@ use Rattle.orc_datastore.specs.declared.plan.Plan.{Plan}
 use Rattle.orc_decls.specs.Calls.{is_call}
 use Rattle.orc_device.specs.declared.reply.Reply.{Reply}
 use Rattle.orc_disk.specs.Meanings.{DiskMeaning}
+use Rattle.orc_datastore.specs.States.{tree_due}
 use Rattle.orc_journal.specs.declared.entry.Entry.{Entry}
 use Rattle.orc_journal.specs.declared.entry.Entry.TheVariants as entry
+use Rattle.orc_recover.specs.Menders.{new_mender}
 use Rattle.orc_rules.specs.Admissions.{without}
 use Rattle.orc_rules.specs.Due.{is_decision_due}
 use Rattle.orc_rules.specs.Fits.{IsFirstFit}
 use Rattle.orc_rules.specs.Hubs.{hub_reported}
 use Rattle.orc_rules.specs.Transactions.{is_settling}
+use Rattle.orc_rules.specs.Worlds.{IsIdle}
 use Rattle.orc_rules.specs.declared.transaction.Transaction.{Transaction}
 use Rattle.orc_rules.specs.declared.transaction.Waiting.{Waiting}
 use Rattle.orc_text.specs.declared.memory.Memory.{Memory}
 use Rattle.orc_hub.specs.Admits.{Admits, AdmitsOne, Begins, IsNotAdmitted, TurnsAway, WritesIntent, row_by, waiting_name}
 use Rattle.orc_hub.specs.Decisions.{CommitsOne, Decides, DecidesOn, GivesUp, WritesAbort, WritesDecide, WritesSettled, asker_name}
 use Rattle.orc_hub.specs.Hubs.{record_of, with_record}
-use Rattle.orc_hub.specs.Keeps.{IsHub, IsSoundHub, KeepsHub}
-use Rattle.orc_hub.specs.Laws.{AbortKeeps, BeginKeeps, CommitKeeps, ReportKeeps, SettleKeeps, SubmitKeeps, TurnAwayKeeps}
-use Rattle.orc_hub.specs.Mends.{begun_on, begun_to_mend}
+use Rattle.orc_hub.specs.Keeps.{HasMender, IsHub, IsSoundHub, KeepsHub}
+use Rattle.orc_hub.specs.Laws.{AbortKeeps, BeginKeeps, CommitKeeps, MendingBegunKeeps, ReportKeeps, SettleKeeps, SubmitKeeps, TurnAwayKeeps}
+use Rattle.orc_hub.specs.Mends.{begun_on, begun_to_mend, resolved_on}
 use Rattle.orc_hub.specs.Submits.{Submits}
 use Rattle.orc_hub.specs.declared.hub.Admit.{Admit}
 use Rattle.orc_hub.specs.declared.hub.Admit.TheVariants as admit
@@ -38,6 +42,7 @@ use Rattle.orc_hub.specs.declared.hub.Decided.TheVariants as decided
 use Rattle.orc_hub.specs.declared.hub.Hub.{Hub}
 use Rattle.orc_hub.specs.declared.hub.Submitted.{Submitted}
 use Rattle.orc_hub.specs.declared.hub.Submitted.TheVariants as submitted
+use Rattle.orc_hub.proofs.Lefts.{all_left}
 
 module _ {D : Type 0} (disk : DiskMeaning D) where
   -- nothing changed
@@ -45,6 +50,7 @@ module _ {D : Type 0} (disk : DiskMeaning D) where
   same_kept old new same = record {
     decls = ap (λ (h : Hub D). h.decls) same;
     sound = subst (λ (h : Hub D). IsSoundHub disk old → IsSoundHub disk h) (sym same) (λ h. h);
+    still_down = λ down. ap (λ (h : Hub D). h.down) same ∙ down;
     history = λ up. ([], ap (λ (h : Hub D). h.state.history) same ∙ sym (append-nil old.state.history));
   }
 
@@ -53,6 +59,7 @@ module _ {D : Type 0} (disk : DiskMeaning D) where
   fallen old new decls down = record {
     decls = decls;
     sound = λ h up. absurd (false≢true (sym up ∙ down));
+    still_down = λ was. down;
     history = λ up. absurd (false≢true (sym up ∙ down));
   }
 
@@ -62,6 +69,7 @@ module _ {D : Type 0} (disk : DiskMeaning D) where
   grows old new more decls history was keeps = record {
     decls = decls;
     sound = λ h up. (let own = h was in keeps own.0 own.1 up);
+    still_down = λ down. absurd (false≢true (sym was ∙ down));
     history = λ up. (more, history);
   }
 
@@ -75,6 +83,7 @@ module _ {D : Type 0} (disk : DiskMeaning D) where
   report_kept law hub device reply faults = record {
     decls = refl;
     sound = λ h up. (let own = h up in (own.0, law hub own.0 device reply faults own.1));
+    still_down = λ down. down;
     history = λ up. ([], sym (append-nil hub.state.history));
   }
 
@@ -146,7 +155,7 @@ module _ {D : Type 0} (disk : DiskMeaning D) where
   -- admissions
 
   module _ (turn_away : TurnAwayKeeps disk) (begin : BeginKeeps disk) (old new : Hub D) (was : old.down ≡ false) (place : ℕ) (it : Waiting)
-      (there : slice_get old.waiting place ≡ Some it) (first : IsFirstFit old.active old.waiting place) where
+      (there : slice_get old.waiting place ≡ Some it) (mended : old.mends ≡ None) (first : IsFirstFit old.active old.waiting place) where
     turned_kept : (given : Answer) (result : Admit) → TurnsAway (record old { waiting = without place old.waiting }) it.asker (waiting_name it) given result new → KeepsHub disk old new
     turned_kept given (admit.Answered caller number said) w =
         stays old new (ap (λ (h : Hub D). h.decls) w.2) (ap (λ (h : Hub D). h.state.history) w.2) was
@@ -157,7 +166,7 @@ module _ {D : Type 0} (disk : DiskMeaning D) where
 
     begun_kept : (result : Admit) → Begins disk (record old { waiting = without place old.waiting }) it result new → KeepsHub disk old new
     begun_kept result so = on result so.written
-        (λ entries own up. (entries ++ row_by result it, begin old new entries place it so.sets result own there first so.passes so.written up))
+        (λ entries own up. (entries ++ row_by result it, begin old new entries place it so.sets result own mended there first so.passes so.written up))
       where
         on : (r : Admit) → WritesIntent disk (record old { waiting = without place old.waiting }) it so.sets r new
             → ((entries : List Entry) → IsHub disk old entries → new.down ≡ false → (later : List Entry) × IsHub disk new later) → KeepsHub disk old new
@@ -168,33 +177,42 @@ module _ {D : Type 0} (disk : DiskMeaning D) where
         on (admit.Full len) w keeps = fallen old new w.decls w.down
         on admit.Nothing w keeps = absurd w
 
-  pub admits_kept : TurnAwayKeeps disk → BeginKeeps disk → (old new : Hub D) (result : Admit) → old.down ≡ false → Admits disk old result new → KeepsHub disk old new
-  admits_kept turn_away begin old new result was so =
+  pub admits_kept : TurnAwayKeeps disk → BeginKeeps disk → (old new : Hub D) (result : Admit) → old.down ≡ false → old.mends ≡ None → Admits disk old result new → KeepsHub disk old new
+  admits_kept turn_away begin old new result was mended so =
       ⊎_elim (λ none. same_kept old new none.2)
-      (λ one. ⊎_elim (λ answered. turned_kept turn_away begin old new was one.0 one.1 one.2 one.3 answered.given result answered.turned)
-      (begun_kept turn_away begin old new was one.0 one.1 one.2 one.3 result) one.4) so
+      (λ one. ⊎_elim (λ answered. turned_kept turn_away begin old new was one.0 one.1 one.2 mended one.3 answered.given result answered.turned)
+      (begun_kept turn_away begin old new was one.0 one.1 one.2 mended one.3 result) one.4) so
 
   -- the beginning of a reconciliation
 
-  pub mending_begun_kept : (hub : Hub D) → KeepsHub disk hub (begun_to_mend hub)
-  mending_begun_kept hub = record {
-    decls = refl;
-    sound = λ h up. (let own = h up in (own.0, begun own.0 own.1));
-    history = λ up. ([], sym (append-nil hub.state.history));
+  pub begun_so : (hub : Hub D) (entries : List Entry) → IsHub disk hub entries → IsIdle (record_of hub) → IsHub disk (begun_to_mend hub) entries
+  begun_so hub entries own idle = record {
+    decls = own.decls;
+    log = own.log;
+    history = own.history;
+    state = own.state;
+    kept = own.kept;
+    numbers = own.numbers;
+    askers = own.askers;
+    duties = length-map (range_with_len 0 (length hub.decls.names)) (begun_on hub) ∙ length-range_with_len 0 (length hub.decls.names);
+    stale = own.stale;
+    mending = λ met mends. record {
+      left = all_left hub.active idle.1;
+      mends = All-map HasMender (begun_on hub) (range_with_len 0 (length hub.decls.names))
+          (λ k d within. has_mender (get_or (range_with_len 0 (length hub.decls.names)) k d));
+    };
   }
     where
-      begun : (entries : List Entry) → IsHub disk hub entries → IsHub disk (begun_to_mend hub) entries
-      begun entries own = record {
-        decls = own.decls;
-        log = own.log;
-        history = own.history;
-        state = own.state;
-        kept = own.kept;
-        numbers = own.numbers;
-        askers = own.askers;
-        duties = length-map (range_with_len 0 (length hub.decls.names)) (begun_on hub) ∙ length-range_with_len 0 (length hub.decls.names);
-        stale = own.stale;
-      }
+      has_mender : (device : ℕ) → HasMender (begun_on hub device)
+      has_mender device = (new_mender (resolved_on device hub.log.unsettled) (tree_due hub.state.datastore device), refl)
+
+  pub mending_begun_kept : MendingBegunKeeps disk → (hub : Hub D) → IsIdle (record_of hub) → KeepsHub disk hub (begun_to_mend hub)
+  mending_begun_kept law hub idle = record {
+    decls = refl;
+    sound = λ h up. (let own = h up in (own.0, law hub own.0 own.1 idle));
+    still_down = λ down. down;
+    history = λ up. ([], sym (append-nil hub.state.history));
+  }
 
   pub begun_or_same : (old new : Hub D) (result : Result Unit Memory) → OnOk result (new ≡ begun_to_mend old) → OnErr result (new ≡ old) → KeepsHub disk old (begun_to_mend old)
       → KeepsHub disk old new

@@ -8,6 +8,7 @@ use Rattle.orc_disk.specs.Meanings.{DiskMeaning}
 use Rattle.orc_journal.specs.Entries.{AreDevices}
 use Rattle.orc_journal.specs.declared.entry.Entry.{Entry}
 use Rattle.orc_rules.specs.Admissions.{IsTurnedAway, Passes, transaction_begun, intent_entry, started, without}
+use Rattle.orc_rules.specs.Asked.{answered_at}
 use Rattle.orc_rules.specs.Fits.{FitsNow, IsFirstFit, first_stale}
 use Rattle.orc_rules.specs.Hubs.{answered}
 use Rattle.orc_rules.specs.declared.transaction.Transaction.{Transaction}
@@ -22,6 +23,14 @@ use Rattle.orc_hub.specs.declared.hub.Hub.{Hub}
 -- none fits
 abbrev pub NoneFits : List Transaction → List Waiting → Type 0
 NoneFits active waiting = (place : ℕ) (one : Waiting) → FitsNow active waiting place one → ⊥
+
+-- the first waiting call that fits is that of the transaction of this number
+pub record IsNextToAdmit (active : List Transaction) (waiting : List Waiting) (t : ℕ) : Type 0 where
+  pub place : ℕ
+  pub it : Waiting
+  pub there : slice_get waiting place ≡ Some it
+  pub first : IsFirstFit active waiting place
+  pub number : it.t ≡ t
 
 -- the caller and number of a call that waits
 abbrev pub waiting_name : Waiting → List ℕ × ℕ
@@ -54,7 +63,7 @@ module _ {D : Type 0} (disk : DiskMeaning D) where
       ((caller, number) ≡ name) × (((given ≡ answer.Memory)
       × (new ≡ with_record (record old { active = take (length old.active - 1) old.active })
       (answered asker given (record_of (record old { active = take (length old.active - 1) old.active })))))
-      ⊎ ((given ≡ answer.JournalFault) × HasBroken disk old intent new))
+      ⊎ ((given ≡ answer.JournalFault) × HasBroken disk old intent (answered_at asker given old.askers) new))
   WritesIntentOf old t asker name intent sets (admit.Full len) new = HasNoRoom old intent len new
   WritesIntentOf old t asker name intent sets admit.Nothing new = ⊥
 
@@ -72,7 +81,8 @@ module _ {D : Type 0} (disk : DiskMeaning D) where
   WritesIntent old it sets (admit.Answered caller number given) new =
       ((caller, number) ≡ waiting_name it) × (((given ≡ answer.Memory)
       × (new ≡ with_record old (answered it.asker given (record_of old))))
-      ⊎ ((given ≡ answer.JournalFault) × HasBroken disk old (intent_entry it) new))
+      ⊎ ((given ≡ answer.JournalFault)
+      × HasBroken disk old (intent_entry it) (answered_at it.asker given old.askers) new))
   WritesIntent old it sets (admit.Full len) new = HasNoRoom old (intent_entry it) len new
   WritesIntent old it sets admit.Nothing new = ⊥
 

@@ -8,6 +8,7 @@ use Rattle.orc_datastore.specs.Actions.{data_after}
 use Rattle.orc_datastore.specs.Next.{invalid}
 use Rattle.orc_disk.specs.Meanings.{DiskMeaning}
 use Rattle.orc_journal.specs.declared.entry.Entry.TheVariants as entry
+use Rattle.orc_rules.specs.Asked.{answered_at}
 use Rattle.orc_rules.specs.Due.{is_decision_due, is_entry_due, least_due}
 use Rattle.orc_rules.specs.Hubs.{answered, hub_told}
 use Rattle.orc_rules.specs.Transactions.{is_other, is_settling}
@@ -45,7 +46,8 @@ module _ {D : Type 0} (disk : DiskMeaning D) where
       × (new ≡ record (with_record old (answered asker given (hub_told t phase.Decided true (record_of old)))) {
         log = new.log;
       }))
-      ⊎ ((given ≡ answer.JournalFault) × HasBroken disk old (entry.Decide t) new))
+      ⊎ ((given ≡ answer.JournalFault)
+      × HasBroken disk old (entry.Decide t) (answered_at asker given old.askers) new))
   WritesDecide old t asker name n (decided.Full len) new = HasNoRoom old (entry.Decide t) len new
   WritesDecide old t asker name n decided.Nothing new = ⊥
   WritesDecide old t asker name n (decided.Settled other) new = ⊥
@@ -59,7 +61,8 @@ module _ {D : Type 0} (disk : DiskMeaning D) where
       × (new ≡ record (with_record old (answered asker given (hub_told t phase.Aborted false (record_of old)))) {
         log = new.log;
       }))
-      ⊎ ((given ≡ answer.JournalFault) × HasBroken disk old (entry.Abort t) new))
+      ⊎ ((given ≡ answer.JournalFault)
+      × HasBroken disk old (entry.Abort t) (answered_at asker given old.askers) new))
   WritesAbort old t asker name due (decided.Full len) new = HasNoRoom old (entry.Abort t) len new
   WritesAbort old t asker name due decided.Nothing new = ⊥
   WritesAbort old t asker name due (decided.Settled other) new = ⊥
@@ -74,13 +77,12 @@ module _ {D : Type 0} (disk : DiskMeaning D) where
     pub written : WritesDecide (record old { state = behind }) it.t it.asker (asker_name it)
         (length old.state.history + 1) result new
 
-  -- why it is given up: what its devices say; where these are all prepared, that the data isn't valid with it; or that
+  -- why it is given up: what its devices say; where these are all prepared, that the data isn't valid with it, or that
   -- memory is wanting
   abbrev pub GivesUpFor : Hub D → Transaction → Answer → Type 0
-  GivesUpFor old it given = (given ≡ answer.Memory)
-      ⊎ ((verdict old.duties it.t it.plan.held.devices ≡ Some given)
-      ⊎ ((verdict old.duties it.t it.plan.held.devices ≡ None)
-      × (invalid old.decls.data_schema (data_after it.call.actions old.state.datastore.data) ≡ Some given)))
+  GivesUpFor old it given = (verdict old.duties it.t it.plan.held.devices ≡ Some given)
+      ⊎ ((verdict old.duties it.t it.plan.held.devices ≡ None) × ((given ≡ answer.Memory)
+      ⊎ (invalid old.decls.data_schema (data_after it.call.actions old.state.datastore.data) ≡ Some given)))
 
   -- it is given up for this, and its Abort appended
   pub record GivesUp (old : Hub D) (it : Transaction) (result : Decided) (new : Hub D) : Type 0 where
@@ -93,7 +95,7 @@ module _ {D : Type 0} (disk : DiskMeaning D) where
   WritesSettled old t (decided.Settled given) new =
       (given ≡ t) × HasWritten disk old (entry.Settled t) new
       × (new ≡ record old { log = new.log; active = filter (is_other t) old.active })
-  WritesSettled old t decided.Down new = HasBroken disk old (entry.Settled t) new
+  WritesSettled old t decided.Down new = HasBroken disk old (entry.Settled t) old.askers new
   WritesSettled old t (decided.Full len) new = HasNoRoom old (entry.Settled t) len new
   WritesSettled old t decided.Nothing new = ⊥
   WritesSettled old t (decided.Answered caller number given) new = ⊥

@@ -1,6 +1,6 @@
 -- That the calls keep the hub.
 use Rattle.std.specs.Prelude.{◌≡◌, ◌⊎◌, ℕ, ◌≤◌, true, false, IsTrue, List, [], ◌∷◌, ◌++◌, Result, length, slice_get, take}
-use Rattle.std.specs.declared.option.Option.TheVariants.{Some}
+use Rattle.std.specs.declared.option.Option.TheVariants.{None, Some}
 use Rattle.std.specs.declared.result.Result.TheVariants.{Err}
 use Rattle.orc_call.specs.declared.answer.Answer.{Answer}
 use Rattle.orc_call.specs.declared.answer.Answer.TheVariants as answer
@@ -19,6 +19,7 @@ use Rattle.orc_rules.specs.Due.{is_decision_due}
 use Rattle.orc_rules.specs.Fits.{IsFirstFit}
 use Rattle.orc_rules.specs.Hubs.{hub_reported}
 use Rattle.orc_rules.specs.Transactions.{is_settling}
+use Rattle.orc_rules.specs.Worlds.{IsIdle}
 use Rattle.orc_rules.specs.declared.transaction.Transaction.{Transaction}
 use Rattle.orc_rules.specs.declared.transaction.Waiting.{Waiting}
 use Rattle.orc_tree.specs.declared.change.ChangeSet.{ChangeSet}
@@ -26,7 +27,7 @@ use Rattle.orc_hub.specs.Admits.{Admits, TurnsAway, WritesIntent, row_by, waitin
 use Rattle.orc_hub.specs.Decisions.{CommitsOne, Decides, GivesUp, WritesSettled}
 use Rattle.orc_hub.specs.Hubs.{record_of, with_record}
 use Rattle.orc_hub.specs.Keeps.{IsHub, KeepsHub}
-use Rattle.orc_hub.specs.Mends.{EndsMending, begun_to_mend}
+use Rattle.orc_hub.specs.Mends.{EndsMending, begun_to_mend, row_ended}
 use Rattle.orc_hub.specs.Submits.{Submits}
 use Rattle.orc_hub.specs.declared.hub.Admit.{Admit}
 use Rattle.orc_hub.specs.declared.hub.Decided.{Decided}
@@ -82,10 +83,24 @@ TurnAwayKeeps {D} disk =
 abbrev pub BeginKeeps : {D : Type 0} → DiskMeaning D → Type 0
 BeginKeeps {D} disk =
     (hub new : Hub D) (entries : List Entry) (place : ℕ) (it : Waiting) (sets : List (ℕ × ChangeSet)) (result : Admit)
-    → IsHub disk hub entries → slice_get hub.waiting place ≡ Some it → IsFirstFit hub.active hub.waiting place
+    → IsHub disk hub entries → hub.mends ≡ None → slice_get hub.waiting place ≡ Some it
+    → IsFirstFit hub.active hub.waiting place
     → Passes hub.decls hub.state.history it.call it.plan sets
     → WritesIntent disk (record hub { waiting = without place hub.waiting }) it sets result new → new.down ≡ false
     → IsHub disk new (entries ++ row_by result it)
+
+-- So does the beginning of a reconciliation, where the hub is idle.
+abbrev pub MendingBegunKeeps : {D : Type 0} → DiskMeaning D → Type 0
+MendingBegunKeeps {D} disk =
+    (hub : Hub D) (entries : List Entry) → IsHub disk hub entries → IsIdle (record_of hub)
+    → IsHub disk (begun_to_mend hub) entries
+
+-- So does the end of a reconciliation, behind the entries with a Settled of each transaction that isn't settled, where
+-- it ends well and the hub is still up.
+abbrev pub MendingEndedKeeps : {D : Type 0} → DiskMeaning D → Type 0
+MendingEndedKeeps {D} disk =
+    (old new : Hub D) (entries : List Entry) (result : Result Unit RecFault) → IsHub disk old entries
+    → EndsMending disk old result new → new.down ≡ false → IsHub disk new (entries ++ row_ended result old)
 
 -- So each call keeps the hub: a report,
 abbrev pub EachReportKeeps : {D : Type 0} → DiskMeaning D → Type 0
@@ -110,11 +125,12 @@ EachSubmissionKeeps {D} disk =
 -- an admission,
 abbrev pub EachAdmissionKeeps : {D : Type 0} → DiskMeaning D → Type 0
 EachAdmissionKeeps {D} disk =
-    (old new : Hub D) (result : Admit) → old.down ≡ false → Admits disk old result new → KeepsHub disk old new
+    (old new : Hub D) (result : Admit) → old.down ≡ false → old.mends ≡ None → Admits disk old result new
+    → KeepsHub disk old new
 
 -- the beginning of a reconciliation,
 abbrev pub EachMendingBegunKeeps : {D : Type 0} → DiskMeaning D → Type 0
-EachMendingBegunKeeps {D} disk = (hub : Hub D) → KeepsHub disk hub (begun_to_mend hub)
+EachMendingBegunKeeps {D} disk = (hub : Hub D) → IsIdle (record_of hub) → KeepsHub disk hub (begun_to_mend hub)
 
 -- and its end.
 abbrev pub EachMendingEndedKeeps : {D : Type 0} → DiskMeaning D → Type 0

@@ -1,5 +1,4 @@
 pub mod Numbered
-pub mod Queues
 pub mod Logs
 pub mod Askers
 pub mod Orders

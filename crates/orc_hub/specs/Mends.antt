@@ -7,6 +7,7 @@ use Rattle.orc_call.specs.declared.answer.RecFault.{RecFault}
 use Rattle.orc_call.specs.declared.answer.RecFault.TheVariants as fault
 use Rattle.orc_datastore.specs.States.{tree_due}
 use Rattle.orc_disk.specs.Meanings.{DiskMeaning}
+use Rattle.orc_journal.specs.declared.entry.Entry.{Entry}
 use Rattle.orc_journal.specs.declared.entry.Entry.TheVariants as entry
 use Rattle.orc_recover.specs.Menders.{new_mender}
 use Rattle.orc_rules.specs.Events.{mender_freed}
@@ -41,11 +42,20 @@ module _ {D : Type 0} where
   abbrev pub mending_ended : Hub D → Hub D
   mending_ended hub = record hub { duties = map mender_freed hub.duties; mends = None }
 
+-- a Settled of each that isn't settled
+abbrev pub settled_ones : List Unsettled → List Entry
+settled_ones unsettled = map (λ one. entry.Settled one.t) unsettled
+
+-- the entries that the end of a reconciliation with this result appends, where the hub is still up
+abbrev pub row_ended : {D : Type 0} → Result Unit RecFault → Hub D → List Entry
+row_ended (Ok done) hub = settled_ones hub.log.unsettled
+row_ended (Err met) hub = []
+
 module _ {D : Type 0} (disk : DiskMeaning D) where
   -- what appending the Settled of a transaction does in a reconciliation
   abbrev pub SettlesOne : Hub D → ℕ → Result Unit RecFault → Hub D → Type 0
   SettlesOne old t (Ok done) new = HasWritten disk old (entry.Settled t) new × (new ≡ record old { log = new.log })
-  SettlesOne old t (Err fault.DiskFault) new = HasBroken disk old (entry.Settled t) new
+  SettlesOne old t (Err fault.DiskFault) new = HasBroken disk old (entry.Settled t) old.askers new
   SettlesOne old t (Err (fault.Full len)) new = HasNoRoom old (entry.Settled t) len new
   SettlesOne old t (Err other) new = ⊥
 
@@ -58,12 +68,14 @@ module _ {D : Type 0} (disk : DiskMeaning D) where
     fails : (old new : Hub D) (met : RecFault) (first : Unsettled) (later : List Unsettled)
         → old.log.unsettled ≡ first ∷ later → SettlesOne old first.t (Err met) new → SettlesAll old (Err met) new
 
-  -- What `finish_reconcile` does: where a failure was met, the reconciliation ends by it, and nothing is appended. Else
-  -- all is settled, and no transaction is left; or the disk failed, or there is no room, and the hub is down.
+  -- What `finish_reconcile` does, which ends the reconciliation: where a failure was met it ends by that, and nothing
+  -- is appended. Else all is settled, and no transaction is left; or the disk failed, or there is no room, and the hub
+  -- is down.
   abbrev pub EndsMending : Hub D → Result Unit RecFault → Hub D → Type 0
   EndsMending old result new =
       ((met : RecFault) × (old.mends ≡ Some (Some met)) × (result ≡ Err met) × (new ≡ mending_ended old))
       ⊎ ((old.mends ≡ Some None)
       × (((result ≡ Ok tt)
       × ((behind : Hub D) × SettlesAll old (Ok tt) behind × (new ≡ mending_ended (record behind { active = [] }))))
-      ⊎ ((met : RecFault) × (result ≡ Err met) × SettlesAll old (Err met) new)))
+      ⊎ ((met : RecFault) × (result ≡ Err met)
+      × ((behind : Hub D) × SettlesAll old (Err met) behind × (new ≡ mending_ended behind)))))

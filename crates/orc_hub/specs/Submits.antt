@@ -59,12 +59,12 @@ module _ {D : Type 0} (old : Hub D) (call : Call) where
   Queues plan (submitted.Queued t) new = IsQueued plan t new
 
   -- What `submit` does: where the hub is down the call is answered so, and nothing changes. Else it gets the answer
-  -- that is due at once, or waits.
+  -- that is due at once, or waits. That its caller has an open call is told without memory.
   abbrev pub Submits : ℕ → Result Plan Answer → Submitted → Hub D → Type 0
   Submits front plan (submitted.Answered said) new =
       ((old.down ≡ true) × (said ≡ answer.Down) × (new ≡ old))
       ⊎ ((old.down ≡ false) × AnswersSubmission old.decls (record_of old) old.state.history call front said
-      × HasKept said new)
+      × HasKept said new × (said ≡ answer.Memory → open_of old.askers call.caller ≡ None))
   Submits front plan (submitted.Queued t) new =
       (old.down ≡ false) × IsFree × ((it : Plan) × (plan ≡ Ok it) × IsQueued it t new)
 

@@ -1,7 +1,9 @@
 //! Decisions: a transaction whose devices were all heard is committed or given up, and one whose work has
 //! ended is settled.
 ghost use Rattle.std.specs.Prelude.{◌≡◌, ◌⊎◌, false, true, MatchOption, None, Some, length, slice_get};
+ghost use Rattle.orc_call.specs.Answers.{HoldsText};
 ghost use Rattle.orc_journal.specs.Opened.{IsReady};
+ghost use Rattle.orc_rules.specs.Asked.{answered_at};
 ghost use Rattle.orc_rules.specs.Due.{is_decision_due, is_entry_due, least_due};
 ghost use Rattle.orc_rules.specs.Hubs.{answered, hub_told};
 ghost use Rattle.orc_rules.specs.Verdicts.{verdict};
@@ -17,7 +19,6 @@ use crate::hub::{Decided, Hub};
 use crate::kept::each_decision_keeps;
 use crate::retiring::{come_all, leave, retire_all};
 use crate::verdict::verdict;
-use crate::writing::twice;
 use orc_call::Answer;
 use orc_disk::Disk;
 use orc_journal::{AppendFault, Entry};
@@ -142,14 +143,35 @@ impl<D: Disk> Hub<D> {
         }
     }
 
-    // Appends the Abort of a transaction whose caller is to be told this, or that memory is wanting.
+    // Appends the Abort of a transaction whose caller is to be told this; or that memory is wanting, where a
+    // copy of it takes some.
     fn abort(&mut self, alloc: Global, t: u64, asker: usize, answer: Answer) -> Decided
         requires ready { IsReady D.disk self.old.log.journal }
         requires asks { IsOpenAt self.old.askers asker }
         ensures { WritesAbort D.disk self.old t asker (named_at self.old.askers asker) answer result self.new
-            ⊎ WritesAbort D.disk self.old t asker (named_at self.old.askers asker) Answer.Memory result self.new }
+            ⊎ (HoldsText answer
+            × WritesAbort D.disk self.old t asker (named_at self.old.askers asker) Answer.Memory result self.new) }
     {
-        let (answer, kept) = twice(alloc, answer);
+        match answer.copy(alloc) {
+            Ok(kept) => self.write_abort(alloc, t, asker, answer, kept),
+            Err(Memory) => self.write_abort(alloc, t, asker, Answer::Memory, Answer::Memory),
+        }
+    }
+
+    // The same, where this is the answer once more.
+    fn write_abort(
+        &mut self,
+        alloc: Global,
+        t: u64,
+        asker: usize,
+        answer: Answer,
+        kept: Answer,
+    ) -> Decided
+        requires ready { IsReady D.disk self.old.log.journal }
+        requires asks { IsOpenAt self.old.askers asker }
+        requires same { kept ≡ answer }
+        ensures { WritesAbort D.disk self.old t asker (named_at self.old.askers asker) answer result self.new }
+    {
         match self.write(alloc, &Entry::Abort { t }) {
             Ok(()) => {
                 self.tell(alloc, t, Phase::Aborted, false);
@@ -182,6 +204,7 @@ impl<D: Disk> Hub<D> {
         ensures log { self.new.log ≡ self.old.log }
         ensures decls { self.new.decls ≡ self.old.decls }
         ensures down { self.new.down ≡ self.old.down }
+        ensures answers { self.new.askers ≡ answered_at asker Answer.JournalFault self.old.askers }
     {
         let (caller, number) = self.askers.answer(alloc, asker, Answer::JournalFault);
         Decided::Answered {

@@ -1,5 +1,5 @@
 //! That the calls keep the hub. Each function does nothing: its contract is the law.
-ghost use Rattle.orc_hub.specs.Laws.{AbortKeeps, BeginKeeps, CommitKeeps, EachAdmissionKeeps, EachDecisionKeeps, EachMendingBegunKeeps, EachMendingEndedKeeps, EachReportKeeps, EachSubmissionKeeps, ReportKeeps, SettleKeeps, SubmitKeeps, TurnAwayKeeps};
+ghost use Rattle.orc_hub.specs.Laws.{AbortKeeps, BeginKeeps, CommitKeeps, EachAdmissionKeeps, EachDecisionKeeps, EachMendingBegunKeeps, EachMendingEndedKeeps, EachReportKeeps, EachSubmissionKeeps, MendingBegunKeeps, MendingEndedKeeps, ReportKeeps, SettleKeeps, SubmitKeeps, TurnAwayKeeps};
 
 use orc_disk::Disk;
 use orc_journal::keeps_order;
@@ -52,6 +52,18 @@ pub fn begin_keeps<D: Disk>()
     keeps_order();
 }
 
+/// So does the beginning of a reconciliation.
+pub fn mending_begun_keeps<D: Disk>()
+    ensures { MendingBegunKeeps D.disk }
+{}
+
+/// So does its end.
+pub fn mending_ended_keeps<D: Disk>()
+    ensures { MendingEndedKeeps D.disk }
+{
+    keeps_order();
+}
+
 // So each report keeps the hub,
 pub(crate) fn each_report_keeps<D: Disk>()
     ensures { EachReportKeeps D.disk }
@@ -86,11 +98,14 @@ pub(crate) fn each_admission_keeps<D: Disk>()
 // the beginning of a reconciliation,
 pub(crate) fn each_mending_begun_keeps<D: Disk>()
     ensures { EachMendingBegunKeeps D.disk }
-{}
+{
+    mending_begun_keeps::<D>();
+}
 
 // and its end.
 pub(crate) fn each_mending_ended_keeps<D: Disk>()
     ensures { EachMendingEndedKeeps D.disk }
 {
     keeps_order();
+    mending_ended_keeps::<D>();
 }

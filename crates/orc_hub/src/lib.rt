@@ -14,7 +14,6 @@ mod looking;
 mod numbers;
 mod ordering;
 mod past;
-mod queue;
 mod reconciling;
 mod reporting;
 mod retiring;
@@ -27,10 +26,9 @@ mod writing;
 pub use askers::Askers;
 pub use hub::{Admit, Decided, Hub, Submitted};
 pub use kept::{
-    abort_keeps, begin_keeps, commit_keeps, report_keeps, settle_keeps, submit_keeps,
-    turn_away_keeps,
+    abort_keeps, begin_keeps, commit_keeps, mending_begun_keeps, mending_ended_keeps, report_keeps,
+    settle_keeps, submit_keeps, turn_away_keeps,
 };
 pub use log::{Log, Unsettled};
 pub use numbers::Numbers;
-pub use queue::{Holds, Queue};
 pub use starting::StartFault;

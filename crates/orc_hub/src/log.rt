@@ -2,7 +2,7 @@
 ghost use Rattle.std.specs.Prelude.{◌≡◌, ◌<◌, ◌≤◌, ◌++◌, ◌∷◌, ℕ, false, IfOk, IsErrOf, IsTrue, OnErr, OnOk, drop, length, map, take};
 ghost use Rattle.std.specs.List.{position};
 ghost use Rattle.orc_call.specs.declared.call.Call.{Call};
-ghost use Rattle.orc_journal.specs.Appends.{HasAppended, HasFailed, IsTooLong};
+ghost use Rattle.orc_journal.specs.Appends.{HasAppended, HasFailed, IsTooLong, LeavesBeforeOrAfter};
 ghost use Rattle.orc_journal.specs.Entries.{IsEntry, is_intent};
 ghost use Rattle.orc_journal.specs.Opened.{IsReady};
 ghost use Rattle.orc_rules.specs.Admissions.{without};
@@ -185,11 +185,12 @@ pub(crate) fn note(
 
 impl<D: Disk> Log<D> {
     /// Appends an entry, as `Journal::append` does, and notes what it tells. Only an `Intent` takes memory,
-    /// and after want of it the log is as it was.
+    /// and after want of it the log is as it was. Only an entry that has room meets a failure of the disk.
     pub(crate) fn append(&mut self, alloc: Global, entry: &Entry) -> Result<(), AppendFault>
         requires ready { IsReady D.disk self.old.journal }
         requires entry { IsEntry entry.now }
         ensures appended { OnOk result (HasAppended D.disk self.old.journal self.new.journal entry.now) }
+        ensures left { OnOk result (LeavesBeforeOrAfter D.disk self.old.journal self.new.journal entry.now) }
         ensures noted { OnOk result (self.new.unsettled ≡ noted self.old.unsettled entry.now) }
         ensures full { (len : ℕ) → IsErrOf result (AppendFault.Full len)
             → (len ≡ self.old.journal.len) × IsTooLong self.old.journal entry.now
@@ -197,6 +198,9 @@ impl<D: Disk> Log<D> {
         ensures memory { IsErrOf result AppendFault.Memory → IsTrue (is_intent entry.now) × (self.new ≡ self.old) }
         ensures failed { IsErrOf result AppendFault.DiskFault
             → HasFailed D.disk self.old.journal self.new.journal entry.now }
+        ensures fits { IsErrOf result AppendFault.DiskFault → IsTooLong self.old.journal entry.now → ⊥ }
+        ensures leaves { IsErrOf result AppendFault.DiskFault
+            → LeavesBeforeOrAfter D.disk self.old.journal self.new.journal entry.now }
     {
         match entry {
             Entry::Intent { t, devices, .. } => {
@@ -220,6 +224,7 @@ impl<D: Disk> Log<D> {
         requires entry { IsEntry entry.now }
         requires intent { (call : Call) × (entry.now ≡ Entry.Intent t call devices.now) }
         ensures appended { OnOk result (HasAppended D.disk self.old.journal self.new.journal entry.now) }
+        ensures left { OnOk result (LeavesBeforeOrAfter D.disk self.old.journal self.new.journal entry.now) }
         ensures noted { OnOk result (self.new.unsettled ≡ noted self.old.unsettled entry.now) }
         ensures full { (len : ℕ) → IsErrOf result (AppendFault.Full len)
             → (len ≡ self.old.journal.len) × IsTooLong self.old.journal entry.now
@@ -227,6 +232,9 @@ impl<D: Disk> Log<D> {
         ensures memory { IsErrOf result AppendFault.Memory → self.new ≡ self.old }
         ensures failed { IsErrOf result AppendFault.DiskFault
             → HasFailed D.disk self.old.journal self.new.journal entry.now }
+        ensures fits { IsErrOf result AppendFault.DiskFault → IsTooLong self.old.journal entry.now → ⊥ }
+        ensures leaves { IsErrOf result AppendFault.DiskFault
+            → LeavesBeforeOrAfter D.disk self.old.journal self.new.journal entry.now }
     {
         let place = note_intent(alloc, &mut self.unsettled, t, devices)?;
         match self.journal.append(alloc, entry) {
@@ -244,6 +252,7 @@ impl<D: Disk> Log<D> {
         requires entry { IsEntry entry.now }
         requires short { is_intent entry.now ≡ false }
         ensures appended { OnOk result (HasAppended D.disk self.old.journal self.new.journal entry.now) }
+        ensures left { OnOk result (LeavesBeforeOrAfter D.disk self.old.journal self.new.journal entry.now) }
         ensures noted { OnOk result (self.new.unsettled ≡ noted self.old.unsettled entry.now) }
         ensures full { (len : ℕ) → IsErrOf result (AppendFault.Full len)
             → (len ≡ self.old.journal.len) × IsTooLong self.old.journal entry.now
@@ -251,6 +260,9 @@ impl<D: Disk> Log<D> {
         ensures memory { IsErrOf result AppendFault.Memory → ⊥ }
         ensures failed { IsErrOf result AppendFault.DiskFault
             → HasFailed D.disk self.old.journal self.new.journal entry.now }
+        ensures fits { IsErrOf result AppendFault.DiskFault → IsTooLong self.old.journal entry.now → ⊥ }
+        ensures leaves { IsErrOf result AppendFault.DiskFault
+            → LeavesBeforeOrAfter D.disk self.old.journal self.new.journal entry.now }
     {
         match self.journal.append(alloc, entry) {
             Ok(()) => {

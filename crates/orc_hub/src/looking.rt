@@ -1,18 +1,21 @@
 //! What one who looks at the hub sees: a snapshot, the answers, and whether it is idle.
-ghost use Rattle.std.specs.Prelude.{◌≡◌, ◌↔◌, ◌<◌, false, IfOk, IsTrue, length, get_or};
+ghost use Rattle.std.specs.Prelude.{◌≡◌, ◌↔◌, ◌<◌, false, IfOk, IsTrue, MatchOption, None, length, get_or, slice_get, if◌then◌else◌};
 ghost use Rattle.std.specs.List.{list_all};
 ghost use Rattle.std.specs.Option.{option_map};
+ghost use Rattle.orc_hub.specs.Admits.{IsNextToAdmit, NoneFits};
 ghost use Rattle.orc_hub.specs.Askers.{answer_of};
+ghost use Rattle.orc_rules.specs.Due.{least_due};
 ghost use Rattle.orc_rules.specs.Worlds.{IsIdle, is_over};
 ghost use Rattle.orc_state.specs.States.{IsSnapshotAt};
 ghost use Rattle.orc_hub.specs.Hubs.{record_of};
 ghost use Rattle.orc_hub.specs.Keeps.{IsSoundHub};
 
+use crate::due::least_due;
 use crate::hub::Hub;
 use orc_call::Answer;
 use orc_datastore::Snapshot;
 use orc_disk::Disk;
-use orc_rules::{Phase, Transaction};
+use orc_rules::{Phase, Transaction, Waiting};
 use orc_text::{Memory, Text};
 use std::alloc::Global;
 
@@ -33,6 +36,14 @@ fn are_over(active: &[Transaction]) -> bool
     active.iter().all(|it| is_over(it))
 }
 
+// The number of the transaction of the call that waits at this place.
+fn number_at(waiting: &[Waiting], place: usize) -> u64
+    requires { place < length waiting.now }
+    ensures { MatchOption (slice_get waiting.now place) ⊥ (λ it. it.t ≡ result) }
+{
+    waiting[place].t
+}
+
 impl<D: Disk> Hub<D> {
     /// A snapshot of the state, to plan a call on.
     pub fn begin(&self, alloc: Global) -> Result<Snapshot, Memory>
@@ -51,6 +62,29 @@ impl<D: Disk> Hub<D> {
         self.waiting.as_slice().is_empty()
             && are_over(self.active.as_slice())
             && self.mends.is_none()
+    }
+
+    /// The number of the transaction whose call `admit` looks at next, if a waiting call fits. It takes no
+    /// memory.
+    pub fn next_to_admit(&self) -> Option<u64>
+        ensures { MatchOption result (NoneFits self.now.active self.now.waiting)
+            (IsNextToAdmit self.now.active self.now.waiting) }
+    {
+        match self.waiting.first_fit(self.active.as_slice()) {
+            None => None,
+            Some(place) => Some(number_at(self.waiting.as_slice(), place)),
+        }
+    }
+
+    /// The number of the transaction that `decide` decides or settles next, if one of these is due. It takes
+    /// no memory.
+    pub fn next_to_decide(&self) -> Option<u64>
+        ensures { result ≡ (if self.now.down then None else least_due self.now.duties self.now.active) }
+    {
+        if self.down {
+            return None;
+        }
+        least_due(self.duties.as_slice(), self.active.as_slice())
     }
 
     /// The last answer to this caller and number, if there is one. It takes no memory.

@@ -1,8 +1,8 @@
 //! The operation due on a device.
-ghost use Rattle.std.specs.Prelude.{◌≡◌, ◌<◌, IfOk, None, OnErr, length, if◌then◌else◌};
-ghost use Rattle.orc_rules.specs.Hubs.{due_on, duty_on, has_met_failure};
+ghost use Rattle.std.specs.Prelude.{◌≡◌, ◌<◌, false, IfOk, None, OnErr, length, if◌then◌else◌};
+ghost use Rattle.orc_rules.specs.Hubs.{due_on, has_met_failure};
 ghost use Rattle.orc_hub.specs.Hubs.{record_of};
-ghost use Rattle.orc_hub.specs.Orders.{WantsEdit};
+ghost use Rattle.orc_hub.specs.Orders.{IsEditDue};
 
 use crate::duty::next_op;
 use crate::hub::Hub;
@@ -29,11 +29,23 @@ impl<D: Disk> Hub<D> {
     pub fn order(&self, alloc: Global, device: u32) -> Result<Option<Op>, Memory>
         requires { device < length self.now.duties }
         ensures order { IfOk result (λ op. op ≡ (if self.now.down then None else due_on (record_of self.now) device)) }
-        ensures memory { OnErr result (WantsEdit (duty_on self.now.duties device)) }
+        ensures memory { OnErr result ((self.now.down ≡ false) × IsEditDue (record_of self.now) device) }
     {
         if self.down || has_met_failure(self.mends) {
             return Ok(None);
         }
-        next_op(&self.duties.as_slice()[device as usize], alloc)
+        self.order_on(alloc, device)
+    }
+
+    // The same where the hub is up, and no reconciliation has met a failure.
+    fn order_on(&self, alloc: Global, device: u32) -> Result<Option<Op>, Memory>
+        requires within { device < length self.now.duties }
+        requires up { self.now.down ≡ false }
+        requires well { has_met_failure self.now.mends ≡ false }
+        ensures order { IfOk result (λ op. op ≡ due_on (record_of self.now) device) }
+        ensures memory { OnErr result ((self.now.down ≡ false) × IsEditDue (record_of self.now) device) }
+    {
+        let duty = &self.duties.as_slice()[device as usize];
+        next_op(duty, alloc)
     }
 }

@@ -120,9 +120,9 @@ impl<D: Disk> Hub<D> {
         Ok(Duty::Mends(Mender::new(intents, due)))
     }
 
-    /// Ends a reconciliation: by the first failure that it met, if one; else each transaction that isn't
-    /// settled is. It takes no memory. It asks that a reconciliation was begun, and that no operation is due
-    /// on any device.
+    /// Ends a reconciliation, whatever it answers: by the first failure that it met, if one; else each
+    /// transaction that isn't settled is. It takes no memory. It asks that a reconciliation was begun, and,
+    /// where it met no failure, that no operation is due on any device.
     pub fn finish_reconcile(&mut self, alloc: Global) -> Result<(), RecFault>
         requires hub { IsSoundHub D.disk self.old }
         requires up { self.old.down ≡ false }
@@ -164,7 +164,10 @@ impl<D: Disk> Hub<D> {
                 self.end_mending(alloc);
                 Ok(())
             }
-            Err(fault) => Err(fault),
+            Err(fault) => {
+                self.end_mending(alloc);
+                Err(fault)
+            }
         }
     }
 

@@ -31,7 +31,8 @@ impl<D: Disk> Hub<D> {
         ensures written { OnOk result (HasWritten D.disk self.old entry.now self.new) }
         ensures rest { OnOk result (self.new ≡ record self.old { log = self.new.log }) }
         ensures memory { IsErrOf result AppendFault.Memory → IsTrue (is_intent entry.now) × (self.new ≡ self.old) }
-        ensures failed { IsErrOf result AppendFault.DiskFault → HasBroken D.disk self.old entry.now self.new }
+        ensures failed { IsErrOf result AppendFault.DiskFault
+            → HasBroken D.disk self.old entry.now self.old.askers self.new }
         ensures asks { self.new.askers ≡ self.old.askers }
         ensures full { (len : ℕ) → IsErrOf result (AppendFault.Full len) → HasNoRoom self.old entry.now len self.new }
     {

@@ -39,7 +39,7 @@ use Rattle.orc_laws.specs.Services.{IsLastMade, LivingIsLastMade, ServiceHoldsIt
 use Rattle.orc_datastore.specs.Laws.{LiteralIsExpansion}
 use Rattle.orc_laws.specs.Histories.{NamesOther}
 use Rattle.orc_decls.specs.declared.declarations.Decls.{Decls}
-use Rattle.orc_datastore.specs.declared.datastore.Service.{Service}
+use Rattle.orc_datastore.specs.declared.service.Service.{Service}
 use Rattle.orc_datastore.proofs.Agreement.{first_in, later_in, or_none}
 use Rattle.orc_datastore.proofs.Expanded.{all_named, other_unnamed, parted}
 use Rattle.orc_decls.proofs.Fits.{call-actions, call-once}

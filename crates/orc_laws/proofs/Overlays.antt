@@ -13,7 +13,7 @@ use Rattle.orc_datastore.specs.States.{part, tree_due, config_of}
 use Rattle.orc_datastore.specs.Legal.{state_of}
 use Rattle.orc_plans.specs.Clashing.{AllAgree}
 use Rattle.orc_laws.specs.Histories.{IsOverlay, OverlayIsOne, OrderOfCreationIsFree}
-use Rattle.orc_datastore.specs.declared.datastore.Service.{Service}
+use Rattle.orc_datastore.specs.declared.service.Service.{Service}
 use Rattle.orc_datastore.proofs.Agreement.{none_in_nil, first_in, later_in, in_cases}
 use Rattle.orc_plans.proofs.Agreeing.{living_agree}
 

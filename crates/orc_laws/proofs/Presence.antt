@@ -42,7 +42,7 @@ use Rattle.orc_datastore.specs.Histories.{fold_from, IsUnrefused}
 use Rattle.orc_decls.specs.Declarations.{AreDecls, has_template, is_list_of_services, is_service_list}
 use Rattle.orc_laws.specs.Services.{ServiceLivesWhereItStands}
 use Rattle.orc_decls.specs.declared.declarations.Decls.{Decls}
-use Rattle.orc_datastore.specs.declared.datastore.Service.{Service}
+use Rattle.orc_datastore.specs.declared.service.Service.{Service}
 use Rattle.orc_datastore.proofs.Agreement.{or_none}
 use Rattle.orc_laws.proofs.Data.{name_no_path}
 use Rattle.orc_datastore.proofs.Expanded.{parted}

@@ -27,7 +27,7 @@ use Rattle.orc_datastore.specs.Histories.{fold_from, IsUnrefused}
 use Rattle.orc_datastore.specs.Legal.{IsSame, AreDistinct}
 use Rattle.orc_laws.specs.Histories.{Creates, Deletes, NamesOther, UnrefusedWithoutTrace, LegalWithoutTrace}
 use Rattle.orc_decls.specs.declared.declarations.Decls.{Decls}
-use Rattle.orc_datastore.specs.declared.datastore.Service.{Service}
+use Rattle.orc_datastore.specs.declared.service.Service.{Service}
 use Rattle.orc_decls.proofs.Lists.{filter-filter, or_first, or_second}
 use Rattle.orc_laws.proofs.Data.{name_no_path}
 use Rattle.orc_datastore.proofs.Expanded.{other_unnamed}

@@ -18,7 +18,7 @@ use Rattle.orc_call.specs.declared.call.Action.{Action}
 use Rattle.orc_call.specs.declared.call.Action.TheVariants.{Literal, Delete}
 use Rattle.orc_call.specs.declared.call.DevicePut.{DevicePut}
 use Rattle.orc_decls.specs.declared.declarations.Decls.{Decls}
-use Rattle.orc_datastore.specs.declared.datastore.Service.{Service}
+use Rattle.orc_datastore.specs.declared.service.Service.{Service}
 use Rattle.orc_datastore.proofs.Bases.{bases_still}
 use Rattle.orc_decls.proofs.Lists.{any_none, filter_all, filter-filter, or_first, or_second}
 use Rattle.orc_datastore.proofs.Named.{is_text_itself, all_not, made_others}

@@ -16,7 +16,7 @@ use Rattle.orc_decls.specs.declared.declarations.Decls.{Decls}
 use Rattle.orc_call.specs.declared.call.Action.TheVariants.{Literal, Delete}
 use Rattle.orc_call.specs.declared.call.Call.{Call}
 use Rattle.orc_call.specs.declared.call.DevicePut.{DevicePut}
-use Rattle.orc_datastore.specs.declared.datastore.Service.{Service}
+use Rattle.orc_datastore.specs.declared.service.Service.{Service}
 use Rattle.orc_datastore.specs.Laws.{AreActions}
 
 -- Where the actions of a history are ones that call blocks can give, the data behind it is a configuration.

@@ -14,7 +14,7 @@ use Rattle.orc_datastore.specs.States.{Datastore, expansion, has_id}
 use Rattle.orc_decls.specs.Calls.{service_of}
 use Rattle.orc_datastore.specs.Next.{serving_on}
 use Rattle.orc_decls.specs.declared.declarations.Decls.{Decls}
-use Rattle.orc_datastore.specs.declared.datastore.Service.{Service}
+use Rattle.orc_datastore.specs.declared.service.Service.{Service}
 
 -- the path is that of an entry of a list with a template, whatever its keys
 abbrev pub is_instance_path : Decls → List PathStep → Bool

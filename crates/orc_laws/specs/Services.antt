@@ -13,7 +13,7 @@ use Rattle.orc_laws.specs.Making.{IsLeftBy, NamesService, is_instance_path, is_p
 use Rattle.orc_decls.specs.declared.declarations.Decls.{Decls}
 use Rattle.orc_call.specs.declared.call.Action.{Action}
 use Rattle.orc_call.specs.declared.call.Call.{Call}
-use Rattle.orc_datastore.specs.declared.datastore.Service.{Service}
+use Rattle.orc_datastore.specs.declared.service.Service.{Service}
 use Rattle.orc_laws.specs.Histories.{NamesOther}
 
 -- The entries of a list with a template are the living services: behind a legal history, of such a list, a service

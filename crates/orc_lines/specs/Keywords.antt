@@ -32,4 +32,13 @@ keyword_of word =
     if is_text word (codes "settle") then keyword.Settle else
     if is_text word (codes "stop") then keyword.Stop else
     if is_text word (codes "recover") then keyword.Recover else
-    if is_text word (codes "history") then keyword.History else keyword.Other
+    if is_text word (codes "history") then keyword.History else
+    if is_text word (codes "begin") then keyword.Begin else
+    if is_text word (codes "admit") then keyword.Admit else
+    if is_text word (codes "step") then keyword.Step else
+    if is_text word (codes "decide") then keyword.Decide else
+    if is_text word (codes "tick") then keyword.Tick else
+    if is_text word (codes "restart") then keyword.Restart else
+    if is_text word (codes "fault") then keyword.Fault else
+    if is_text word (codes "reconcile") then keyword.Reconcile else
+    if is_text word (codes "log") then keyword.Log else keyword.Other

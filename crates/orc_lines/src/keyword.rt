@@ -32,6 +32,15 @@ pub enum Keyword {
     Stop,
     Recover,
     History,
+    Begin,
+    Admit,
+    Step,
+    Decide,
+    Tick,
+    Restart,
+    Fault,
+    Reconcile,
+    Log,
     /// No line has it.
     Other,
 }
@@ -69,6 +78,15 @@ pub fn keyword_of(word: &str) -> Keyword
         "stop" => Keyword::Stop,
         "recover" => Keyword::Recover,
         "history" => Keyword::History,
+        "begin" => Keyword::Begin,
+        "admit" => Keyword::Admit,
+        "step" => Keyword::Step,
+        "decide" => Keyword::Decide,
+        "tick" => Keyword::Tick,
+        "restart" => Keyword::Restart,
+        "fault" => Keyword::Fault,
+        "reconcile" => Keyword::Reconcile,
+        "log" => Keyword::Log,
         _ => Keyword::Other,
     }
 }

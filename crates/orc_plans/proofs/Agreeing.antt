@@ -22,7 +22,7 @@ use Rattle.orc_call.specs.declared.answer.Answer.TheVariants.{Clash}
 use Rattle.orc_call.specs.declared.call.Call.{Call}
 use Rattle.orc_call.specs.declared.call.Action.{Action}
 use Rattle.orc_decls.specs.declared.declarations.Decls.{Decls}
-use Rattle.orc_datastore.specs.declared.datastore.Service.{Service}
+use Rattle.orc_datastore.specs.declared.service.Service.{Service}
 use Rattle.orc_datastore.proofs.Agreement.{same_items, some, or_none, map_none, no_unequal_among, none_in_nil, first_in, later_in, in_cases, in_filter, IsMade, Origin, origin, AreUnique, after_unique}
 
 -- a search for the lesser that finds none found none anywhere

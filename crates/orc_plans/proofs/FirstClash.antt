@@ -19,7 +19,7 @@ use Rattle.orc_plans.specs.Clashing.{ClashIsLeast, IsLeastClash}
 use Rattle.orc_call.specs.declared.answer.Answer.{Answer}
 use Rattle.orc_call.specs.declared.answer.Answer.TheVariants.{Clash}
 use Rattle.orc_call.specs.declared.call.Action.{Action}
-use Rattle.orc_datastore.specs.declared.datastore.Service.{Service}
+use Rattle.orc_datastore.specs.declared.service.Service.{Service}
 use Rattle.orc_decls.proofs.Lists.{filter_from, passes, true_not_false}
 use Rattle.orc_datastore.proofs.Agreement.{none_in_nil, first_in, later_in, in_cases, origin, IsMade}
 use Rattle.orc_plans.proofs.Agreeing.{no_clash_from, none_on, made_within}

@@ -45,7 +45,7 @@ use Rattle.orc_datastore.specs.Plans.{IsInsideOne, call_expansions, call_held, c
 use Rattle.orc_datastore.specs.Touched.{is_held_by, is_touched_among, is_touched_by, is_written_by, touched_among, touched_devices}
 use Rattle.orc_decls.specs.declared.declarations.Decls.{Decls}
 use Rattle.orc_datastore.specs.declared.plan.Plan.{Plan}
-use Rattle.orc_datastore.specs.declared.datastore.Service.{Service}
+use Rattle.orc_datastore.specs.declared.service.Service.{Service}
 use Rattle.orc_datastore.proofs.Agreement.{first_in, in_cases, later_in, none_in_nil, or_none}
 use Rattle.orc_datastore.proofs.Bases.{bases-count}
 use Rattle.orc_datastore.proofs.Expanded.{err_no_ok, ok_same, one_serves, other_unnamed, parted}

@@ -28,7 +28,7 @@ use Rattle.orc_datastore.specs.Touched.{is_touched_among}
 use Rattle.orc_plans.specs.Plans.{EachAlong, FitsBeside, LegalStands, UnclashedStands, UnrefusedStands}
 use Rattle.orc_plans.specs.Clashing.{IsLeastClash}
 use Rattle.orc_decls.specs.declared.declarations.Decls.{Decls}
-use Rattle.orc_datastore.specs.declared.datastore.Service.{Service}
+use Rattle.orc_datastore.specs.declared.service.Service.{Service}
 use Rattle.orc_datastore.proofs.Agreement.{first_in, in_filter, later_in, on_none, or_none}
 use Rattle.orc_plans.proofs.Agreeing.{in_flat_map}
 use Rattle.orc_datastore.proofs.LeastClash.{At, any_of, least_at}

@@ -21,7 +21,7 @@ use Rattle.orc_datastore.specs.Next.{expanded_call, expanded_to}
 use Rattle.orc_datastore.specs.Touched.{is_held_by, is_touched_among, is_touched_by, is_written_by}
 use Rattle.orc_plans.specs.Plans.{UntouchedStay}
 use Rattle.orc_decls.specs.declared.declarations.Decls.{Decls}
-use Rattle.orc_datastore.specs.declared.datastore.Service.{Service}
+use Rattle.orc_datastore.specs.declared.service.Service.{Service}
 use Rattle.orc_datastore.proofs.Bases.{KeepsBase, base_kept}
 use Rattle.orc_decls.proofs.Lists.{any_none, or_first, or_second}
 use Rattle.orc_datastore.proofs.Blank.{blank_part, held}

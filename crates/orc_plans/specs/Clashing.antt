@@ -15,7 +15,7 @@ use Rattle.orc_datastore.specs.Histories.{IsUnrefused}
 use Rattle.orc_datastore.specs.Legal.{state_of}
 use Rattle.orc_datastore.specs.Next.{clash}
 use Rattle.orc_datastore.specs.States.{opening, part}
-use Rattle.orc_datastore.specs.declared.datastore.Service.{Service}
+use Rattle.orc_datastore.specs.declared.service.Service.{Service}
 use Rattle.orc_decls.specs.declared.declarations.Decls.{Decls}
 
 -- two services write no unequal items at one path of a device

@@ -1,2 +1,4 @@
+pub mod Causes
 pub mod Printed
+pub mod Logs
 pub mod inside

@@ -1,6 +1,8 @@
 -- What a script prints.
-use Rattle.std.specs.Prelude.{ℕ, suc, ◌≡◌, ◌==◌, ◌&&◌, nat_le, nat_lt, if◌then◌else◌, Bool, true, false, List, [], ◌∷◌, ◌++◌, codes, length, Option}
+use Rattle.std.specs.Prelude.{ℕ, suc, ◌≡◌, ◌==◌, ◌&&◌, nat_le, nat_lt, if◌then◌else◌, Bool, true, List, [], ◌∷◌, ◌++◌, codes, length, Option}
 use Rattle.std.specs.declared.option.Option.TheVariants.{None, Some}
+use Rattle.std.specs.declared.result.Result.{Result}
+use Rattle.std.specs.declared.result.Result.TheVariants.{Ok, Err}
 use Rattle.std.specs.Fmt.{decimal}
 use Rattle.std.specs.List.{flat_map}
 use Rattle.std.specs.Option.{option_copied}
@@ -13,7 +15,9 @@ use Rattle.orc_path.specs.declared.item.Item.{Item}
 use Rattle.orc_path.specs.declared.item.Item.TheVariants.{Entry, Leaf}
 use Rattle.orc_call.specs.declared.call.Call.{Call}
 use Rattle.orc_call.specs.declared.answer.Answer.{Answer}
-use Rattle.orc_call.specs.declared.answer.Answer.TheVariants.{Committed, Exists, Missing, Invalid, Expand, Clash, Reused, Down, JournalFault}
+use Rattle.orc_call.specs.declared.answer.Answer.TheVariants.{Committed, Exists, Missing, Invalid, Expand, Clash, Conflict, OutOfSync, Refused, LinkFault, Reused, Down, JournalFault, Memory, Busy}
+use Rattle.orc_call.specs.declared.answer.RecFault.{RecFault}
+use Rattle.orc_call.specs.declared.answer.RecFault.TheVariants as fault
 use Rattle.orc_refs.specs.declared.moves.Meta.{Meta}
 use Rattle.orc_schema.specs.Schemas.{SchemaTable}
 use Rattle.orc_check.specs.declared.rules.TheConstants.{KIND, KEY, MANDATORY, MIN_ELEMENTS, MAX_ELEMENTS, LEAFREF}
@@ -21,6 +25,7 @@ use Rattle.orc_json.specs.Written.{IsJsonTextOf}
 use Rattle.orc_template.specs.declared.fault.TheConstants.{NO_VALUE, MANY_VALUES, UNKNOWN_DEVICE, BAD_LEAF, SELF_CLASH}
 use Rattle.orc_decls.specs.Devices.{name_of}
 use Rattle.orc_decls.specs.Texts.{action_lines}
+use Rattle.orc_print.specs.Causes.{link_fault_words, refused_words, why_words, written_words}
 
 -- trees
 
@@ -105,6 +110,7 @@ expansion_word rule =
     else if rule == BAD_LEAF then codes "bad-leaf"
     else codes "self-clash"
 
+-- the words of an answer
 abbrev pub answer_words : List (List ℕ) → Answer → List ℕ
 answer_words names (Committed entry) = codes "Committed " ++ decimal entry
 answer_words names (Exists id) = codes "Exists " ++ id
@@ -114,13 +120,20 @@ answer_words names (Expand id block rule) =
     codes "Expand " ++ id ++ codes " " ++ decimal block ++ codes " " ++ expansion_word rule
 answer_words names (Clash device path id) =
     codes "Clash " ++ name_of names device ++ codes " " ++ path_text path ++ codes " " ++ id
+answer_words names (Conflict entry written) =
+    codes "Conflict " ++ decimal entry ++ codes " " ++ written_words written
+answer_words names (OutOfSync device cause) =
+    codes "OutOfSync " ++ name_of names device ++ codes " " ++ why_words cause
+answer_words names (Refused device said) = refused_words (name_of names device) said
+answer_words names (LinkFault device count) = link_fault_words (name_of names device) count
 answer_words names (Reused entry) = codes "Reused " ++ decimal entry
 answer_words names Down = codes "Down"
 answer_words names JournalFault = codes "JournalFault"
-answer_words names other = []
+answer_words names Memory = codes "Memory"
+answer_words names (Busy number) = codes "Busy " ++ decimal number
 
--- an answer that calls get so far, the others are not built yet; where it names a device, the device is one of so many,
--- and where it names a rule, the rule is one of validity or of expansion
+-- where the answer names a device, the device is one of so many, and where it names a rule, the rule is one of validity or
+-- of expansion
 abbrev pub is_answer_among : ℕ → Answer → Bool
 is_answer_among devices (Committed entry) = true
 is_answer_among devices (Exists id) = true
@@ -128,10 +141,15 @@ is_answer_among devices (Missing id) = true
 is_answer_among devices (Invalid path rule) = is_rule rule
 is_answer_among devices (Expand id block rule) = is_expansion_rule rule
 is_answer_among devices (Clash device path id) = nat_lt device devices
+is_answer_among devices (Conflict entry written) = true
+is_answer_among devices (OutOfSync device cause) = nat_lt device devices
+is_answer_among devices (Refused device said) = nat_lt device devices
+is_answer_among devices (LinkFault device count) = nat_lt device devices
 is_answer_among devices (Reused entry) = true
 is_answer_among devices Down = true
 is_answer_among devices JournalFault = true
-is_answer_among devices other = false
+is_answer_among devices Memory = true
+is_answer_among devices (Busy number) = true
 
 -- the caller, the call's number and the answer
 abbrev pub answer_line : List (List ℕ) → List ℕ → ℕ → Answer → List ℕ
@@ -157,3 +175,32 @@ history_text calls = codes "history " ++ decimal (length calls) ++ codes "\n" ++
 -- how many calls the history has behind a recovery
 abbrev pub recovered_line : ℕ → List ℕ
 recovered_line entries = codes "recovered " ++ decimal entries ++ codes "\n"
+
+-- reconciliations
+
+-- The line of a reconciliation that ended. Where the disk failed, or the journal had no room, the run ends, and there is
+-- none.
+abbrev pub mended_line : List (List ℕ) → Result (Unit {0}) RecFault → List ℕ
+mended_line names (Ok done) = codes "reconcile ok\n"
+mended_line names (Err (fault.LinkFault device count)) =
+    codes "reconcile " ++ link_fault_words (name_of names device) count ++ codes "\n"
+mended_line names (Err fault.DiskFault) = []
+mended_line names (Err (fault.Refused device said)) =
+    codes "reconcile " ++ refused_words (name_of names device) said ++ codes "\n"
+mended_line names (Err fault.Memory) = codes "reconcile Memory\n"
+mended_line names (Err (fault.Full len)) = []
+
+-- the line of a reconciliation that ended, and of one that didn't begin, since the controller is down
+abbrev pub reconciled_line : List (List ℕ) → Option (Result (Unit {0}) RecFault) → List ℕ
+reconciled_line names None = codes "reconcile down\n"
+reconciled_line names (Some ended) = mended_line names ended
+
+-- where the end of a reconciliation names a device, the device is one of so many
+abbrev pub is_end_among : ℕ → Option (Result (Unit {0}) RecFault) → Bool
+is_end_among devices None = true
+is_end_among devices (Some (Ok done)) = true
+is_end_among devices (Some (Err (fault.LinkFault device count))) = nat_lt device devices
+is_end_among devices (Some (Err fault.DiskFault)) = true
+is_end_among devices (Some (Err (fault.Refused device said))) = nat_lt device devices
+is_end_among devices (Some (Err fault.Memory)) = true
+is_end_among devices (Some (Err (fault.Full len))) = true

@@ -3,6 +3,7 @@ ghost use Rattle.std.specs.Prelude.{◌≡◌, length, IfOk, IsTrue};
 ghost use Rattle.orc_print.specs.inside.Adding.{Adds};
 ghost use Rattle.orc_print.specs.Printed.{answer_line, answer_words, expansion_word, is_answer_among, is_expansion_rule, is_rule, validity_word};
 
+use crate::causes::{push_link_fault, push_refused, push_why, push_written};
 use orc_call::Answer;
 use orc_check::{KEY, KIND, MANDATORY, MAX_ELEMENTS, MIN_ELEMENTS};
 use orc_decls::device_name;
@@ -76,14 +77,33 @@ fn push_answer(
             out.push_str(" ")?;
             out.push_str(id.as_str())?;
         }
+        Answer::Conflict(entry, write) => {
+            out.push_str("Conflict ")?;
+            out.push_str(entry.to_string(alloc)?.as_str())?;
+            out.push_str(" ")?;
+            push_written(out, alloc, write)?;
+        }
+        Answer::OutOfSync(device, why) => {
+            out.push_str("OutOfSync ")?;
+            out.push_str(device_name(names, *device).as_str())?;
+            out.push_str(" ")?;
+            push_why(out, alloc, *why)?;
+        }
+        Answer::Refused(device, tag) => push_refused(out, device_name(names, *device), *tag)?,
+        Answer::LinkFault(device, count) => {
+            push_link_fault(out, alloc, device_name(names, *device), *count)?;
+        }
         Answer::Reused(entry) => {
             out.push_str("Reused ")?;
             out.push_str(entry.to_string(alloc)?.as_str())?;
         }
         Answer::Down => out.push_str("Down")?,
         Answer::JournalFault => out.push_str("JournalFault")?,
-        // No call gets one of these yet.
-        _ => {}
+        Answer::Memory => out.push_str("Memory")?,
+        Answer::Busy(number) => {
+            out.push_str("Busy ")?;
+            out.push_str(number.to_string(alloc)?.as_str())?;
+        }
     }
     Ok(())
 }

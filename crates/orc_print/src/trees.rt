@@ -1,10 +1,9 @@
 //! Configurations: the trees of devices, and the data.
 ghost use Rattle.std.specs.Prelude.{◌≡◌, IfOk};
 ghost use Rattle.orc_print.specs.inside.Adding.{Adds};
-ghost use Rattle.orc_print.specs.Printed.{IsJsonGroup, data_text, item_lines, tree_text};
+ghost use Rattle.orc_print.specs.Printed.{data_text, item_lines, json_line, tree_text};
 
 use orc_path::push_item;
-use orc_schema::Schema;
 use orc_text::{Memory, Text};
 use orc_tree::Tree;
 use std::alloc::Global;
@@ -22,7 +21,7 @@ pub fn show(alloc: Global, name: &Text, tree: &Tree) -> Result<Vec<u8>, Memory>
 }
 
 /// The group `data`: the items of the data in path order, and an end line.
-pub fn data(alloc: Global, tree: &Tree) -> Result<Vec<u8>, Memory>
+pub fn show_data(alloc: Global, tree: &Tree) -> Result<Vec<u8>, Memory>
     ensures { IfOk result (λ bytes. bytes.items ≡ data_text tree.now) }
 {
     let mut out = String::from_str(alloc, "data\n")?;
@@ -31,16 +30,15 @@ pub fn data(alloc: Global, tree: &Tree) -> Result<Vec<u8>, Memory>
     Ok(out.into_bytes())
 }
 
-/// The line `json` of a device: its name and the JSON text of its tree under its schema (RFC 7951).
-/// Of a tree that has no JSON value there nothing is said, so nor under the schema of a plain device.
-pub fn json(alloc: Global, name: &Text, schema: &Schema, tree: &Tree) -> Result<Vec<u8>, Memory>
-    ensures { IfOk result (λ bytes. IsJsonGroup name.now schema.now tree.now bytes.items) }
+/// The line `json` of a device: its name and the JSON text of its tree (RFC 7951), as `orc_json::write`
+/// gives it.
+pub fn json(alloc: Global, name: &Text, text: &[u8]) -> Result<Vec<u8>, Memory>
+    ensures { IfOk result (λ bytes. bytes.items ≡ json_line name.now text.now) }
 {
-    let text = orc_json::write(alloc, schema, tree)?;
     let mut out = String::from_str(alloc, "json ")?.into_bytes();
     out.extend_from_slice(name.as_str().as_bytes())?;
     out.extend_from_slice(b" ")?;
-    out.extend_from_slice(text.as_slice())?;
+    out.extend_from_slice(text)?;
     out.extend_from_slice(b"\n")?;
     Ok(out)
 }

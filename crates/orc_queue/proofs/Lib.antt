@@ -1,3 +1,3 @@
-mod Loops
+pub mod Loops
 mod Fits
 pub mod Mutual

@@ -15,7 +15,7 @@ use Rattle.orc_datastore.specs.States.{tree_due}
 use Rattle.orc_decls.specs.declared.declarations.Decls.{Decls}
 use Rattle.orc_rules.specs.Cells.{DeviceRole, updated_at}
 use Rattle.orc_rules.specs.Cells.DeviceRole.{Free, Works}
-use Rattle.orc_rules.specs.Duties.{is_over, is_unworked}
+use Rattle.orc_rules.specs.Duties.{is_over, no_call_works}
 use Rattle.orc_rules.specs.Facts.{Quiet}
 use Rattle.orc_rules.specs.Hubs.{Hub, duty_on}
 use Rattle.orc_rules.specs.Kept.{FitAt, NetworkKept, Shadow, StandsAt, ValidAt, heard as then_heard, is_stale, local_of, mend_at, mends_at, network_of, role_of, role_on, stale_on, stale_then, works_at}
@@ -71,7 +71,7 @@ module _ (decls : Decls) (shadow : ℕ → Shadow) (entries : List Entry) (nodes
 
   -- a device in step runs what is due, and nothing is pending there
   pub in_step : (hub : Hub) (device : ℕ) → NetworkKept decls (network_of decls shadow entries (Some hub) nodes links)
-      → slice_get hub.stale device ≡ Some None → is_unworked (duty_on hub.duties device) ≡ true → (links device).unheard ≡ None
+      → slice_get hub.stale device ≡ Some None → no_call_works (duty_on hub.duties device) ≡ true → (links device).unheard ≡ None
       → IsLegal decls (history_of entries) → nat_lt device (length decls.names) ≡ true
       → ((nodes device).running ≡ tree_due (state_of decls (history_of entries)) device) × ((nodes device).pending ≡ None)
   in_step hub device kept fresh unworked heard legal within =
@@ -90,7 +90,7 @@ module _ (decls : Decls) (shadow : ℕ → Shadow) (entries : List Entry) (nodes
       by_mend None = refl
       by_mend (Some m) = refl
 
-      by_duty : (on : Duty) → is_unworked on ≡ true → IsAtWork (over decls) (network_of decls shadow entries (Some hub) nodes links) (role_of (over decls device) (told_by entries) device on) ≡ false
+      by_duty : (on : Duty) → no_call_works on ≡ true → IsAtWork (over decls) (network_of decls shadow entries (Some hub) nodes links) (role_of (over decls device) (told_by entries) device on) ≡ false
       by_duty duty.Free h = refl
       by_duty (duty.Works worker) h =
           ap (λ (r : DeviceRole Call). IsAtWork (over decls) (network_of decls shadow entries (Some hub) nodes links) r)

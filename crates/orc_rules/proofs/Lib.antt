@@ -48,3 +48,4 @@ pub mod Ranking
 pub mod Bounding
 pub mod Leaving
 pub mod OwnKinds
+pub mod Pending

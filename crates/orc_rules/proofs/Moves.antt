@@ -1,11 +1,13 @@
 -- Each event leads to a network of which the crash invariant holds, and keeps the work on devices.
-use Rattle.std.proofs.Common.{◌≡◌, inl, inr, ⊎_elim, ℕ, ◌+◌, Bool, true, false, cond, ◌||◌, nat_eq, nat_lt, List, [], ◌∷◌, ◌++◌, Option, Some, None, All, map, length, refl, sym, ap, subst, ◌∙◌, append-nil, zero, suc}
+use Rattle.std.proofs.Common.{◌≡◌, ◌⊎◌, eqb-true, inl, inr, ⊎_elim, ℕ, ◌+◌, Bool, true, false, cond, ◌||◌, nat_eq, nat_lt, List, [], ◌∷◌, ◌++◌, Option, Some, None, All, map, length, refl, sym, ap, subst, ◌∙◌, append-nil, zero, suc}
 use Rattle.std.specs.Prelude.{slice_get}
 use Rattle.std.specs.List.{list_all}
+use Rattle.std.specs.Option.{option_map_or}
 use Rattle.std.proofs.lemmas.Bool.{false≢true}
 use Rattle.std.proofs.lemmas.Option.{same_Some}
 use Rattle.orc_call.specs.declared.answer.Answer.TheVariants as answer
 use Rattle.orc_call.specs.declared.answer.RecFault.{RecFault}
+use Rattle.orc_call.specs.declared.call.Call.{Call}
 use Rattle.orc_datastore.specs.Actions.{data_after}
 use Rattle.orc_datastore.specs.Legal.{IsLegal, state_of}
 use Rattle.orc_datastore.specs.Next.{invalid}
@@ -13,7 +15,7 @@ use Rattle.orc_datastore.specs.States.{Datastore}
 use Rattle.orc_decls.specs.Declarations.{AreDecls}
 use Rattle.orc_decls.specs.declared.declarations.Decls.{Decls}
 use Rattle.orc_device.specs.declared.kind.When.{When}
-use Rattle.orc_device.specs.Links.{Way, way_node, way_reply, way_session}
+use Rattle.orc_device.specs.Links.{Possible, Way, took_effect, takes_memory, way_node, way_reply, way_session}
 use Rattle.orc_device.specs.Listings.{kind_of_op, without_first}
 use Rattle.orc_device.specs.Links.{Way as way}
 use Rattle.orc_device.specs.declared.op.Op.TheVariants as op
@@ -35,13 +37,14 @@ use Rattle.orc_worker.specs.Workers.{worker_took}
 use Rattle.orc_worker.specs.declared.worker.Worker.{Worker}
 use Rattle.orc_rules.specs.Agreement.{mender_of}
 use Rattle.orc_rules.specs.Admissions.{intent_entry}
-use Rattle.orc_rules.specs.Cells.{Mended, cleared, updated_at, has_intent, mended_clear, mender_after}
+use Rattle.orc_rules.specs.Cells.{Cell, Mended, at_after, cleared, place_or, updated_at, has_intent, mended_clear, mender_after}
+use Rattle.orc_rules.specs.Coming.{came_by, came_by_due, came_to}
 use Rattle.orc_rules.specs.Cells.Mended.{Goes, Whole, Fails}
 use Rattle.orc_rules.specs.Courses.{is_clear}
 use Rattle.orc_rules.specs.Due.{is_decision_due}
-use Rattle.orc_rules.specs.Duties.{duty_order, duty_told, is_busy, is_unworked}
-use Rattle.orc_rules.specs.Events.{DoesUnderHub, mender_freed, link_behind, performed_with}
-use Rattle.orc_rules.specs.Hubs.{Hub, answered, duty_on, order_on, hub_reported, hub_told}
+use Rattle.orc_rules.specs.Duties.{duty_order, duty_told, is_busy, no_call_works}
+use Rattle.orc_rules.specs.Events.{DoesUnderHub, mender_freed, link_behind, performed_with, way_due}
+use Rattle.orc_rules.specs.Hubs.{Hub, answered, due_on, duty_on, order_on, hub_reported, hub_told}
 use Rattle.orc_rules.specs.Invariant.{IsLawful}
 use Rattle.orc_rules.specs.Journals.{entries_read, history_read}
 use Rattle.orc_rules.specs.Kept.{FitAt, HistoryKept, HubKept, NetworkKept, Shadow, StandsAt, ValidAt, heard as then_heard, network_of, lawful_state}
@@ -85,10 +88,40 @@ all_left (x ∷ xs) all zero it there =
     ap (λ (a : Transaction). a.phase) (sym (same_Some x it there)) ∙ left_so x.phase (both_true (is_left x.phase) (list_all (λ it. is_left it.phase) xs) all).0
 all_left (x ∷ xs) all (suc place) it there = all_left xs (both_true (is_left x.phase) (list_all (λ it. is_left it.phase) xs) all).1 place it there
 
+-- the place that an operation brings a device to, in words of a cell and of what the journal tells
+after_is : (c : Cell Call) (told : Told) (at : ℕ) → c.at ≡ at → c.place ≡ told.place → c.history ≡ told.history → (one : Op) (b : Bool) → at_after c one b ≡ cond b (came_to told at one) at
+after_is c told at is place history one false = is
+after_is c told at is place history (op.Confirm t) true = ap (λ (o : Option ℕ). place_or o c.at) (ap (λ (f : ℕ → Option ℕ). f t) place) ∙ ap (place_or (told.place t)) is
+after_is c told at is place history op.Commit true = ap (λ (h : List Call). length h) history
+after_is c told at is place history one true = is
+
+at_cond : (b : Bool) (one other : Shadow) → (cond b one other).at ≡ cond b one.at other.at
+at_cond true one other = refl
+at_cond false one other = refl
+
 module _ {D : Type 0} (here : Setting D) (are_decls : AreDecls here.decls) (plans : PlanStands) (are : (device : ℕ) → IsOfHub (here.kinds device))
     (lawful : (device : ℕ) → IsLawful (here.kinds device) (over here.decls device)) (planning : Planning (over here.decls) (StandsAt here.decls) (FitAt here.decls) (ValidAt here.decls)) where
   abbrev decls : Decls
   decls = here.decls
+
+  -- what takes no effect, or brings no device anywhere
+  pub effect_so : (device : ℕ) (world : World D) (one : Op) (happened : Way) (told : Told) (at : ℕ) → Possible (here.kinds device) (world.nodes device) (world.links device).session one happened
+      → (happened ≡ way_due here world device one) ⊎ (happened ≡ way.NoMemory)
+      → cond (took_effect happened) (came_to told at one) at ≡ cond (took_effect (way_due here world device one)) (came_to told at one) at
+  effect_so device world one happened told at possible (inl same) = ap (λ (w : Way). cond (took_effect w) (came_to told at one) at) same
+  effect_so device world one happened told at possible (inr none) =
+      ap (λ (w : Way). cond (took_effect w) (came_to told at one) at) none
+      ∙ sym (ap (λ (n : ℕ). cond (took_effect (way_due here world device one)) n at)
+      (copies one (subst (λ (w : Way). Possible (here.kinds device) (world.nodes device) (world.links device).session one w) none possible).0) ∙ same_either (took_effect (way_due here world device one)))
+    where
+      copies : (o : Op) → takes_memory o ≡ true → came_to told at o ≡ at
+      copies (op.Edit set) h = refl
+      copies op.GetRunning h = refl
+      copies o h = absurd (false≢true h)
+
+      same_either : (b : Bool) → cond b at at ≡ at
+      same_either true = refl
+      same_either false = refl
 
   module _ (world : World D) (hub : Hub) (kept : HistoryKept here world) (own : DevicesKept here.decls world) (up : world.hub ≡ Some hub)
       (known : HubKept here.decls (entries_read world.journal) (history_of (entries_read world.journal)) hub.active hub.waiting hub.given)
@@ -193,8 +226,22 @@ module _ {D : Type 0} (here : Setting D) (are_decls : AreDecls here.decls) (plan
               (under.clear device worker (ap (λ (u : Option (OpKind × Reply)). then_heard u (world.links device).faults (duty_on hub.duties device)) unheard ∙ is) before))
               (took_clear link'.faults worker.stage worker.outcome r (subst (λ (y : Worker). is_clear y.outcome ≡ true) (sym same) h)))
 
-      by_mender : (mender : MenderState) → duty_on hub.duties device ≡ duty.Mends mender → Led [] (performed_with here world listed device op happened)
-      by_mender mender is = at hub.mends refl
+      mender_stood : (mender : MenderState) → duty_on hub.duties device ≡ duty.Mends mender → IsMenderOf here.decls (entries_read world.journal) device mender
+          → Led [] (performed_with here world listed device op happened)
+      mender_stood mender is (inl ended) = absurd (let no : ◌≡◌ {A = Option Op} None (Some op) =
+          sym (ap (λ s. mend_order differences mender.left mender.due s) ended) ∙ order_now (duty.Mends mender) is in cc)
+      mender_stood mender is (inr so) =
+          let slot = get_in hub.stale device (length here.decls.names) under.stale_sized within in
+          let sh : Shadow = shadow_mended here.decls here.kinds are lawful planning own.shadow (entries_read world.journal) hub world.nodes world.links device op happened unheard possible listed net_kept
+          mender so.0 is so.1 (order_now (duty.Mends mender) is) slot.0 slot.1 in
+          quiet (performed_with here world listed device op happened) (updated_at own.shadow device sh) hub up
+          (mends_moves here.decls here.kinds are lawful planning own.shadow (entries_read world.journal) hub world.nodes world.links device op happened unheard possible listed net_kept
+          mender so.0 is so.1 (order_now (duty.Mends mender) is) slot.0 slot.1)
+          (performs_under here.decls own.shadow (entries_read world.journal) hub.active hub.duties hub.stale hub.mends world.links under device link' sh
+          (ap is_busy is ∙ busy so.0 so.1) (λ w e h. absurd (no_worker w e))
+          (λ t h. mended_more (cell (over here.decls) (network_of here.decls own.shadow (entries_read world.journal) (Some hub) world.nodes world.links) device).open_intent (own.shadow device).clear
+          (mender_after (here.kinds device) (over here.decls device (told_by (entries_read world.journal)).history) so.0 r) t h))
+          (rests_now (duty.Mends mender) is (mends_not_free mender))
         where
           within : nat_lt device (length here.decls.names) ≡ true
           within = sym (ap (λ (n : ℕ). nat_lt device n) under.duties_sized) ∙ slot_within hub.duties device (duty.Mends mender) is (mends_not_free mender)
@@ -206,36 +253,58 @@ module _ {D : Type 0} (here : Setting D) (are_decls : AreDecls here.decls) (plan
               → is_mending mender.stage ≡ true
           busy m stands = ap (λ (n : MenderState). is_mending n.stage) stands ∙ mends_on m
 
-          stood : IsMenderOf here.decls (entries_read world.journal) device mender → Led [] (performed_with here world listed device op happened)
-          stood (inl ended) = absurd (let no : ◌≡◌ {A = Option Op} None (Some op) =
-              sym (ap (λ s. mend_order differences mender.left mender.due s) ended) ∙ order_now (duty.Mends mender) is in cc)
-          stood (inr so) =
-              let slot = get_in hub.stale device (length here.decls.names) under.stale_sized within in
-              let sh : Shadow = shadow_mended here.decls here.kinds are lawful planning own.shadow (entries_read world.journal) hub world.nodes world.links device op happened unheard possible listed net_kept
-              mender so.0 is so.1 (order_now (duty.Mends mender) is) slot.0 slot.1 in
-              quiet (performed_with here world listed device op happened) (updated_at own.shadow device sh) hub up
-              (mends_moves here.decls here.kinds are lawful planning own.shadow (entries_read world.journal) hub world.nodes world.links device op happened unheard possible listed net_kept
-              mender so.0 is so.1 (order_now (duty.Mends mender) is) slot.0 slot.1)
-              (performs_under here.decls own.shadow (entries_read world.journal) hub.active hub.duties hub.stale hub.mends world.links under device link' sh
-              (ap is_busy is ∙ busy so.0 so.1) (λ w e h. absurd (no_worker w e))
-              (λ t h. mended_more (cell (over here.decls) (network_of here.decls own.shadow (entries_read world.journal) (Some hub) world.nodes world.links) device).open_intent (own.shadow device).clear
-              (mender_after (here.kinds device) (over here.decls device (told_by (entries_read world.journal)).history) so.0 r) t h))
-              (rests_now (duty.Mends mender) is (mends_not_free mender))
+      mender_in : (mender : MenderState) → duty_on hub.duties device ≡ duty.Mends mender → (m : Option (Option RecFault)) → hub.mends ≡ m
+          → Led [] (performed_with here world listed device op happened)
+      mender_in mender is None e = absurd (subst (λ (n : Option (Option RecFault)). MendingKept here.decls (entries_read world.journal) hub.active hub.duties hub.stale n) e under.mending device mender is)
+      mender_in mender is (Some met) e =
+          let mending : AreMending here.decls (entries_read world.journal) hub.active hub.duties hub.stale met =
+          subst (λ (n : Option (Option RecFault)). MendingKept here.decls (entries_read world.journal) hub.active hub.duties hub.stale n) e under.mending in
+          mender_stood mender is (mending.stand device mender is)
 
-          at : (m : Option (Option RecFault)) → hub.mends ≡ m → Led [] (performed_with here world listed device op happened)
-          at None e = absurd (subst (λ (n : Option (Option RecFault)). MendingKept here.decls (entries_read world.journal) hub.active hub.duties hub.stale n) e under.mending device mender is)
-          at (Some met) e =
-              let mending : AreMending here.decls (entries_read world.journal) hub.active hub.duties hub.stale met =
-              subst (λ (n : Option (Option RecFault)). MendingKept here.decls (entries_read world.journal) hub.active hub.duties hub.stale n) e under.mending in
-              stood (mending.stand device mender is)
+      performs_by : (d : Duty) → duty_on hub.duties device ≡ d → Led [] (performed_with here world listed device op happened)
+      performs_by duty.Free is = absurd (let no : ◌≡◌ {A = Option Op} None (Some op) = order_now duty.Free is in cc)
+      performs_by (duty.Works worker) is = by_worker worker is
+      performs_by (duty.Mends mender) is = mender_in mender is hub.mends refl
 
       pub performs_leads : Led [] (performed_with here world listed device op happened)
-      performs_leads = on (duty_on hub.duties device) refl
-        where
-          on : (d : Duty) → duty_on hub.duties device ≡ d → Led [] (performed_with here world listed device op happened)
-          on duty.Free is = absurd (let no : ◌≡◌ {A = Option Op} None (Some op) = order_now duty.Free is in cc)
-          on (duty.Works worker) is = by_worker worker is
-          on (duty.Mends mender) is = by_mender mender is
+      performs_leads = performs_by (duty_on hub.duties device) refl
+
+      -- How far along the history each device has come then. (By the same cases.)
+      abbrev Came : (ℕ → Shadow) → ℕ → Type 0
+      Came sh x = (sh x).at ≡ cond (nat_eq device x) (cond (took_effect happened) (came_to (told_by (entries_read world.journal)) (own.shadow device).at op) (own.shadow device).at) (own.shadow x).at
+
+      came_one : (sh : Shadow) → sh.at ≡ at_after (cell (over here.decls) (network_of here.decls own.shadow (entries_read world.journal) (Some hub) world.nodes world.links) device) op (took_effect happened)
+          → (x : ℕ) → Came (updated_at own.shadow device sh) x
+      came_one sh is x =
+          at_cond (nat_eq device x) sh (own.shadow x)
+          ∙ ap (λ (n : ℕ). cond (nat_eq device x) n (own.shadow x).at)
+          (is ∙ after_is (cell (over here.decls) (network_of here.decls own.shadow (entries_read world.journal) (Some hub) world.nodes world.links) device) (told_by (entries_read world.journal))
+          (own.shadow device).at refl refl refl op (took_effect happened))
+
+      stood_came : (mender : MenderState) (is : duty_on hub.duties device ≡ duty.Mends mender) (so : IsMenderOf here.decls (entries_read world.journal) device mender) (x : ℕ)
+          → Came (mender_stood mender is so).shadow x
+      unfolding mender_stood quiet leads
+      stood_came mender is (inl ended) x = absurd (let no : ◌≡◌ {A = Option Op} None (Some op) =
+          sym (ap (λ s. mend_order differences mender.left mender.due s) ended) ∙ order_now (duty.Mends mender) is in cc)
+      stood_came mender is (inr so) x = came_one _ refl x
+
+      mender_came : (mender : MenderState) (is : duty_on hub.duties device ≡ duty.Mends mender) (m : Option (Option RecFault)) (e : hub.mends ≡ m) (x : ℕ) → Came (mender_in mender is m e).shadow x
+      unfolding mender_in mender_stood
+      mender_came mender is None e x = absurd (subst (λ (n : Option (Option RecFault)). MendingKept here.decls (entries_read world.journal) hub.active hub.duties hub.stale n) e under.mending device mender is)
+      mender_came mender is (Some met) e x =
+          let mending : AreMending here.decls (entries_read world.journal) hub.active hub.duties hub.stale met =
+          subst (λ (n : Option (Option RecFault)). MendingKept here.decls (entries_read world.journal) hub.active hub.duties hub.stale n) e under.mending in
+          stood_came mender is (mending.stand device mender is) x
+
+      by_came : (d : Duty) (is : duty_on hub.duties device ≡ d) (x : ℕ) → Came (performs_by d is).shadow x
+      unfolding performs_by by_worker quiet leads
+      by_came duty.Free is x = absurd (let no : ◌≡◌ {A = Option Op} None (Some op) = order_now duty.Free is in cc)
+      by_came (duty.Works worker) is x = came_one _ refl x
+      by_came (duty.Mends mender) is x = mender_came mender is hub.mends refl x
+
+      pub performs_came : (x : ℕ) → Came performs_leads.shadow x
+      unfolding performs_leads performs_by
+      performs_came x = by_came (duty_on hub.duties device) refl x
 
     -- any prefix of what a reconciliation settles
     pub mended_front : hub.mends ≡ Some None → ((device : ℕ) → (world.links device).unheard ≡ None) → All (λ duty. is_busy duty ≡ false) hub.duties → (ts : List ℕ)
@@ -246,13 +315,18 @@ module _ {D : Type 0} (here : Setting D) (are_decls : AreDecls here.decls) (plan
       mended_keep here.decls here.kinds are lawful planning own.shadow (entries_read world.journal) hub world.nodes world.links under net_kept None met heard refl busy own.rests ts,
     )
 
+    pub mended_came : (met : hub.mends ≡ Some None) (heard : (device : ℕ) → (world.links device).unheard ≡ None) (busy : All (λ duty. is_busy duty ≡ false) hub.duties) (ts : List ℕ) (x : ℕ)
+        → ((mended_front met heard busy ts).0 x).at ≡ (own.shadow x).at
+    unfolding mended_front
+    mended_came met heard busy ts x = refl
+
     -- after a reconciliation that is well each declared device is in step
     pub mended_in_step : hub.mends ≡ Some None → ((device : ℕ) → (world.links device).unheard ≡ None) → All (λ duty. is_busy duty ≡ false) hub.duties
         → (device : ℕ) → nat_lt device (length here.decls.names) ≡ true
-        → (slice_get hub.stale device ≡ Some None) × (is_unworked (duty_on (map mender_freed hub.duties) device) ≡ true)
+        → (slice_get hub.stale device ≡ Some None) × (no_call_works (duty_on (map mender_freed hub.duties) device) ≡ true)
     mended_in_step met heard busy device within = (
       fresh_slot here.decls here.kinds are lawful planning own.shadow (entries_read world.journal) hub world.nodes world.links under net_kept None met heard refl busy own.rests device within,
-      ap is_unworked (freed_is here.decls here.kinds are lawful planning own.shadow (entries_read world.journal) hub world.nodes world.links under net_kept None met heard device),
+      ap no_call_works (freed_is here.decls here.kinds are lawful planning own.shadow (entries_read world.journal) hub world.nodes world.links under net_kept None met heard device),
     )
 
     -- a decision is written
@@ -342,3 +416,50 @@ module _ {D : Type 0} (here : Setting D) (are_decls : AreDecls here.decls) (plan
         (fails_keep here.decls here.kinds are lawful planning own.shadow (entries_read world.journal) hub world.nodes world.links under net_kept (Some met) failed heard)
         (fails_under here.decls here.kinds are lawful planning own.shadow (entries_read world.journal) hub world.nodes world.links under net_kept (Some met) failed heard)
         own.rests
+
+    -- How far along the history each device has come then.
+    pub does_came : (meant : Event) (row : List Entry) (next : World D) (does : DoesUnderHub here world hub meant row next) (x : ℕ)
+        → ((does_leads meant row next does).shadow x).at ≡ came_by here world x (own.shadow x).at (Some meant)
+    unfolding does_leads quiet leads
+    does_came meant row next (DoesUnderHub.begins caller) x = refl
+    does_came meant row next (DoesUnderHub.answers call front said asked snap why keeps) x = refl
+    does_came meant row next (DoesUnderHub.queues it front snap same lawful' closed apart new within made number slot) x = refl
+    does_came meant row next (DoesUnderHub.turns_away place it said there first idle why) x = refl
+    does_came meant row next (DoesUnderHub.admits place it sets there first idle passes fresh) x = refl
+    does_came meant row next (DoesUnderHub.performs device one happened due unheard possible way') x =
+        performs_came device one happened (due_is hub device one due) unheard
+        (may_happen (here.kinds device) (world.nodes device) (world.links device).session one happened possible) (without_first (kind_of_op one) (world.links device).listed) x
+        ∙ here_or (nat_eq device x) refl
+      where
+        told : Told
+        told = told_by (entries_read world.journal)
+
+        by_hub : (device' : ℕ) → device ≡ device' → cond (took_effect happened) (came_to told (own.shadow device).at one) (own.shadow device).at
+            ≡ option_map_or (λ (h : Hub). came_by_due here world device' (own.shadow device').at (due_on h device')) world.hub (own.shadow device').at
+        by_hub device' same =
+            subst (λ (d : ℕ). cond (took_effect happened) (came_to told (own.shadow device).at one) (own.shadow device).at
+            ≡ option_map_or (λ (h : Hub). came_by_due here world d (own.shadow d).at (due_on h d)) world.hub (own.shadow d).at) same
+            (effect_so device world one happened told (own.shadow device).at possible way'
+            ∙ sym (ap (λ (o : Option Hub). option_map_or (λ (h : Hub). came_by_due here world device (own.shadow device).at (due_on h device)) o (own.shadow device).at) up
+            ∙ ap (λ (o : Option Op). came_by_due here world device (own.shadow device).at o) due))
+
+        here_or : (b : Bool) → nat_eq device x ≡ b → cond b (cond (took_effect happened) (came_to told (own.shadow device).at one) (own.shadow device).at) (own.shadow x).at
+            ≡ cond b (option_map_or (λ (h : Hub). came_by_due here world x (own.shadow x).at (due_on h x)) world.hub (own.shadow x).at) (own.shadow x).at
+        here_or true is = by_hub x (eqb-true device x is)
+        here_or false is = refl
+    does_came meant row next (DoesUnderHub.leaves_unsent device changes due unheard) x =
+        performs_came device (op.Edit changes) way.NoMemory (due_is hub device (op.Edit changes) due) unheard (refl, tt) (world.links device).listed x
+        ∙ stays (nat_eq device x) refl
+      where
+        stays : (b : Bool) → nat_eq device x ≡ b → cond b (own.shadow device).at (own.shadow x).at ≡ (own.shadow x).at
+        stays true is = ap (λ (d : ℕ). (own.shadow d).at) (eqb-true device x is)
+        stays false is = refl
+    does_came meant row next (DoesUnderHub.reports device kind reply unheard) x = refl
+    does_came meant row next (DoesUnderHub.commits place it there least due prepared valid) x = refl
+    does_came meant row next (DoesUnderHub.aborts place it said there least due why) x = refl
+    does_came meant row next (DoesUnderHub.settles place it there least settling) x = refl
+    does_came meant row next DoesUnderHub.stops x = refl
+    does_came meant row next (DoesUnderHub.mends numbers idle unsettled) x = refl
+    does_came meant row next (DoesUnderHub.mended numbers met busy heard unsettled) x = refl
+    does_came meant row next (DoesUnderHub.finds_no_memory met busy heard) x = refl
+    does_came meant row next (DoesUnderHub.fails_to_mend met failed heard) x = refl

@@ -4,10 +4,12 @@ use Rattle.std.specs.Cmp.Lexicographic.{bytes_decides}
 use Rattle.std.specs.FinMap.{empty}
 use Rattle.std.specs.List.{AllByRecursion, IsDistinct, find, list_all, slice_get}
 use Rattle.std.specs.Option.{option_map_or}
-use Rattle.std.specs.Prelude.{map}
+use Rattle.std.specs.Prelude.{is_none, map}
 use Rattle.std.proofs.lemmas.Bool.{false≢true}
-use Rattle.orc_path.specs.Configurations.{Config}
+use Rattle.orc_path.specs.Configurations.{Config, IsConfig}
 use Rattle.orc_check.specs.Acceptance.{accepts}
+use Rattle.orc_check.specs.TypedRows.{TypesAreKept, ValidIsTyped}
+use Rattle.orc_check.specs.Validity.{broken_of}
 use Rattle.orc_datastore.specs.States.{config_of}
 use Rattle.orc_decls.specs.Calls.{device_named, is_device, is_device_under, is_lawful_name, schema_in, schema_named}
 use Rattle.orc_decls.specs.Declarations.{AreDecls, accept_of, accepts_base}
@@ -16,6 +18,7 @@ use Rattle.orc_decls.specs.Openings.{declared_base}
 use Rattle.orc_decls.specs.declared.declarations.Decls.{Decls}
 use Rattle.orc_decls.specs.declared.declarations.Device.{Device}
 use Rattle.orc_node.specs.Kinds.{device_kind, set_stands}
+use Rattle.orc_node.specs.Laws.{IsTypedTree}
 use Rattle.orc_schema.specs.Schemas.{SchemaTable, plain_table}
 use Rattle.orc_rules.specs.Acceptance.{IsOfSchema, declared_kind, node_kind, plain_accept}
 use Rattle.orc_rules.specs.UnderHub.{IsOfHub}
@@ -97,6 +100,10 @@ unnamed schemas (x ∷ devices) all =
     on [] e = absurd (false≢true (sym (ap is_lawful_name e) ∙ lawful))
     on (byte ∷ name) e = ap (is_same_text []) e
 
+none_is : {X : Type 0} (o : Option X) → is_none o ≡ true → o ≡ None
+none_is None h = refl
+none_is (Some x) h = absurd (false≢true h)
+
 -- bases
 
 base_at : (devices : List Device) (place : ℕ) (d : Device) → slice_get devices place ≡ Some d → config_of (map declared_base devices) place ≡ declared_base d
@@ -115,20 +122,55 @@ within_names (x ∷ devices) zero d is = omega arith
 within_names (x ∷ devices) (suc place) d is = let below = within_names devices place d is in omega (arith, below)
 
 module _ (decls : Decls) (are : AreDecls decls) where
-  pub own_is_of_schema : (device : ℕ) → IsOfSchema decls device (declared_kind decls device)
-  own_is_of_schema device = on (slice_get decls.devices device) refl
+  -- the schema of the device that is declared there, or the plain one where none is
+  schema_is : (device : ℕ) (one : Option Device) → slice_get decls.devices device ≡ one
+      → schema_named decls.schemas decls.devices (name_of decls.names device) ≡ option_map_or (λ d. schema_in decls.schemas d.schema) one plain_table
+  schema_is device None is = named [] (no_name decls.devices device is) None (unnamed decls.schemas decls.devices are.devices)
     where
       named : (name : List ℕ) → name_of (names_of decls.devices) device ≡ name → (o : Option Device) → device_named decls.devices name ≡ o
           → schema_named decls.schemas decls.devices (name_of decls.names device) ≡ option_map_or (λ d. schema_in decls.schemas d.schema) o plain_table
       named name is o there =
           ap (λ (n : List ℕ). schema_named decls.schemas decls.devices n) (ap (λ (l : List (List ℕ)). name_of l device) are.named ∙ is)
           ∙ ap (λ (x : Option Device). option_map_or (λ d. schema_in decls.schemas d.schema) x plain_table) there
+  schema_is device (Some d) is =
+      ap (λ (n : List ℕ). schema_named decls.schemas decls.devices n) (ap (λ (l : List (List ℕ)). name_of l device) are.named ∙ name_at decls.devices device d is)
+      ∙ ap (λ (x : Option Device). option_map_or (λ e. schema_in decls.schemas e.schema) x plain_table)
+      (named_at decls.devices (subst (λ (l : List (List ℕ)). IsDistinct is_same_text l) are.named are.distinct) device d is)
 
+  pub own_is_of_schema : (device : ℕ) → IsOfSchema decls device (declared_kind decls device)
+  own_is_of_schema device = on (slice_get decls.devices device) refl
+    where
       on : (one : Option Device) → slice_get decls.devices device ≡ one
           → (node_kind decls.schemas one).fits ≡ set_stands (schema_named decls.schemas decls.devices (name_of decls.names device))
-      on None is = ap set_stands (sym (named [] (no_name decls.devices device is) None (unnamed decls.schemas decls.devices are.devices)))
-      on (Some d) is = ap set_stands (sym (named d.name (name_at decls.devices device d is) (Some d)
-          (named_at decls.devices (subst (λ (l : List (List ℕ)). IsDistinct is_same_text l) are.named are.distinct) device d is)))
+      on None is = ap set_stands (sym (schema_is device None is))
+      on (Some d) is = ap set_stands (sym (schema_is device (Some d) is))
+
+  -- before any call the base is due
+  pub own_base : (device : ℕ) (one : Device) → slice_get decls.devices device ≡ Some one → over decls device [] ≡ declared_base one
+  own_base device one is =
+      ap (λ (b : Bool). cond b (config_of (map declared_base decls.devices) device) empty)
+      (ap (λ (l : List (List ℕ)). nat_lt device (length l)) are.named ∙ lt-ltb device (length (names_of decls.devices)) (within_names decls.devices device one is))
+      ∙ base_at decls.devices device one is
+
+  -- what the device accepts is typed by its schema
+  pub own_is_typed : ValidIsTyped → (device : ℕ) (config : Config) → (schema_named decls.schemas decls.devices (name_of decls.names device)).plain ≡ false → IsConfig config
+      → (declared_kind decls device).accepts config ≡ true → IsTypedTree (schema_named decls.schemas decls.devices (name_of decls.names device)) config
+  own_is_typed valid device config modules is_config = on (slice_get decls.devices device) refl
+    where
+      on : (one : Option Device) → slice_get decls.devices device ≡ one → (node_kind decls.schemas one).accepts config ≡ true
+          → IsTypedTree (schema_named decls.schemas decls.devices (name_of decls.names device)) config
+      on None is accepted = absurd (false≢true (sym modules ∙ ap (λ (s : SchemaTable). s.plain) (schema_is device None is)))
+      on (Some d) is accepted =
+          subst (λ (s : SchemaTable). IsTypedTree s config) (sym (schema_is device (Some d) is)) (λ path item there. kept.found (kept.valid unbroken) path item there)
+        where
+          own : SchemaTable
+          own = schema_in decls.schemas d.schema
+
+          kept : TypesAreKept own config
+          kept = valid own config (ap (λ (s : SchemaTable). s.plain) (sym (schema_is device (Some d) is)) ∙ modules) is_config
+
+          unbroken : broken_of own config ≡ None
+          unbroken = none_is (broken_of own config) (first_so (is_none (broken_of own config)) _ accepted)
 
   pub own_accepts : (device : ℕ) → (declared_kind decls device).accepts (over decls device []) ≡ true
   own_accepts device = on (slice_get decls.devices device) refl (nat_lt device (length decls.names)) refl

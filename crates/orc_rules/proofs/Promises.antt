@@ -1,18 +1,19 @@
 -- What is promised follows from what is kept.
-use Rattle.std.proofs.Common.{ℕ, ◌≡◌, Bool, true, false, Option, Some, None, List, [], ◌∷◌, ◌++◌, refl, sym, ◌∙◌, ap, arith, inl}
+use Rattle.std.proofs.Common.{ℕ, ◌≡◌, ◌⊎◌, Bool, true, false, Option, Some, None, List, [], ◌∷◌, ◌++◌, refl, sym, ◌∙◌, ap, arith, inl, inr}
 use Rattle.orc_device.specs.declared.op.Op.{Op}
 use Rattle.orc_device.specs.Nodes.{DeviceKind}
-use Rattle.orc_device.specs.declared.op.Op.TheVariants.{Confirm, Cancel}
+use Rattle.orc_device.specs.declared.op.Op.TheVariants.{Cancel, CommitConfirmed, Confirm, Edit}
 use Rattle.orc_rules.specs.Facts.{Quiet}
 use Rattle.orc_rules.specs.Works.{Intent, resolve}
-use Rattle.orc_worker.specs.declared.stage.Stage.TheVariants.{Confirming, Cancelling, Recancelling}
-use Rattle.orc_rules.specs.Works.Mend.{Mresolving}
+use Rattle.orc_worker.specs.declared.stage.Stage.TheVariants.{Cancelling, Committing, Confirming, Editing, Recancelling}
+use Rattle.orc_rules.specs.Works.Mend.{Mediting, Mresolving}
 use Rattle.orc_rules.specs.Cells.{Cell, DeviceRole, due_op}
 use Rattle.orc_rules.specs.Cells.DeviceRole.{Free, Works, Mends}
 use Rattle.orc_rules.specs.Invariant.{RoleFacts}
 use Rattle.orc_rules.specs.Network.{Plan, Noted, Network, cell, intent_seen, seen_plan, Kept, start, ComesBack, PendsKnown, IsEqual, IsAtWork}
 use Rattle.orc_rules.proofs.Resolving.{false_true}
 use Rattle.orc_path.specs.Configurations.{Config}
+use Rattle.orc_tree.specs.declared.change.ChangeSet.{ChangeSet}
 
 module _ {Call : Type 0} (over : ℕ → List Call → Config) (Stands : List Call → Plan Call → Type 0) (Fits : List Call → Plan Call → Plan Call → Type 0) (Valid : List Call → Plan Call → Type 0) where
   -- at the start, over any journal; not stale only where it is empty
@@ -91,3 +92,40 @@ module _ {Call : Type 0} (k : DeviceKind) (over : List Call → Config) (c : Cel
       go (Some n) is e' = let s : x ≡ t = cc in (n, ap c.place (sym s) ∙ is)
   confirm_decided (Mends (Mresolving [])) t f e = cc
   confirm_decided (Mends m) t f e = cc
+
+  -- a CommitConfirmed is due only for an intent that isn't decided, and isn't settled
+  pub prepares_undecided : (r : DeviceRole Call) (t seconds : ℕ) → RoleFacts over c r → due_op k over c r ≡ Some (CommitConfirmed t seconds)
+      → (c.place t ≡ None) × ((o : Intent Call) × (c.open_intent t ≡ Some o))
+  prepares_undecided Free t seconds f e = cc
+  prepares_undecided (Works o Committing) t seconds f e = let s : o.t ≡ t = cc in (ap c.place (sym s) ∙ f.1.0.place, (o, ap c.open_intent (sym s) ∙ f.0))
+  prepares_undecided (Works o st) t seconds f e = cc
+  prepares_undecided (Mends (Mresolving (x ∷ xs))) t seconds f e = go (c.place x) e
+    where
+      go : (q : Option ℕ) → ◌≡◌ {A = Option (Op)} (Some (resolve q x)) (Some (CommitConfirmed t seconds)) → (c.place t ≡ None) × ((o : Intent Call) × (c.open_intent t ≡ Some o))
+      go None e' = cc
+      go (Some n) e' = cc
+  prepares_undecided (Mends (Mresolving [])) t seconds f e = cc
+  prepares_undecided (Mends m) t seconds f e = cc
+
+  -- The changes of an Edit that is due lead from the running tree to a tree that is due: after the history, or after it
+  -- with the call of an intent.
+  abbrev pub LeadsFrom : Config → ChangeSet → Type 0
+  LeadsFrom running set = (target : Config) × (set ≡ k.between running target)
+      × ((target ≡ over c.history) ⊎ ((o : Intent Call) × (c.open_intent o.t ≡ Some o) × (target ≡ over (c.history ++ o.call ∷ []))))
+
+  pub edit_is_exact : (r : DeviceRole Call) (set : ChangeSet) → RoleFacts over c r → due_op k over c r ≡ Some (Edit set) → LeadsFrom c.node.running set
+  edit_is_exact Free set f e = cc
+  edit_is_exact (Works o Editing) set f e =
+      let s : k.between o.before o.due ≡ set = cc in
+      (o.due, sym s ∙ ap (λ b. k.between b o.due) (sym (f.1.1.running ∙ f.1.0.before)), inr (o, f.0, sym f.1.0.due))
+  edit_is_exact (Works o st) set f e = cc
+  edit_is_exact (Mends (Mediting read)) set f e =
+      let s : k.between read (over c.history) ≡ set = cc in
+      (over c.history, sym s ∙ ap (λ b. k.between b (over c.history)) (sym f.1.0.running), inl refl)
+  edit_is_exact (Mends (Mresolving (x ∷ xs))) set f e = go (c.place x) e
+    where
+      go : (q : Option ℕ) → ◌≡◌ {A = Option (Op)} (Some (resolve q x)) (Some (Edit set)) → LeadsFrom c.node.running set
+      go None e' = cc
+      go (Some n) e' = cc
+  edit_is_exact (Mends (Mresolving [])) set f e = cc
+  edit_is_exact (Mends m) set f e = cc

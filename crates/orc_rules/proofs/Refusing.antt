@@ -21,7 +21,7 @@ use Rattle.orc_datastore.specs.Clashes.{clash_at, clash_from, unequal_on}
 use Rattle.orc_datastore.specs.Next.{clash, existence, expanded_call, expanded_to, first_service_fault, invalid, service_fault, serving_on, unexpanded}
 use Rattle.orc_datastore.specs.Plans.{call_expansions, call_held, plan_refusal, plan_unless, planned}
 use Rattle.orc_datastore.specs.States.{Datastore, lives}
-use Rattle.orc_datastore.specs.declared.datastore.Service.{Service}
+use Rattle.orc_datastore.specs.declared.service.Service.{Service}
 use Rattle.orc_datastore.specs.declared.plan.Plan.{Plan}
 use Rattle.orc_decls.specs.declared.declarations.Decls.{Decls}
 use Rattle.orc_expr.specs.declared.read.Read.{Read}

@@ -134,3 +134,10 @@ begins_devices decls kinds lawful planning world begins = record {
 
     base_rests : (device : ℕ) → (base_node decls device).pending ≡ None
     base_rests device = refl
+
+-- and no device has come anywhere yet
+pub begins_at : {D : Type 0} (decls : Decls) (kinds : ℕ → DeviceKind) (lawful : (device : ℕ) → IsLawful (kinds device) (over decls device))
+    (planning : Planning (over decls) (StandsAt decls) (FitAt decls) (ValidAt decls)) (world : World D) (begins : Begins decls world) (device : ℕ)
+    → ((begins_devices decls kinds lawful planning world begins).shadow device).at ≡ 0
+unfolding begins_devices
+begins_at decls kinds lawful planning world begins device = refl

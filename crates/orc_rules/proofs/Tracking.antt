@@ -1,6 +1,9 @@
 -- Each event keeps what is kept of devices, however its append comes out.
 use Rattle.std.proofs.Common.{◌≡◌, inl, inr, ℕ, Bool, true, false, cond, List, [], ◌∷◌, ◌++◌, Option, Some, None, map, length, refl, sym, ap, subst, ◌∙◌, append-nil, append_assoc}
 use Rattle.std.proofs.lemmas.Option.{same_Some}
+use Rattle.orc_decls.specs.declared.declarations.Decls.{Decls}
+use Rattle.orc_rules.specs.Coming.{came_by}
+use Rattle.orc_rules.specs.declared.event.Event.TheVariants as event
 use Rattle.orc_append.specs.declared.outcome.Appended.{Appended}
 use Rattle.orc_append.specs.declared.outcome.Appended.TheVariants as appended
 use Rattle.orc_call.specs.declared.answer.Why.TheVariants as why
@@ -12,19 +15,19 @@ use Rattle.orc_journal.specs.declared.entry.Entry.{Entry}
 use Rattle.orc_journal.specs.declared.entry.Entry.TheVariants as entry
 use Rattle.orc_plans.specs.Plans.{PlanStands}
 use Rattle.orc_rules.specs.Cells.{updated_at}
-use Rattle.orc_rules.specs.Events.{DoesUnderHub, DoesAnyway, Steps}
+use Rattle.orc_rules.specs.Events.{DoesUnderHub, DoesAnyway, Steps, seen_failing}
 use Rattle.orc_rules.specs.Hubs.{Hub}
 use Rattle.orc_rules.specs.Invariant.{IsLawful}
 use Rattle.orc_rules.specs.Journals.{AppendsRow, CutsFirst, Journal, StaysClosed, entries_read}
-use Rattle.orc_rules.specs.Kept.{FitAt, HistoryKept, HubKept, NetworkKept, Shadow, StandsAt, ValidAt, network_of}
+use Rattle.orc_rules.specs.Kept.{FitAt, HistoryKept, HubKept, NetworkKept, Shadow, StandsAt, ValidAt, network, network_of}
 use Rattle.orc_rules.specs.Network.{Planning}
-use Rattle.orc_rules.specs.UnderHub.{Attends, DevicesKept, IsOfHub, Leads}
+use Rattle.orc_rules.specs.UnderHub.{Attends, DevicesKept, IsOfHub, Leads, UndeclaredRest}
 use Rattle.orc_rules.specs.Worlds.{Setting, World, declared, new_hub, over, stopped, unheard_of, without_hub}
 use Rattle.orc_rules.specs.declared.duty.Duty.TheVariants as duty
 use Rattle.orc_rules.specs.declared.event.Event.{Event}
 use Rattle.orc_rules.proofs.Devices.{recovers_keep, restarts_keep, stops_keep, ticks_keep, without_keep}
 use Rattle.orc_rules.proofs.Legality.{front_none}
-use Rattle.orc_rules.proofs.Moves.{does_leads, mended_front}
+use Rattle.orc_rules.proofs.Moves.{does_came, does_leads, mended_came, mended_front}
 use Rattle.orc_rules.proofs.Reconciling.{range_length}
 use Rattle.orc_rules.proofs.Recording.{either, given_at, given_other}
 use Rattle.orc_rules.proofs.Starting.{new_under}
@@ -108,6 +111,16 @@ stays_read here a b s =
     ap (λ (c : Bool). cond c (a.synced ++ a.cut) a.synced) (sym s.cut.1)
     ∙ ap (λ (l : List Entry). cond b.cut_is_read (a.synced ++ l) a.synced) (sym s.cut.0)
     ∙ ap (λ (l : List Entry). cond b.cut_is_read (l ++ b.cut) l) (sym s.synced)
+
+-- what is kept of devices in one world is kept in another that is the same
+kept_along : {D : Type 0} (decls : Decls) (one other : World D) → one ≡ other → DevicesKept decls one → DevicesKept decls other
+kept_along decls one other same own = record {
+  shadow = own.shadow;
+  kept = subst (λ w. NetworkKept decls (network decls own.shadow w)) same own.kept;
+  silent = subst (λ w. w.hub ≡ None → (device : ℕ) → (w.links device).unheard ≡ None) same own.silent;
+  under = subst (λ w. (hub : Hub) → w.hub ≡ Some hub → Attends decls own.shadow (entries_read w.journal) hub w.links) same own.under;
+  rests = subst (λ w. UndeclaredRest decls w.nodes) same own.rests;
+}
 
 module _ {D : Type 0} (here : Setting D) (are_decls : AreDecls here.decls) (plans : PlanStands) (are : (device : ℕ) → IsOfHub (here.kinds device))
     (lawful : (device : ℕ) → IsLawful (here.kinds device) (over here.decls device)) (planning : Planning (over here.decls) (StandsAt here.decls) (FitAt here.decls) (ValidAt here.decls)) where
@@ -227,7 +240,7 @@ module _ {D : Type 0} (here : Setting D) (are_decls : AreDecls here.decls) (plan
   steps_devices old new meant seen kept own (Steps.done hub row next _ up does appends is) =
       let l = led old hub meant row next kept own up does in
       let read = done_read old.journal new.journal row appends in
-      subst (λ (w : World D). DevicesKept here.decls w) (sym is) (record {
+      kept_along here.decls _ new (sym is) (record {
         shadow = l.shadow;
         kept = subst (λ (es : List Entry). NetworkKept here.decls (network_of here.decls l.shadow es next.hub next.nodes next.links)) read l.kept;
         silent = λ none device. silent_done old hub meant row next up does none device;
@@ -235,11 +248,11 @@ module _ {D : Type 0} (here : Setting D) (are_decls : AreDecls here.decls) (plan
         rests = l.rests;
       })
   steps_devices old new meant seen kept own (Steps.cut hub row next _ up does appends is) =
-      subst (λ (w : World D). DevicesKept here.decls w) (sym is) (cut_devices old hub meant row next appended.Stopped new.journal kept own up does appends).0
+      kept_along here.decls _ new (sym is) (cut_devices old hub meant row next appended.Stopped new.journal kept own up does appends).0
   steps_devices old new meant seen kept own (Steps.failed hub row next _ up does appends is) =
-      subst (λ (w : World D). DevicesKept here.decls w) (sym is) (cut_devices old hub meant row next appended.Failed new.journal kept own up does appends).1
+      kept_along here.decls _ new (sym is) (cut_devices old hub meant row next appended.Failed new.journal kept own up does appends).1
   steps_devices old new meant seen kept own (Steps.full hub row next len _ up does appends is) =
-      subst (λ (w : World D). DevicesKept here.decls w) (sym is) (cut_devices old hub meant row next (appended.Full len) new.journal kept own up does appends).1
+      kept_along here.decls _ new (sym is) (cut_devices old hub meant row next (appended.Full len) new.journal kept own up does appends).1
   steps_devices old new meant seen kept own (Steps.anyway _ (DoesAnyway.ticks seconds)) = record {
     shadow = own.shadow;
     kept = ticks_keep here.decls here.kinds lawful planning own.shadow (entries_read old.journal) old.hub old.nodes old.links seconds own.kept;
@@ -261,7 +274,7 @@ module _ {D : Type 0} (here : Setting D) (are_decls : AreDecls here.decls) (plan
   }
   steps_devices old new meant seen kept own (Steps.anyway _ (DoesAnyway.answers_down call front down)) = own
   steps_devices old new meant seen kept own (Steps.unopened _ down recover same is) =
-      subst (λ (w : World D). DevicesKept here.decls w) (sym is) (record {
+      kept_along here.decls _ new (sym is) (record {
         shadow = own.shadow;
         kept = subst (λ (l : List Entry). NetworkKept here.decls (network_of here.decls own.shadow l old.hub old.nodes old.links)) (stays_read here old.journal new.journal same) own.kept;
         silent = own.silent;
@@ -269,7 +282,7 @@ module _ {D : Type 0} (here : Setting D) (are_decls : AreDecls here.decls) (plan
         rests = own.rests;
       })
   steps_devices old new meant seen kept own (Steps.recovers _ down recover reopens is) =
-      subst (λ (w : World D). DevicesKept here.decls w) (sym is) (record {
+      kept_along here.decls _ new (sym is) (record {
         shadow = own.shadow;
         kept = recovers_keep here.decls here.kinds lawful planning own.shadow (entries_read new.journal) old.nodes old.links (own.silent down)
             (subst (λ (h : Option Hub). NetworkKept here.decls (network_of here.decls own.shadow (entries_read new.journal) h old.nodes old.links)) down
@@ -281,3 +294,64 @@ module _ {D : Type 0} (here : Setting D) (are_decls : AreDecls here.decls) (plan
             (range_length (λ device. Some why.Recovered) 0 (length here.decls.names)) (own.silent down));
         rests = own.rests;
       })
+
+  -- How far along the history each device has come.
+
+  abbrev Comes : (old new : World D) → DevicesKept here.decls old → DevicesKept here.decls new → Option Event → ℕ → Type 0
+  Comes old new own own' seen x = (own'.shadow x).at ≡ came_by here old x (own.shadow x).at seen
+
+  does_come : (world : World D) (hub : Hub) (meant : Event) (row : List Entry) (next : World D) (kept : HistoryKept here world) (own : DevicesKept here.decls world)
+      (up : world.hub ≡ Some hub) (does : DoesUnderHub here world hub meant row next) (x : ℕ)
+      → ((led world hub meant row next kept own up does).shadow x).at ≡ came_by here world x (own.shadow x).at (Some meant)
+  unfolding led
+  does_come world hub meant row next kept own up does x =
+      let known = known_at world hub kept up in
+      does_came here are_decls plans are lawful planning world hub kept own up known.0 known.1 meant row next does x
+
+  one_came : (world : World D) (own : DevicesKept here.decls world) (e : Entry) (sh : ℕ → Shadow) (h : Option Hub)
+      (k : NetworkKept here.decls (network_of here.decls sh (entries_read world.journal ++ e ∷ []) h world.nodes world.links)) (x : ℕ) → (sh x).at ≡ (own.shadow x).at
+      → (front rest : List Entry) (is : e ∷ [] ≡ front ++ rest) → ((one_front world own e sh h k front rest is).0 x).at ≡ (own.shadow x).at
+  unfolding one_front no_front
+  one_came world own e sh h k x same [] rest is = refl
+  one_came world own e sh h k x same (y ∷ front) rest is = same
+
+  -- a row that wasn't done moves none
+  front_came : (world : World D) (hub : Hub) (meant : Event) (row : List Entry) (next : World D) (kept : HistoryKept here world) (own : DevicesKept here.decls world)
+      (up : world.hub ≡ Some hub) (does : DoesUnderHub here world hub meant row next) (front rest : List Entry) (is : row ≡ front ++ rest) (x : ℕ)
+      → ((front_led world hub meant row next kept own up does front rest is).0 x).at ≡ (own.shadow x).at
+  unfolding front_led no_front
+  front_came world hub meant row next kept own up (DoesUnderHub.admits place it sets there first idle passes fresh) front rest is x =
+      one_came world own _ _ _ _ x (does_come world hub meant row next kept own up (DoesUnderHub.admits place it sets there first idle passes fresh) x) front rest is
+  front_came world hub meant row next kept own up (DoesUnderHub.commits place it there least due prepared valid) front rest is x =
+      one_came world own _ _ _ _ x (does_come world hub meant row next kept own up (DoesUnderHub.commits place it there least due prepared valid) x) front rest is
+  front_came world hub meant row next kept own up (DoesUnderHub.aborts place it said there least due why) front rest is x =
+      one_came world own _ _ _ _ x (does_come world hub meant row next kept own up (DoesUnderHub.aborts place it said there least due why) x) front rest is
+  front_came world hub meant row next kept own up (DoesUnderHub.settles place it there least settling) front rest is x =
+      one_came world own _ _ _ _ x (does_come world hub meant row next kept own up (DoesUnderHub.settles place it there least settling) x) front rest is
+  front_came world hub meant row next kept own up (DoesUnderHub.mended numbers met busy heard unsettled) front rest is x =
+      let known = known_at world hub kept up in
+      mended_came here are_decls plans are lawful planning world hub kept own up known.0 known.1 met heard busy (map_front entry.Settled numbers front rest is).0 x
+  front_came world hub meant row next kept own up does front rest is x = refl
+
+  pub failing_came : (world : World D) (x at : ℕ) (meant : Event) → at ≡ came_by here world x at (seen_failing meant)
+  failing_came world x at (event.Admit t said) = refl
+  failing_came world x at (event.Decide t said) = refl
+  failing_came world x at (event.Reconcile result) = refl
+  failing_came world x at other = refl
+
+  pub steps_come : (old new : World D) (meant : Event) (seen : Option Event) (kept : HistoryKept here old) (own : DevicesKept here.decls old) (steps : Steps here old meant seen new) (x : ℕ)
+      → Comes old new own (steps_devices old new meant seen kept own steps) seen x
+  unfolding steps_devices kept_along cut_devices
+  steps_come old new meant seen kept own (Steps.done hub row next _ up does appends is) x = does_come old hub meant row next kept own up does x
+  steps_come old new meant seen kept own (Steps.cut hub row next _ up does appends is) x =
+      let r = read_by here old.journal new.journal row appended.Stopped appends in front_came old hub meant row next kept own up does r.front r.rest r.parts x
+  steps_come old new meant seen kept own (Steps.failed hub row next _ up does appends is) x =
+      let r = read_by here old.journal new.journal row appended.Failed appends in
+      front_came old hub meant row next kept own up does r.front r.rest r.parts x ∙ failing_came old x (own.shadow x).at meant
+  steps_come old new meant seen kept own (Steps.full hub row next len _ up does appends is) x =
+      let r = read_by here old.journal new.journal row (appended.Full len) appends in front_came old hub meant row next kept own up does r.front r.rest r.parts x
+  steps_come old new meant seen kept own (Steps.anyway _ (DoesAnyway.ticks seconds)) x = refl
+  steps_come old new meant seen kept own (Steps.anyway _ (DoesAnyway.restarts device)) x = refl
+  steps_come old new meant seen kept own (Steps.anyway _ (DoesAnyway.answers_down call front down)) x = refl
+  steps_come old new meant seen kept own (Steps.unopened _ down recover same is) x = refl
+  steps_come old new meant seen kept own (Steps.recovers _ down recover reopens is) x = ap (λ (m : Event). came_by here old x (own.shadow x).at (Some m)) (sym recover)

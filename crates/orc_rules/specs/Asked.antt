@@ -21,7 +21,7 @@ open_of asked caller = option_map (λ one. one.number) (find (is_open_of caller)
 abbrev pub is_of : List ℕ → ℕ → Asked → Bool
 is_of caller number one = is_same_text one.caller caller && nat_eq one.number number
 
--- answered
+-- a caller and number with this answer as their last, and no call open
 abbrev pub answered_one : Answer → Asked → Asked
 answered_one answer one = record one { last = Some answer; is_open = false }
 

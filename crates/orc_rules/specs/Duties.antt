@@ -23,10 +23,10 @@ abbrev pub is_over : Stage → Bool
 is_over stage.Over = true
 is_over other = false
 
--- no transaction works on the device: none ever did under this hub, or the last one's work has ended
-abbrev pub is_unworked : Duty → Bool
-is_unworked (Works worker) = is_over worker.stage
-is_unworked other = true
+-- no call works on the device: none ever did under this hub, or the last one's work has ended (a reconciliation may)
+abbrev pub no_call_works : Duty → Bool
+no_call_works (Works worker) = is_over worker.stage
+no_call_works other = true
 
 -- the operation due
 abbrev pub duty_order : Duty → Option Op

@@ -31,7 +31,7 @@ pub record Hub : Type 0 where
   pub given : ℕ → Bool
   pub mends : Option (Option RecFault)
 
--- the operation due on a device
+-- the operation that is next for what is done on a device
 abbrev pub order_on : Hub → ℕ → Option Op
 order_on hub device = option_map_or duty_order (slice_get hub.duties device) None
 

@@ -24,10 +24,11 @@ pub record Journal (D : Type 0) : Type 0 where
   pub armed : ℕ
   pub bytes : ℕ
 
--- the entries that a read gives, and the history that they tell
+-- the entries that a read of the journal gives
 abbrev pub entries_read : {D : Type 0} → Journal D → List Entry
 entries_read journal = if journal.cut_is_read then journal.synced ++ journal.cut else journal.synced
 
+-- the history that a read of the journal gives: the calls of its decided transactions, in the order of their decisions
 abbrev pub history_read : {D : Type 0} → Journal D → List Call
 history_read journal = history_of (entries_read journal)
 

@@ -1,11 +1,17 @@
 -- What each event keeps.
-use Rattle.std.specs.Prelude.{◌≡◌, ◌<◌, ◌≤◌, ℕ, Bool, true, Option, Some, None, [], Err}
+use Rattle.std.specs.Prelude.{◌≡◌, ◌<◌, ◌≤◌, ℕ, Bool, true, false, Option, Some, None, [], Err, slice_get}
 use Rattle.orc_call.specs.declared.answer.RecFault.TheVariants as fault
 use Rattle.orc_call.specs.declared.answer.Tag.{Tag}
 use Rattle.orc_device.specs.Nodes.{DeviceKind}
 use Rattle.orc_disk.specs.Meanings.{DiskMeaning}
 use Rattle.orc_decls.specs.Declarations.{AreDecls}
+use Rattle.orc_decls.specs.Calls.{schema_named}
+use Rattle.orc_decls.specs.Devices.{name_of}
+use Rattle.orc_decls.specs.Openings.{declared_base}
 use Rattle.orc_decls.specs.declared.declarations.Decls.{Decls}
+use Rattle.orc_decls.specs.declared.declarations.Device.{Device}
+use Rattle.orc_node.specs.Laws.{IsTypedTree}
+use Rattle.orc_path.specs.Configurations.{Config, IsConfig}
 use Rattle.orc_rules.specs.Acceptance.{FrontsKept, IsOfSchema, RepliesKept, declared_kind}
 use Rattle.orc_rules.specs.Events.{Steps}
 use Rattle.orc_rules.specs.Hubs.{Hub}
@@ -85,9 +91,18 @@ TurnsAreBounded D =
     → turns_left hub world.links ≤ turns_at_most hub
 
 -- Devices as they are declared are of the hub's kinds and of their declared schemas, and each accepts what is due before
--- any call.
+-- any call, which is its declared base.
 abbrev pub DevicesAreAsDeclared : Type 0
 DevicesAreAsDeclared =
     (decls : Decls) (device : ℕ) → AreDecls decls
     → IsOfHub (declared_kind decls device) × IsOfSchema decls device (declared_kind decls device)
     × ((declared_kind decls device).accepts (over decls device []) ≡ true)
+    × ((one : Device) → slice_get decls.devices device ≡ Some one → over decls device [] ≡ declared_base one)
+
+-- Whatever a device accepts, as each does that it runs, is typed by its schema, where that is one of modules.
+abbrev pub AcceptedIsTyped : Type 0
+AcceptedIsTyped =
+    (decls : Decls) (device : ℕ) (config : Config) → AreDecls decls
+    → (schema_named decls.schemas decls.devices (name_of decls.names device)).plain ≡ false → IsConfig config
+    → (declared_kind decls device).accepts config ≡ true
+    → IsTypedTree (schema_named decls.schemas decls.devices (name_of decls.names device)) config

@@ -17,6 +17,7 @@ pub mod Told
 pub mod Admissions
 pub mod Worlds
 pub mod Events
+pub mod Coming
 pub mod Kept
 pub mod Laws
 pub mod Courses

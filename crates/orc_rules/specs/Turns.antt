@@ -112,16 +112,16 @@ is_of_round other = false
 
 -- the bound
 
--- 24 for each device of a transaction, and 4 for it
+-- the most turns of a transaction on so many devices: 24 for each of them, and 4 for it
 abbrev pub most_turns : ℕ → ℕ
 most_turns devices = 24 * devices + 4
 
--- of one under way, which is nothing once a reconciliation is to settle it
+-- the most turns of a transaction that is under way in a phase: none once a reconciliation is to settle it
 abbrev pub most_of_active : Transaction → Phase → ℕ
 most_of_active it phase.Left = 0
 most_of_active it other = most_turns (length it.plan.held.devices)
 
--- for the calls that wait and those under way
+-- the most turns until no call is left, those that wait and those under way
 abbrev pub turns_at_most : Hub → ℕ
 turns_at_most hub =
     sum_of (λ it. most_turns (length it.plan.held.devices)) hub.waiting

@@ -147,7 +147,7 @@ pub record AreUnsettled (told : Told) (numbers : List ℕ) : Type 0 where
   pub ascending : DoAscend numbers
   pub all : (t : ℕ) → Contains numbers t ↔ (told.intents t ≢ None)
 
--- those of them that name a device, each with whether it is decided
+-- those of these transactions whose Intent names the device
 abbrev pub numbers_naming : Told → ℕ → List ℕ → List ℕ
 numbers_naming told device numbers =
     filter (λ t. option_map_or (λ noted. noted.plan.names device) (told.intents t) false) numbers

@@ -1,7 +1,8 @@
 //! What each event keeps. Each function does nothing: its contract is the law.
-ghost use Rattle.orc_rules.specs.Laws.{DevicesAreAsDeclared, DevicesAreKept, FrontsAreKept, HistoryIsKept, RepliesAreKept, TurnsAreBounded, TurnsLessen};
+ghost use Rattle.orc_rules.specs.Laws.{AcceptedIsTyped, DevicesAreAsDeclared, DevicesAreKept, FrontsAreKept, HistoryIsKept, RepliesAreKept, TurnsAreBounded, TurnsLessen};
 
 use orc_change::difference_leads;
+use orc_check::valid_is_typed;
 use orc_datastore::{tree_is_configuration, tree_is_typed};
 use orc_disk::Disk;
 use orc_journal::keeps_order;
@@ -73,3 +74,10 @@ pub fn rounds_end<D: Disk>()
 pub fn devices_are_as_declared()
     ensures { DevicesAreAsDeclared }
 {}
+
+/// What a device accepts is typed by its declared schema.
+pub fn accepted_is_typed()
+    ensures { AcceptedIsTyped }
+{
+    valid_is_typed();
+}

@@ -12,7 +12,7 @@ pub use asked::Asked;
 pub use duty::Duty;
 pub use event::Event;
 pub use kept::{
-    devices_are_as_declared, devices_are_kept, fronts_are_kept, history_is_kept, replies_are_kept,
-    rounds_end,
+    accepted_is_typed, devices_are_as_declared, devices_are_kept, fronts_are_kept, history_is_kept,
+    replies_are_kept, rounds_end,
 };
 pub use transaction::{Phase, Transaction, Waiting};

@@ -1,6 +1,7 @@
 //! Calls that wait, and calls that are under way.
 use orc_call::Call;
 use orc_datastore::Plan;
+use orc_queue::{Held, Holds};
 
 /// How far a transaction is.
 #[derive(Clone, Copy, PartialEq, Eq)]
@@ -37,4 +38,20 @@ pub struct Transaction {
     pub asker: usize,
     pub since: usize,
     pub phase: Phase,
+}
+
+impl Holds for Waiting {
+    ghost held = { λ it. it.plan.held };
+
+    fn held(&self) -> &Held {
+        &self.plan.held
+    }
+}
+
+impl Holds for Transaction {
+    ghost held = { λ it. it.plan.held };
+
+    fn held(&self) -> &Held {
+        &self.plan.held
+    }
 }

@@ -4,7 +4,7 @@ use Rattle.std.specs.Io.KnownBytes.{Consumes, IsAtEnd}
 use Rattle.std.proofs.Math.Seq.{take-append_seam}
 use Rattle.orc_disk.specs.Meanings.{DiskMeaning}
 use Rattle.orc_decls.specs.declared.rule.Rule.{Rule}
-use Rattle.orc_bundle.specs.Bundles.{scripted_of}
+use Rattle.orc_run.specs.Served.{served_of}
 use Rattle.orc_bundle.specs.declared.scripted.ScriptedBundle.{ScriptedBundle}
 use Rattle.orc_lines.specs.declared.lines.TheConstants.{LARGEST_BUNDLE}
 use Rattle.orc_run.specs.Decided.{BytesDecide, EndsDecided}
@@ -40,27 +40,27 @@ module _ {D : Type 0} (meaning : DiskMeaning D) where
   gave History before after status ends = (ends.bundle, ends.gives)
 
   module _ (before after : Outside D) (all : List ℕ) (told : before.left ≡ Some all) where
-    fault_is : (line : ℕ) (rule : Rule) → GivesFault before.left after.left line rule → scripted_of (take (LARGEST_BUNDLE + 1) all) ≡ Err (line, rule)
-    fault_is line rule gives = ap scripted_of (sym (first_is before.left after.left all gives.bytes told gives.first)) ∙ gives.is
+    fault_is : (line : ℕ) (rule : Rule) → GivesFault before.left after.left line rule → served_of (take (LARGEST_BUNDLE + 1) all) ≡ Err (line, rule)
+    fault_is line rule gives = ap served_of (sym (first_is before.left after.left all gives.bytes told gives.first)) ∙ gives.is
 
-    bundle_is : (bundle : ScriptedBundle) → GivesBundle before.left after.left bundle → scripted_of (take (LARGEST_BUNDLE + 1) all) ≡ Ok bundle
-    bundle_is bundle gives = ap scripted_of (sym (first_is before.left after.left all gives.bytes told gives.first)) ∙ gives.is
+    bundle_is : (bundle : ScriptedBundle) → GivesBundle before.left after.left bundle → served_of (take (LARGEST_BUNDLE + 1) all) ≡ Ok bundle
+    bundle_is bundle gives = ap served_of (sym (first_is before.left after.left all gives.bytes told gives.first)) ∙ gives.is
 
     -- a status that isn't Bundle, where there was one
     with_bundle : (status : Result Done Stop) → ((line : ℕ) (rule : Rule) → status ≡ Err (ending.Bundle line rule) → ⊥) → (bundle : ScriptedBundle) × GivesBundle before.left after.left bundle
-        → EndsDecided (scripted_of (take (LARGEST_BUNDLE + 1) all)) status
+        → EndsDecided (served_of (take (LARGEST_BUNDLE + 1) all)) status
     with_bundle status other gives = subst (λ (r : Result ScriptedBundle (ℕ × Rule)). EndsDecided r status) (sym (bundle_is gives.0 gives.1)) other
 
     -- or where they may not all have been read
     without : (status : Result Done Stop) → (status ≡ Err ending.ReadFault) ⊎ (status ≡ Err ending.Memory) → ((line : ℕ) (rule : Rule) → status ≡ Err (ending.Bundle line rule) → ⊥)
-        → EndsDecided (scripted_of (take (LARGEST_BUNDLE + 1) all)) status
-    without status which other = on (scripted_of (take (LARGEST_BUNDLE + 1) all))
+        → EndsDecided (served_of (take (LARGEST_BUNDLE + 1) all)) status
+    without status which other = on (served_of (take (LARGEST_BUNDLE + 1) all))
       where
         on : (r : Result ScriptedBundle (ℕ × Rule)) → EndsDecided r status
         on (Ok bundle) = other
         on (Err fault) = inr which
 
-    decided : (command : Command) (status : Result Done Stop) → EndsBy meaning (Some command) before after status → EndsDecided (scripted_of (take (LARGEST_BUNDLE + 1) all)) status
+    decided : (command : Command) (status : Result Done Stop) → EndsBy meaning (Some command) before after status → EndsDecided (served_of (take (LARGEST_BUNDLE + 1) all)) status
     decided command (Ok done) ends = with_bundle (Ok done) (λ line rule e. absurd cc) (gave command before after (Ok done) ends)
     decided command (Err (ending.Bundle line rule)) ends = subst (λ (r : Result ScriptedBundle (ℕ × Rule)). EndsDecided r (Err (ending.Bundle line rule))) (sym (fault_is line rule ends)) (inl refl)
     decided command (Err ending.Usage) ends = absurd ends

@@ -111,11 +111,11 @@ module _ {D : Type 0} where
   adds_step meaning decls first w new calls (step.Meta d path) text told so does = adds_equal first w new calls so does.1
   adds_step meaning decls first w new calls step.ShowData text told so does = adds_equal first w new calls so does.1
   adds_step meaning decls first w new calls (step.Call call) text told so does = adds_serve meaning decls first w new calls call text so does
-  adds_step meaning decls first w new calls step.Settle text told so does = adds_equal first w new calls so does.1
   adds_step meaning decls first w new calls step.Stop text told so does = adds_same first w new calls [] so (ap (λ (x : View D). x.known) does.1) (ap (λ (x : View D). x.pending) does.1)
   adds_step meaning decls first w new calls (step.StopAt call bytes) text told so does = adds_armed first w new calls w.up call bytes so does.1
   adds_step meaning decls first w new calls step.Recover text told so does = subst (Adds first new) (sym (append-nil calls)) (adds_recover first w new calls so does.pending (does.known told))
   adds_step meaning decls first w new calls step.History text told so does = adds_equal first w new calls so does.1
+  adds_step meaning decls first w new calls other text told so does = adds_equal first w new calls so does.1
 
   adds_break : (meaning : DiskMeaning D) (decls : Decls) (first w new : View D) (calls : List Call) (s : ScriptStep) (text : List ℕ) (end : Stop) → Adds first w calls → Breaks meaning decls w s text end new
       → Adds first new (calls ++ calls_in (s ∷ []))

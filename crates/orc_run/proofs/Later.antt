@@ -48,11 +48,11 @@ module _ {D : Type 0} (meaning : DiskMeaning D) (decls : Decls) where
   front_step old new (step.Meta d path) text told does = front_equal old new does.1
   front_step old new step.ShowData text told does = front_equal old new does.1
   front_step old new (step.Call call) text told does = front_serves old new call text does
-  front_step old new step.Settle text told does = front_equal old new does.1
   front_step old new step.Stop text told does = front_same old.known new.known (ap (λ (v : View D). v.known) does.1)
   front_step old new (step.StopAt k b) text told does = front_armed old new k b old.up does.1
   front_step old new step.Recover text told does = ⊎_elim (λ e. front_same old.known new.known e) (λ e. (old.pending, e)) (does.known told)
   front_step old new step.History text told does = front_equal old new does.1
+  front_step old new other text told does = front_equal old new does.1
 
   front_breaks : (old last : View D) (s : ScriptStep) (text : List ℕ) (end : Stop) → Breaks meaning decls old s text end last → IsPrefix old.known last.known
   front_breaks old _ s _ _ (Breaks.wanting _) = front_same old.known old.known refl

@@ -30,3 +30,4 @@ mod Later
 mod Acknowledged
 mod Behind
 mod Committing
+mod ServedFaults

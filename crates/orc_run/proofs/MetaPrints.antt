@@ -15,7 +15,7 @@ use Rattle.orc_decls.specs.Devices.{name_of}
 use Rattle.orc_datastore.specs.Metas.{AreNamesOf, IsMeta, writers}
 use Rattle.orc_datastore.specs.Legal.{state_of}
 use Rattle.orc_decls.specs.declared.declarations.Decls.{Decls}
-use Rattle.orc_datastore.specs.declared.datastore.Service.{Service}
+use Rattle.orc_datastore.specs.declared.service.Service.{Service}
 use Rattle.orc_print.specs.Printed.{back_line, known_lines, meta_group, original_lines}
 use Rattle.orc_run.specs.Steps.{PrintsMeta}
 use Rattle.orc_run.proofs.Rising.{same_names}

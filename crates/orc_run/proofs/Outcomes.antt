@@ -3,19 +3,23 @@ use Rattle.std.proofs.Common.{◌≡◌, ◌⊎◌, ℕ, ◌≤◌, Bool, true, 
 use Rattle.std.specs.Bool.{if◌then◌else◌}
 use Rattle.std.specs.Option.{IfSome}
 use Rattle.std.specs.Result.{IfOk, MatchResult}
+use Rattle.std.proofs.lemmas.Bool.{false≢true}
 use Rattle.std.proofs.lemmas.Option.{IfSome_then}
 use Rattle.std.proofs.lemmas.Result.{IfOk-weaker}
+use Rattle.orc_path.specs.Steps.{PathStep}
+use Rattle.orc_call.specs.declared.call.Call.{Call}
 use Rattle.orc_disk.specs.Moments.{LeavesOnly}
 use Rattle.orc_disk.specs.Stops.{Stopping}
 use Rattle.orc_disk.proofs.Moments.{started, weaker}
 use Rattle.orc_journal.specs.Opened.{OpenJournal}
 use Rattle.orc_run.specs.Views.{View, IsKept, Rests, Outlives}
 use Rattle.orc_run.specs.Steps.{Breaks, Does, EndsBecause, FailsToRecover}
-use Rattle.orc_run.specs.inside.Controllers.{view_of, IsSound, StepsTo, Wants, StepResult, ends_run}
+use Rattle.orc_run.specs.inside.Controllers.{is_idle, view_of, IsSound, StepsTo, Wants, StepResult, ends_run}
 use Rattle.orc_disk.specs.Meanings.{DiskMeaning}
 use Rattle.orc_decls.specs.declared.declarations.Decls.{Decls}
 use Rattle.orc_script.specs.declared.step.ScriptStep.{ScriptStep}
 use Rattle.orc_script.specs.declared.step.ScriptStep.TheVariants.{Recover, StopAt}
+use Rattle.orc_script.specs.declared.step.ScriptStep.TheVariants as step
 use Rattle.orc_run.specs.declared.controller.Controller.{Controller}
 use Rattle.orc_run.specs.declared.stop.Stop.{Stop}
 use Rattle.orc_run.specs.declared.stop.Stop.TheVariants as ending
@@ -24,6 +28,23 @@ use Rattle.orc_run.proofs.Soundness.{armed, armed-sound}
 -- a kept file is one for each disk
 moved : {D : Type 0} (decls : Decls) (w : View D) (new : D) (file : List ℕ) → IsKept decls w file → IsKept decls (record w { disk = new }) file
 moved decls w new file kept = record { history = kept.history; decodes = kept.decodes; within = kept.within }
+
+-- a step that is none of the others does nothing
+pub other_is_idle : (at : ScriptStep)
+    → ((device : ℕ) → at ≡ step.Show device → ⊥) → ((device : ℕ) → at ≡ step.Json device → ⊥)
+    → ((device : ℕ) (path : List PathStep) → at ≡ step.Meta device path → ⊥) → (at ≡ step.ShowData → ⊥)
+    → ((call : Call) → at ≡ step.Call call → ⊥) → (at ≡ step.Stop → ⊥) → ((op bytes : ℕ) → at ≡ StopAt op bytes → ⊥)
+    → (at ≡ Recover → ⊥) → (at ≡ step.History → ⊥) → is_idle at ≡ true
+other_is_idle (step.Show device) show json meta shown call stop stop_at recover history = absurd (show device refl)
+other_is_idle (step.Json device) show json meta shown call stop stop_at recover history = absurd (json device refl)
+other_is_idle (step.Meta device path) show json meta shown call stop stop_at recover history = absurd (meta device path refl)
+other_is_idle step.ShowData show json meta shown call stop stop_at recover history = absurd (shown refl)
+other_is_idle (step.Call it) show json meta shown call stop stop_at recover history = absurd (call it refl)
+other_is_idle step.Stop show json meta shown call stop stop_at recover history = absurd (stop refl)
+other_is_idle (StopAt op bytes) show json meta shown call stop stop_at recover history = absurd (stop_at op bytes refl)
+other_is_idle Recover show json meta shown call stop stop_at recover history = absurd (recover refl)
+other_is_idle step.History show json meta shown call stop stop_at recover history = absurd (history refl)
+other_is_idle other show json meta shown call stop stop_at recover history = refl
 
 module _ {D : Type 0} (meaning : DiskMeaning D) where
   -- what a disk promises of its images
@@ -69,6 +90,19 @@ module _ {D : Type 0} (meaning : DiskMeaning D) where
       let run : LeavesOnly meaning w.disk c.journal.disk.inner (IsKept decls w) =
       subst (λ (d : D). LeavesOnly meaning w.disk d (IsKept decls w)) same (no_calls laws decls w rests) in
       (sound, does, outlives_kept decls w (view_of c sound.0) (subst (λ (d : D). meaning.faults w.disk ≤ meaning.faults d) same (omega arith)) run (ap (λ (d : D). is_some (meaning.content d)) (sym same)))
+
+  -- one that does nothing
+  pub idle_does : (decls : Decls) (at : ScriptStep) (w : View D) (text : List ℕ) → is_idle at ≡ true → text ≡ [] → Does meaning decls w at text w
+  idle_does decls (step.Show device) w text h none = absurd (false≢true h)
+  idle_does decls (step.Json device) w text h none = absurd (false≢true h)
+  idle_does decls (step.Meta device path) w text h none = absurd (false≢true h)
+  idle_does decls step.ShowData w text h none = absurd (false≢true h)
+  idle_does decls (step.Call call) w text h none = absurd (false≢true h)
+  idle_does decls step.Stop w text h none = absurd (false≢true h)
+  idle_does decls (step.StopAt op bytes) w text h none = absurd (false≢true h)
+  idle_does decls step.Recover w text h none = absurd (false≢true h)
+  idle_does decls step.History w text h none = absurd (false≢true h)
+  idle_does decls other w text h none = (none, refl)
 
   -- a step that prints, or ends for want of memory
   pub printing : {M : Type 0} (decls : Decls) (w : View D) (s : ScriptStep) (c : Controller D) (text : Result (List ℕ) M) (outcome : StepResult D)

@@ -23,7 +23,7 @@ use Rattle.orc_call.specs.declared.call.Call.{Call}
 use Rattle.orc_call.specs.declared.answer.Answer.{Answer}
 use Rattle.orc_call.specs.declared.answer.Answer.TheVariants.{Clash, Exists, Invalid, Missing}
 use Rattle.orc_decls.specs.declared.declarations.Decls.{Decls}
-use Rattle.orc_datastore.specs.declared.datastore.Service.{Service}
+use Rattle.orc_datastore.specs.declared.service.Service.{Service}
 use Rattle.orc_run.proofs.Ruled.{IsRuled, broken_ruled}
 
 -- where there is an answer, it is one that calls get, and names a device among so many

@@ -282,7 +282,6 @@ asking_is_bundle bundle lawful = record {
   decls = lawful.decls;
   sound = lawful.sound;
   steps = refl;
-  settled = refl;
   few = omega arith;
   callers = omega arith;
 }

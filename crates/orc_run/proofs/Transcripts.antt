@@ -214,7 +214,6 @@ module _ {D E : Type 0} (one : DiskMeaning D) (other : DiskMeaning E) (decls : D
       printed false true e = absurd cc
   does_one known up old new old' new' (step.Call call) text text' plain distinct is is' t t' p q =
       serves_one known up old new old' new' call text text' distinct is is' t t' p q
-  does_one known up old new old' new' step.Settle text text' plain distinct is is' t t' p q = stay known up old new old' new' text text' distinct is is' (p.0 ∙ sym q.0) p.1 q.1
   does_one known up old new old' new' step.Stop text text' plain distinct is is' t t' p q = record {
     prints = p.0 ∙ sym q.0;
     known = known;
@@ -244,6 +243,7 @@ module _ {D E : Type 0} (one : DiskMeaning D) (other : DiskMeaning E) (decls : D
       printed false false e = refl
       printed true false e = absurd cc
       printed false true e = absurd cc
+  does_one known up old new old' new' at text text' plain distinct is is' t t' p q = stay known up old new old' new' text text' distinct is is' (p.0 ∙ sym q.0) p.1 q.1
 
   -- two runs of one script
   pub runs_one : (known : List Call) (up : Bool) (first last : View D) (first' last' : View E) (steps steps' : List ScriptStep) (text text' : List ℕ) → steps ≡ steps' → AreDistinct known

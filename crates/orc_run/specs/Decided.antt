@@ -4,7 +4,7 @@ use Rattle.std.specs.declared.option.Option.TheVariants.{Some}
 use Rattle.std.specs.declared.result.Result.TheVariants.{Ok, Err}
 use Rattle.orc_disk.specs.Meanings.{DiskMeaning}
 use Rattle.orc_decls.specs.declared.rule.Rule.{Rule}
-use Rattle.orc_bundle.specs.Bundles.{scripted_of}
+use Rattle.orc_run.specs.Served.{served_of}
 use Rattle.orc_bundle.specs.declared.scripted.ScriptedBundle.{ScriptedBundle}
 use Rattle.orc_lines.specs.declared.lines.TheConstants.{LARGEST_BUNDLE}
 use Rattle.orc_run.specs.Ends.{EndsBy, Outside}
@@ -25,4 +25,4 @@ EndsDecided (Err fault) status =
 abbrev pub BytesDecide : {D : Type 0} → DiskMeaning D → Type 0
 BytesDecide {D} meaning = (command : Command) (before after : Outside D) (status : Result Done Stop) (all : List ℕ)
     → before.left ≡ Some all → EndsBy meaning (Some command) before after status
-    → EndsDecided (scripted_of (take (LARGEST_BUNDLE + 1) all)) status
+    → EndsDecided (served_of (take (LARGEST_BUNDLE + 1) all)) status

@@ -6,7 +6,7 @@ use Rattle.std.specs.Io.KnownBytes.{Appends, Consumes, IsAtEnd}
 use Rattle.orc_io.specs.Pieces.{GivesUpTo, TakesFront}
 use Rattle.orc_disk.specs.Moments.{LeavesOnly}
 use Rattle.orc_call.specs.declared.call.Call.{Call}
-use Rattle.orc_bundle.specs.Bundles.{scripted_of}
+use Rattle.orc_run.specs.Served.{served_of}
 use Rattle.orc_datastore.specs.Legal.{IsLegal}
 use Rattle.orc_print.specs.Printed.{recovered_line}
 use Rattle.orc_disk.specs.Meanings.{DiskMeaning}
@@ -49,14 +49,14 @@ pub record GivesFirst (before after : Option (List ℕ)) (bytes : List ℕ) : Ty
 pub record GivesBundle (before after : Option (List ℕ)) (bundle : ScriptedBundle) : Type 0 where
   pub bytes : List ℕ
   pub first : GivesFirst before after bytes
-  pub is : scripted_of bytes ≡ Ok bundle
+  pub is : served_of bytes ≡ Ok bundle
   pub at_end : IsAtEnd after
 
 -- or this line of them is the first one at fault, and this is the first rule that it breaks
 pub record GivesFault (before after : Option (List ℕ)) (line : ℕ) (rule : Rule) : Type 0 where
   pub bytes : List ℕ
   pub first : GivesFirst before after bytes
-  pub is : scripted_of bytes ≡ Err (line, rule)
+  pub is : served_of bytes ≡ Err (line, rule)
 
 -- one history is a front of another
 abbrev pub IsPrefix : List Call → List Call → Type 0

@@ -4,6 +4,7 @@ pub mod Commits
 pub mod Steps
 pub mod Runs
 pub mod Checks
+pub mod Served
 pub mod Ends
 pub mod Statuses
 pub mod Decided

@@ -83,7 +83,8 @@ PrintsMeta true decls state device path text = (meta : Option Meta) × IsMeta st
     × (text ≡ meta_group (name_of decls.names device) path meta)
 PrintsMeta false decls state device path text = text ≡ codes "down\n"
 
--- A step that is done. Trees of devices are printed whether the controller is up or not.
+-- A step that is done. Trees of devices are printed whether the controller is up or not. Nothing is on its way between two
+-- steps, so that `settle` does nothing. Of the other steps, which drive devices, none stands in a script that is served.
 abbrev pub Does : {D : Type 0} → DiskMeaning D → Decls → View D → ScriptStep → List ℕ → View D → Type 0
 Does meaning decls old (step.Show device) text new =
     (text ≡ tree_text (name_of decls.names device) (tree_due (state_of decls old.known) device)) × (new ≡ old)
@@ -94,13 +95,13 @@ Does meaning decls old (step.Meta device path) text new =
 Does meaning decls old step.ShowData text new =
     (text ≡ (if old.up then data_text (state_of decls old.known).data else codes "down\n")) × (new ≡ old)
 Does meaning decls old (step.Call call) text new = Serves meaning decls old call text new
-Does meaning decls old step.Settle text new = (text ≡ []) × (new ≡ old)
 Does meaning decls old step.Stop text new = (text ≡ codes "stopped\n") × (new ≡ record old { up = false })
 Does meaning decls old (step.StopAt op bytes) text new =
     (text ≡ []) × (new ≡ (if old.up then record old { armed = op; bytes = bytes } else old))
 Does meaning decls old step.Recover text new = Recovers meaning decls old text new
 Does meaning decls old step.History text new =
     (text ≡ (if old.up then history_text old.known else codes "down\n")) × (new ≡ old)
+Does meaning decls old other text new = (text ≡ []) × (new ≡ old)
 
 -- A step that isn't done, at which the run ends. Memory was wanting before anything was done. Or the journal was not
 -- opened again. Or a commit came to a fault, a full journal or want of memory; its answer is printed, where the call

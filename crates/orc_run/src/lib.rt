@@ -12,6 +12,7 @@ mod opening;
 mod past;
 mod printing;
 mod run;
+mod served;
 mod serving;
 mod step;
 mod stop;

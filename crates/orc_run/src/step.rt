@@ -1,5 +1,5 @@
 //! The steps of a script, as the controller does them.
-ghost use Rattle.std.specs.Prelude.{[], Ok, ◌≡◌, ◌<◌, ◌≤◌, ◌^◌, false, length, codes, All, IfOk, IsTrue, MatchResult, if◌then◌else◌};
+ghost use Rattle.std.specs.Prelude.{[], Ok, ◌≡◌, ◌<◌, ◌≤◌, ◌^◌, true, false, length, codes, All, IfOk, IsTrue, MatchResult, if◌then◌else◌};
 ghost use Rattle.orc_schema.specs.Sound as schema;
 ghost use Rattle.orc_datastore.specs.States.{tree_due};
 ghost use Rattle.orc_decls.specs.Devices.{name_of};
@@ -7,9 +7,9 @@ ghost use Rattle.orc_decls.specs.Calls.{is_call};
 ghost use Rattle.orc_datastore.specs.Legal.{state_of};
 ghost use Rattle.orc_decls.specs.Declarations.{AreDecls};
 ghost use Rattle.orc_decls.specs.declared.declarations.Decls.{Decls};
-ghost use Rattle.orc_print.specs.Printed.{data_text, history_text, tree_text};
+ghost use Rattle.orc_print.specs.Printed.{IsJsonGroup, data_text, history_text, tree_text};
 ghost use Rattle.orc_run.specs.Steps.{PrintsJson, PrintsMeta, device_schema};
-ghost use Rattle.orc_run.specs.inside.Controllers.{known_of, CanDo, GoesOn, IsSound, StepsFrom, Wants};
+ghost use Rattle.orc_run.specs.inside.Controllers.{known_of, is_idle, CanDo, GoesOn, IsSound, StepsFrom, Wants};
 ghost use Rattle.orc_script.specs.declared.step.ScriptStep.{ScriptStep};
 
 use crate::Stop;
@@ -21,11 +21,12 @@ use orc_call::Call;
 use orc_datastore::{tree_is_configuration, tree_is_typed};
 use orc_decls::{Decls, device_name};
 use orc_disk::Disk;
-use orc_json::typed_has_json;
+use orc_json::{typed_has_json, write};
 use orc_path::Path;
-use orc_print::{data, down, history, json, meta, show, stopped};
+use orc_print::{down, history, json, meta, show, show_data, stopped};
 use orc_schema::Schema;
-use orc_text::{Memory, Row};
+use orc_text::{Memory, Row, Text};
+use orc_tree::Tree;
 use std::alloc::Global;
 
 // Where a step leads: to the controller and what the step printed, or to the end of the run.
@@ -43,11 +44,11 @@ impl<D: Disk> Controller<D> {
             ScriptStep::Meta(device, path) => self.meta(alloc, decls, *device, path),
             ScriptStep::ShowData => self.data(alloc),
             ScriptStep::Call(call) => self.answer(alloc, decls, call),
-            ScriptStep::Settle => self.settled(alloc),
             ScriptStep::Stop => self.stop(alloc),
             ScriptStep::StopAt(op, bytes) => self.stop_at(alloc, *op, *bytes),
             ScriptStep::Recover => self.recover(alloc, decls),
             ScriptStep::History => self.history(alloc),
+            _ => self.idle(alloc),
         }
     }
 
@@ -101,7 +102,7 @@ impl<D: Disk> Controller<D> {
         let tree = self.past.state.tree(device);
         let name = device_name(decls.names(), device);
         let schema = schema_of(decls, device);
-        Ok(Row::from_vec(json(alloc, name, schema, tree)?))
+        Ok(Row::from_vec(json_line(alloc, name, schema, tree)?))
     }
 
     // Prints what is known of a path of a device.
@@ -149,7 +150,7 @@ impl<D: Disk> Controller<D> {
             ≡ (if self.now.up then data_text self.now.past.state.datastore.data else codes "down\n")) }
     {
         if self.up {
-            return Ok(Row::from_vec(data(alloc, self.past.state.data_tree())?));
+            return Ok(Row::from_vec(show_data(alloc, self.past.state.data_tree())?));
         }
         Ok(Row::from_vec(down(alloc)?))
     }
@@ -188,9 +189,9 @@ impl<D: Disk> Controller<D> {
         }
     }
 
-    // Does nothing: no call is in flight between two steps.
-    fn settled(self, alloc: Global) -> StepResult<D>
-        ensures { (decls : Decls) → StepsFrom D.disk decls self ScriptStep.Settle result }
+    // Does nothing: no call is in flight between two steps, and no device is driven.
+    fn idle(self, alloc: Global) -> StepResult<D>
+        ensures { (decls : Decls) (at : ScriptStep) → is_idle at ≡ true → StepsFrom D.disk decls self at result }
     {
         Ok((self, Row::new(alloc)))
     }
@@ -274,6 +275,14 @@ impl<D: Disk> Controller<D> {
             stop: Stop::Memory,
         }
     }
+}
+
+// The line of the tree of a device under its schema, as JSON.
+fn json_line(alloc: Global, name: &Text, schema: &Schema, tree: &Tree) -> Result<Vec<u8>, Memory>
+    ensures { IfOk result (λ bytes. IsJsonGroup name.now schema.now tree.now bytes.items) }
+{
+    let text = write(alloc, schema, tree)?;
+    Ok(json(alloc, name, text.as_slice())?)
 }
 
 // The schema of a declared device.

@@ -16,8 +16,9 @@ use crate::checking::check_bundle;
 use crate::controller::Controller;
 use crate::printing::recovered_text;
 use crate::run::run_steps;
+use crate::served::read_served;
 use crate::{Ended, Stop};
-use orc_bundle::{LARGEST_BUNDLE, ScriptStep, ScriptedBundle, read_scripted};
+use orc_bundle::{LARGEST_BUNDLE, ScriptStep, ScriptedBundle};
 use orc_decls::{BundleFault, Decls};
 use orc_disk::Disk;
 use orc_io::{Sink, Source, WholeFault, read_whole, write_whole};
@@ -88,7 +89,7 @@ fn read_input<S: Source>(alloc: Global, source: &mut S) -> Result<ScriptedBundle
         Err(WholeFault::Failed) => return Err(Stop::ReadFault),
         Err(WholeFault::Memory) => return Err(Stop::Memory),
     };
-    match read_scripted(alloc, bytes.as_slice()) {
+    match read_served(alloc, bytes.as_slice()) {
         Ok(bundle) => Ok(bundle),
         Err(BundleFault::At { line, rule }) => Err(Stop::Bundle { line, rule }),
         Err(BundleFault::Memory) => Err(Stop::Memory),

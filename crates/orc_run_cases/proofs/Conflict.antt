@@ -24,7 +24,7 @@ use Rattle.orc_datastore.specs.Legal.{IsNew, IsSame, refusal_of, state_of}
 use Rattle.orc_datastore.specs.Next.{clash, invalid}
 use Rattle.orc_datastore.specs.Plans.{call_expansions, call_held, leave_targets, plan_unless, planned}
 use Rattle.orc_datastore.specs.States.{Datastore, expansion, opening, part as part_of}
-use Rattle.orc_datastore.specs.declared.datastore.Service.{Service}
+use Rattle.orc_datastore.specs.declared.service.Service.{Service}
 use Rattle.orc_datastore.specs.declared.plan.Plan.{Plan}
 use Rattle.orc_decls.specs.Calls.{is_call}
 use Rattle.orc_decls.specs.Openings.{opening_data}
@@ -56,7 +56,7 @@ use Rattle.orc_rules.specs.declared.transaction.Transaction.{Transaction}
 use Rattle.orc_rules.specs.declared.transaction.Waiting.{Waiting}
 use Rattle.orc_runs.specs.Runs.{AreDone, IsDone, LineDone, Run, text_in}
 use Rattle.orc_runs.specs.Scripts.{Goes, NoneOf, Part as part}
-use Rattle.orc_runs.specs.Steps.{ScriptStep as step}
+use Rattle.orc_script.specs.declared.step.ScriptStep.TheVariants as step
 use Rattle.orc_schema.specs.Schemas.{SchemaTable}
 use Rattle.orc_state.specs.Checks.{Checks, IsConflict}
 use Rattle.orc_text.specs.Characters.{is_plain_text}
@@ -616,6 +616,8 @@ module _ (schema : SchemaTable) (valid : broken_of schema (opening_data (r1.name
     ends = refl;
     rest = [];
     parts = refl;
+    why = None;
+    because = refl;
     whole = λ none. refl;
     logs = no_logs (one_device schema).names lines_conflict (refl, (refl, (refl, (refl, (refl, (refl, (refl, (refl, (refl, tt)))))))));
   }

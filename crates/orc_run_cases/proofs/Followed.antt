@@ -11,10 +11,11 @@ use Rattle.orc_rules.specs.UnderHub.{DevicesKept, IsOfHub}
 use Rattle.orc_rules.specs.Worlds.{Setting, World, over}
 use Rattle.orc_runs.specs.Runs.{Run, turns_of}
 use Rattle.orc_runs.specs.Starts.{StartsRun}
-use Rattle.orc_runs.specs.Steps.{ScriptStep}
+use Rattle.orc_script.specs.declared.step.ScriptStep.{ScriptStep}
 use Rattle.orc_runs.proofs.InStep.{IsTracked, runs_reconciled, tracked}
 use Rattle.orc_runs.proofs.Whole.{starts_devices, starts_kept}
 use Rattle.orc_run_cases.specs.Refused.{FollowsDecisions}
+use Rattle.orc_run_cases.proofs.WrongTurns.{commits_prepared}
 use Rattle.orc_run_cases.proofs.WrongRuns.{cancels_undecided, changes_named, confirms_synced, enters_once}
 
 module _ {D : Type 0} (here : Setting D)
@@ -35,6 +36,7 @@ module _ {D : Type 0} (here : Setting D)
 
   pub follows : FollowsDecisions here turn
   follows = record {
+    commits = commits_prepared here turn is.comes is.before.1;
     cancels = cancels_undecided here kinds turn is.comes is.before.1;
     confirms = confirms_synced here kinds turn is.comes is.before.0 is.before.1;
     changes = changes_named here kinds turn is.comes is.before.1;

@@ -28,11 +28,11 @@ use Rattle.orc_rules.specs.declared.transaction.Phase.TheVariants as phase
 use Rattle.orc_rules.specs.declared.transaction.Transaction.{Transaction}
 use Rattle.orc_runs.specs.Runs.{AreDone, IsDone, LineDone, Run, text_in}
 use Rattle.orc_runs.specs.Scripts.{Goes, Part as part, set_by}
-use Rattle.orc_runs.specs.Steps.{ScriptStep as step}
+use Rattle.orc_script.specs.declared.step.ScriptStep.TheVariants as step
 use Rattle.orc_schema.specs.Schemas.{SchemaTable}
 use Rattle.orc_run_cases.specs.Disks.{SureDisk}
 use Rattle.orc_run_cases.specs.OneDevice.{al_1, one_device, r1}
-use Rattle.orc_run_cases.specs.Worked.{fault_script, fault_text}
+use Rattle.orc_run_cases.specs.Worked.{fault_script, link_fault_text}
 use Rattle.orc_run_cases.proofs.Done.{appending, comes_appending, stays_tidy}
 use Rattle.orc_run_cases.proofs.Idle.{idle_admissions, is_still}
 use Rattle.orc_run_cases.proofs.Prefix.{admit_done, admit_line, call_done, call_line, edit_1, step_3, step_4, step_5, step_6, step_7, step_line, tidy_3, waiting_1, world_0, world_3, world_4, world_5, world_6, world_7, world_8}
@@ -249,11 +249,13 @@ module _ (schema : SchemaTable) (valid : broken_of schema (opening_data (r1.name
     ends = refl;
     rest = [];
     parts = refl;
+    why = None;
+    because = refl;
     whole = λ none. refl;
     logs = no_logs (one_device schema).names lines_fault (refl, (refl, (refl, (refl, (refl, (refl, (refl, (refl, (refl, (refl, tt))))))))));
   }
 
-  pub prints_fault : text_in run_fault ≡ fault_text
+  pub prints_fault : text_in run_fault ≡ link_fault_text
   unfolding run_fault
   prints_fault = refl
 

@@ -1,6 +1,6 @@
 -- A call on one plain device, from its submission up to the sixth operation of its preparing.
 use Rattle.std.specs.Prelude.{◌≡◌, not, ℕ, ◌<◌, ◌^◌, Bool, true, false, Option, None, Some, List, [], ◌∷◌, ◌++◌, Ok, codes, length, option_map}
-use Rattle.std.proofs.Common.{inr, refl, sym, ap, ◌∙◌, arith}
+use Rattle.std.proofs.Common.{inl, inr, true, refl, sym, ap, ◌∙◌, arith}
 use Rattle.std.proofs.lemmas.List.Elements.{All-nil, All-cons}
 use Rattle.std.specs.Option.{option_or}
 use Rattle.orc_call.specs.declared.answer.Answer.{Answer}
@@ -17,7 +17,7 @@ use Rattle.orc_datastore.specs.Legal.{refusal_of, state_of}
 use Rattle.orc_datastore.specs.Next.{clash}
 use Rattle.orc_datastore.specs.Plans.{call_expansions, call_held, plan_unless, planned}
 use Rattle.orc_datastore.specs.States.{expansion, opening, part as part_of}
-use Rattle.orc_datastore.specs.declared.datastore.Service.{Service}
+use Rattle.orc_datastore.specs.declared.service.Service.{Service}
 use Rattle.orc_datastore.specs.declared.plan.Plan.{Plan}
 use Rattle.orc_decls.specs.Openings.{opening_data}
 use Rattle.orc_device.specs.Nodes.{refuse}
@@ -40,7 +40,7 @@ use Rattle.orc_rules.specs.declared.event.Event.TheVariants as event
 use Rattle.orc_rules.specs.declared.transaction.Waiting.{Waiting}
 use Rattle.orc_runs.specs.Runs.{AreDone, IsDone, LineDone}
 use Rattle.orc_runs.specs.Starts.{StartsRun, link_at_first, node_at_base}
-use Rattle.orc_runs.specs.Steps.{ScriptStep as step}
+use Rattle.orc_script.specs.declared.step.ScriptStep.TheVariants as step
 use Rattle.orc_schema.specs.Schemas.{SchemaTable}
 use Rattle.orc_tree.specs.declared.change.ChangeSet.{ChangeSet}
 use Rattle.orc_run_cases.specs.Disks.{SureDisk}
@@ -115,13 +115,14 @@ module _ (schema : SchemaTable) (valid : broken_of schema (opening_data (r1.name
     read_back = inr refl;
     ordered = refl;
     legal = record { lawful = All-nil _; unrefused = tt; distinct = tt };
-    cause = None;
+    file = [];
+    opened = inl (refl, refl);
+    fresh = true;
+    empty = (λ new. refl, λ none. refl);
     hub = refl;
-    stale = inr (refl, refl);
     snapshots = λ caller. refl;
-    nodes = refl;
-    accepted = λ device. refl;
-    links = refl;
+    nodes = λ device. refl;
+    links = λ device. refl;
   }
 
   -- `call al 1`: a snapshot, and the call waits

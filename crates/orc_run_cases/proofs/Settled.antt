@@ -18,7 +18,7 @@ use Rattle.orc_rules.specs.Worlds.{World}
 use Rattle.orc_rules.specs.declared.transaction.Transaction.{Transaction}
 use Rattle.orc_runs.specs.Runs.{IsDone, LineDone, Run, text_in}
 use Rattle.orc_runs.specs.Scripts.{Goes}
-use Rattle.orc_runs.specs.Steps.{ScriptStep as step}
+use Rattle.orc_script.specs.declared.step.ScriptStep.TheVariants as step
 use Rattle.orc_schema.specs.Schemas.{SchemaTable}
 use Rattle.orc_run_cases.specs.Disks.{SureDisk}
 use Rattle.orc_run_cases.specs.OneDevice.{one_device, r1}
@@ -108,6 +108,8 @@ module _ (schema : SchemaTable) (valid : broken_of schema (opening_data (r1.name
     ends = refl;
     rest = [];
     parts = refl;
+    why = None;
+    because = refl;
     whole = λ none. refl;
     logs = no_logs (one_device schema).names own_lines (refl, (refl, (refl, tt)));
   }

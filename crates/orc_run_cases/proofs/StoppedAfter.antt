@@ -20,14 +20,15 @@ use Rattle.orc_rules.specs.Hubs.{due_on}
 use Rattle.orc_rules.specs.Journals.{AppendsRow, Journal}
 use Rattle.orc_rules.specs.Worlds.{World, over, with_snapshot}
 use Rattle.orc_decls.specs.Devices.{name_of}
-use Rattle.orc_runs.specs.Words.{log_text}
+use Rattle.orc_print.specs.Logs.{log_text}
 use Rattle.orc_rules.specs.Asked.{KeepsAnswer, with_answer}
 use Rattle.orc_rules.specs.Worlds.{AnswersSubmission}
 use Rattle.orc_rules.specs.declared.duty.Duty.{Duty}
 use Rattle.orc_rules.specs.declared.event.Event.TheVariants as event
 use Rattle.orc_runs.specs.Runs.{AreDone, IsDone, LineDone, Run, text_in, logged}
 use Rattle.orc_runs.specs.Scripts.{Goes}
-use Rattle.orc_runs.specs.Steps.{ScriptStep, ScriptStep as step}
+use Rattle.orc_script.specs.declared.step.ScriptStep.{ScriptStep}
+use Rattle.orc_script.specs.declared.step.ScriptStep.TheVariants as step
 use Rattle.orc_schema.specs.Schemas.{SchemaTable}
 use Rattle.orc_tree.specs.Sameness.{equal_configs}
 use Rattle.orc_run_cases.specs.Disks.{SureDisk, sure_disk}
@@ -184,6 +185,8 @@ module _ (schema : SchemaTable) (valid : broken_of schema (opening_data (r1.name
     ends = refl;
     rest = [];
     parts = refl;
+    why = None;
+    because = refl;
     whole = λ none. refl;
     logs = one_log (one_device schema).names front_lines log_line 0 (refl, (refl, (refl, (refl, (refl, (refl, (refl, (refl, (refl, (refl, (refl, (refl, (refl, (refl, tt)))))))))))))) refl logs_this;
   }

@@ -21,7 +21,8 @@ use Rattle.orc_rules.specs.Worlds.{World, over}
 use Rattle.orc_rules.specs.declared.duty.Duty.{Duty}
 use Rattle.orc_runs.specs.Runs.{AreDone, IsDone, LineDone, Run, text_in}
 use Rattle.orc_runs.specs.Scripts.{Goes}
-use Rattle.orc_runs.specs.Steps.{ScriptStep, ScriptStep as step}
+use Rattle.orc_script.specs.declared.step.ScriptStep.{ScriptStep}
+use Rattle.orc_script.specs.declared.step.ScriptStep.TheVariants as step
 use Rattle.orc_schema.specs.Schemas.{SchemaTable}
 use Rattle.orc_run_cases.specs.Disks.{SureDisk, sure_disk}
 use Rattle.orc_run_cases.specs.Worked.{IsWorked, given_up_script, given_up_text}
@@ -140,6 +141,8 @@ module _ (schema : SchemaTable) (valid : broken_of schema (opening_data (r1.name
     ends = refl;
     rest = [];
     parts = refl;
+    why = None;
+    because = refl;
     whole = λ none. refl;
     logs = no_logs (one_device schema).names lines_before (refl, (refl, (refl, (refl, (refl, (refl, (refl, (refl, (refl, (refl, (refl, (refl, (refl, tt)))))))))))));
   }

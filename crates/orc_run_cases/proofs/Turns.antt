@@ -19,13 +19,14 @@ use Rattle.orc_rules.specs.Hubs.{Hub, due_on, hub_reported}
 use Rattle.orc_rules.specs.Journals.{AppendsRow, Journal}
 use Rattle.orc_rules.specs.Worlds.{Setting, World, new_hub}
 use Rattle.orc_decls.specs.Devices.{name_of}
-use Rattle.orc_runs.specs.Words.{log_text}
+use Rattle.orc_print.specs.Logs.{log_text}
 use Rattle.std.proofs.lemmas.Option.{same_Some}
 use Rattle.orc_rules.specs.declared.event.Event.{Event}
 use Rattle.orc_rules.specs.declared.event.Event.TheVariants as event
 use Rattle.orc_runs.specs.Runs.{EndsRun, IsDone, LineDone, PrintLogs, logged}
 use Rattle.orc_runs.specs.Scripts.{Goes, Part, Part as part, Prints, line_parts, set_by}
-use Rattle.orc_runs.specs.Steps.{ScriptStep, ScriptStep as step}
+use Rattle.orc_script.specs.declared.step.ScriptStep.{ScriptStep}
+use Rattle.orc_script.specs.declared.step.ScriptStep.TheVariants as step
 use Rattle.orc_schema.specs.Schemas.{SchemaTable}
 use Rattle.orc_run_cases.specs.Disks.{SureDisk, sure_disk}
 use Rattle.orc_run_cases.specs.OneDevice.{network_with, r1_kind}

@@ -6,7 +6,8 @@ use Rattle.orc_rules.specs.Worlds.{Setting, World, stopped}
 use Rattle.orc_rules.specs.declared.event.Event.TheVariants as event
 use Rattle.orc_runs.specs.Runs.{IsDone, LineDone}
 use Rattle.orc_runs.specs.Scripts.{Goes, Part as part, line_parts, set_by}
-use Rattle.orc_runs.specs.Steps.{ScriptStep, ScriptStep as step}
+use Rattle.orc_script.specs.declared.step.ScriptStep.{ScriptStep}
+use Rattle.orc_script.specs.declared.step.ScriptStep.TheVariants as step
 use Rattle.orc_run_cases.specs.Refused.{RecoversCome, RestartsCome, TicksCome}
 
 module _ {D : Type 0} (here : Setting D) where

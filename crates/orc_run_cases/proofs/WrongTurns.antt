@@ -15,22 +15,31 @@ use Rattle.orc_journal.specs.Journals.{IsGated}
 use Rattle.orc_journal.specs.declared.entry.Entry.{Entry}
 use Rattle.orc_journal.specs.declared.entry.Entry.TheVariants as entry
 use Rattle.orc_rules.specs.Due.{is_decision_due}
-use Rattle.orc_rules.specs.Duties.{outcome_on}
-use Rattle.orc_rules.specs.Events.{DoesAnyway, DoesUnderHub, IsGivenUpFor, Steps, seen_failing}
+use Rattle.orc_rules.specs.Courses.{agrees, is_hindered, stands_undecided}
+use Rattle.orc_rules.specs.Duties.{duty_outcome, outcome_on}
+use Rattle.orc_rules.specs.Events.{Comes, DoesAnyway, DoesUnderHub, IsGivenUpFor, Steps, Turn, seen_failing}
 use Rattle.orc_rules.specs.Fits.{first_stale, stale_one}
-use Rattle.orc_rules.specs.Hubs.{Hub}
-use Rattle.orc_rules.specs.Journals.{AppendsRow, Journal, history_read}
-use Rattle.orc_rules.specs.Transactions.{is_preparing}
+use Rattle.orc_rules.specs.Hubs.{Hub, duty_on}
+use Rattle.orc_rules.specs.Journals.{AppendsRow, Journal, entries_read, history_read}
+use Rattle.orc_rules.specs.Transactions.{is_lost, is_preparing}
+use Rattle.orc_rules.specs.UnderHub.{Attends, DevicesKept}
 use Rattle.orc_rules.specs.Verdicts.{are_heard, first_answer, is_short, lost_answer, refused_by, verdict}
 use Rattle.orc_rules.specs.Worlds.{Setting, World}
 use Rattle.orc_rules.specs.declared.duty.Duty.{Duty}
+use Rattle.orc_rules.specs.declared.duty.Duty.TheVariants as duty
+use Rattle.orc_rules.proofs.Slots.{outcome_worker}
+use Rattle.orc_rules.proofs.Telling.{prepared_at}
+use Rattle.orc_worker.specs.declared.stage.Stage.{Stage}
+use Rattle.orc_worker.specs.declared.stage.Stage.TheVariants as stage
+use Rattle.orc_worker.specs.declared.worker.Worker.{Worker}
+use Rattle.std.proofs.lemmas.Bool.{false≢true}
 use Rattle.orc_rules.specs.declared.event.Event.{Event}
 use Rattle.orc_rules.specs.declared.event.Event.TheVariants as event
 use Rattle.orc_rules.specs.declared.transaction.Transaction.{Transaction}
 use Rattle.orc_rules.proofs.Refusing.{invalid_uncommitted, verdict_uncommitted}
 use Rattle.orc_worker.specs.declared.report.Outcome.{Outcome}
 use Rattle.orc_worker.specs.declared.report.Outcome.TheVariants as outcome
-use Rattle.orc_run_cases.specs.Refused.{AdmitsFresh, CommitsNext, CommitsSynced, CommitsWhenReady, IsFresh, IsPreparedFor, IsReadyToCommit, is_hindrance}
+use Rattle.orc_run_cases.specs.Refused.{AdmitsFresh, CommitsNext, CommitsPrepared, CommitsSynced, CommitsWhenReady, IsPrepared, WaitsInSync, IsPreparedFor, IsReadyToCommit, is_hindrance}
 
 -- what lists hold
 
@@ -150,6 +159,17 @@ not_stale stale device cause none is =
     let both : ◌≡◌ {A = Option Answer} (Some (answer.OutOfSync device cause)) None =
     sym (ap (λ (o : Option (Option Why)). option_map_or (option_map (λ why. answer.OutOfSync device why)) o None) is) ∙ none in cc
 
+-- the worker whose outcome is looked at
+slot_outcome : (duties : List Duty) (t device : ℕ) (o : Outcome) → outcome_on duties t device ≡ Some o
+    → (worker : Worker) × (duty_on duties device ≡ duty.Works worker) × (worker.t ≡ t) × (worker.outcome ≡ Some o)
+slot_outcome duties t device o is = on (slice_get duties device) refl
+  where
+    on : (slot : Option Duty) → slice_get duties device ≡ slot → (worker : Worker) × (duty_on duties device ≡ duty.Works worker) × (worker.t ≡ t) × (worker.outcome ≡ Some o)
+    on None at = absurd (let no : ◌≡◌ {A = Option Outcome} None (Some o) = sym (ap (λ s. option_map_or (duty_outcome t) s None) at) ∙ is in cc)
+    on (Some one) at =
+        let w = outcome_worker t one o (sym (ap (λ s. option_map_or (duty_outcome t) s None) at) ∙ is) in
+        (w.0, ap (λ s. option_map_or (λ (d : Duty). d) s duty.Free) at ∙ w.1, w.2, w.3)
+
 module _ {D : Type 0} (here : Setting D) where
   -- a turn in which a call is committed
   pub record IsCommitting (old new : World D) (t number : ℕ) (hub : Hub) : Type 0 where
@@ -219,6 +239,42 @@ module _ {D : Type 0} (here : Setting D) where
             (each_ready so.0.duties c.it.t c.it.plan.held.devices (true_right (is_preparing c.it.phase) (are_heard so.0.duties c.it.t c.it.plan.held.devices) c.due) c.prepared);
       })
 
+  -- what a worker's outcome is once it is prepared
+  prepared_only : (o : Outcome) → agrees stage.Prepared (Some o) ≡ true → o ≡ outcome.Prepared
+  prepared_only outcome.Prepared h = refl
+  prepared_only o h = absurd (false≢true h)
+
+  hindrance_none : (device : ℕ) (o : Outcome) → is_hindrance o ≡ false → (is_hindered (Some o) ≡ false) × (is_lost (Some o) ≡ false)
+  hindrance_none device (outcome.Refused tag) h = absurd (false≢true (sym h))
+  hindrance_none device (outcome.Lost count) h = absurd (false≢true (sym h))
+  hindrance_none device outcome.Short h = absurd (false≢true (sym h))
+  hindrance_none device outcome.Prepared h = (refl, refl)
+  hindrance_none device outcome.Confirmed h = (refl, refl)
+  hindrance_none device outcome.Gone h = (refl, refl)
+  hindrance_none device outcome.Cancelled h = (refl, refl)
+
+  pub commits_prepared : (turn : Turn D) → Comes here turn → DevicesKept here.decls turn.before → CommitsPrepared here turn
+  commits_prepared turn comes own hub t number up seen =
+      let so = committing turn.before turn.behind turn.meant turn.seen t number comes seen in
+      subst (λ (h : Hub). IsPrepared h t) (same_Some so.0 hub (sym so.1 ∙ up)) (by so.0 so.1 so.2)
+    where
+      by : (h : Hub) → turn.before.hub ≡ Some h → IsCommitting turn.before turn.behind t number h → IsPrepared h t
+      by h is c = record { it = c.it; place = c.place; active = c.there; number = c.named; prepared = subst (λ (u : ℕ). (device : ℕ) → Contains c.it.plan.held.devices device → outcome_on h.duties u device ≡ Some outcome.Prepared) c.named each }
+        where
+          under : Attends here.decls own.shadow (entries_read turn.before.journal) h turn.before.links
+          under = own.under h is
+
+          each : (device : ℕ) → Contains c.it.plan.held.devices device → outcome_on h.duties c.it.t device ≡ Some outcome.Prepared
+          each device among =
+              let ready = each_ready h.duties c.it.t c.it.plan.held.devices (true_right (is_preparing c.it.phase) (are_heard h.duties c.it.t c.it.plan.held.devices) c.due) c.prepared device among in
+              let slot = slot_outcome h.duties c.it.t device ready.outcome ready.answered in
+              let agree : agrees slot.0.stage (Some ready.outcome) ≡ true = ap (agrees slot.0.stage) (sym slot.3) ∙ under.agree device slot.0 slot.1 in
+              let before : stands_undecided slot.0.stage (Some ready.outcome) ≡ true = ap (stands_undecided slot.0.stage) (sym slot.3)
+              ∙ under.before c.place c.it c.there (true_left (is_preparing c.it.phase) (are_heard h.duties c.it.t c.it.plan.held.devices) c.due) device slot.0 slot.1 slot.2 in
+              let none = hindrance_none device ready.outcome ready.well in
+              let stage_is = prepared_at slot.0.stage ready.outcome agree before (record { hindered = none.0; lost = none.1 }) in
+              ready.answered ∙ ap (λ (o : Outcome). Some o) (prepared_only ready.outcome (ap (λ (s : Stage). agrees s (Some ready.outcome)) (sym stage_is) ∙ agree))
+
   pub commits_next : CommitsNext here
   commits_next turn t number comes seen = (committing turn.before turn.behind turn.meant turn.seen t number comes seen).2.counted
 
@@ -248,7 +304,7 @@ module _ {D : Type 0} (here : Setting D) where
   -- a call is admitted
 
   does_admit : (world : World D) (hub : Hub) (meant : Event) (row : List Entry) (next : World D) → DoesUnderHub here world hub meant row next
-      → (t : ℕ) → meant ≡ event.Admit t None → IsFresh hub t
+      → (t : ℕ) → meant ≡ event.Admit t None → WaitsInSync hub t
   does_admit world hub meant row next (DoesUnderHub.admits place it sets there first idle passes fresh) t is = record {
     it = it;
     place = place;
@@ -265,7 +321,7 @@ module _ {D : Type 0} (here : Setting D) where
   failing_admits other t is = cc
 
   admitting : (old new : World D) (meant : Event) (seen : Option Event) (t : ℕ) → Steps here old meant seen new → seen ≡ Some (event.Admit t None)
-      → (hub : Hub) × (old.hub ≡ Some hub) × IsFresh hub t
+      → (hub : Hub) × (old.hub ≡ Some hub) × WaitsInSync hub t
   admitting old new meant seen t (Steps.done hub row next _ up does appends is) e =
       (hub, up, does_admit old hub meant row next does t (same_Some meant (event.Admit t None) e))
   admitting old new meant seen t (Steps.cut hub row next _ up does appends is) e = absurd cc
@@ -281,4 +337,4 @@ module _ {D : Type 0} (here : Setting D) where
   pub admits_fresh : AdmitsFresh here
   admits_fresh turn hub t comes up seen =
       let so = admitting turn.before turn.behind turn.meant turn.seen t comes seen in
-      subst (λ (h : Hub). IsFresh h t) (same_Some so.0 hub (sym so.1 ∙ up)) so.2
+      subst (λ (h : Hub). WaitsInSync h t) (same_Some so.0 hub (sym so.1 ∙ up)) so.2

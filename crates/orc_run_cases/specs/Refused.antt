@@ -31,7 +31,8 @@ use Rattle.orc_rules.specs.declared.transaction.Transaction.{Transaction}
 use Rattle.orc_rules.specs.declared.transaction.Waiting.{Waiting}
 use Rattle.orc_runs.specs.Runs.{IsDone, LineDone, Run, turns_of}
 use Rattle.orc_runs.specs.Starts.{StartsRun}
-use Rattle.orc_runs.specs.Steps.{ScriptStep, ScriptStep as step}
+use Rattle.orc_script.specs.declared.step.ScriptStep.{ScriptStep}
+use Rattle.orc_script.specs.declared.step.ScriptStep.TheVariants as step
 use Rattle.orc_worker.specs.declared.report.Outcome.{Outcome}
 use Rattle.orc_worker.specs.declared.report.Outcome.TheVariants as outcome
 
@@ -75,13 +76,22 @@ pub record IsReadyToCommit (hub : Hub) (t : ℕ) : Type 0 where
   pub ready : (device : ℕ) → Contains it.plan.held.devices device → IsPreparedFor hub.duties t device
 
 -- a waiting call has this number, and none of its devices is stale
-pub record IsFresh (hub : Hub) (t : ℕ) : Type 0 where
+pub record WaitsInSync (hub : Hub) (t : ℕ) : Type 0 where
   pub it : Waiting
   pub place : ℕ
   pub waits : slice_get hub.waiting place ≡ Some it
   pub number : it.t ≡ t
   pub fresh : (device : ℕ) (cause : Why) → Contains it.plan.held.devices device
       → slice_get hub.stale device ≢ Some (Some cause)
+
+-- an active transaction has this number, and each of its devices answered its CommitConfirmed well: it is prepared
+pub record IsPrepared (hub : Hub) (t : ℕ) : Type 0 where
+  pub it : Transaction
+  pub place : ℕ
+  pub active : slice_get hub.active place ≡ Some it
+  pub number : it.t ≡ t
+  pub prepared : (device : ℕ) → Contains it.plan.held.devices device
+      → outcome_on hub.duties t device ≡ Some outcome.Prepared
 
 -- an Intent of the journal, of which it has no Settled, names the device
 abbrev pub IsNamed : List Entry → ℕ → Type 0
@@ -134,7 +144,12 @@ module _ {D : Type 0} (here : Setting D) where
   -- A call is admitted only where none of its devices is stale.
   abbrev pub AdmitsFresh : Type 0
   AdmitsFresh = (turn : Turn D) (hub : Hub) (t : ℕ) → Comes here turn → turn.before.hub ≡ Some hub
-      → turn.seen ≡ Some (event.Admit t None) → IsFresh hub t
+      → turn.seen ≡ Some (event.Admit t None) → WaitsInSync hub t
+
+  -- A call is committed only where each of its devices answered its CommitConfirmed well.
+  abbrev pub CommitsPrepared : Turn D → Type 0
+  CommitsPrepared turn = (hub : Hub) (t number : ℕ) → turn.before.hub ≡ Some hub
+      → turn.seen ≡ Some (event.Decide t (answer.Committed number)) → IsPrepared hub t
 
   -- No Cancel goes to a device for a transaction of which the journal has a Decide.
   abbrev pub CancelsUndecided : Turn D → Type 0
@@ -168,6 +183,7 @@ module _ {D : Type 0} (here : Setting D) where
 
   -- What no turn of a run breaks.
   pub record FollowsDecisions (turn : Turn D) : Type 0 where
+    pub commits : CommitsPrepared turn
     pub cancels : CancelsUndecided turn
     pub confirms : ConfirmsSynced turn
     pub changes : ChangesNamed turn

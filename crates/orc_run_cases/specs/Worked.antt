@@ -7,7 +7,8 @@ use Rattle.orc_rules.specs.Worlds.{Setting, World}
 use Rattle.orc_runs.specs.Headline.{Headline}
 use Rattle.orc_runs.specs.Runs.{Run, text_in}
 use Rattle.orc_runs.specs.Starts.{StartsRun}
-use Rattle.orc_runs.specs.Steps.{ScriptStep, ScriptStep as step}
+use Rattle.orc_script.specs.declared.step.ScriptStep.{ScriptStep}
+use Rattle.orc_script.specs.declared.step.ScriptStep.TheVariants as step
 use Rattle.orc_schema.specs.Schemas.{SchemaTable}
 use Rattle.orc_run_cases.specs.Disks.{SureDisk}
 use Rattle.orc_run_cases.specs.OneDevice.{al_1, bo_1, bo_2, network_with, one_device}
@@ -76,8 +77,8 @@ fault_script = step.Call al_1 ∷ step.Admit ∷ step.Step 0 ∷ step.Step 0 ∷
     ∷ step.Fault 0 kind.CommitConfirmed when.After ∷ step.Settle ∷ step.Show 0 ∷ []
 
 -- what that run prints: the call is given up with the first fault of that link, and r1 runs nothing
-abbrev pub fault_text : List ℕ
-fault_text = codes "al 1 LinkFault r1 1\nshow r1\nend\n"
+abbrev pub link_fault_text : List ℕ
+link_fault_text = codes "al 1 LinkFault r1 1\nshow r1\nend\n"
 
 -- The script of a run with a Conflict: al takes a snapshot; bo makes the service a and deletes it; then al, on its
 -- snapshot, makes it too.

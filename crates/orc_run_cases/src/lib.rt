@@ -11,7 +11,7 @@ mod worked;
 
 pub use refused::{calls_are_decided_in_time, devices_follow_decisions, lines_are_not_passed_over};
 pub use worked::{
-    call_is_settled, link_fails_after_the_commit, named_service_was_written,
-    one_device_can_be_declared, runs_on_one_device_have_the_headline, stopped_after_its_decision,
-    stopped_before_its_decision,
+    call_is_settled, given_up_call_is_sent_again, link_fails_after_the_commit,
+    named_service_was_written, one_device_can_be_declared, runs_on_one_device_have_the_headline,
+    stopped_after_its_decision, stopped_before_its_decision,
 };

@@ -24,7 +24,8 @@ pub fn calls_are_decided_in_time<D: Disk>()
     ensures fresh { InEachNetwork D.disk (λ here. AdmitsFresh here) }
 {}
 
-/// In each run no Cancel goes out for what was decided, and no Confirm before its Decide is synced; a
+/// In each run a call is committed only where each of its devices answered its confirmed commit well;
+/// no Cancel goes out for what was decided, and no Confirm before its Decide is synced; a
 /// device changes only where an unsettled Intent names it or a reconciliation is under way; a
 /// reconciliation is well only where each device runs what is due; and no caller and number are entered
 /// twice.

@@ -5,7 +5,7 @@ ghost use Rattle.orc_rules.specs.Acceptance.{IsOfSchema};
 ghost use Rattle.orc_rules.specs.UnderHub.{IsOfHub};
 ghost use Rattle.orc_schema.specs.Schemas.{SchemaTable, plain_table};
 ghost use Rattle.orc_run_cases.specs.OneDevice.{network_with, one_device, r1_kind};
-ghost use Rattle.orc_run_cases.specs.Worked.{HasHeadlineOnOne, IsWorked, again_script, again_text, committed_script, committed_text, conflict_script, conflict_text, fault_script, fault_text, given_up_script, given_up_text, settled_script, settled_text};
+ghost use Rattle.orc_run_cases.specs.Worked.{HasHeadlineOnOne, IsWorked, again_script, again_text, committed_script, committed_text, conflict_script, conflict_text, fault_script, link_fault_text, given_up_script, given_up_text, settled_script, settled_text};
 
 use orc_change::difference_leads;
 use orc_datastore::{tree_is_configuration, tree_is_typed};
@@ -76,7 +76,7 @@ pub fn stopped_after_its_decision()
 /// commit is cancelled.
 pub fn link_fails_after_the_commit()
     ensures { (schema : SchemaTable) → AreDecls (one_device schema)
-        → IsWorked (network_with schema) fault_script fault_text }
+        → IsWorked (network_with schema) fault_script link_fault_text }
 {}
 
 /// A service that a call names was made and deleted after the call's snapshot: the call is answered

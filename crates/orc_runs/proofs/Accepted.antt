@@ -31,7 +31,8 @@ use Rattle.orc_rules.proofs.Replied.{steps_reply}
 use Rattle.orc_rules.proofs.Tracking.{steps_devices}
 use Rattle.orc_runs.specs.Runs.{Run, turns_of}
 use Rattle.orc_runs.specs.Scripts.{set_by}
-use Rattle.orc_runs.specs.Steps.{ScriptStep, ScriptStep as step}
+use Rattle.orc_script.specs.declared.step.ScriptStep.{ScriptStep}
+use Rattle.orc_script.specs.declared.step.ScriptStep.TheVariants as step
 use Rattle.orc_runs.proofs.Faulted.{listed_same, set_replies}
 use Rattle.orc_runs.proofs.InStep.{set_devices}
 use Rattle.orc_runs.proofs.Lasting.{IsKept, Survives, each_in, run_survives}

@@ -46,7 +46,7 @@ use Rattle.orc_rules.proofs.Turning.{uncut_read}
 use Rattle.orc_runs.specs.Headline.{IsAnswered, HoldsEntry}
 use Rattle.orc_runs.specs.Runs.{Run, turns_of}
 use Rattle.orc_runs.specs.Scripts.{call_on_way, call_under}
-use Rattle.orc_runs.specs.Steps.{ScriptStep}
+use Rattle.orc_script.specs.declared.step.ScriptStep.{ScriptStep}
 use Rattle.orc_runs.proofs.Fields.{front_history, if_some}
 use Rattle.orc_runs.proofs.InStep.{IsTracked, all_tracked}
 use Rattle.orc_runs.proofs.Lasting.{Each}

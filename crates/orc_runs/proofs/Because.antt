@@ -62,7 +62,7 @@ not_unplain x h = on (is_plain x) refl
     on false e = absurd (h (ap not e))
 
 -- the waiting call of a number
-waits_found : (xs : List Waiting) (place : ℕ) (it : Waiting) → AreWaitingApart xs → slice_get xs place ≡ Some it → find (λ x. x.t == it.t) xs ≡ Some it
+pub waits_found : (xs : List Waiting) (place : ℕ) (it : Waiting) → AreWaitingApart xs → slice_get xs place ≡ Some it → find (λ x. x.t == it.t) xs ≡ Some it
 waits_found [] place it apart there = absurd cc
 waits_found (x ∷ xs) zero it apart there =
     let same : x ≡ it = same_Some x it there in

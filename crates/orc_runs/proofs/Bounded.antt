@@ -24,10 +24,12 @@ use Rattle.orc_rules.proofs.Tracking.{steps_devices}
 use Rattle.orc_rules.proofs.Turning.{steps_keep}
 use Rattle.orc_runs.specs.Runs.{EndsIn, IsDone, LineDone, Run, line_list, lines_in}
 use Rattle.orc_runs.specs.Scripts.{Goes, IsOf, Part, Part as part, line_parts, round, set_by}
-use Rattle.orc_runs.specs.Steps.{ScriptStep, ScriptStep as step}
+use Rattle.orc_script.specs.declared.step.ScriptStep.{ScriptStep}
+use Rattle.orc_script.specs.declared.step.ScriptStep.TheVariants as step
 use Rattle.orc_runs.proofs.InStep.{also, set_devices}
 use Rattle.orc_runs.proofs.Lasting.{each_line, lines_survive, there_in}
-use Rattle.orc_runs.proofs.Settled.{IsRested, lines_rest_before, lines_rest_last}
+use Rattle.orc_runs.specs.Serving.{IsRested}
+use Rattle.orc_runs.proofs.Settled.{lines_rest_before, lines_rest_last}
 
 -- parts of rounds
 abbrev pub is_round_part : Part → Bool

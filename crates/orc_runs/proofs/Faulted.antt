@@ -78,7 +78,8 @@ use Rattle.orc_rules.proofs.Tracking.{steps_devices}
 use Rattle.orc_rules.proofs.Turning.{steps_keep}
 use Rattle.orc_runs.specs.Runs.{Run, turns_of}
 use Rattle.orc_runs.specs.Scripts.{set_by}
-use Rattle.orc_runs.specs.Steps.{ScriptStep, ScriptStep as step}
+use Rattle.orc_script.specs.declared.step.ScriptStep.{ScriptStep}
+use Rattle.orc_script.specs.declared.step.ScriptStep.TheVariants as step
 use Rattle.orc_runs.proofs.Faulting.{UnheardFaults, by_fault, does_faults, more_known}
 use Rattle.orc_runs.proofs.Forward.{run_forward}
 use Rattle.orc_runs.proofs.InStep.{set_devices}

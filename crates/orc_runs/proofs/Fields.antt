@@ -26,7 +26,8 @@ use Rattle.orc_rules.proofs.Legality.{read_so}
 use Rattle.orc_rules.proofs.Turning.{uncut_read}
 use Rattle.orc_runs.specs.Headline.{BeginsHistory, HoldsHistoryFrom, IsLegalJournal, IsOpenable}
 use Rattle.orc_runs.specs.Runs.{Run, turns_of}
-use Rattle.orc_runs.specs.Steps.{ScriptStep, ScriptStep as step}
+use Rattle.orc_script.specs.declared.step.ScriptStep.{ScriptStep}
+use Rattle.orc_script.specs.declared.step.ScriptStep.TheVariants as step
 use Rattle.orc_runs.proofs.Lasting.{IsKept, Survives, each_in, run_survives}
 
 history_from-join : (before xs ys : List Entry) → history_from before (xs ++ ys) ≡ history_from before xs ++ history_from (before ++ xs) ys
@@ -45,7 +46,7 @@ if_some None P Q f h = h
 if_some (Some x) P Q f h = f x h
 
 -- a journal of these entries, in order, keeps nothing from being opened
-openable : HasOneVerdict → (decls : Decls) (file : List ℕ) (entries : List Entry) → IsGated file decls.text entries → IsTrue (is_ordered entries) → IsOpenable decls file
+pub openable : HasOneVerdict → (decls : Decls) (file : List ℕ) (entries : List Entry) → IsGated file decls.text entries → IsTrue (is_ordered entries) → IsOpenable decls file
 openable one decls file entries gated ordered = record {
   journal = λ h. let same : Verdict.a_journal entries ≡ Verdict.not_a_journal = one file decls.text (Verdict.a_journal entries) Verdict.not_a_journal own h in cc;
   own = λ place h. let same : Verdict.a_journal entries ≡ Verdict.foreign place = one file decls.text (Verdict.a_journal entries) (Verdict.foreign place) own h in cc;

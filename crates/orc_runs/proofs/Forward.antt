@@ -5,7 +5,7 @@ use Rattle.orc_rules.specs.Events.{Comes, Turn}
 use Rattle.orc_rules.specs.Worlds.{Setting, World}
 use Rattle.orc_runs.specs.Runs.{AreDone, EndsIn, LineDone, Run, line_list, turns_of}
 use Rattle.orc_runs.specs.Scripts.{Goes, Part, line_parts, set_by}
-use Rattle.orc_runs.specs.Steps.{ScriptStep}
+use Rattle.orc_script.specs.declared.step.ScriptStep.{ScriptStep}
 
 module _ {D : Type 0} (here : Setting D) (P : List (Turn D) → World D → Type 0)
     (p_turn : (ts : List (Turn D)) (turn : Turn D) → P ts turn.before → Comes here turn → P (ts ++ turn ∷ []) turn.behind)
@@ -24,7 +24,7 @@ module _ {D : Type 0} (here : Setting D) (P : List (Turn D) → World D → Type
   goes_forward ended parts ts world turns last p (Goes.round_more later _ _ _ goes) = goes_forward ended _ ts world turns last p goes
   goes_forward ended parts ts world turns last p (Goes.still later _ _ _ still goes) = goes_forward ended later ts world turns last p goes
 
-  lines_forward : (first last : World D) (lines : List (LineDone D)) (ts : List (Turn D)) → P ts first → AreDone here first lines last
+  pub lines_forward : (first last : World D) (lines : List (LineDone D)) (ts : List (Turn D)) → P ts first → AreDone here first lines last
       → P (ts ++ flat_map (λ line. line.turns) lines) last
   lines_forward first last [] ts p same = subst (λ (w : World D). P (ts ++ []) w) same (subst (λ (l : List (Turn D)). P l first) (sym (append-nil ts)) p)
   lines_forward first last (line ∷ lines) ts p are =

@@ -1,10 +1,10 @@
 -- What is kept of devices over whole runs.
-use Rattle.std.proofs.Common.{[], ◌≡◌, Contains, ℕ, Bool, true, false, cond, Option, Some, None, List, ◌∷◌, ◌++◌, IsTrue, Ok, map, refl, sym, ap, subst, ◌∙◌, nat_eq, eqb-true}
-use Rattle.std.specs.Prelude.{◌≤◌, filter, nat_lt, slice_get, length, take}
+use Rattle.std.proofs.Common.{[], ◌≡◌, ◌≢◌, Contains, ℕ, Bool, true, false, cond, Option, Some, None, List, ◌∷◌, ◌++◌, IsTrue, Ok, map, refl, sym, ap, subst, ◌∙◌, nat_eq, eqb-true}
+use Rattle.std.specs.Prelude.{filter, nat_lt, slice_get, length, take}
 use Rattle.std.specs.Option.{option_map_or}
 use Rattle.std.proofs.Math.Path.{fun_ext}
 use Rattle.orc_rules.specs.Cells.{updated_at}
-use Rattle.orc_rules.specs.Duties.{is_unworked}
+use Rattle.orc_rules.specs.Duties.{no_call_works}
 use Rattle.orc_rules.specs.Hubs.{Hub, duty_on}
 use Rattle.orc_rules.specs.Events.{DoesUnderHub, DoesAnyway, Steps, Turn, mender_freed, seen_failing}
 use Rattle.orc_rules.specs.declared.event.Event.{Event}
@@ -15,10 +15,10 @@ use Rattle.orc_rules.specs.Invariant.{IsLawful}
 use Rattle.orc_rules.specs.Network.{Local, Planning}
 use Rattle.orc_rules.specs.UnderHub.{DevicesKept, IsOfHub}
 use Rattle.orc_rules.proofs.Attending.{relinked_under}
-use Rattle.orc_device.specs.Nodes.{kept_tree}
 use Rattle.orc_rules.specs.Facts.{pending_id}
-use Rattle.orc_rules.proofs.Devices.{filter_all, in_step, told_history}
-use Rattle.orc_rules.proofs.Promises.{comes_back, pends_known}
+use Rattle.orc_rules.proofs.Devices.{filter_all, in_step}
+use Rattle.orc_rules.proofs.Promises.{pends_known}
+use Rattle.orc_rules.specs.Told.{told_by}
 use Rattle.orc_rules.proofs.Tracking.{known_at, steps_devices}
 use Rattle.orc_datastore.specs.States.{tree_due}
 use Rattle.orc_runs.specs.Scripts.{set_by}
@@ -35,18 +35,21 @@ use Rattle.orc_rules.specs.Worlds.{Link, Setting, World, over}
 use Rattle.orc_rules.proofs.Legality.{read_so}
 use Rattle.orc_runs.specs.Headline.{IsPending, IsReconciled}
 use Rattle.orc_runs.specs.Runs.{Run, turns_of}
-use Rattle.orc_runs.specs.Steps.{ScriptStep, ScriptStep as step}
+use Rattle.orc_script.specs.declared.step.ScriptStep.{ScriptStep}
+use Rattle.orc_script.specs.declared.step.ScriptStep.TheVariants as step
 use Rattle.orc_runs.proofs.Lasting.{IsKept, Survives, each_in, run_survives}
 use Rattle.orc_decls.specs.Calls.{is_call}
 use Rattle.std.specs.FinMap.{empty}
 use Rattle.std.proofs.lemmas.List.Elements.{All-take}
 
 -- what a line sets keeps the devices
+armed_devices : {D : Type 0} (here : Setting D) (count bytes : ℕ) (world : World D) → DevicesKept here.decls world → (hub : Option Hub)
+    → DevicesKept here.decls (option_map_or (λ h. record world { journal = record world.journal { armed = count; bytes = bytes } }) hub world)
+armed_devices here count bytes world own None = own
+armed_devices here count bytes world own (Some hub) = record { shadow = own.shadow; kept = own.kept; silent = own.silent; under = own.under; rests = own.rests }
+
 pub set_devices : {D : Type 0} (here : Setting D) (at : ScriptStep) (world : World D) → DevicesKept here.decls world → DevicesKept here.decls (set_by at world)
-set_devices {D = D} here (step.StopAt count bytes) world own = on world.hub where
-  on : (hub : Option Hub) → DevicesKept here.decls (option_map_or (λ h. record world { journal = record world.journal { armed = count; bytes = bytes } }) hub world)
-  on None = own
-  on (Some hub) = record { shadow = own.shadow; kept = own.kept; silent = own.silent; under = own.under; rests = own.rests }
+set_devices here (step.StopAt count bytes) world own = armed_devices here count bytes world own world.hub
 set_devices {D = D} here (step.Fault device op at) world own = record {
   shadow = own.shadow;
   kept = subst (λ (l : ℕ → Local Call). NetworkKept here.decls (record (network_of here.decls own.shadow (entries_read world.journal) world.hub world.nodes world.links) { locals = l })) (fun_ext each) own.kept;
@@ -89,8 +92,22 @@ set_devices {D = D} here (step.Fault device op at) world own = record {
         go false e = refl
 set_devices here other world own = own
 
+-- and how far along the history each has come
+armed_shadow : {D : Type 0} (here : Setting D) (count bytes : ℕ) (world : World D) (own : DevicesKept here.decls world) (hub : Option Hub) (x : ℕ)
+    → ((armed_devices here count bytes world own hub).shadow x).at ≡ (own.shadow x).at
+unfolding armed_devices
+armed_shadow here count bytes world own None x = refl
+armed_shadow here count bytes world own (Some hub) x = refl
+
+pub set_shadow : {D : Type 0} (here : Setting D) (at : ScriptStep) (world : World D) (own : DevicesKept here.decls world) (x : ℕ)
+    → ((set_devices here at world own).shadow x).at ≡ (own.shadow x).at
+unfolding set_devices
+set_shadow here (step.StopAt count bytes) world own x = armed_shadow here count bytes world own world.hub x
+set_shadow here (step.Fault device op at) world own x = refl
+set_shadow here other world own x = refl
+
 -- what is due behind a front of a legal history
-front_is_due : (decls : Decls) (history : List Call) (count device : ℕ) → IsLegal decls history → nat_lt device (length decls.names) ≡ true
+pub front_is_due : (decls : Decls) (history : List Call) (count device : ℕ) → IsLegal decls history → nat_lt device (length decls.names) ≡ true
     → over decls device (take count history) ≡ tree_due (state_of decls (take count history)) device
 front_is_due decls history count device legal within =
     ap (λ (b : Bool). cond b (tree_due (state_of decls (filter (is_call decls) (take count history))) device) empty) within
@@ -108,7 +125,7 @@ module _ {D : Type 0} (here : Setting D)
     pub hub : Hub
     pub up : world.hub ≡ Some hub
     pub fresh : slice_get hub.stale device ≡ Some None
-    pub unworked : is_unworked (duty_on hub.duties device) ≡ true
+    pub unworked : no_call_works (duty_on hub.duties device) ≡ true
     pub heard : (world.links device).unheard ≡ None
 
   failing_well : (meant : Event) → seen_failing meant ≡ Some (event.Reconcile (Some (Ok tt))) → ⊥
@@ -167,7 +184,7 @@ module _ {D : Type 0} (here : Setting D)
 
     -- at each moment a device in step runs what is due
     pub runs_in_step : (turn : Turn D) (hub : Hub) (device : ℕ) → Contains (turns_of run) turn → nat_lt device (length here.decls.names) ≡ true
-        → turn.behind.hub ≡ Some hub → slice_get hub.stale device ≡ Some None → is_unworked (duty_on hub.duties device) ≡ true → (turn.behind.links device).unheard ≡ None
+        → turn.behind.hub ≡ Some hub → slice_get hub.stale device ≡ Some None → no_call_works (duty_on hub.duties device) ≡ true → (turn.behind.links device).unheard ≡ None
         → ((turn.behind.nodes device).running ≡ tree_due (state_of here.decls (history_read turn.behind.journal)) device) × ((turn.behind.nodes device).pending ≡ None)
     runs_in_step turn hub device among within up fresh unworked heard =
         let devices : DevicesKept here.decls turn.behind = (tracked turn among).behind.1 in
@@ -190,24 +207,10 @@ module _ {D : Type 0} (here : Setting D)
         → turn.seen ≡ Some (event.Reconcile (Some (Ok tt))) → (turn.behind.nodes device).running ≡ tree_due (state_of here.decls (history_read turn.behind.journal)) device
     runs_reconciled turn device among within seen = (runs_mended turn device among within seen).runs
 
-    -- at each moment each device would come back to what is due behind a front of the history
-    pub runs_come_back : (turn : Turn D) (device : ℕ) → Contains (turns_of run) turn → nat_lt device (length here.decls.names) ≡ true
-        → (count : ℕ) × (count ≤ length (history_read turn.behind.journal))
-        × (kept_tree (turn.behind.nodes device) ≡ tree_due (state_of here.decls (take count (history_read turn.behind.journal))) device)
-    runs_come_back turn device among within =
-        let devices : DevicesKept here.decls turn.behind = (tracked turn among).behind.1 in
-        let back = comes_back (over here.decls) (StandsAt here.decls) (FitAt here.decls) (ValidAt here.decls) (network here.decls devices.shadow turn.behind) devices.kept device in
-        let same = told_history (entries_read turn.behind.journal) in (
-          back.0,
-          subst (λ (h : List Call). back.0 ≤ length h) same back.1,
-          back.2 ∙ ap (λ (h : List Call). over here.decls device (take back.0 h)) same
-              ∙ front_is_due here.decls (history_read turn.behind.journal) back.0 device (legal_behind turn among) within,
-        )
-
-    -- and what is pending there is of an unsettled intent that names it, and it runs what is due by that
-    pub runs_pend_known : (turn : Turn D) (device t : ℕ) → Contains (turns_of run) turn → pending_id (turn.behind.nodes device).pending ≡ Some t
-        → IsPending here.decls (entries_read turn.behind.journal) device t (turn.behind.nodes device)
-    runs_pend_known turn device t among pends =
+    -- and what is pending there is of an unsettled intent that names it and is synced, and it runs what is due by that
+    pub runs_pend_known : (turn : Turn D) (device t : ℕ) → Contains (turns_of run) turn → ((told_by turn.behind.journal.synced).intents t ≢ None) → pending_id (turn.behind.nodes device).pending ≡ Some t
+        → IsPending here.decls turn.behind.journal device t (turn.behind.nodes device)
+    runs_pend_known turn device t among synced pends =
         let devices : DevicesKept here.decls turn.behind = (tracked turn among).behind.1 in
         let known = pends_known (over here.decls) (StandsAt here.decls) (FitAt here.decls) (ValidAt here.decls) (network here.decls devices.shadow turn.behind) devices.kept device t pends in
-        record { noted = known.0; unsettled = known.1; names = known.2; runs = known.3 }
+        record { synced = synced; noted = known.0; unsettled = known.1; names = known.2; runs = known.3 }

@@ -17,7 +17,8 @@ use Rattle.orc_rules.proofs.Imaging.{LastsLegal, lasts_then, stays, steps_last}
 use Rattle.orc_rules.proofs.Turning.{steps_keep}
 use Rattle.orc_runs.specs.Runs.{AreDone, EndsIn, IsDone, LineDone, Run, line_list, turns_of}
 use Rattle.orc_runs.specs.Scripts.{Goes, Part, line_parts, set_by}
-use Rattle.orc_runs.specs.Steps.{ScriptStep, ScriptStep as step}
+use Rattle.orc_script.specs.declared.step.ScriptStep.{ScriptStep}
+use Rattle.orc_script.specs.declared.step.ScriptStep.TheVariants as step
 
 -- an element stands at its place
 pub there_in : {X : Type 0} (xs : List X) (x : X) (among : Contains xs x) → slice_get xs among.0 ≡ Some x

@@ -22,3 +22,8 @@ pub mod Growing
 pub mod Keeping
 pub mod Settling
 pub mod Whole
+pub mod Coming
+pub mod Carried
+pub mod Synced
+pub mod Answered
+pub mod Reopening

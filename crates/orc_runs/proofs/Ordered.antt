@@ -44,7 +44,8 @@ use Rattle.orc_rules.proofs.Turning.{steps_keep, uncut_read}
 use Rattle.orc_runs.specs.Headline.{IsSubsequenceOf, calls_of, queued, queued_by}
 use Rattle.orc_runs.specs.Runs.{Run, turns_of}
 use Rattle.orc_runs.specs.Scripts.{set_by}
-use Rattle.orc_runs.specs.Steps.{ScriptStep, ScriptStep as step}
+use Rattle.orc_script.specs.declared.step.ScriptStep.{ScriptStep}
+use Rattle.orc_script.specs.declared.step.ScriptStep.TheVariants as step
 use Rattle.orc_runs.proofs.Forward.{run_forward}
 use Rattle.orc_runs.proofs.Lasting.{set_kept}
 use Rattle.orc_runs.proofs.Unmoved.{read_done}

@@ -7,7 +7,8 @@ use Rattle.orc_rules.specs.Events.{Turn}
 use Rattle.orc_rules.specs.Worlds.{Setting, World}
 use Rattle.orc_runs.specs.Runs.{AreDone, IsDone, LineDone, Run}
 use Rattle.orc_runs.specs.Scripts.{Goes, Part, PrintsAll, line_parts, set_by}
-use Rattle.orc_runs.specs.Steps.{ScriptStep, ScriptStep as step}
+use Rattle.orc_script.specs.declared.step.ScriptStep.{ScriptStep}
+use Rattle.orc_script.specs.declared.step.ScriptStep.TheVariants as step
 
 module _ {D : Type 0} (here : Setting D) where
   -- a line without parts makes nothing happen

@@ -15,7 +15,7 @@ use Rattle.orc_rules.proofs.Replied.{steps_reply}
 use Rattle.orc_rules.proofs.Tracking.{steps_devices}
 use Rattle.orc_runs.specs.Runs.{Run, turns_of}
 use Rattle.orc_runs.specs.Scripts.{set_by}
-use Rattle.orc_runs.specs.Steps.{ScriptStep}
+use Rattle.orc_script.specs.declared.step.ScriptStep.{ScriptStep}
 use Rattle.orc_runs.proofs.Faulted.{set_replies}
 use Rattle.orc_runs.proofs.InStep.{set_devices}
 use Rattle.orc_runs.proofs.Lasting.{IsKept, each_in, run_survives}

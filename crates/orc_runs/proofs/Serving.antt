@@ -37,19 +37,12 @@ use Rattle.orc_rules.specs.declared.transaction.Waiting.{Waiting}
 use Rattle.orc_rules.proofs.Leaving.{finds_place, place_in, stayed}
 use Rattle.orc_rules.proofs.Entering.{without_suc}
 use Rattle.orc_rules.proofs.Legally.{push_cases}
+use Rattle.orc_runs.specs.Serving.{EachEndedIsEmpty, EachGoes, EachOpenAsks, EachWorks, HasWorker, IsAsking, ServesEach, is_going}
 use Rattle.orc_rules.proofs.Reporting.{get_changed, get_other, set_other}
 use Rattle.orc_rules.proofs.Retiring.{of_map}
 use Rattle.orc_rules.proofs.Slots.{both_true, over_on, told_at, took_here, took_there}
 
 -- who asks
-
--- a call that waits, or is under way without its decision, and is answered at this place
-pub data IsAsking (waiting : List Waiting) (active : List Transaction) (place : ℕ) : Type 0 where
-  asks_waiting : (i : ℕ) (one : Waiting) → slice_get waiting i ≡ Some one → one.asker ≡ place → IsAsking waiting active place
-  asks_preparing : (i : ℕ) (it : Transaction) → slice_get active i ≡ Some it → is_preparing it.phase ≡ true → it.asker ≡ place → IsAsking waiting active place
-
-abbrev pub EachOpenAsks : List Asked → List Waiting → List Transaction → Type 0
-EachOpenAsks asked waiting active = (place : ℕ) (one : Asked) → slice_get asked place ≡ Some one → one.is_open ≡ true → IsAsking waiting active place
 
 -- two places are one, or not
 same_place : (a b : ℕ) → (a ≡ b) ⊎ (a ≡ b → ⊥)
@@ -217,10 +210,6 @@ answered_asks asked waiting waiting' active active' place said own still q one a
 
 -- workers
 
--- past preparing, with its outcome, and not waiting for the decision
-abbrev pub is_going : Stage → Bool
-is_going st = has_outcome st && not (is_waiting st)
-
 either_goes : (b : Bool) (x y : Stage) → is_going x ≡ true → is_going y ≡ true → is_going (cond b x y) ≡ true
 either_goes true x y h g = h
 either_goes false x y h g = g
@@ -274,33 +263,6 @@ has_some stage.Editing o h = absurd (false≢true h)
 has_some stage.Validating o h = absurd (false≢true h)
 has_some stage.Committing o h = absurd (false≢true h)
 has_some st o h = refl
-
--- the device works for the transaction; once that is decided its worker goes on
-pub record HasWorker (duties : List Duty) (it : Transaction) (device : ℕ) : Type 0 where
-  pub worker : Worker
-  pub there : duty_on duties device ≡ duty.Works worker
-  pub number : worker.t ≡ it.t
-  pub goes : is_told it.phase ≡ true → is_going worker.stage ≡ true
-
--- transactions
-
-abbrev pub EachWorks : List Duty → List Transaction → Type 0
-EachWorks duties active = (i : ℕ) (it : Transaction) → slice_get active i ≡ Some it → is_under_way it.phase ≡ true
-    → (device : ℕ) → list_any (nat_eq device) it.plan.held.devices ≡ true → HasWorker duties it device
-
-abbrev pub EachGoes : List Duty → List Transaction → Type 0
-EachGoes duties active = (i : ℕ) (it : Transaction) → slice_get active i ≡ Some it → is_told it.phase ≡ true
-    → are_over duties it.t it.plan.held.devices ≡ false
-
-abbrev pub EachEndedIsEmpty : List Transaction → Type 0
-EachEndedIsEmpty active = (i : ℕ) (it : Transaction) → slice_get active i ≡ Some it → is_under_way it.phase ≡ false → it.plan.held ≡ nothing_held
-
--- what is kept
-pub record Serves (waiting : List Waiting) (active : List Transaction) (duties : List Duty) (asked : List Asked) : Type 0 where
-  pub asks : EachOpenAsks asked waiting active
-  pub works : EachWorks duties active
-  pub goes : EachGoes duties active
-  pub empty : EachEndedIsEmpty active
 
 -- phases
 under_told : (p : Phase) → is_told p ≡ true → is_under_way p ≡ true
@@ -433,8 +395,8 @@ took_works duties active device reply faults works i it at under x named = on (n
       goes = own.goes;
     }
 
-pub report_serves : (waiting : List Waiting) (active : List Transaction) (duties : List Duty) (asked : List Asked) (device : ℕ) (reply : Reply) (faults : ℕ) → Serves waiting active duties asked
-    → let duties' = with_changed (λ d. duty_took d reply faults) device duties in Serves waiting (map (retired duties') active) duties' asked
+pub report_serves : (waiting : List Waiting) (active : List Transaction) (duties : List Duty) (asked : List Asked) (device : ℕ) (reply : Reply) (faults : ℕ) → ServesEach waiting active duties asked
+    → let duties' = with_changed (λ d. duty_took d reply faults) device duties in ServesEach waiting (map (retired duties') active) duties' asked
 report_serves waiting active duties asked device reply faults own = record {
   asks = λ q one at is_open. retired_asks (with_changed (λ d. duty_took d reply faults) device duties) active waiting q (own.asks q one at is_open);
   works = retired_works (with_changed (λ d. duty_took d reply faults) device duties) active (took_works duties active device reply faults own.works);
@@ -444,7 +406,7 @@ report_serves waiting active duties asked device reply faults own = record {
 
 -- a decision
 
-module _ (waiting : List Waiting) (active : List Transaction) (duties : List Duty) (asked : List Asked) (own : Serves waiting active duties asked)
+module _ (waiting : List Waiting) (active : List Transaction) (duties : List Duty) (asked : List Asked) (own : ServesEach waiting active duties asked)
     (place : ℕ) (it : Transaction) (at_it : slice_get active place ≡ Some it) (preparing : is_preparing it.phase ≡ true) (to : Phase) (is_to : is_told to ≡ true) (commit : Bool) (said : Answer)
     (numbers : (i j : ℕ) (x y : Transaction) → slice_get active i ≡ Some x → slice_get active j ≡ Some y → x.t ≡ y.t → i ≡ j)
     (heard : (device : ℕ) → list_any (nat_eq device) it.plan.held.devices ≡ true → (worker : Worker) → duty_on duties device ≡ duty.Works worker → has_outcome worker.stage ≡ true) where
@@ -530,7 +492,7 @@ module _ (waiting : List Waiting) (active : List Transaction) (duties : List Dut
       on false e = IsAsking.asks_preparing i x
           (slice_get-map (in_phase it.t to) active i ∙ ap (option_map (in_phase it.t to)) at ∙ ap (λ (b : Bool). Some (cond b (record x { phase = to }) x)) e) h is
 
-  pub told_serves : Serves waiting (map (retired duties') phased) duties' (answered_at it.asker said asked)
+  pub told_serves : ServesEach waiting (map (retired duties') phased) duties' (answered_at it.asker said asked)
   told_serves = record {
     asks = answered_asks asked waiting waiting active (map (retired duties') phased) it.asker said own.asks
         (λ q apart one. retired_asks duties' phased waiting q (phased_asks q apart one));
@@ -541,7 +503,7 @@ module _ (waiting : List Waiting) (active : List Transaction) (duties : List Dut
 
 -- a Settled
 
-module _ (waiting : List Waiting) (active : List Transaction) (duties : List Duty) (asked : List Asked) (own : Serves waiting active duties asked)
+module _ (waiting : List Waiting) (active : List Transaction) (duties : List Duty) (asked : List Asked) (own : ServesEach waiting active duties asked)
     (place : ℕ) (it : Transaction) (at_it : slice_get active place ≡ Some it) (settling : is_settling it.phase ≡ true)
     (numbers : (i j : ℕ) (x y : Transaction) → slice_get active i ≡ Some x → slice_get active j ≡ Some y → x.t ≡ y.t → i ≡ j) where
   abbrev others_left : List Transaction
@@ -560,7 +522,7 @@ module _ (waiting : List Waiting) (active : List Transaction) (duties : List Dut
           absurd (false≢true (sym (settling_not_under it.phase settling) ∙ ap (λ (z : Transaction). is_under_way z.phase) (sym same) ∙ under_preparing x.phase h))
       on false e = refl
 
-  pub settle_serves : Serves waiting others_left duties asked
+  pub settle_serves : ServesEach waiting others_left duties asked
   settle_serves = record {
     asks = λ q one at is_open. left_asks q (own.asks q one at is_open);
     works = λ i y at under device named. own.works (place_in (is_other it.t) active i) y (stayed (is_other it.t) active i y at).there under device named;
@@ -570,7 +532,7 @@ module _ (waiting : List Waiting) (active : List Transaction) (duties : List Dut
 
 -- an admission
 
-module _ (waiting : List Waiting) (active : List Transaction) (duties : List Duty) (asked : List Asked) (own : Serves waiting active duties asked)
+module _ (waiting : List Waiting) (active : List Transaction) (duties : List Duty) (asked : List Asked) (own : ServesEach waiting active duties asked)
     (place : ℕ) (it : Waiting) (at_it : slice_get waiting place ≡ Some it) (since : ℕ) (sets : List (ℕ × ChangeSet))
     (starts : (device : ℕ) → list_any (nat_eq device) it.plan.held.devices ≡ true → (worker : Worker) × (duty_on (started it.t sets duties) device ≡ duty.Works worker) × (worker.t ≡ it.t))
     (others : (device : ℕ) → list_any (nat_eq device) it.plan.held.devices ≡ false → duty_on (started it.t sets duties) device ≡ duty_on duties device)
@@ -599,7 +561,7 @@ module _ (waiting : List Waiting) (active : List Transaction) (duties : List Dut
       or_more true b h = refl
       or_more false b h = h
 
-  pub admit_serves : Serves (without place waiting) (active ++ transaction_begun since it ∷ []) duties_then asked
+  pub admit_serves : ServesEach (without place waiting) (active ++ transaction_begun since it ∷ []) duties_then asked
   admit_serves = record {
     asks = λ q one at is_open. begins_asks q (own.asks q one at is_open);
     works = λ i y at under device named. ⊎_elim
@@ -627,7 +589,7 @@ module _ (waiting : List Waiting) (active : List Transaction) (duties : List Dut
 
 -- one that waits is turned away
 pub away_serves : (waiting : List Waiting) (active : List Transaction) (duties : List Duty) (asked : List Asked) (place : ℕ) (it : Waiting) (said : Answer) → slice_get waiting place ≡ Some it
-    → Serves waiting active duties asked → Serves (without place waiting) active duties (answered_at it.asker said asked)
+    → ServesEach waiting active duties asked → ServesEach (without place waiting) active duties (answered_at it.asker said asked)
 away_serves waiting active duties asked place it said at_it own = record {
   asks = answered_asks asked waiting (without place waiting) active active it.asker said own.asks still;
   works = own.works;
@@ -644,7 +606,7 @@ away_serves waiting active duties asked place it said at_it own = record {
 
 -- where all are over the devices may do anything
 pub idle_serves : (waiting : List Waiting) (active : List Transaction) (duties duties' : List Duty) (asked : List Asked)
-    → ((i : ℕ) (it : Transaction) → slice_get active i ≡ Some it → it.phase ≡ phase.Left) → Serves waiting active duties asked → Serves waiting active duties' asked
+    → ((i : ℕ) (it : Transaction) → slice_get active i ≡ Some it → it.phase ≡ phase.Left) → ServesEach waiting active duties asked → ServesEach waiting active duties' asked
 idle_serves waiting active duties duties' asked left own = record {
   asks = own.asks;
   works = λ i it at under device named. absurd (false≢true (sym (ap is_under_way (left i it at)) ∙ under));
@@ -654,7 +616,7 @@ idle_serves waiting active duties duties' asked left own = record {
 
 -- and where none is active any more
 pub none_serves : (waiting : List Waiting) (active : List Transaction) (duties duties' : List Duty) (asked : List Asked)
-    → ((i : ℕ) (it : Transaction) → slice_get active i ≡ Some it → it.phase ≡ phase.Left) → Serves waiting active duties asked → Serves waiting [] duties' asked
+    → ((i : ℕ) (it : Transaction) → slice_get active i ≡ Some it → it.phase ≡ phase.Left) → ServesEach waiting active duties asked → ServesEach waiting [] duties' asked
 none_serves waiting active duties duties' asked left own = record {
   asks = λ q one at is_open. still q (own.asks q one at is_open);
   works = λ i it at. absurd cc;
@@ -667,7 +629,7 @@ none_serves waiting active duties duties' asked left own = record {
     still q (IsAsking.asks_preparing i it at h is) = absurd (false≢true (sym (ap is_preparing (left i it at)) ∙ h))
 
 -- a hub that is new serves nobody
-pub new_serves : (duties : List Duty) → Serves [] [] duties []
+pub new_serves : (duties : List Duty) → ServesEach [] [] duties []
 new_serves duties = record {
   asks = λ q one at. absurd cc;
   works = λ i it at. absurd cc;

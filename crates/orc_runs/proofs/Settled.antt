@@ -8,6 +8,7 @@ use Rattle.std.proofs.lemmas.List.Elements.{All-head, All-nil, All-tail}
 use Rattle.std.proofs.lemmas.Option.{same_Some, slice_get-get_or}
 use Rattle.orc_call.specs.declared.answer.Answer.TheVariants as answer
 use Rattle.orc_call.specs.declared.answer.RecFault.{RecFault}
+use Rattle.orc_call.specs.declared.call.Call.{Call}
 use Rattle.orc_decls.specs.Declarations.{AreDecls}
 use Rattle.orc_decls.specs.declared.declarations.Decls.{Decls}
 use Rattle.orc_device.specs.Links.{Way as way, Possible, is_stranded, way_reply}
@@ -48,7 +49,7 @@ use Rattle.orc_rules.specs.Network.{Planning}
 use Rattle.orc_rules.specs.Transactions.{is_preparing, is_settling, is_told, nothing_held}
 use Rattle.orc_rules.specs.UnderHub.{AreMending, Attends, DevicesKept, IsOfHub, MendingKept, is_under_way}
 use Rattle.orc_rules.specs.Verdicts.{are_heard}
-use Rattle.orc_rules.specs.Worlds.{Setting, World, declared, over}
+use Rattle.orc_rules.specs.Worlds.{IsIdle, Setting, World, declared, is_over as is_left, over}
 use Rattle.orc_rules.specs.declared.asked.Asked.{Asked}
 use Rattle.orc_rules.specs.declared.duty.Duty.{Duty}
 use Rattle.orc_rules.specs.declared.duty.Duty.TheVariants as duty
@@ -67,10 +68,13 @@ use Rattle.orc_rules.proofs.Slots.{all_so, both_true, outcome_at, outcome_worker
 use Rattle.orc_rules.proofs.Tracking.{steps_devices}
 use Rattle.orc_runs.specs.Runs.{AreDone, LineDone, Run}
 use Rattle.orc_runs.specs.Scripts.{Goes, IsOf, IsStill, NoneOf, Part, Part as part, line_parts, round, set_by}
-use Rattle.orc_runs.specs.Steps.{ScriptStep, ScriptStep as step}
+use Rattle.orc_script.specs.declared.step.ScriptStep.{ScriptStep}
+use Rattle.orc_script.specs.declared.step.ScriptStep.TheVariants as step
 use Rattle.orc_runs.proofs.InStep.{set_devices}
 use Rattle.orc_runs.proofs.Lasting.{each_line, there_in}
-use Rattle.orc_runs.proofs.Serving.{IsAsking, Serves, admit_serves, answer_asks, away_serves, has_some, idle_serves, is_going, new_serves, none_serves, open_asks, report_serves, settle_serves, told_serves, under_preparing}
+use Rattle.orc_runs.specs.Serving.{IsAsking, IsRested, ServesEach, ServesHub, ServesWorld, is_going}
+use Rattle.orc_runs.proofs.Serving.{admit_serves, answer_asks, away_serves, has_some, idle_serves, new_serves, none_serves, open_asks, report_serves, settle_serves, told_serves, under_preparing}
+use Rattle.orc_runs.proofs.Ordered.{IsOpen}
 use Rattle.orc_runs.proofs.Stilled.{settled_still}
 
 -- lists
@@ -258,11 +262,14 @@ going_is_due stage.Over h g = absurd (false≢true (sym g))
 
 -- what an event keeps of who is served
 
-abbrev pub ServesHub : Hub → Type 0
-ServesHub hub = Serves hub.waiting hub.active hub.duties hub.asked
-
-abbrev pub ServesWorld : {D : Type 0} → World D → Type 0
-ServesWorld world = (hub : Hub) → world.hub ≡ Some hub → ServesHub hub
+-- it holds of each element, by its place
+all_places : {X : Type 0} (p : X → Bool) (xs : List X) → ((i : ℕ) (x : X) → slice_get xs i ≡ Some x → p x ≡ true) → list_all p xs ≡ true
+all_places p [] h = refl
+all_places p (x ∷ xs) h = both (p x) (list_all p xs) (h 0 x refl) (all_places p xs (λ i y at. h (suc i) y at))
+  where
+    both : (a b : Bool) → a ≡ true → b ≡ true → (a && b) ≡ true
+    both true b h' g = g
+    both false b h' g = absurd (false≢true h')
 
 -- the worker that has an outcome is past preparing
 heard_worker : (duties : List Duty) (t device : ℕ) (worker : Worker) → is_some (outcome_on duties t device) ≡ true → duty_on duties device ≡ duty.Works worker
@@ -306,7 +313,7 @@ module _ {D : Type 0} (here : Setting D) (are : AreDecls here.decls) (plans : Pl
     does_serve meant row next (DoesUnderHub.begins caller) = is_behind next hub up own
     does_serve meant row next (DoesUnderHub.answers call front said asked snap why keeps) = is_behind next (record hub { asked = asked }) refl (answered asked keeps)
       where
-        answered : (now : List Asked) → KeepsAnswer call said hub.asked now → Serves hub.waiting hub.active hub.duties now
+        answered : (now : List Asked) → KeepsAnswer call said hub.asked now → ServesEach hub.waiting hub.active hub.duties now
         answered now KeepsAnswer.kept = record { asks = answer_asks hub.asked hub.waiting hub.active call said own.asks; works = own.works; goes = own.goes; empty = own.empty }
         answered now (KeepsAnswer.wanting memory new) = own
     does_serve meant row next (DoesUnderHub.queues it front snap alike lawful_call closed apart fresh within made number slot) =
@@ -498,6 +505,29 @@ module _ {D : Type 0} (here : Setting D) (are : AreDecls here.decls) (plans : Pl
           on [] e h = cc
           on (x ∷ xs) e h = none_waits x (ap (λ (l : List Waiting). slice_get l 0) e)
 
+      -- no call is on its way
+      pub none_on_way : (call : Call) → IsOpen hub call → ⊥
+      none_on_way call (IsOpen.open_waiting place one there is) = none_waits_at place one there
+      none_on_way call (IsOpen.open_preparing place it there preparing is) = none_preparing place it there preparing
+
+      -- nothing waits, and nothing is due
+      pub idle_now : IsIdle hub
+      idle_now = (no_waiting hub.waiting refl, all_places (λ it. is_left it.phase) hub.active (λ i it at. left_only it.phase (none_preparing i it at) (none_told i it at) (none_settling i it at)), quiet)
+        where
+          no_waiting : (xs : List Waiting) → hub.waiting ≡ xs → hub.waiting ≡ []
+          no_waiting [] e = e
+          no_waiting (x ∷ xs) e = absurd (none_waits x (ap (λ (l : List Waiting). slice_get l 0) e))
+
+          none_settling : (i : ℕ) (it : Transaction) → slice_get hub.active i ≡ Some it → is_settling it.phase ≡ true → ⊥
+          none_settling i it at settling = none_is_due_now i it at (ap (λ (b : Bool). b || is_decision_due hub.duties it) settling)
+
+          left_only : (p : Phase) → (is_preparing p ≡ true → ⊥) → (is_told p ≡ true → ⊥) → (is_settling p ≡ true → ⊥) → is_left p ≡ true
+          left_only phase.Preparing h g f = absurd (h refl)
+          left_only phase.Decided h g f = absurd (g refl)
+          left_only phase.Aborted h g f = absurd (g refl)
+          left_only phase.Settling h g f = absurd (f refl)
+          left_only phase.Left h g f = refl
+
       pub none_open : All (λ one. one.is_open ≡ false) hub.asked
       none_open = all_by (λ one. one.is_open ≡ false) hub.asked (λ i one at. on i one at one.is_open refl)
         where
@@ -509,7 +539,7 @@ module _ {D : Type 0} (here : Setting D) (are : AreDecls here.decls) (plans : Pl
           on i one at true is = absurd (nobody i (own.asks i one at is))
           on i one at false is = is
 
-  steps_serve : (old new : World D) (meant : Event) (seen : Option Event) → HistoryKept here old → DevicesKept here.decls old → ServesWorld old → Steps here old meant seen new → ServesWorld new
+  pub steps_serve : (old new : World D) (meant : Event) (seen : Option Event) → HistoryKept here old → DevicesKept here.decls old → ServesWorld old → Steps here old meant seen new → ServesWorld new
   steps_serve old new meant seen kept devices own (Steps.done hub row next _ up does appends is) =
       λ hub' e. does_serve old hub up kept devices (own hub up) meant row next does hub' (sym (ap (λ (w : World D). w.hub) is) ∙ e)
   steps_serve old new meant seen kept devices own (Steps.cut hub row next _ up does appends is) =
@@ -527,7 +557,7 @@ module _ {D : Type 0} (here : Setting D) (are : AreDecls here.decls) (plans : Pl
       λ hub' e. subst ServesHub (same_Some _ hub' (sym (ap (λ (w : World D). w.hub) is) ∙ e)) (new_serves (map (λ device. duty.Free) (declared here.decls)))
 
 -- what a line sets keeps it
-set_serves : {D : Type 0} (at : ScriptStep) (world : World D) → ServesWorld world → ServesWorld (set_by at world)
+pub set_serves : {D : Type 0} (at : ScriptStep) (world : World D) → ServesWorld world → ServesWorld (set_by at world)
 set_serves {D = D} (step.StopAt count bytes) world own = on world.hub refl
   where
     on : (hub : Option Hub) → world.hub ≡ hub → ServesWorld (option_map_or (λ h. record world { journal = record world.journal { armed = count; bytes = bytes } }) hub world)
@@ -535,10 +565,6 @@ set_serves {D = D} (step.StopAt count bytes) world own = on world.hub refl
     on (Some hub) e = own
 set_serves (step.Fault device op at) world own = own
 set_serves other world own = own
-
--- no reconciliation is begun and unfinished
-abbrev pub IsRested : {D : Type 0} → World D → Type 0
-IsRested world = (hub : Hub) → world.hub ≡ Some hub → hub.mends ≡ None
 
 abbrev pub is_beginning : Part → Bool
 is_beginning part.Beginning = true
@@ -614,7 +640,7 @@ module _ {D : Type 0} (here : Setting D) where
   does_rest world hub meant row next (DoesUnderHub.fails_to_mend met failed heard) other up rested = λ h e. ap (λ (x : Hub). x.mends) (sym (same_Some _ h e))
   does_rest world hub meant row next does other up rested = λ h e. ap (λ (x : Hub). x.mends) (sym (same_Some _ h e)) ∙ rested
 
-  steps_rest : (old new : World D) (meant : Event) (seen : Option Event) → Steps here old meant seen new → (meant ≡ event.Reconcile None → ⊥) → IsRested old → IsRested new
+  pub steps_rest : (old new : World D) (meant : Event) (seen : Option Event) → Steps here old meant seen new → (meant ≡ event.Reconcile None → ⊥) → IsRested old → IsRested new
   steps_rest old new meant seen (Steps.done hub row next _ up does appends is) other rested =
       λ h e. does_rest old hub meant row next does other up (rested hub up) h (sym (ap (λ (w : World D). w.hub) is) ∙ e)
   steps_rest old new meant seen (Steps.cut hub row next _ up does appends is) other rested =
@@ -714,7 +740,7 @@ module _ {D : Type 0} (here : Setting D) where
       by (IsLastPart.alone is rest) f = absurd cc
 
   -- a line
-  set_rested : (at : ScriptStep) (world : World D) → IsRested world → IsRested (set_by at world)
+  pub set_rested : (at : ScriptStep) (world : World D) → IsRested world → IsRested (set_by at world)
   set_rested (step.StopAt count bytes) world rested = on world.hub
     where
       on : (hub : Option Hub) → IsRested (option_map_or (λ h. record world { journal = record world.journal { armed = count; bytes = bytes } }) hub world)
@@ -768,6 +794,17 @@ module _ {D : Type 0} (here : Setting D)
 
   both_set : (at : ScriptStep) (world : World D) → ServedWorld world → ServedWorld (set_by at world)
   both_set at world own' = (set_devices here at world own'.0, set_serves at world own'.1)
+
+  -- nothing is left behind a line `settle`, where a hub is up
+  pub left_still : (line : LineDone D) → Contains run.lines line → line.step ≡ step.Settle → (hub : Hub) → line.behind.hub ≡ Some hub → (call : Call) → IsOpen hub call → ⊥
+  left_still line among is hub up =
+      let at = there_in run.lines line among in
+      let line' = each_line here only_now are plans legally order ServedWorld both_steps both_set first run.middle run.lines (kept, (own, serves)) run.done among.0 line at in
+      let goes : Goes here false (part.Rounds ∷ []) (set_by line.step line.before) line.turns line.behind =
+      subst (λ (parts : List Part). Goes here false parts (set_by line.step line.before) line.turns line.behind) (ap (line_parts here.decls) is) line'.does.goes in
+      none_on_way here are plans kinds lawful planning line.behind hub up line'.behind.0 line'.behind.1.0 (line'.behind.1.1 hub up)
+      (settled_still here (set_by line.step line.before) line.turns line.behind goes)
+      (lines_rest here first run.middle run.lines rested run.done among.0 line at hub up)
 
   pub settled : (line : LineDone D) (hub : Hub) → Contains run.lines line → line.step ≡ step.Settle → line.behind.hub ≡ Some hub → All (λ one. one.is_open ≡ false) hub.asked
   settled line hub among is up =

@@ -38,7 +38,8 @@ use Rattle.orc_rules.proofs.Turning.{steps_keep}
 use Rattle.orc_runs.specs.Headline.{HasFault, begins_again, since_begun}
 use Rattle.orc_runs.specs.Runs.{Run, turns_of}
 use Rattle.orc_runs.specs.Scripts.{set_by}
-use Rattle.orc_runs.specs.Steps.{ScriptStep, ScriptStep as step}
+use Rattle.orc_script.specs.declared.step.ScriptStep.{ScriptStep}
+use Rattle.orc_script.specs.declared.step.ScriptStep.TheVariants as step
 use Rattle.orc_runs.proofs.Faulted.{SplitPush, fold_push, listed_same, nil_none, split_push}
 use Rattle.orc_runs.proofs.Faulting.{UnheardFaults, duty_fault, met_fault, or_some}
 use Rattle.orc_runs.proofs.Forward.{run_forward}

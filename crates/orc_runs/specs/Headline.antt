@@ -1,7 +1,7 @@
 -- The claim, for every script and however a run of it ends.
 use Rattle.std.specs.Prelude.{[], All, ◌≡◌, ◌≢◌, ◌⊎◌, ℕ, true, false, Option, Some, None, List, ◌∷◌, ◌++◌, IsTrue, Bool, if◌then◌else◌, filter, take as front_of, Contains, nat_eq, nat_lt, slice_get, IfSome, length, ◌+◌, ◌≤◌}
 use Rattle.std.specs.declared.result.Result.TheVariants as result
-use Rattle.std.specs.List.{fold, list_any}
+use Rattle.std.specs.List.{flat_map, fold, list_any}
 use Rattle.orc_call.specs.declared.answer.Answer.{Answer}
 use Rattle.orc_call.specs.declared.answer.Answer.TheVariants as answer
 use Rattle.orc_call.specs.declared.answer.RecFault.{RecFault}
@@ -21,6 +21,7 @@ use Rattle.orc_decls.specs.declared.declarations.Decls.{Decls}
 use Rattle.orc_device.specs.Nodes.{NodeState, kept_tree}
 use Rattle.orc_device.specs.declared.kind.OpKind.{OpKind}
 use Rattle.orc_device.specs.declared.kind.OpKind.TheVariants as kind
+use Rattle.orc_device.specs.declared.op.Op.{Op}
 use Rattle.orc_device.specs.declared.op.Op.TheVariants as op
 use Rattle.orc_device.specs.declared.reply.Mark.{Mark}
 use Rattle.orc_device.specs.declared.reply.Mark.TheVariants as mark
@@ -30,18 +31,20 @@ use Rattle.orc_journal.specs.Journals.{IsDamaged, IsForeign, IsGated, IsNotJourn
 use Rattle.orc_journal.specs.Orders.{is_ordered}
 use Rattle.orc_journal.specs.declared.entry.Entry.{Entry}
 use Rattle.orc_path.specs.Configurations.{Config}
+use Rattle.orc_recover.specs.Menders.{differences}
 use Rattle.orc_print.specs.Printed.{tree_text}
 use Rattle.orc_tree.specs.declared.change.ChangeSet.{ChangeSet}
 use Rattle.orc_state.specs.Checks.{Checks, IsConflict}
 use Rattle.orc_rules.specs.Acceptance.{AcceptsFronts}
 use Rattle.orc_rules.specs.Admissions.{Passes}
 use Rattle.orc_rules.specs.Asked.{open_of}
-use Rattle.orc_rules.specs.Duties.{is_unworked}
+use Rattle.orc_rules.specs.Duties.{no_call_works}
 use Rattle.orc_rules.specs.Events.{Turn}
 use Rattle.orc_rules.specs.Facts.{pending_id}
 use Rattle.orc_rules.specs.Fits.{first_stale}
 use Rattle.orc_rules.specs.Hubs.{Hub, due_on, duty_on}
-use Rattle.orc_rules.specs.Journals.{entries_read, history_read}
+use Rattle.orc_rules.specs.Coming.{came_by}
+use Rattle.orc_rules.specs.Journals.{Journal, entries_read, history_read}
 use Rattle.orc_rules.specs.Network.{Noted}
 use Rattle.orc_rules.specs.Told.{told_by}
 use Rattle.orc_rules.specs.Turns.{turns_at_most}
@@ -50,9 +53,11 @@ use Rattle.orc_rules.specs.declared.event.Event.{Event}
 use Rattle.orc_rules.specs.declared.event.Event.TheVariants as event
 use Rattle.orc_rules.specs.declared.transaction.Transaction.{Transaction}
 use Rattle.orc_rules.specs.declared.transaction.Waiting.{Waiting}
+use Rattle.orc_runs.specs.Ends.{EndOfRun, IsEndedBy, is_refused_journal}
 use Rattle.orc_runs.specs.Runs.{LineDone, Run, lines_in, turns_of}
 use Rattle.orc_runs.specs.Scripts.{call_under}
-use Rattle.orc_runs.specs.Steps.{ScriptStep, ScriptStep as step}
+use Rattle.orc_script.specs.declared.step.ScriptStep.{ScriptStep}
+use Rattle.orc_script.specs.declared.step.ScriptStep.TheVariants as step
 
 -- journals
 
@@ -122,6 +127,15 @@ IsAnswered turn (Some (event.Submit submitted front given)) call said = (submitt
 IsAnswered turn (Some (event.Admit t given)) call said = (call_under turn.before t ≡ Some call) × (given ≡ Some said)
 IsAnswered turn (Some (event.Decide t given)) call said = (call_under turn.before t ≡ Some call) × (given ≡ said)
 IsAnswered turn other call said = ⊥
+
+-- this call is answered in a turn of these
+abbrev pub HasAnswerIn : {D : Type 0} → List (Turn D) → Call → Type 0
+HasAnswerIn {D} turns call =
+    (turn : Turn D) × (said : Answer) × Contains turns turn × IsAnswered turn turn.seen call said
+
+-- after none of these turns the hub is down
+abbrev pub StayUp : {D : Type 0} → List (Turn D) → Type 0
+StayUp {D} turns = (turn : Turn D) → Contains turns turn → turn.behind.hub ≢ None
 
 -- a turn of these is an operation of the device at which its link failed, and this is the number of that fault
 abbrev pub HasFault : {D : Type 0} → List (Turn D) → ℕ → ℕ → Type 0
@@ -279,19 +293,56 @@ IsDeclared decls device = nat_lt device (length decls.names) ≡ true
 abbrev pub IsInSync : Hub → ℕ → Type 0
 IsInSync hub device = slice_get hub.stale device ≡ Some None
 
--- A confirmed commit that is pending on a device is that of a transaction whose Intent the journal has, and no Settled.
--- The Intent names the device, and the device runs what is due with its call after the history at its Intent.
-pub record IsPending (decls : Decls) (entries : List Entry) (device : ℕ) (t : ℕ) (node : NodeState) : Type 0 where
+-- A confirmed commit that is pending on a device is that of a transaction whose Intent is synced, and of which the journal
+-- has no Settled. The Intent names the device, and the device runs what is due with its call after the history at its
+-- Intent.
+pub record IsPending {D : Type 0} (decls : Decls) (journal : Journal D) (device : ℕ) (t : ℕ) (node : NodeState)
+    : Type 0 where
+  pub synced : (told_by journal.synced).intents t ≢ None
   pub noted : Noted Call
-  pub unsettled : (told_by entries).intents t ≡ Some noted
+  pub unsettled : (told_by (entries_read journal)).intents t ≡ Some noted
   pub names : noted.plan.names device ≡ true
   pub runs : node.running ≡ over decls device (noted.base ++ noted.plan.call ∷ [])
+
+-- What is due on a device resolves this transaction as it is decided, or is something else: a Cancel only where the
+-- journal as read has no decision of it, a Confirm only where a decision is synced, and a CommitConfirmed only where there
+-- is none, and its Intent is synced and not settled.
+pub record IsResolvedAsDecided {D : Type 0} (journal : Journal D) (t : ℕ) (due : Option Op) : Type 0 where
+  pub cancels : due ≡ Some (op.Cancel t) → (told_by (entries_read journal)).place t ≡ None
+  pub confirms : due ≡ Some (op.Confirm t) → (place : ℕ) × ((told_by journal.synced).place t ≡ Some place)
+  pub prepares : (seconds : ℕ) → due ≡ Some (op.CommitConfirmed t seconds)
+      → ((told_by (entries_read journal)).place t ≡ None) × ((told_by journal.synced).intents t ≢ None)
 
 -- What a device would come back to stays so, or a Confirm or a Commit was performed on the device.
 abbrev pub MovesOn : Config → Option Event → Config → ℕ → Type 0
 MovesOn old seen new device = (new ≡ old)
     ⊎ ((done : OpKind) × (reply : Mark) × (count : ℕ) × (seen ≡ Some (event.Perform device done reply count))
     × ((done ≡ kind.Confirm) ⊎ (done ≡ kind.Commit)))
+
+-- So many of the history's first calls a device has come to in these turns: none at first; a Confirm that took effect
+-- there brings it to the entry of the transaction that it names, and a Commit that did to the whole history.
+abbrev pub at_of : {D : Type 0} → Setting D → List (Turn D) → ℕ → ℕ
+at_of here turns device = fold (λ at turn. came_by here turn.before device at turn.seen) 0 turns
+
+-- what the device would come back to is what is due after so many first calls of the history
+abbrev pub IsBackAt : {D : Type 0} → Decls → World D → ℕ → ℕ → Type 0
+IsBackAt decls world device count = (count ≤ length (history_read world.journal))
+    × (kept_tree (world.nodes device)
+    ≡ tree_due (state_of decls (front_of count (history_read world.journal))) device)
+
+-- A tree is due on the device: after the history; or after the history with the call of a transaction whose Intent names
+-- the device, and of which the journal has no Settled.
+abbrev pub IsDueOn : {D : Type 0} → Decls → World D → ℕ → Config → Type 0
+IsDueOn decls world device tree = (tree ≡ over decls device (history_read world.journal))
+    ⊎ ((t : ℕ) × (noted : Noted Call) × ((told_by (entries_read world.journal)).intents t ≡ Some noted)
+    × (noted.plan.names device ≡ true)
+    × (tree ≡ over decls device (history_read world.journal ++ noted.plan.call ∷ [])))
+
+-- the set of changes is exactly the difference of what the device runs and a tree that is due there
+pub record IsExactEdit {D : Type 0} (decls : Decls) (world : World D) (device : ℕ) (set : ChangeSet) : Type 0 where
+  pub target : Config
+  pub set_is : set ≡ differences (world.nodes device).running target
+  pub due : IsDueOn decls world device target
 
 -- A device runs what is due after the history, nothing is pending there, and the hub, which is up, has it in sync.
 pub record IsReconciled {D : Type 0} (decls : Decls) (world : World D) (device : ℕ) : Type 0 where
@@ -326,6 +377,9 @@ pub record Headline {D : Type 0} (here : Setting D) (script : List ScriptStep) (
   -- At no moment do the journal's bytes keep it from being opened again.
   pub opens_again : (turn : Turn D) → Contains (turns_of run) turn
       → IfSome (here.disk.content turn.behind.journal.disk) (IsOpenable here.decls)
+  -- So no recovery is refused for what the journal's bytes are, where the disk tells these.
+  pub reopens : (turn : Turn D) (why : EndOfRun) → Contains (turns_of run) turn → IsEndedBy here turn why
+      → is_refused_journal why ≡ true → here.disk.content turn.before.journal.disk ≡ None
   -- Each call that was acknowledged is the entry of its number, in the history at the end and in the journal as it is read
   -- then, and as a crash at each later moment leaves it. (A legal history has no caller and number twice: so it is there
   -- once.)
@@ -352,10 +406,14 @@ pub record Headline {D : Type 0} (here : Setting D) (script : List ScriptStep) (
   pub answered_because : (earlier later : List (Turn D)) (turn : Turn D) (call : Call) (given : Answer)
       → turns_of run ≡ earlier ++ turn ∷ later → IsAnswered turn turn.seen call given
       → AnsweredBecause here first earlier turn call given
-  -- After a line `settle`, where a hub is up, no caller has a call open. (That is said of what the hub keeps of each
-  -- caller, and not of the turns in which the answers came.)
+  -- After a line `settle`, where a hub is up, no caller has a call open: each call that was submitted before, and not
+  -- answered at once, has its answer by then, unless the controller went down since.
   pub settled : (line : LineDone D) (hub : Hub) → Contains run.lines line → line.step ≡ step.Settle
       → line.behind.hub ≡ Some hub → All (λ one. one.is_open ≡ false) hub.asked
+  pub settle_answers : (before rest : List (LineDone D)) (line : LineDone D) → run.lines ≡ before ++ line ∷ rest
+      → line.step ≡ step.Settle → (earlier later : List (Turn D)) (turn : Turn D) (call : Call) (front : ℕ)
+      → flat_map (λ it. it.turns) (before ++ line ∷ []) ≡ earlier ++ turn ∷ later
+      → turn.seen ≡ Some (event.Submit call front None) → StayUp later → HasAnswerIn later call
   -- A line `settle` takes so many turns at most, also where the run ended in it: 24 for each device of a call that waits
   -- or is under way as it begins, and 4 for each such call.
   pub bounded : (line : LineDone D) (hub : Hub) → Contains (lines_in run) line → line.step ≡ step.Settle
@@ -383,32 +441,36 @@ pub record Headline {D : Type 0} (here : Setting D) (script : List ScriptStep) (
   -- what is due after the history, and nothing is pending there: with no reconciliation.
   pub in_step : (turn : Turn D) (hub : Hub) (device : ℕ) → Contains (turns_of run) turn
       → IsDeclared here.decls device → turn.behind.hub ≡ Some hub
-      → IsInSync hub device → is_unworked (duty_on hub.duties device) ≡ true
+      → IsInSync hub device → no_call_works (duty_on hub.duties device) ≡ true
       → (turn.behind.links device).unheard ≡ None
       → ((turn.behind.nodes device).running ≡ tree_due (state_of here.decls (history_read turn.behind.journal)) device)
       × ((turn.behind.nodes device).pending ≡ None)
   -- At each moment what a device would come back to, where it restarts or its confirmed commit times out, is what is due
-  -- after some first calls of the history. (How many isn't said.) It changes only by a Confirm or a Commit on the device: no
-  -- restart, timeout, stop, or end of a session takes a device back to an older one.
-  pub comes_back : (turn : Turn D) (device : ℕ) → Contains (turns_of run) turn
-      → IsDeclared here.decls device
-      → (count : ℕ) × (count ≤ length (history_read turn.behind.journal))
-      × (kept_tree (turn.behind.nodes device)
-      ≡ tree_due (state_of here.decls (front_of count (history_read turn.behind.journal))) device)
+  -- after as many first calls of the history as it has come to. That number never falls, and changes only by a Confirm or
+  -- a Commit on the device: no restart, timeout, stop, or end of a session takes a device back to an older tree.
+  pub comes_back : (earlier later : List (Turn D)) (turn : Turn D) (device : ℕ)
+      → turns_of run ≡ earlier ++ turn ∷ later → IsDeclared here.decls device
+      → IsBackAt here.decls turn.behind device (at_of here (earlier ++ turn ∷ []) device)
+  pub never_falls : (earlier later : List (Turn D)) (turn : Turn D) (device : ℕ)
+      → turns_of run ≡ earlier ++ turn ∷ later → at_of here earlier device ≤ at_of here (earlier ++ turn ∷ []) device
   pub moves_on : (turn : Turn D) (device : ℕ) → Contains (turns_of run) turn
       → MovesOn (kept_tree (turn.before.nodes device)) turn.seen (kept_tree (turn.behind.nodes device)) device
   -- At each moment what is pending on a device is known to the journal.
   pub pending_known : (turn : Turn D) (device t : ℕ) → Contains (turns_of run) turn
       → pending_id (turn.behind.nodes device).pending ≡ Some t
-      → IsPending here.decls (entries_read turn.behind.journal) device t (turn.behind.nodes device)
+      → IsPending here.decls turn.behind.journal device t (turn.behind.nodes device)
   -- A confirmed commit is cancelled only where the journal, as it is read then, has no decision of its transaction, and is
-  -- confirmed only where it has one, at this place of the history.
+  -- confirmed only where a decision is synced, which gives its call this place of the history. It is made only where there
+  -- is no decision, and the Intent is synced.
   pub resolved_as_decided : (turn : Turn D) (hub : Hub) (device t : ℕ) (kind : OpKind) (reply : Mark) (count : ℕ)
       → Contains (turns_of run) turn → turn.before.hub ≡ Some hub
       → turn.seen ≡ Some (event.Perform device kind reply count)
-      → (due_on hub device ≡ Some (op.Cancel t) → (told_by (entries_read turn.before.journal)).place t ≡ None)
-      × (due_on hub device ≡ Some (op.Confirm t)
-      → (place : ℕ) × ((told_by (entries_read turn.before.journal)).place t ≡ Some place))
+      → IsResolvedAsDecided turn.before.journal t (due_on hub device)
+  -- The changes of an Edit are exactly the difference of what the device runs and a tree that is due there.
+  pub edits_exactly : (turn : Turn D) (hub : Hub) (device : ℕ) (set : ChangeSet)
+      (kind : OpKind) (reply : Mark) (count : ℕ) → Contains (turns_of run) turn → turn.before.hub ≡ Some hub
+      → turn.seen ≡ Some (event.Perform device kind reply count) → due_on hub device ≡ Some (op.Edit set)
+      → IsExactEdit here.decls turn.before device set
   -- What is printed of a device is what it runs.
   pub as_printed : (line : LineDone D) (device : ℕ) → Contains run.lines line → line.step ≡ step.Show device
       → line.text ≡ tree_text (name_of here.decls.names device) (line.behind.nodes device).running

@@ -3,16 +3,18 @@ use Rattle.std.specs.Prelude.{[], ◌≡◌, ◌≢◌, ◌⊎◌, ◌==◌, Boo
 use Rattle.std.specs.List.{flat_map, fold}
 use Rattle.std.specs.Option.{option_map_or}
 use Rattle.orc_decls.specs.Devices.{name_of}
-use Rattle.orc_device.specs.declared.op.Op.{Op}
+use Rattle.orc_device.specs.declared.reply.Logged.{Logged}
 use Rattle.orc_device.specs.declared.reply.Mark.{Mark}
 use Rattle.orc_rules.specs.Events.{Turn}
 use Rattle.orc_rules.specs.Hubs.{Hub, order_on}
 use Rattle.orc_rules.specs.Worlds.{Setting, World}
 use Rattle.orc_rules.specs.declared.event.Event.{Event}
 use Rattle.orc_rules.specs.declared.event.Event.TheVariants as event
+use Rattle.orc_runs.specs.Ends.{EndOfRun, EndedBecause}
 use Rattle.orc_runs.specs.Scripts.{Goes, Prints, line_parts, set_by}
-use Rattle.orc_runs.specs.Steps.{ScriptStep, ScriptStep as step}
-use Rattle.orc_runs.specs.Words.{log_text}
+use Rattle.orc_script.specs.declared.step.ScriptStep.{ScriptStep}
+use Rattle.orc_script.specs.declared.step.ScriptStep.TheVariants as step
+use Rattle.orc_print.specs.Logs.{log_text}
 
 -- a line of a script that was done: the world before it, what came, the world after it, and what it printed
 pub record LineDone (D : Type 0) : Type 0 where
@@ -36,12 +38,12 @@ EndsRun turn = (turn.seen ≡ None)
 -- logs
 
 -- an operation of the device that was due in this world, and this was replied to it
-abbrev pub operation_with : {D : Type 0} → ℕ → World D → Mark → List (Op × Mark)
-operation_with device world reply =
-    option_map_or (λ hub. option_map_or (λ op. (op, reply) ∷ []) (order_on hub device) []) world.hub []
+abbrev pub operation_with : {D : Type 0} → ℕ → World D → Mark → List Logged
+operation_with device world reply = option_map_or
+    (λ hub. option_map_or (λ op. record { op = op; mark = reply } ∷ []) (order_on hub device) []) world.hub []
 
 -- the operation of the device that was performed in a turn, if one was
-abbrev pub operation_of : {D : Type 0} → ℕ → Turn D → Option Event → List (Op × Mark)
+abbrev pub operation_of : {D : Type 0} → ℕ → Turn D → Option Event → List Logged
 operation_of device turn (Some (event.Perform other kind reply count)) =
     if other == device then operation_with device turn.before reply else []
 operation_of device turn other = []
@@ -52,12 +54,12 @@ is_log device (step.Log other) = other == device
 is_log device other = false
 
 -- the operations of a device after a line: none where it printed them, else those of its turns too
-abbrev pub logged_with : {D : Type 0} → ℕ → List (Op × Mark) → LineDone D → List (Op × Mark)
+abbrev pub logged_with : {D : Type 0} → ℕ → List Logged → LineDone D → List Logged
 logged_with device rows line =
     if is_log device line.step then [] else rows ++ flat_map (λ turn. operation_of device turn turn.seen) line.turns
 
 -- the operations of a device in these lines, since its log was printed last
-abbrev pub logged : {D : Type 0} → ℕ → List (LineDone D) → List (Op × Mark)
+abbrev pub logged : {D : Type 0} → ℕ → List (LineDone D) → List Logged
 logged device lines = fold (logged_with device) [] lines
 
 -- each line that prints the log of a device prints the operations since it was printed last
@@ -84,13 +86,21 @@ module _ {D : Type 0} (here : Setting D) where
   EndsIn world None last = world ≡ last
   EndsIn world (Some line) last = (line.before ≡ world) × IsDone true line × (line.behind ≡ last)
 
-  -- a script was run from a world on, up to its end, or up to a line in which the run ended
+  -- and why it did
+  abbrev pub EndsFor : Option (LineDone D) → Option EndOfRun → Type 0
+  EndsFor None why = why ≡ None
+  EndsFor (Some line) None = ⊥
+  EndsFor (Some line) (Some why) = EndedBecause here line.turns why
+
+  -- A script was run from a world on, up to its end, or up to a line in which the run ended, and why it did.
   pub record Run (script : List ScriptStep) (first last : World D) : Type 0 where
     pub lines : List (LineDone D)
     pub middle : World D
     pub done : AreDone first lines middle
     pub end : Option (LineDone D)
     pub ends : EndsIn middle end last
+    pub why : Option EndOfRun
+    pub because : EndsFor end why
     pub rest : List ScriptStep
     pub parts : script ≡ map (λ line. line.step) (lines ++ line_list end) ++ rest
     pub whole : end ≡ None → rest ≡ []

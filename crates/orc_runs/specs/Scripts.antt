@@ -7,7 +7,7 @@ use Rattle.orc_call.specs.declared.answer.Answer.{Answer}
 use Rattle.orc_call.specs.declared.answer.RecFault.{RecFault}
 use Rattle.orc_journal.specs.declared.entry.Entry.{Entry}
 use Rattle.orc_path.specs.Steps.{PathStep}
-use Rattle.orc_print.specs.Printed.{IsJsonGroup, data_text, history_text, meta_group, recovered_line, tree_text}
+use Rattle.orc_print.specs.Printed.{IsJsonGroup, answer_line, data_text, history_text, mended_line, meta_group, recovered_line, tree_text}
 use Rattle.orc_refs.specs.declared.moves.Meta.{Meta}
 use Rattle.orc_rules.specs.Cells.{updated_at}
 use Rattle.orc_rules.specs.Events.{Comes, DoesUnderHub, DoesAnyway, Turn}
@@ -22,8 +22,8 @@ use Rattle.orc_decls.specs.Calls.{schema_named}
 use Rattle.orc_decls.specs.Devices.{name_of}
 use Rattle.orc_decls.specs.declared.declarations.Decls.{Decls}
 use Rattle.orc_schema.specs.Schemas.{SchemaTable}
-use Rattle.orc_runs.specs.Steps.{ScriptStep, ScriptStep as step}
-use Rattle.orc_runs.specs.Words.{mended_line, said_line}
+use Rattle.orc_script.specs.declared.step.ScriptStep.{ScriptStep}
+use Rattle.orc_script.specs.declared.step.ScriptStep.TheVariants as step
 
 -- The parts of what a line does. Each is an event of a kind, or all that come of a kind, or the rounds of `settle`.
 pub data Part : Type 0 where
@@ -170,12 +170,12 @@ call_under world t = option_map_or (λ hub. call_on_way hub t) world.hub None
 -- the line of the answer to a call that was on its way
 abbrev pub answer_to : List (List ℕ) → Option Call → Answer → List ℕ
 answer_to names None given = []
-answer_to names (Some call) given = said_line names call.caller call.number given
+answer_to names (Some call) given = answer_line names call.caller call.number given
 
 -- What is said of what is seen in a line: an answer, the end of a reconciliation, that the controller stopped, but not
 -- where it is recovered at once, and that it is there again.
 abbrev pub said : {D : Type 0} → List (List ℕ) → ScriptStep → Turn D → Option Event → List ℕ
-said names at turn (Some (event.Submit call front (Some given))) = said_line names call.caller call.number given
+said names at turn (Some (event.Submit call front (Some given))) = answer_line names call.caller call.number given
 said names at turn (Some (event.Admit t (Some given))) = answer_to names (call_under turn.before t) given
 said names at turn (Some (event.Decide t given)) = answer_to names (call_under turn.before t) given
 said names at turn (Some (event.Reconcile (Some result))) = mended_line names result

@@ -1,15 +1,25 @@
 -- How a run begins.
-use Rattle.std.specs.Prelude.{true, [], ◌≡◌, ◌⊎◌, ℕ, Option, Some, None, List, IsTrue, map}
+use Rattle.std.specs.Prelude.{Bool, true, false, [], ◌≡◌, ◌↔◌, ℕ, Option, Some, None, List, IsTrue, map}
 use Rattle.orc_call.specs.declared.answer.Why.{Why}
 use Rattle.orc_call.specs.declared.answer.Why.TheVariants as why
 use Rattle.orc_datastore.specs.Legal.{IsLegal}
 use Rattle.orc_decls.specs.declared.declarations.Decls.{Decls}
-use Rattle.orc_device.specs.Nodes.{NodeState}
+use Rattle.orc_device.specs.Nodes.{DeviceKind, NodeState}
 use Rattle.orc_journal.specs.Committed.{history_of}
+use Rattle.orc_journal.specs.Opening.{AreEntriesOf}
 use Rattle.orc_journal.specs.Orders.{is_ordered}
+use Rattle.orc_rules.specs.Acceptance.{IsOfSchema}
 use Rattle.orc_rules.specs.Journals.{HoldsEntries, IsReadBack}
+use Rattle.orc_rules.specs.UnderHub.{IsOfHub}
 use Rattle.orc_rules.specs.Worlds.{Link, Setting, World, declared, new_hub, over}
 use Rattle.orc_rules.specs.declared.duty.Duty.TheVariants as duty
+
+-- Devices such as these declarations speak of: each tells equal trees, and the way from one tree to another, as the hub
+-- does; it takes exactly the changes that its declared schema types; and it accepts its base.
+pub record AreDevicesOf (decls : Decls) (kinds : ℕ → DeviceKind) : Type 0 where
+  pub of_hub : (device : ℕ) → IsOfHub (kinds device)
+  pub of_schema : (device : ℕ) → IsOfSchema decls device (kinds device)
+  pub accept_base : (device : ℕ) → (kinds device).accepts (over decls device []) ≡ true
 
 -- a device that runs its base: nothing is pending there, and no session lives
 abbrev pub node_at_base : Decls → ℕ → NodeState
@@ -31,21 +41,27 @@ link_at_first = record { session = 0; listed = []; faults = 0; unheard = None }
 abbrev pub each_stale : Decls → Option Why → List (Option Why)
 each_stale decls cause = map (λ device. cause) (declared decls)
 
--- A run begins with a new hub over a journal that was opened, or begun. It holds a legal history, and nothing of it is at
--- stake; what a recovery reads is what was written, since the disk tells what it holds, or by what is granted; each device
--- runs its base,
--- which it accepts. Where the journal has entries every device is stale, since the hub recovered, and
--- where it is new none is.
+-- why each device is stale as a run begins: the hub recovered, and not where the disk was empty
+abbrev pub cause_at_first : Bool → Option Why
+cause_at_first true = None
+cause_at_first false = Some why.Recovered
+
+-- A run begins with a new hub over a journal that was opened. The disk gave these bytes as it was opened: they are the
+-- journal of a legal history, or there are none, and the journal was begun. Nothing of it is at stake. What a recovery
+-- reads is what was written, since the disk tells what it holds, or by what is granted. Each device runs its base. No
+-- device is stale where the disk was empty, and else each is, since the hub recovered.
 pub record StartsRun {D : Type 0} (here : Setting D) (world : World D) : Type 0 where
   pub holds : HoldsEntries here.disk here.decls.text here.limit world.journal
   pub uncut : world.journal.cut ≡ []
   pub read_back : IsReadBack here.disk here.decls.text here.limit here.granted world.journal.disk
   pub ordered : IsTrue (is_ordered world.journal.synced)
   pub legal : IsLegal here.decls (history_of world.journal.synced)
-  pub cause : Option Why
-  pub hub : world.hub ≡ Some (new_hub (map (λ device. duty.Free) (declared here.decls)) (each_stale here.decls cause))
-  pub stale : (cause ≡ Some why.Recovered) ⊎ ((cause ≡ None) × (world.journal.synced ≡ []))
+  pub file : List ℕ
+  pub opened : AreEntriesOf file here.decls.text world.journal.synced
+  pub fresh : Bool
+  pub empty : (fresh ≡ true) ↔ (file ≡ [])
+  pub hub : world.hub ≡ Some (new_hub (map (λ device. duty.Free) (declared here.decls))
+      (each_stale here.decls (cause_at_first fresh)))
   pub snapshots : (caller : List ℕ) → world.snapshots caller ≡ None
-  pub nodes : world.nodes ≡ node_at_base here.decls
-  pub links : world.links ≡ (λ device. link_at_first)
-  pub accepted : (device : ℕ) → (here.kinds device).accepts (over here.decls device []) ≡ true
+  pub nodes : (device : ℕ) → world.nodes device ≡ node_at_base here.decls device
+  pub links : (device : ℕ) → world.links device ≡ link_at_first

@@ -4,7 +4,8 @@ ghost use Rattle.orc_runs.specs.Laws.{DecidedIsKept, DevicesAreInStep, DevicesCo
 use crate::claim::runs_have_the_headline;
 use orc_disk::Disk;
 
-/// What a device would come back to is due after some first calls of the history, and changes only by a Confirm or a Commit.
+/// What a device would come back to is due after as many first calls of the history as it has come to by Confirms and
+/// Commits, and that number never falls.
 pub fn devices_come_back<D: Disk>()
     ensures { DevicesComeBack D.disk }
 {

@@ -4,7 +4,9 @@
 mod claim;
 mod laws;
 
-pub use claim::runs_have_the_headline;
+pub use claim::{
+    bundle_runs_have_the_headline, runs_are_carried, runs_have_the_headline, starts_are_kept,
+};
 pub use laws::{
     decided_is_kept, devices_are_in_step, devices_come_back, pending_is_known,
     reconciliations_are_accepted,

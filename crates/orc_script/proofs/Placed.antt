@@ -9,7 +9,10 @@ use Rattle.orc_decls.specs.declared.declarations.Decls.{Decls}
 use Rattle.orc_script.specs.Steps.{is_step}
 use Rattle.orc_path.specs.Steps.{PathStep}
 use Rattle.orc_lines.specs.Names.{is_among, place_of}
+use Rattle.orc_lines.specs.declared.keyword.Keyword.{Keyword}
+use Rattle.orc_lines.specs.declared.keyword.Keyword.TheVariants as keyword
 use Rattle.orc_script.specs.Places.{is_node_path}
+use Rattle.orc_script.specs.Scripts.{step_on_device}
 use Rattle.orc_script.specs.declared.step.ScriptStep.{ScriptStep}
 use Rattle.orc_script.specs.declared.step.ScriptStep.TheVariants.{Json, Meta}
 use Rattle.orc_script.specs.declared.script.Part.{Part}
@@ -83,6 +86,13 @@ node_step d name n path placed is =
     and_from (nat_lt n (length d.names)) (is_node_path (schema_named d.schemas d.devices (name_of d.names n)) path)
     (lt-ltb n (length d.names) (place_within d.names name n placed))
     (ap (λ (x : List ℕ). is_node_path (schema_named d.schemas d.devices x) path) (placed_name name d.names n placed) ∙ is)
+
+-- a declared device can be named by a step that names nothing more
+pub on_device_step : (d : Decls) (word : Keyword) (name : List ℕ) (n : ℕ) → place_of d.names name ≡ Some n → is_step d (step_on_device word n) ≡ true
+on_device_step d keyword.Step name n placed = lt-ltb n (length d.names) (place_within d.names name n placed)
+on_device_step d keyword.Restart name n placed = lt-ltb n (length d.names) (place_within d.names name n placed)
+on_device_step d keyword.Log name n placed = lt-ltb n (length d.names) (place_within d.names name n placed)
+on_device_step d _ name n placed = lt-ltb n (length d.names) (place_within d.names name n placed)
 
 -- a step more
 pub step_more : (decls : Decls) (most : ℕ) (s : Script) (step : ScriptStep) (steps : List ScriptStep) → AreSteps decls most s → is_step decls step ≡ true

@@ -1,5 +1,5 @@
 -- The script of a bundle's text.
-use Rattle.std.proofs.Common.{◌≡◌, ◌≤◌, ◌+◌, ◌-◌, true, ℕ, List, length, drop, take, Result, Ok, Err, ap, ◌∙◌, arith, subst, sym, IfOk, OnOk, IsTrue}
+use Rattle.std.proofs.Common.{◌≡◌, ◌≤◌, ◌+◌, ◌-◌, ℕ, List, length, drop, Result, Ok, Err, ap, ◌∙◌, arith, subst, IfOk, OnOk, IsTrue}
 use Rattle.std.specs.List.{list_all}
 use Rattle.std.proofs.lemmas.List.{length-drop, length-take}
 use Rattle.orc_decls.specs.declared.declarations.Decls.{Decls}
@@ -11,14 +11,14 @@ use Rattle.orc_script.specs.Scripts.{no_steps, script_of, script_steps}
 use Rattle.orc_script.specs.Steps.{IsScript, is_step}
 use Rattle.orc_script.specs.declared.step.ScriptStep.{ScriptStep}
 use Rattle.orc_lines.proofs.Lawful.{on_ok_more}
-use Rattle.orc_script.proofs.Grown.{settled_script}
+use Rattle.orc_script.proofs.Grown.{limited_script}
 
 -- steps that are read are a script
 pub script_lawful : (decls : Decls) (at n : ℕ) (lines : List (List ℕ)) (r : Result (List ScriptStep) BundleFault) → Gives (script_steps decls no_steps at n lines) r
     → IfOk r (λ steps. IsTrue (list_all (is_step decls) steps)) → IfOk r (IsScript decls)
 script_lawful decls at n lines (Ok steps) h allowed =
-    let script = settled_script decls at n lines steps h in
-    record { allowed = allowed; settled = script.0; few = script.1; callers = script.2 }
+    let script = limited_script decls at n lines steps h in
+    record { allowed = allowed; few = script.0; callers = script.1 }
 script_lawful decls at n lines (Err fault) h allowed = tt
 
 module _ (bytes looked later : List ℕ) (rest : ℕ) (is : looked ≡ seen bytes) (slice : later ≡ drop rest looked) where

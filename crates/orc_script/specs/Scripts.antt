@@ -19,12 +19,16 @@ use Rattle.orc_decls.specs.Calls.{schema_named}
 use Rattle.orc_decls.specs.declared.rule.Rule.{Rule}
 use Rattle.orc_decls.specs.declared.rule.Rule.TheVariants as rule
 use Rattle.orc_lines.specs.Rules.{checked, or_rule, on_ok}
-use Rattle.orc_lines.specs.Lines.{is_end, is_large, is_settled, is_skipped, lines_of, seen, text_of}
+use Rattle.orc_lines.specs.Lines.{is_end, is_large, is_skipped, lines_of, seen, text_of}
 use Rattle.orc_lines.specs.Words.{cut_at, first_word, number_in}
 use Rattle.orc_lines.specs.Keywords.{keyword_of}
 use Rattle.orc_lines.specs.Names.{is_among, place_of, with_name}
 use Rattle.orc_lines.specs.Items.{data_path_of, put_of, service_path_of}
+use Rattle.orc_device.specs.declared.kind.OpKind.{OpKind}
+use Rattle.orc_device.specs.declared.kind.When.{When}
+use Rattle.orc_script.specs.Operations.{moment_named, operation_named}
 use Rattle.orc_script.specs.Places.{device_item_of, device_node_of, device_path_of}
+use Rattle.orc_script.specs.Steps.{is_tick}
 use Rattle.orc_decls.specs.declared.declarations.Decls.{Decls}
 use Rattle.orc_script.specs.declared.step.ScriptStep.{ScriptStep}
 use Rattle.orc_script.specs.declared.step.ScriptStep.TheVariants as step
@@ -68,11 +72,18 @@ abbrev pub step_name_of : Script → List ℕ → Result (List ℕ) Rule
 step_name_of script rest =
     checked ((not (is_identifier rest), rule.Line) ∷ (is_long_name rest || is_full script, rule.Size) ∷ []) (Ok rest)
 
--- `show D`, behind these declarations
-unfoldable pub after_show : Decls → Script → List ℕ → Result Script Rule
-after_show decls script rest =
+-- the steps that name a device and nothing more, by the first word of their line
+abbrev pub step_on_device : Keyword → ℕ → ScriptStep
+step_on_device keyword.Step device = step.Step device
+step_on_device keyword.Restart device = step.Restart device
+step_on_device keyword.Log device = step.Log device
+step_on_device _ device = step.Show device
+
+-- `step D`, `restart D`, `log D` and `show D`, behind these declarations
+unfoldable pub after_on_device : Keyword → Decls → Script → List ℕ → Result Script Rule
+after_on_device word decls script rest =
     on_ok (step_name_of script rest) (λ name.
-    or_rule (place_of decls.names name) rule.Unknown (λ device. Ok (with_step script (step.Show device))))
+    or_rule (place_of decls.names name) rule.Unknown (λ device. Ok (with_step script (step_on_device word device))))
 
 -- `json D`, of a device with a type
 unfoldable pub after_json : Decls → Script → List ℕ → Result Script Rule
@@ -97,17 +108,52 @@ stop_words script (Some words) =
 unfoldable pub after_stop : Script → List ℕ → Result Script Rule
 after_stop script rest = stop_words script (cut_at 32 rest)
 
+-- `tick N`
+unfoldable pub after_tick : Script → List ℕ → Result Script Rule
+after_tick script rest =
+    or_rule (number_in rest) rule.Line (λ seconds.
+    checked ((not (is_tick seconds), rule.Size) ∷ []) (after_bare script (step.Tick seconds)))
+
+-- `OP before` and `OP after`
+abbrev pub fault_words : Option (List ℕ × List ℕ) → Result (OpKind × When) Rule
+fault_words None = Err rule.Line
+fault_words (Some words) =
+    or_rule (operation_named words.0) rule.Line (λ operation.
+    or_rule (moment_named words.1) rule.Line (λ moment. Ok (operation, moment)))
+
+unfoldable pub link_fault_of : List ℕ → Result (OpKind × When) Rule
+link_fault_of rest = fault_words (cut_at 32 rest)
+
+-- `fault D OP before` and `fault D OP after`
+abbrev pub fault_line : Decls → Script → Option (List ℕ × List ℕ) → Result Script Rule
+fault_line decls script None = Err rule.Line
+fault_line decls script (Some words) =
+    on_ok (link_fault_of words.1) (λ fault.
+    on_ok (step_name_of script words.0) (λ name.
+    or_rule (place_of decls.names name) rule.Unknown (λ device.
+    Ok (with_step script (step.Fault device fault.0 fault.1)))))
+
+unfoldable pub after_fault : Decls → Script → List ℕ → Result Script Rule
+after_fault decls script rest = fault_line decls script (cut_at 32 rest)
+
 -- calls
 
 -- a caller more than can be
 abbrev pub is_caller_more : Script → List ℕ → Bool
 is_caller_more script name = not (is_among script.callers name) && nat_le MOST_CALLERS (length script.callers)
 
--- What the line with this first word wants of the lines behind it: `call`, that one is `end`; `end`, that the next one
--- is `settle`; any other, nothing.
+-- `begin C`
+unfoldable pub after_begin : Script → List ℕ → Result Script Rule
+after_begin script rest =
+    checked (
+    (not (is_identifier rest), rule.Line)
+    ∷ (is_long_name rest || is_full script || is_caller_more script rest, rule.Size)
+    ∷ [])
+    (Ok (record script { callers = with_name script.callers rest; steps = script.steps ++ step.Begin rest ∷ [] }))
+
+-- What the line with this first word wants of the lines behind it: `call`, that one is `end`; any other, nothing.
 unfoldable pub is_followed : Keyword → List (List ℕ) → Bool
 is_followed keyword.Call later = list_any is_end later
-is_followed keyword.End later = is_settled later
 is_followed _ later = true
 
 -- `call C N`, followed or not
@@ -263,16 +309,21 @@ with_call script = record script {
   actions = [];
 }
 
--- `end`, behind an action at least, followed or not
-unfoldable pub after_end : Script → Bool → Result Script Rule
-after_end script followed =
-    checked ((nat_eq (length script.actions) 0, rule.Line) ∷ (not followed, rule.Line) ∷ []) (Ok (with_call script))
+-- `end`, behind an action at least
+unfoldable pub after_end : Script → Result Script Rule
+after_end script = checked ((nat_eq (length script.actions) 0, rule.Line) ∷ []) (Ok (with_call script))
 
 -- which forms stand where
 
 -- of more than one word, where no call is open
 unfoldable pub a_step : Keyword → Decls → Script → List ℕ → Bool → Result Script Rule
-a_step keyword.Show decls script rest followed = after_show decls script rest
+a_step keyword.Begin decls script rest followed = after_begin script rest
+a_step keyword.Step decls script rest followed = after_on_device keyword.Step decls script rest
+a_step keyword.Tick decls script rest followed = after_tick script rest
+a_step keyword.Restart decls script rest followed = after_on_device keyword.Restart decls script rest
+a_step keyword.Fault decls script rest followed = after_fault decls script rest
+a_step keyword.Show decls script rest followed = after_on_device keyword.Show decls script rest
+a_step keyword.Log decls script rest followed = after_on_device keyword.Log decls script rest
 a_step keyword.Json decls script rest followed = after_json decls script rest
 a_step keyword.Meta decls script rest followed = after_meta decls script rest
 a_step keyword.Stop decls script rest followed = after_stop script rest
@@ -281,9 +332,12 @@ a_step _ decls script rest followed = Err rule.Line
 
 -- of one word
 unfoldable pub bare_step : Keyword → Script → Result Script Rule
+bare_step keyword.Admit script = after_bare script step.Admit
+bare_step keyword.Decide script = after_bare script step.Decide
 bare_step keyword.Settle script = after_bare script step.Settle
 bare_step keyword.Stop script = after_bare script step.Stop
 bare_step keyword.Recover script = after_bare script step.Recover
+bare_step keyword.Reconcile script = after_bare script step.Reconcile
 bare_step keyword.History script = after_bare script step.History
 bare_step keyword.Data script = after_bare script step.ShowData
 bare_step _ script = Err rule.Line
@@ -307,9 +361,9 @@ behind_literal keyword.Write decls script rest = after_write decls script rest
 behind_literal word decls script rest = an_action word decls (with_literal script) rest
 
 -- the line that ends the open call
-unfoldable pub call_end : Keyword → Script → Bool → Result Script Rule
-call_end keyword.End script followed = after_end script followed
-call_end _ script followed = Err rule.Line
+unfoldable pub call_end : Keyword → Script → Result Script Rule
+call_end keyword.End script = after_end script
+call_end _ script = Err rule.Line
 
 -- a line of more than one word
 unfoldable pub words_at : Part → Keyword → Decls → Script → List ℕ → Bool → Result Script Rule
@@ -318,14 +372,14 @@ words_at part.Call word decls script rest followed = an_action word decls script
 words_at part.Literal word decls script rest followed = behind_literal word decls script rest
 
 -- a line of one word
-unfoldable pub word_at : Part → Keyword → Script → Bool → Result Script Rule
-word_at part.Steps word script followed = bare_step word script
-word_at part.Call word script followed = call_end word script followed
-word_at part.Literal word script followed = call_end word (with_literal script) followed
+unfoldable pub word_at : Part → Keyword → Script → Result Script Rule
+word_at part.Steps word script = bare_step word script
+word_at part.Call word script = call_end word script
+word_at part.Literal word script = call_end word (with_literal script)
 
 -- a line with this first word
 abbrev pub step_words : Decls → Script → Keyword → Bool → Option (List ℕ × List ℕ) → Result Script Rule
-step_words decls script word followed None = word_at script.part word script followed
+step_words decls script word followed None = word_at script.part word script
 step_words decls script word followed (Some words) = words_at script.part word decls script words.1 followed
 
 -- a line that is not skipped, with the lines behind it

@@ -324,16 +324,13 @@ impl Script {
         }
     }
 
-    // `end`, followed or not.
+    // `end`, behind an action at least.
     #[tactic(auto, unfolding(crate::specs::Scripts::after_end))]
-    fn take_end(&mut self, alloc: Global, followed: bool) -> Result<(), LineFault>
-        ensures takes { Takes (after_end self.old followed) self.new result }
+    fn take_end(&mut self, alloc: Global) -> Result<(), LineFault>
+        ensures takes { Takes (after_end self.old) self.new result }
         ensures lawful { (decls : Decls) → StaysInCall decls self.old self.new result }
     {
         if self.actions.len() == 0 {
-            return breaks(Rule::Line);
-        }
-        if !followed {
             return breaks(Rule::Line);
         }
         let caller = replace(&mut self.caller, Text::new(alloc));
@@ -349,17 +346,12 @@ impl Script {
 
     // The line that ends the open call.
     #[tactic(auto, unfolding(crate::specs::Scripts::call_end))]
-    pub(crate) fn take_call_end(
-        &mut self,
-        alloc: Global,
-        word: Keyword,
-        followed: bool,
-    ) -> Result<(), LineFault>
-        ensures takes { Takes (call_end word self.old followed) self.new result }
+    pub(crate) fn take_call_end(&mut self, alloc: Global, word: Keyword) -> Result<(), LineFault>
+        ensures takes { Takes (call_end word self.old) self.new result }
         ensures lawful { (decls : Decls) → StaysInCall decls self.old self.new result }
     {
         match word {
-            Keyword::End => self.take_end(alloc, followed),
+            Keyword::End => self.take_end(alloc),
             _ => breaks(Rule::Line),
         }
     }

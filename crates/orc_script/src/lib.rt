@@ -4,11 +4,12 @@
 
 mod bodies;
 mod call_block;
+mod operations;
 mod places;
 mod read;
 mod script;
 mod step;
 
 pub use read::read_script;
-pub use script::{MOST_CALLERS, MOST_STEPS};
+pub use script::{LONGEST_TICK, MOST_CALLERS, MOST_STEPS};
 pub use step::ScriptStep;

@@ -3,22 +3,23 @@ ghost use Rattle.std.specs.Prelude.{◌≡◌, ◌<◌, ◌≤◌, ◌+◌, ◌^
 ghost use Rattle.orc_lines.specs.Keywords.{keyword_of};
 ghost use Rattle.orc_lines.specs.Lines.{lines_of};
 ghost use Rattle.orc_lines.specs.Words.{first_word};
-ghost use Rattle.orc_script.specs.Scripts.{no_steps, is_full, is_caller_more, after_bare, after_show, after_json, after_meta, after_stop, after_call, after_step, a_step, bare_step, is_followed, step_name_of, words_at, word_at, scripted_at};
+ghost use Rattle.orc_script.specs.Scripts.{no_steps, is_full, is_caller_more, after_bare, after_begin, after_on_device, after_fault, after_json, after_meta, after_stop, after_tick, after_call, after_step, a_step, bare_step, step_on_device, is_followed, step_name_of, words_at, word_at, scripted_at};
 ghost use Rattle.orc_lines.specs.Answers.{ReadsLine, Takes};
 ghost use Rattle.orc_decls.specs.Declarations.{AreDecls};
 ghost use Rattle.orc_script.specs.inside.Lawful.{AreSteps, StaysAnywhere, StaysLawful};
 ghost use Rattle.orc_decls.specs.declared.declarations.Decls.{Decls};
-ghost use Rattle.orc_script.specs.Steps.{is_step};
+ghost use Rattle.orc_script.specs.Steps.{is_step, is_tick};
 ghost use Rattle.orc_decls.specs.declared.lawful.TheConstants.{MOST_WRITES};
 ghost use Rattle.orc_lines.specs.declared.lines.TheConstants.{LARGEST_BUNDLE};
 
+use crate::operations::read_fault;
 use crate::places::{device_number, read_device_node};
 use crate::step::ScriptStep;
 use orc_call::{Action, DevicePut};
 use orc_decls::{Decls, Rule};
 use orc_lines::{
-    Keyword, LineFault, Names, breaks, cut, ends_later, first_word, is_large, is_settled,
-    is_skipped, keyword_of, line_text, number_of, read_text,
+    Keyword, LineFault, Names, breaks, cut, ends_later, first_word, is_large, is_skipped,
+    keyword_of, line_text, number_of, read_text,
 };
 use orc_path::{is_identifier, is_long_name};
 use orc_schema::Schema;
@@ -30,6 +31,9 @@ pub const MOST_CALLERS: usize = 256;
 
 /// The most steps of a script.
 pub const MOST_STEPS: usize = 100_000;
+
+/// The most seconds of a line `tick`, a day.
+pub const LONGEST_TICK: u64 = 86_400;
 
 /// Which lines may stand.
 #[derive(Clone, Copy)]
@@ -64,9 +68,27 @@ fn is_followed(word: Keyword, later: &[u8]) -> bool
 {
     match word {
         Keyword::Call => ends_later(later),
-        Keyword::End => is_settled(later),
         _ => true,
     }
+}
+
+// The step of a line with this first word that names a device and nothing more.
+fn step_on_device(word: Keyword, device: u32) -> ScriptStep
+    ensures { result ≡ step_on_device word device }
+{
+    match word {
+        Keyword::Step => ScriptStep::Step(device),
+        Keyword::Restart => ScriptStep::Restart(device),
+        Keyword::Log => ScriptStep::Log(device),
+        _ => ScriptStep::Show(device),
+    }
+}
+
+// Whether so many seconds may pass in one line.
+fn is_tick(seconds: u64) -> bool
+    ensures { result ≡ is_tick seconds }
+{
+    1 <= seconds && seconds <= LONGEST_TICK
 }
 
 impl Script {
@@ -119,18 +141,24 @@ impl Script {
         Ok(Text::from_str(alloc, rest)?)
     }
 
-    // `show D`.
-    #[tactic(auto, unfolding(crate::specs::Scripts::after_show))]
-    fn take_show(&mut self, alloc: Global, decls: &Decls, rest: &str) -> Result<(), LineFault>
+    // `step D`, `restart D`, `log D` and `show D`, by their first word.
+    #[tactic(auto, unfolding(crate::specs::Scripts::after_on_device))]
+    fn take_device(
+        &mut self,
+        alloc: Global,
+        decls: &Decls,
+        word: Keyword,
+        rest: &str,
+    ) -> Result<(), LineFault>
         requires { AreDecls decls.now }
-        ensures takes { Takes (after_show decls.now self.old rest.now) self.new result }
+        ensures takes { Takes (after_on_device word decls.now self.old rest.now) self.new result }
         ensures lawful { StaysLawful decls.now self.old self.new result }
     {
         let name = self.read_step_name(alloc, rest)?;
         let Some(n) = device_number(decls, &name) else {
             return breaks(Rule::Unknown);
         };
-        self.steps.push(ScriptStep::Show(n))?;
+        self.steps.push(step_on_device(word, n))?;
         Ok(())
     }
 
@@ -183,11 +211,63 @@ impl Script {
         self.take_bare(ScriptStep::StopAt(count, bytes))
     }
 
+    // `tick N`.
+    #[tactic(auto, unfolding(crate::specs::Scripts::after_tick))]
+    fn take_tick(&mut self, rest: &str) -> Result<(), LineFault>
+        ensures takes { Takes (after_tick self.old rest.now) self.new result }
+        ensures lawful { (decls : Decls) → StaysLawful decls self.old self.new result }
+    {
+        let Some(seconds) = number_of(rest) else {
+            return breaks(Rule::Line);
+        };
+        if !is_tick(seconds) {
+            return breaks(Rule::Size);
+        }
+        self.take_bare(ScriptStep::Tick(seconds as u32))
+    }
+
+    // `fault D OP before` and `fault D OP after`.
+    #[tactic(auto, unfolding(crate::specs::Scripts::after_fault))]
+    fn take_fault(&mut self, alloc: Global, decls: &Decls, rest: &str) -> Result<(), LineFault>
+        requires { AreDecls decls.now }
+        ensures takes { Takes (after_fault decls.now self.old rest.now) self.new result }
+        ensures lawful { StaysLawful decls.now self.old self.new result }
+    {
+        let Some((name, what)) = cut(rest) else {
+            return breaks(Rule::Line);
+        };
+        let fault = read_fault(what)?;
+        let name = self.read_step_name(alloc, name)?;
+        let Some(n) = device_number(decls, &name) else {
+            return breaks(Rule::Unknown);
+        };
+        self.steps.push(ScriptStep::Fault(n, fault.0, fault.1))?;
+        Ok(())
+    }
+
     // Whether this would be a caller more than can be.
     fn is_caller_more(&self, name: &Text) -> bool
         ensures { result ≡ is_caller_more self.now name.now }
     {
         !self.callers.has(name) && self.callers.len() >= MOST_CALLERS
+    }
+
+    // `begin C`.
+    #[tactic(auto, unfolding(crate::specs::Scripts::after_begin))]
+    fn take_begin(&mut self, alloc: Global, rest: &str) -> Result<(), LineFault>
+        ensures takes { Takes (after_begin self.old rest.now) self.new result }
+        ensures lawful { (decls : Decls) → StaysLawful decls self.old self.new result }
+    {
+        if !is_identifier(rest) {
+            return breaks(Rule::Line);
+        }
+        let name = Text::from_str(alloc, rest)?;
+        if is_long_name(rest) || self.is_full() || self.is_caller_more(&name) {
+            return breaks(Rule::Size);
+        }
+        self.callers.add(name.copy(alloc)?)?;
+        self.steps.push(ScriptStep::Begin(name))?;
+        Ok(())
     }
 
     // `call C N`, followed or not.
@@ -235,7 +315,13 @@ impl Script {
         ensures lawful { StaysLawful decls.now self.old self.new result }
     {
         match word {
-            Keyword::Show => self.take_show(alloc, decls, rest),
+            Keyword::Begin => self.take_begin(alloc, rest),
+            Keyword::Step => self.take_device(alloc, decls, Keyword::Step, rest),
+            Keyword::Tick => self.take_tick(rest),
+            Keyword::Restart => self.take_device(alloc, decls, Keyword::Restart, rest),
+            Keyword::Fault => self.take_fault(alloc, decls, rest),
+            Keyword::Show => self.take_device(alloc, decls, Keyword::Show, rest),
+            Keyword::Log => self.take_device(alloc, decls, Keyword::Log, rest),
             Keyword::Json => self.take_json(alloc, decls, rest),
             Keyword::Meta => self.take_meta(alloc, decls, rest),
             Keyword::Stop => self.take_stop(rest),
@@ -251,9 +337,12 @@ impl Script {
         ensures lawful { (decls : Decls) → StaysLawful decls self.old self.new result }
     {
         match word {
+            Keyword::Admit => self.take_bare(ScriptStep::Admit),
+            Keyword::Decide => self.take_bare(ScriptStep::Decide),
             Keyword::Settle => self.take_bare(ScriptStep::Settle),
             Keyword::Stop => self.take_bare(ScriptStep::Stop),
             Keyword::Recover => self.take_bare(ScriptStep::Recover),
+            Keyword::Reconcile => self.take_bare(ScriptStep::Reconcile),
             Keyword::History => self.take_bare(ScriptStep::History),
             Keyword::Data => self.take_bare(ScriptStep::ShowData),
             _ => breaks(Rule::Line),
@@ -285,17 +374,17 @@ impl Script {
 
     // A line of one word.
     #[tactic(auto, unfolding(crate::specs::Scripts::word_at))]
-    fn take_word(&mut self, alloc: Global, word: Keyword, followed: bool) -> Result<(), LineFault>
-        ensures takes { Takes (word_at self.old.part word self.old followed) self.new result }
+    fn take_word(&mut self, alloc: Global, word: Keyword) -> Result<(), LineFault>
+        ensures takes { Takes (word_at self.old.part word self.old) self.new result }
         ensures lawful { (decls : Decls) (most : ℕ) → AreSteps decls most self.old → most ≤ MOST_WRITES
             → OnOk result (AreSteps decls most self.new) }
     {
         match self.part {
             Part::Steps => self.take_bare_step(word),
-            Part::Call => self.take_call_end(alloc, word, followed),
+            Part::Call => self.take_call_end(alloc, word),
             Part::Literal => {
                 self.close_literal(alloc)?;
-                self.take_call_end(alloc, word, followed)
+                self.take_call_end(alloc, word)
             }
         }
     }
@@ -317,7 +406,7 @@ impl Script {
         let followed = is_followed(word, later);
         match cut(text) {
             Some((_, rest)) => self.take_words(alloc, decls, word, rest, followed),
-            None => self.take_word(alloc, word, followed),
+            None => self.take_word(alloc, word),
         }
     }
 

@@ -20,7 +20,7 @@ use Rattle.orc_datastore.specs.Actions.{base_step, live_after, name_each_once, t
 use Rattle.orc_datastore.specs.Clashes.{clash_at}
 use Rattle.orc_datastore.specs.Next.{clash}
 use Rattle.orc_datastore.specs.inside.Placed.{AreNamedOnce}
-use Rattle.orc_datastore.specs.declared.datastore.Service.{Service}
+use Rattle.orc_datastore.specs.declared.service.Service.{Service}
 
 -- what services write on a device
 abbrev pub on_device : List Service → ℕ → List Living

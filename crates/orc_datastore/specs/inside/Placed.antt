@@ -8,7 +8,7 @@ use Rattle.std.specs.BTreeMap.{BTreeMap, get}
 use Rattle.std.specs.List.{flat_map, IsDistinct}
 use Rattle.orc_datastore.specs.States.{has_id}
 use Rattle.orc_decls.specs.Devices.{is_same_text}
-use Rattle.orc_datastore.specs.declared.datastore.Service.{Service}
+use Rattle.orc_datastore.specs.declared.service.Service.{Service}
 
 -- the services that stand in slots, some of which may be empty
 abbrev pub filled : List (Option Service) → List Service

@@ -1,5 +1,5 @@
 -- What a snapshot says of a call.
-use Rattle.std.specs.Prelude.{ℕ, ◌+◌, ◌==◌, Bool, true, if◌then◌else◌, List, [], ◌∷◌, ◌++◌, map, length, Option, Result}
+use Rattle.std.specs.Prelude.{ℕ, ◌+◌, ◌==◌, Bool, true, if◌then◌else◌, List, [], ◌∷◌, ◌++◌, codes, map, length, Option, Result}
 use Rattle.std.specs.declared.option.Option.TheVariants.{None, Some}
 use Rattle.std.specs.declared.result.Result.TheVariants.{Ok, Err}
 use Rattle.std.specs.FinMap.{len}
@@ -22,13 +22,14 @@ use Rattle.orc_datastore.specs.Actions.{data_after}
 use Rattle.orc_decls.specs.Calls.{service_of}
 use Rattle.orc_datastore.specs.Next.{first_service_fault, invalid, serving_on}
 use Rattle.orc_datastore.specs.Plans.{call_targets, services_named}
-use Rattle.orc_datastore.specs.Snapshots.{Snapshot, device_row, is_entered, service_entry}
+use Rattle.orc_datastore.specs.Snapshots.{Snapshot, device_row, is_entered, service_entry, service_step}
+use Rattle.orc_path.specs.Steps.{PathStep}
 use Rattle.orc_datastore.specs.States.{expansion}
 use Rattle.orc_decls.specs.Devices.{name_of}
 use Rattle.orc_datastore.specs.Touched.{touches_device}
 use Rattle.orc_decls.specs.declared.declarations.Decls.{Decls}
 use Rattle.orc_datastore.specs.declared.plan.Plan.{Plan}
-use Rattle.orc_datastore.specs.declared.datastore.Service.{Service}
+use Rattle.orc_datastore.specs.declared.service.Service.{Service}
 
 -- what is known, by the entries
 
@@ -37,6 +38,10 @@ knows_service known id = is_entered known (service_entry id)
 
 abbrev pub knows_device : Config → List ℕ → ℕ → Bool
 knows_device known id device = is_entered known (device_row id device)
+
+-- the list of the devices below the entry of the service of a name
+abbrev pub device_list : List ℕ → List PathStep
+device_list id = service_step id ∷ record { node = codes "device"; keys = [] } ∷ []
 
 -- with an entry for each device on which one of these parts has an item, the first of them that of a number
 abbrev pub enter_parts : List ℕ → ℕ → List Config → Config → Config

@@ -1,15 +1,14 @@
 -- What touches a device: edits of it by its name, and the services that are taken away.
 use Rattle.std.specs.Prelude.{ℕ, Bool, false, ◌==◌, not, List, Option}
 use Rattle.std.specs.declared.option.Option.TheVariants.{None}
-use Rattle.std.specs.Option.{option_to_list}
 use Rattle.std.specs.FinMap.{len}
-use Rattle.std.specs.List.{find, flat_map, list_any}
+use Rattle.std.specs.List.{find}
 use Rattle.orc_call.specs.declared.call.Action.{Action}
 use Rattle.orc_call.specs.declared.call.Action.TheVariants.{Literal, Delete, BasePut, BaseRemove}
 use Rattle.orc_datastore.specs.States.{has_id, part}
 use Rattle.orc_decls.specs.Devices.{is_same_text}
 use Rattle.orc_datastore.specs.Touched.{is_written_by}
-use Rattle.orc_datastore.specs.declared.datastore.Service.{Service}
+use Rattle.orc_datastore.specs.declared.service.Service.{Service}
 
 -- the action makes a service that writes on the device of this name, or edits its base
 abbrev pub is_edited_by : List ℕ → Action → Bool
@@ -18,19 +17,11 @@ is_edited_by name (BasePut put) = is_same_text put.device name
 is_edited_by name (BaseRemove device path) = is_same_text device name
 is_edited_by name other = false
 
--- one of the actions does
-abbrev pub is_edited : List ℕ → List Action → Bool
-is_edited name actions = list_any (is_edited_by name) actions
-
 -- the living service that an expanded action takes away: it is made anew, or deleted
 abbrev pub taken_by : List Service → Action → Option Service
 taken_by live (Literal id writes) = find (has_id id) live
 taken_by live (Delete id) = find (has_id id) live
 taken_by live other = None
-
--- those that actions take away
-abbrev pub taken_of : List Service → List Action → List Service
-taken_of live actions = flat_map (λ action. option_to_list (taken_by live action)) actions
 
 -- the service has an item on the device
 abbrev pub is_on : ℕ → Service → Bool

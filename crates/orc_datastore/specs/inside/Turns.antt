@@ -11,7 +11,7 @@ use Rattle.orc_refs.specs.declared.moves.BaseEdit.{BaseEdit}
 use Rattle.orc_refs.specs.declared.moves.BaseEdit.TheVariants as edit
 use Rattle.orc_datastore.specs.States.{expansion, has_id, lives, others, part}
 use Rattle.orc_decls.specs.Devices.{is_same_text}
-use Rattle.orc_datastore.specs.declared.datastore.Service.{Service}
+use Rattle.orc_datastore.specs.declared.service.Service.{Service}
 use Rattle.orc_datastore.specs.declared.turns.Turn.{Turn}
 use Rattle.orc_datastore.specs.declared.turns.Turn.TheVariants.{Comes, Goes}
 

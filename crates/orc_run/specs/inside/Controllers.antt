@@ -1,7 +1,7 @@
 -- The controller, and what its calls keep.
 use Rattle.orc_disk.specs.Stops.{inside}
 use Rattle.orc_run.specs.declared.opening.TheConstants.{LARGEST_JOURNAL}
-use Rattle.std.specs.Prelude.{◌≡◌, ℕ, ◌<◌, ◌≤◌, ◌^◌, true, false, List, [], length, take, ◌∷◌, ◌++◌, All, IsTrue, IfOk, OnErr, Option, None, Some, Result, Ok, Err}
+use Rattle.std.specs.Prelude.{◌≡◌, ℕ, ◌<◌, ◌≤◌, ◌^◌, Bool, true, false, List, [], length, take, ◌∷◌, ◌++◌, All, IsTrue, IfOk, OnErr, Option, None, Some, Result, Ok, Err}
 use Rattle.orc_call.specs.declared.call.Call.{Call}
 use Rattle.orc_text.specs.declared.memory.Memory.{Memory}
 use Rattle.orc_append.specs.Views.{unstopped}
@@ -22,6 +22,7 @@ use Rattle.orc_disk.specs.Meanings.{DiskMeaning}
 use Rattle.orc_decls.specs.declared.declarations.Decls.{Decls}
 use Rattle.orc_script.specs.declared.step.ScriptStep.{ScriptStep}
 use Rattle.orc_script.specs.declared.step.ScriptStep.TheVariants.{Recover}
+use Rattle.orc_script.specs.declared.step.ScriptStep.TheVariants as step
 use Rattle.orc_run.specs.declared.serving.CallOutcome.{CallOutcome}
 use Rattle.orc_run.specs.declared.stop.Stop.{Stop}
 use Rattle.orc_run.specs.declared.stop.Stop.TheVariants as ending
@@ -30,6 +31,19 @@ use Rattle.orc_run.specs.declared.controller.LastStep.{LastStep}
 use Rattle.orc_decls.specs.Declarations.{AreDecls}
 use Rattle.orc_script.specs.Steps.{is_step}
 use Rattle.std.specs.List.{list_all}
+
+-- a step that does nothing: `settle`, or one that drives devices
+abbrev pub is_idle : ScriptStep → Bool
+is_idle (step.Show device) = false
+is_idle (step.Json device) = false
+is_idle (step.Meta device path) = false
+is_idle step.ShowData = false
+is_idle (step.Call call) = false
+is_idle step.Stop = false
+is_idle (step.StopAt op bytes) = false
+is_idle step.Recover = false
+is_idle step.History = false
+is_idle other = true
 
 -- what it knows as committed, and what it was committing
 abbrev pub known_of : {D : Type 0} → Controller D → List Call

@@ -2,7 +2,7 @@ use Rattle.std.proofs.Common.{◌≡◌, ◌∙◌, ◌++◌, ◌∷◌, [], Lis
 use Rattle.std.specs.Vec.Iter.{into_iter_items}
 use Rattle.orc_datastore.specs.inside.Placed.{HasNames, filled}
 use Rattle.orc_datastore.specs.inside.Turns.{AreFresh}
-use Rattle.orc_datastore.specs.declared.datastore.Service.{Service}
+use Rattle.orc_datastore.specs.declared.service.Service.{Service}
 use Rattle.orc_datastore.proofs.Placed.{names_later}
 use Rattle.orc_datastore.proofs.living.put_all.Goals as goal
 

@@ -3,7 +3,7 @@ use Rattle.std.proofs.lemmas.List.{take_more}
 use Rattle.orc_datastore.specs.States.{others}
 use Rattle.orc_datastore.specs.inside.Placed.{filled}
 use Rattle.orc_datastore.specs.inside.Turns.{left_by}
-use Rattle.orc_datastore.specs.declared.datastore.Service.{Service}
+use Rattle.orc_datastore.specs.declared.service.Service.{Service}
 use Rattle.orc_datastore.proofs.Placed.{left_more}
 use Rattle.orc_datastore.proofs.living.take_all.Goals as goal
 

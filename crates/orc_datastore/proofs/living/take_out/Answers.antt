@@ -1,7 +1,7 @@
 use Rattle.std.proofs.Common.{List, sym, subst, ap, ◌∙◌, arith}
 use Rattle.std.specs.Prelude.{Option}
 use Rattle.orc_datastore.specs.inside.Placed.{AreNoted, filled, place_among}
-use Rattle.orc_datastore.specs.declared.datastore.Service.{Service}
+use Rattle.orc_datastore.specs.declared.service.Service.{Service}
 use Rattle.orc_datastore.proofs.Placed.{filled-less, filled-same, noted_less, place_same, placed-noted, placed_within}
 use Rattle.orc_datastore.proofs.living.take_out.Goals as goal
 

@@ -5,7 +5,7 @@ use Rattle.orc_datastore.proofs.Devices.{all-clear, change-here, clash-here, fir
 use Rattle.orc_datastore.proofs.stores.stores_behind.Goals as goal
 
 pub loop-device-init : goal.loop-device-init
-loop-device-init c = none-yet c.args.names.now c.args.live.now c.args.actions.now c.args.stores.now _ c.new-changes.ensures
+loop-device-init c = none-yet c.args.decls.now.names c.args.live.now c.args.actions.now c.args.stores.now _ c.new-changes.ensures
 
 pub change_of-requires-clause-stays : goal.change_of-requires-clause-stays
 change_of-requires-clause-stays c =
@@ -22,24 +22,24 @@ pub returns-in-Err : goal.returns-in-Err
 returns-in-Err c =
     let lt : c.loop-device.device < length c.args.stores.now = search rules in
     let is : c.in_ok-change.field-0 ≡ Err c.in-Err.answer = search rules in
-    first-clash c.args.names.now c.args.live.now c.args.actions.now c.args.stores.now c.loop-device.changes c.loop-device.device c.in-Err.answer
+    first-clash c.args.decls.now.names c.args.live.now c.args.actions.now c.args.stores.now c.loop-device.changes c.loop-device.device c.in-Err.answer
     (omega (arith, lt, c.requires.count)) c.loop-device.invariant
-    (clash-here c.args.names.now c.args.live.now c.args.actions.now c.loop-device.device c.index-stores-device.result c.in_ok-change.field-0 c.in-Err.answer
+    (clash-here c.args.decls.now.names c.args.live.now c.args.actions.now c.loop-device.device c.index-stores-device.result c.in_ok-change.field-0 c.in-Err.answer
     c.in_ok-change.ensures is)
 
 pub loop-device-preserved : goal.loop-device-preserved
 loop-device-preserved c =
     let lt : c.loop-device.device < length c.args.stores.now = search rules in
     let is : c.in_ok-change.field-0 ≡ Ok c.in-Ok.change = search rules in
-    one-more c.args.names.now c.args.live.now c.args.actions.now c.args.stores.now c.loop-device.changes c.push.new.self c.loop-device.device
+    one-more c.args.decls.now.names c.args.live.now c.args.actions.now c.args.stores.now c.loop-device.changes c.push.new.self c.loop-device.device
     c.index-stores-device.result c.in-Ok.change c.requires.call c.loop-device.invariant
     (slice_get_read c.args.stores.now _ c.loop-device.device c.index-stores-device.result refl lt c.index-stores-device.is)
-    (change-here c.args.names.now c.args.live.now c.args.actions.now c.loop-device.device c.index-stores-device.result c.in_ok-change.field-0 c.in-Ok.change
+    (change-here c.args.decls.now.names c.args.live.now c.args.actions.now c.loop-device.device c.index-stores-device.result c.in_ok-change.field-0 c.in-Ok.change
     c.in_ok-change.ensures is)
     c.in_ok-push-in-Ok.ensures.ok
 
 pub returns : goal.returns
 returns c =
     let done : c.loop-device.device ≡ length c.args.stores.now = search rules in
-    all-clear c.args.names.now c.args.live.now c.args.actions.now c.args.stores.now c.loop-device.changes c.loop-device.device c.requires.count done
+    all-clear c.args.decls.now.names c.args.live.now c.args.actions.now c.args.stores.now c.loop-device.changes c.loop-device.device c.requires.count done
     c.loop-device.invariant

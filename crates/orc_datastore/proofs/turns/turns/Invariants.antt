@@ -5,4 +5,4 @@ use Rattle.orc_datastore.proofs.turns.turns.Given as goal
 
 -- those so far, and those of the actions that are left
 abbrev pub invariant-loop-action : goal.invariant-loop-action
-invariant-loop-action l = l.turns.items ++ flat_map (turns_of l.names) (drop l.action-index l.actions) ≡ flat_map (turns_of l.names) l.actions
+invariant-loop-action l = l.turns.items ++ flat_map (turns_of l.decls.names) (drop l.action-index l.actions) ≡ flat_map (turns_of l.decls.names) l.actions

@@ -1,7 +1,7 @@
 use Rattle.std.proofs.Common.{All, ap, not, subst}
 use Rattle.std.proofs.lemmas.List.{take_all}
 use Rattle.orc_hub.specs.Decisions.{IsDueAs}
-use Rattle.orc_hub.proofs.Loops.{holds_more, turned}
+use Rattle.orc_queue.proofs.Loops.{holds_more, turned}
 use Rattle.orc_hub.proofs.Places.{there}
 use Rattle.orc_hub.proofs.due.place_of.Goals as goal
 

@@ -1,3 +1,4 @@
+use Rattle.std.proofs.Common.{refl}
 use Rattle.orc_rules.proofs.KindLaws.{kind_is_lawful}
 use Rattle.orc_rules.proofs.Planned.{planning}
 use Rattle.orc_rules.proofs.Schemas.{kind_fits}
@@ -13,4 +14,5 @@ returns c = λ schema script first last run are starts.
     (λ device. kind_is_lawful c.equal_configs_are_one.ensures c.difference_leads.ensures c.tree_is_configuration.ensures (one_device schema) are r1_kind r1_is_of_hub device)
     (planning (one_device schema) are c.plan_stands.ensures c.planned_stands.ensures c.planned_tree_is_stable.ensures c.unheld_stay.ensures)
     (λ device. kind_fits c.equal_configs_are_one.ensures c.tree_is_configuration.ensures c.tree_is_typed.ensures c.changes_are_taken.ensures (one_device schema) are r1_kind r1_is_of_hub device (r1_is_of_schema schema device))
+    (λ device. refl)
     script first last run starts

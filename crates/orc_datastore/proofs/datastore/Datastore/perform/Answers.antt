@@ -1,6 +1,6 @@
-use Rattle.std.proofs.Common.{◌≡◌, ℕ, List, None, Some, ap, subst, sym, ◌∙◌}
+use Rattle.std.proofs.Common.{◌≡◌, None, Some, ap, subst, refl, sym, ◌∙◌}
 use Rattle.std.specs.declared.result.Result.TheVariants.{Ok}
-use Rattle.orc_datastore.specs.Next.{IsStateOf, after, clash}
+use Rattle.orc_datastore.specs.Next.{IsStateOf, after}
 use Rattle.orc_datastore.proofs.Comes.{come_fit, come_keys, come_once, come_unrefused, went_after}
 use Rattle.orc_datastore.proofs.Kept.{after-kept}
 use Rattle.orc_datastore.proofs.datastore.Datastore.perform.Goals as goal
@@ -18,20 +18,19 @@ change-requires-clause-keys c = come_keys c.args.decls.now c.args.call.now c.req
 pub unreachable-requires : goal.unreachable-requires
 unreachable-requires c =
     let not_so : Some c.in-Some.field-0 ≡ None =
-    sym c.in-Some.is ∙ c.in_ok-change.ensures.clash
-    ∙ ap (λ (l : List (List ℕ)). clash l c.args.self.now.live c.args.actions.now) c.names.ensures.names ∙ c.requires.apart in
+    sym c.in-Some.is ∙ c.in_ok-change.ensures.clash ∙ c.requires.apart in
     absurd cc
 
 pub returns-clause-done : goal.returns-clause-done
 returns-clause-done c =
-    went_after c.args.decls.now c.args.call.now c.requires.call c.args.self.now c.args.actions.now c.requires.actions c.args.next c.names.result.now
-    c.change.new.self c.requires.behind c.names.ensures.names (c.in_ok-change.ensures.done (ap (λ o. Ok o) c.in-None.is))
+    went_after c.args.decls.now c.args.call.now c.requires.call c.args.self.now c.args.actions.now c.requires.actions c.args.next c.args.decls.now.names
+    c.change.new.self c.requires.behind refl (c.in_ok-change.ensures.done (ap (λ o. Ok o) c.in-None.is))
 
 pub returns-clause-kept : goal.returns-clause-kept
 returns-clause-kept c =
     let done : c.change.new.self ≡ after c.args.decls.now c.args.self.now c.args.call.now =
-    went_after c.args.decls.now c.args.call.now c.requires.call c.args.self.now c.args.actions.now c.requires.actions c.args.next c.names.result.now
-    c.change.new.self c.requires.behind c.names.ensures.names (c.in_ok-change.ensures.done (ap (λ o. Ok o) c.in-None.is)) in
+    went_after c.args.decls.now c.args.call.now c.requires.call c.args.self.now c.args.actions.now c.requires.actions c.args.next c.args.decls.now.names
+    c.change.new.self c.requires.behind refl (c.in_ok-change.ensures.done (ap (λ o. Ok o) c.in-None.is)) in
     subst (IsStateOf c.args.decls.now) (sym done)
     (after-kept c.args.decls.now c.args.self.now c.args.call.now c.requires.state
     (come_unrefused c.args.decls.now c.args.call.now c.requires.call c.args.self.now c.args.actions.now c.requires.actions c.args.next c.requires.behind c.requires.apart))

@@ -2,7 +2,7 @@ use Rattle.std.proofs.Common.{◌≡◌, ◌∙◌, ◌++◌, List, ap, subst, s
 use Rattle.std.specs.Prelude.{Option}
 use Rattle.orc_datastore.specs.inside.Placed.{filled}
 use Rattle.orc_datastore.specs.inside.Turns.{AreFresh, left_by}
-use Rattle.orc_datastore.specs.declared.datastore.Service.{Service}
+use Rattle.orc_datastore.specs.declared.service.Service.{Service}
 use Rattle.orc_datastore.proofs.living.Living.exchange.Goals as goal
 
 pub put_all-requires-clause-fresh : goal.put_all-requires-clause-fresh

@@ -68,7 +68,7 @@ returns-in-Ok-Err g c =
     let done = subst (λ r. CommitsCall {E = Memory} hub.decls hub.state it.call (Ok r) c.enter.new.self.state) c.in-Ok-Err.field-0-is commits in
     at_there hub.active c.args.place it (λ one. CommitsOne g.D.Disk.disk hub one c.abort.result c.abort.new.self ⊎ GivesUp g.D.Disk.disk hub one c.abort.result c.abort.new.self) read.0
     (inr (given_up g.D.Disk.disk hub it (named_there hub.askers it.asker it.call own) c.in-Ok-Err.answer c.enter.new.self c.abort.result c.abort.new.self
-    (c.enter.ensures.rest ∙ ap (λ (s : State). record hub { state = s }) done.1) (inr (inr (prepared, done.0))) c.abort.ensures))
+    (c.enter.ensures.rest ∙ ap (λ (s : State). record hub { state = s }) done.1) (inr (prepared, inr done.0)) c.abort.ensures))
 
 pub returns-in-Err : goal.returns-in-Err
 returns-in-Err g c =
@@ -77,7 +77,8 @@ returns-in-Err g c =
     let is = subst (λ (l : List Transaction). it ≡ get_or l c.args.place it) c.as_slice.ensures c.index-as_slice-place.is in
     let read = read_there hub.active c.args.place it (λ one. is_decision_due hub.duties one ≡ true) is c.requires.preparing in
     let own = asks g.D.Disk.disk hub c.requires.hub c.requires.up c.args.place it read.0 read.1 in
+    let prepared = of_there hub.active c.args.place it (λ one. verdict hub.duties one.t one.plan.held.devices ≡ None) read.0 c.requires.prepared in
     let done = of_there hub.active c.args.place it (λ one. CommitsCall {E = Memory} hub.decls hub.state one.call (Err c.in-Err.field-0) c.enter.new.self.state) read.0 c.in-Err.ensures.commits in
     at_there hub.active c.args.place it (λ one. CommitsOne g.D.Disk.disk hub one c.abort-in-Err.result c.abort-in-Err.new.self ⊎ GivesUp g.D.Disk.disk hub one c.abort-in-Err.result c.abort-in-Err.new.self) read.0
     (inr (given_up g.D.Disk.disk hub it (named_there hub.askers it.asker it.call own) answer.Memory c.enter.new.self c.abort-in-Err.result c.abort-in-Err.new.self
-    (c.enter.ensures.rest ∙ ap (λ (s : State). record hub { state = s }) done) (inl refl) c.abort-in-Err.ensures))
+    (c.enter.ensures.rest ∙ ap (λ (s : State). record hub { state = s }) done) (inr (prepared, inl refl)) c.abort-in-Err.ensures))

@@ -48,7 +48,7 @@ returns-in-Some g c =
     (inr (
       due,
       inr (given_up g.D.Disk.disk hub it (named_there hub.askers it.asker it.call own) c.in-Some.answer hub c.abort.result c.abort.new.self refl
-          (inr (inl (sym (c.verdict.ensures ∙ (λ i. verdict (c.as_slice-2.ensures i) it.t (c.as_slice-3.ensures i))) ∙ c.in-Some.is))) c.abort.ensures),
+          (inl (sym (c.verdict.ensures ∙ (λ i. verdict (c.as_slice-2.ensures i) it.t (c.as_slice-3.ensures i))) ∙ c.in-Some.is)) c.abort.ensures),
     ))
 
 pub returns-in-None : goal.returns-in-None

@@ -16,3 +16,7 @@ returns-in-Ok g c =
         ),
       ),
     )
+
+pub returns-in-Err : goal.returns-in-Err
+returns-in-Err g c =
+    inr (c.requires.well, inr (c.in-Err.fault, refl, (c.settle_all.new.self, c.in-Err.ensures, c.end_mending-in-Err.ensures)))

@@ -12,7 +12,7 @@ pub returns-in-Ok-Some : goal.returns-in-Ok-Some
 returns-in-Ok-Some g c =
     let hub = c.args.self.now in
     let said = subst (λ (o : Option Answer). MatchOption o (IsNew hub.state.history c.args.call) (AnswersAgain hub.state.history c.args.call)) c.in-Ok-Some.field-0-is c.in-Ok-Some.ensures in
-    now_is hub c.args.call c.args.front c.args.plan c.requires.up c.in-Ok-Some.answer
+    now_is hub c.args.call c.args.front c.args.plan c.requires.up c.requires.closed c.in-Ok-Some.answer
     (again_is hub c.args.call c.args.front c.args.plan c.requires.up c.requires.closed c.in-Ok-Some.answer said)
     c.answer_now.result c.answer_now.new.self c.answer_now.ensures
 
@@ -24,5 +24,5 @@ returns-in-Ok-None g c =
 
 pub returns-in-Err : goal.returns-in-Err
 returns-in-Err g c =
-    now_is c.args.self.now c.args.call c.args.front c.args.plan c.requires.up answer.Memory wanting
+    now_is c.args.self.now c.args.call c.args.front c.args.plan c.requires.up c.requires.closed answer.Memory wanting
     c.answer_now-in-Err.result c.answer_now-in-Err.new.self c.answer_now-in-Err.ensures

@@ -6,6 +6,7 @@ use Rattle.orc_script.specs.Steps.{is_step}
 use Rattle.orc_run.specs.Steps.{device_schema}
 use Rattle.orc_script.specs.declared.step.ScriptStep.{ScriptStep}
 use Rattle.orc_run.specs.inside.Controllers.{view_of, StepsTo}
+use Rattle.orc_run.proofs.Outcomes.{other_is_idle}
 use Rattle.orc_run.proofs.controller.Controller.step.Goals as goal
 
 pub returns-in-Show : goal.returns-in-Show
@@ -49,10 +50,6 @@ pub returns-in-Call : goal.returns-in-Call
 returns-in-Call g c sound =
     subst (λ (s : ScriptStep). StepsTo g.D.Disk.disk c.args.decls.now (view_of c.args.self sound.0) s c.answer.result) (sym c.in-Call.is) (c.answer.ensures sound)
 
-pub returns-in-Settle : goal.returns-in-Settle
-returns-in-Settle g c sound =
-    subst (λ (s : ScriptStep). StepsTo g.D.Disk.disk c.args.decls.now (view_of c.args.self sound.0) s c.settled.result) (sym c.in-Settle.is) (c.settled.ensures c.args.decls.now sound)
-
 pub returns-in-Stop : goal.returns-in-Stop
 returns-in-Stop g c sound =
     subst (λ (s : ScriptStep). StepsTo g.D.Disk.disk c.args.decls.now (view_of c.args.self sound.0) s c.stop.result) (sym c.in-Stop.is) (c.stop.ensures c.args.decls.now sound)
@@ -68,3 +65,11 @@ returns-in-Recover g c sound =
 pub returns-in-History : goal.returns-in-History
 returns-in-History g c sound =
     subst (λ (s : ScriptStep). StepsTo g.D.Disk.disk c.args.decls.now (view_of c.args.self sound.0) s c.history.result) (sym c.in-History.is) (c.history.ensures c.args.decls.now sound)
+
+pub returns-in_default : goal.returns-in_default
+returns-in_default g c sound =
+    let other = c.in_default in
+    c.idle.ensures c.args.decls.now c.args.step.now
+    (other_is_idle c.args.step.now other.not-Show other.not-Json other.not-Meta other.not-ShowData other.not-Call other.not-Stop
+    other.not-StopAt other.not-Recover other.not-History)
+    sound

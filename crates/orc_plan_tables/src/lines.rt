@@ -1,0 +1,110 @@
+//! Tables of scripts: of each how many steps it has, or which line is at fault and for which rule.
+//!
+//! In a table `|` ends a line of a text.
+//!
+//! - `head TEXT`: the next scripts stand behind these declarations
+//! - `more N TEXT`: and behind N times this text, where `#` is the number of the time
+//! - `steps N SCRIPT`: the script has so many steps
+//! - `fault LINE RULE SCRIPT`: this line of it is at fault, counted from the first one behind the
+//!   declarations, for this rule
+
+use orc_bundle::{ScriptStep, read_bundle};
+use orc_decls::BundleFault;
+use orc_script::read_script;
+use orc_table_programs::{Table, Undone, first_word};
+use orc_text::Row;
+use std::alloc::Global;
+
+/// The declarations, and what stands behind them in front of each script.
+#[derive(Drop)]
+pub(crate) struct Lines {
+    alloc: Global,
+    head: String,
+    front: String,
+}
+
+impl Table for Lines {
+    fn take(&mut self, line: &str) -> Result<bool, Undone> {
+        let (word, rest) = first_word(line);
+        match word {
+            "head" => {
+                self.head = rest.replace(self.alloc, "|", "\n")?;
+                self.front = String::new(self.alloc);
+            }
+            "more" => self.more(rest)?,
+            "steps" => return self.has_steps(rest),
+            "fault" => return self.has_fault(rest),
+            _ => return Err(Undone),
+        }
+        Ok(true)
+    }
+}
+
+impl Lines {
+    /// No declarations, and nothing behind them.
+    pub(crate) fn new(alloc: Global) -> Lines {
+        Lines {
+            alloc,
+            head: String::new(alloc),
+            front: String::new(alloc),
+        }
+    }
+
+    // `N TEXT`: so many times the text stands in front of each script.
+    fn more(&mut self, rest: &str) -> Result<(), Undone> {
+        let (count, text) = first_word(rest);
+        let count: u32 = count.parse()?;
+        let text = text.replace(self.alloc, "|", "\n")?;
+        self.front = String::new(self.alloc);
+        for time in 0..count {
+            let number = time.to_string(self.alloc)?;
+            let once = text.as_str().replace(self.alloc, "#", number.as_str())?;
+            self.front.push_str(once.as_str())?;
+        }
+        Ok(())
+    }
+
+    // `N SCRIPT`.
+    fn has_steps(&self, rest: &str) -> Result<bool, Undone> {
+        let (count, script) = first_word(rest);
+        let count: usize = count.parse()?;
+        match self.read(script)? {
+            Ok(steps) => Ok(steps.len() == count),
+            Err(_) => Ok(false),
+        }
+    }
+
+    // `LINE RULE SCRIPT`.
+    fn has_fault(&self, rest: &str) -> Result<bool, Undone> {
+        let (wanted, rest) = first_word(rest);
+        let (named, script) = first_word(rest);
+        let wanted: u64 = wanted.parse()?;
+        match self.read(script)? {
+            Err(BundleFault::At { line, rule }) => {
+                let declared = self.head.as_str().lines().count() as u64;
+                let name = format!(in self.alloc; "{rule}")?;
+                Ok(line.checked_sub(declared) == Some(wanted) && name.as_str() == named)
+            }
+            _ => Ok(false),
+        }
+    }
+
+    // The steps of a script behind the declarations, or its fault.
+    fn read(&self, script: &str) -> Result<Result<Row<ScriptStep>, BundleFault>, Undone> {
+        let mut whole = String::from_str(self.alloc, self.head.as_str())?;
+        whole.push_str(self.front.as_str())?;
+        let lines = script.replace(self.alloc, "|", "\n")?;
+        whole.push_str(lines.as_str())?;
+        let bytes = whole.as_str().as_bytes();
+        match read_bundle(self.alloc, bytes) {
+            Ok(bundle) => Ok(read_script(
+                self.alloc,
+                bytes,
+                bundle.rest,
+                bundle.line,
+                &bundle.decls,
+            )),
+            Err(_) => Err(Undone),
+        }
+    }
+}

@@ -1,0 +1,66 @@
+-- Why a run ends before its script does.
+use Rattle.std.specs.Prelude.{[], ◌≡◌, ◌⊎◌, ℕ, ◌+◌, ◌<◌, Bool, true, false, None, List, ◌∷◌, ◌++◌, IfSome, length}
+use Rattle.orc_datastore.specs.Legal.{IsLegal}
+use Rattle.orc_io.specs.Counts.{Rose}
+use Rattle.orc_journal.specs.Committed.{history_of}
+use Rattle.orc_journal.specs.Entries.{entry_bytes}
+use Rattle.orc_journal.specs.Journals.{IsDamaged, IsForeign, IsGated, IsNotJournal, header, journal_length}
+use Rattle.orc_journal.specs.declared.entry.Entry.{Entry}
+use Rattle.orc_rules.specs.Events.{Turn}
+use Rattle.orc_rules.specs.Worlds.{Setting}
+use Rattle.orc_rules.specs.declared.event.Event.TheVariants as event
+
+-- Why a run ends.
+pub data EndOfRun : Type 0 where
+  Memory : EndOfRun  -- memory was wanting
+  WriteFault : EndOfRun  -- what is printed couldn't be written
+  JournalFault : EndOfRun  -- the disk of the journal failed
+  Full : ℕ → EndOfRun  -- the journal, which has so many bytes, has no room
+  Foreign : ℕ → EndOfRun  -- it isn't opened: it has other declarations, which differ first at this offset
+  NotJournal : EndOfRun  -- it isn't opened: it is no journal
+  Damaged : ℕ → EndOfRun  -- it isn't opened: at this offset stands no entry that may follow
+
+-- the journal isn't opened, for what its bytes are
+abbrev pub is_refused_journal : EndOfRun → Bool
+is_refused_journal (EndOfRun.Foreign at) = true
+is_refused_journal EndOfRun.NotJournal = true
+is_refused_journal (EndOfRun.Damaged at) = true
+is_refused_journal other = false
+
+module _ {D : Type 0} (here : Setting D) where
+  -- a recovery came to nothing, and this is so of the bytes, where the disk tells them
+  abbrev pub CameToNothing : Turn D → (List ℕ → Type 0) → Type 0
+  CameToNothing turn IsSo = (turn.meant ≡ event.Recover) × (turn.seen ≡ None)
+      × IfSome (here.disk.content turn.before.journal.disk) IsSo
+
+  -- an entry has no room behind the journal of so many bytes
+  abbrev pub IsFullAt : Turn D → ℕ → Type 0
+  IsFullAt turn len = (len ≡ journal_length here.decls.text turn.behind.journal.synced)
+      × ((entry : Entry) × (here.limit < len + length (entry_bytes entry) + 1))
+
+  -- the journal of this file holds calls that are no legal history
+  abbrev pub IsIllegalJournal : List ℕ → Type 0
+  IsIllegalJournal file = (entries : List Entry) × IsGated file here.decls.text entries
+      × (IsLegal here.decls (history_of entries) → ⊥)
+
+  -- The turn in which a run ended for what became of the journal. The disk failed in it, and no hub is up; or an entry had
+  -- no room, or the header of a journal to be begun; or a recovery came to nothing, for what the bytes are.
+  abbrev pub IsEndedBy : Turn D → EndOfRun → Type 0
+  IsEndedBy turn EndOfRun.JournalFault =
+      (turn.behind.hub ≡ None)
+      × Rose (here.disk.faults turn.before.journal.disk) (here.disk.faults turn.behind.journal.disk)
+  IsEndedBy turn (EndOfRun.Full len) = ((turn.seen ≡ None) × IsFullAt turn len)
+      ⊎ ((len ≡ 0) × (here.limit < length (header here.decls.text) + 1) × CameToNothing turn (λ file. file ≡ []))
+  IsEndedBy turn (EndOfRun.Foreign at) = CameToNothing turn (λ file. IsForeign file here.decls.text at)
+  IsEndedBy turn EndOfRun.NotJournal = CameToNothing turn (λ file. IsNotJournal file)
+  IsEndedBy turn (EndOfRun.Damaged at) =
+      CameToNothing turn (λ file. IsDamaged file here.decls.text at ⊎ IsIllegalJournal file)
+  IsEndedBy turn other = ⊥
+
+  -- Why a run ended with these turns of a line: memory was wanting, or what is printed couldn't be written, whatever the
+  -- turns are; or for what became of the journal in the last of them.
+  abbrev pub EndedBecause : List (Turn D) → EndOfRun → Type 0
+  EndedBecause turns EndOfRun.Memory = Unit {0}
+  EndedBecause turns EndOfRun.WriteFault = Unit {0}
+  EndedBecause turns why =
+      (earlier : List (Turn D)) × (turn : Turn D) × (turns ≡ earlier ++ turn ∷ []) × IsEndedBy turn why
