@@ -12,6 +12,7 @@ use Rattle.orc_disk.specs.Course.{Counted}
 use Rattle.orc_disk.specs.Meanings.{DiskMeaning}
 use Rattle.orc_disk.specs.Rows.{Course, joined, row}
 use Rattle.orc_disk.specs.Stops.{Stopping, inside}
+use Rattle.orc_io.specs.Counts.{Rose}
 use Rattle.orc_text.specs.Counts.{capped}
 use Rattle.orc_journal.specs.Appends.{HasAppended, HasFailed, IsTooLong, LeavesBeforeOrAfter}
 use Rattle.orc_journal.specs.Opened.{Holds, OpenJournal}
@@ -160,7 +161,8 @@ module _ {D : Type 0} (here : Setting D) (laws : DiskLaws here.disk) where
 
           on : (b : Bool) → new.log.journal.disk.stopped ≡ b
               → ((new.log.journal.disk.stopped ≡ true) × GoesDown here world (stopped world) meant (Some event.Stop) new)
-              ⊎ ((new.log.journal.disk.stopped ≡ false) × GoesDown here world (without_hub world) meant (seen_failing meant) new)
+              ⊎ ((new.log.journal.disk.stopped ≡ false) × GoesDown here world (without_hub world) meant (seen_failing meant) new
+              × Rose (here.disk.faults world.journal.disk) (here.disk.faults new.log.journal.disk.inner))
           on true stops =
               let row = row_stopped here.disk here.decls.text here.limit (view_of old entries) own.limit (view_of old entries) (view_of new entries) [] entry [] none_yet
               (stopped_of old.log.journal new.log.journal entry entries is_open has fits leaves stops) in
@@ -186,10 +188,11 @@ module _ {D : Type 0} (here : Setting D) (laws : DiskLaws here.disk) where
                   disk = refl;
                   holds = row.row.outlives.holds;
                 },
+                subst (λ (d : D). Rose (here.disk.faults d) (here.disk.faults new.log.journal.disk.inner)) (sym (ap (λ (j : Journal D). j.disk) own.journal)) row.row.ends.1,
               )
 
       pub roomless : (new : Hub (Stopping D)) (len : ℕ) → len ≡ old.log.journal.len → IsTooLong old.log.journal entry → new.log.journal ≡ old.log.journal → new.down ≡ true
-          → LacksRoomFor here world meant new
+          → LacksRoomFor here world meant len new
       roomless new len length long same down =
           let entries = world.journal.synced in
           let full : FindsNoRoom here.disk here.decls.text len (view_of old entries) entry (view_of new entries) =
@@ -204,4 +207,6 @@ module _ {D : Type 0} (here : Setting D) (laws : DiskLaws here.disk) where
               disk = ap (λ (j : OpenJournal (Stopping D)). j.disk.inner) (sym same);
               holds = row.outlives.holds;
             },
+            row.ends.1,
+            (row.ends.2.0, row.ends.2.3),
           )

@@ -32,6 +32,7 @@ use Rattle.orc_hub.specs.declared.hub.Hub.{Hub}
 use Rattle.orc_hub.specs.declared.log.Log.{Log}
 use Rattle.orc_hub.specs.declared.log.Unsettled.{Unsettled}
 use Rattle.orc_hub.proofs.Ending.{behind_first}
+use Rattle.orc_io.specs.Counts.{Rose}
 use Rattle.orc_path.specs.Configurations.{Config}
 use Rattle.orc_recover.specs.Menders.{new_mender}
 use Rattle.orc_rules.specs.Duties.{is_busy}
@@ -330,11 +331,13 @@ module _ {D : Type 0} (here : Setting D) (laws : DiskLaws here.disk) (order : Ke
                     disk = disk;
                     holds = row_so.outlives.holds;
                   },
+                  subst (λ (d : D). Rose (here.disk.faults d) (here.disk.faults new.log.journal.disk.inner)) (sym (ap (λ (j : Journal D). j.disk) own.journal))
+                      (subst (λ (d : D). Rose (here.disk.faults old.log.journal.disk.inner) (here.disk.faults d)) disk row_so.ends.1),
                 )) f.which,
           )
 
       full_one : (behind : Hub (Stopping D)) (len : ℕ) → FillsAll (view_of old world.journal.synced) (settled_ones old.log.unsettled) len behind → new ≡ mending_ended behind
-          → LacksRoomFor here world (event.Reconcile (Some (Ok tt))) new
+          → LacksRoomFor here world (event.Reconcile (Some (Ok tt))) len new
       full_one behind len f same =
           let row = settled_ones old.log.unsettled in (
             ap (λ (h : Hub (Stopping D)). h.down) same ∙ f.down,
@@ -344,6 +347,8 @@ module _ {D : Type 0} (here : Setting D) (laws : DiskLaws here.disk) (order : Ke
               disk = f.disk ∙ sym (ap (λ (h : Hub (Stopping D)). h.log.journal.disk.inner) same);
               holds = f.row_so.outlives.holds;
             },
+            f.row_so.ends.1,
+            (f.row_so.ends.2.0, f.row_so.ends.2.3),
           )
 
       ill : (result : Result Unit RecFault) (met : RecFault) (behind : Hub (Stopping D)) → result ≡ Err met → SettlesAll (inside here.disk) old (Err met) behind

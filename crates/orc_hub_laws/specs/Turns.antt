@@ -126,7 +126,7 @@ module _ {D : Type 0} (here : Setting D) where
   ComesToAdmit world it (admit.Answered caller number given) new = ((caller, number) ≡ waiting_name it)
       × (GoesOnUnder here world (world_answered caller new world) (event.Admit it.t (Some given)) new
       ⊎ ((given ≡ answer.JournalFault) × FailsIn here world (event.Admit it.t None) new))
-  ComesToAdmit world it (admit.Full len) new = LacksRoomFor here world (event.Admit it.t None) new
+  ComesToAdmit world it (admit.Full len) new = LacksRoomFor here world (event.Admit it.t None) len new
   ComesToAdmit world it admit.Nothing new = ⊥
 
   -- What `admit` does is the admission of the first waiting call that fits, which is answered, or gets its Intent.
@@ -174,7 +174,7 @@ module _ {D : Type 0} (here : Setting D) where
       (other ≡ t) × GoesOnUnder here world (world_with new world) (event.Settle t) new
   ComesToDecide world t decided.Down new = FailsIn here world (event.Settle t) new
   ComesToDecide world t (decided.Full len) new =
-      (meant : Event) × MeansToDecide t meant × LacksRoomFor here world meant new
+      (meant : Event) × MeansToDecide t meant × LacksRoomFor here world meant len new
   ComesToDecide world t decided.Nothing new = ⊥
 
   -- What `decide` does is the decision on the transaction of the least number for which something is due, or its
@@ -199,7 +199,7 @@ module _ {D : Type 0} (here : Setting D) where
   ComesToEnd world result new = GoesOnUnder here world (world_with new world) (event.Reconcile (Some result)) new
       ⊎ (((result ≡ Err fault.DiskFault) × FailsIn here world (event.Reconcile (Some (Ok tt))) new)
       ⊎ ((len : ℕ) × (result ≡ Err (fault.Full len))
-      × LacksRoomFor here world (event.Reconcile (Some (Ok tt))) new))
+      × LacksRoomFor here world (event.Reconcile (Some (Ok tt))) len new))
 
   -- and what `finish_reconcile` does is its end, where what was replied was heard.
   abbrev pub MendingEnds : Type 0

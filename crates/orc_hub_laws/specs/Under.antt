@@ -1,5 +1,5 @@
 -- A world under a real hub, and what becomes of both.
-use Rattle.std.specs.Prelude.{◌≡◌, ◌⊎◌, ℕ, Bool, true, false, Option, None, Some, List, [], Err, IsTrue, length}
+use Rattle.std.specs.Prelude.{◌≡◌, ◌⊎◌, ℕ, ◌+◌, ◌<◌, Bool, true, false, Option, None, Some, List, [], Err, IsTrue, length}
 use Rattle.orc_call.specs.declared.answer.RecFault.{RecFault}
 use Rattle.orc_decls.specs.declared.declarations.Decls.{Decls}
 use Rattle.orc_device.specs.Nodes.{DeviceKind}
@@ -8,6 +8,9 @@ use Rattle.orc_disk.specs.Stops.{Stopping, inside}
 use Rattle.orc_hub.specs.Hubs.{record_of}
 use Rattle.orc_hub.specs.Keeps.{IsHub}
 use Rattle.orc_hub.specs.declared.hub.Hub.{Hub}
+use Rattle.orc_io.specs.Counts.{Rose}
+use Rattle.orc_journal.specs.Entries.{entry_bytes}
+use Rattle.orc_journal.specs.Journals.{journal_length}
 use Rattle.orc_journal.specs.declared.entry.Entry.{Entry}
 use Rattle.orc_print.specs.Printed.{is_end_among}
 use Rattle.orc_rules.specs.Events.{Comes, seen_failing}
@@ -67,16 +70,19 @@ module _ {D : Type 0} (here : Setting D) where
     pub disk : journal.disk ≡ new.log.journal.disk.inner
     pub holds : HoldsEntries here.disk here.decls.text here.limit journal
 
-  -- The armed stop came as an entry of the event was appended, and no more than that is seen; or the disk failed. The
-  -- hub is down, and its disk tells which.
+  -- The armed stop came as an entry of the event was appended, and no more than that is seen; or the disk failed, and has
+  -- counted that. The hub is down, and its disk tells which.
   abbrev pub FailsIn : World D → Event → Hub (Stopping D) → Type 0
   FailsIn old meant new = (new.down ≡ true)
       × (((new.log.journal.disk.stopped ≡ true) × GoesDown old (stopped old) meant (Some event.Stop) new)
-      ⊎ ((new.log.journal.disk.stopped ≡ false) × GoesDown old (without_hub old) meant (seen_failing meant) new))
+      ⊎ ((new.log.journal.disk.stopped ≡ false) × GoesDown old (without_hub old) meant (seen_failing meant) new
+      × Rose (here.disk.faults old.journal.disk) (here.disk.faults new.log.journal.disk.inner)))
 
-  -- An entry of the event had no room. The hub is down, and nothing is seen.
-  abbrev pub LacksRoomFor : World D → Event → Hub (Stopping D) → Type 0
-  LacksRoomFor old meant new = (new.down ≡ true) × GoesDown old (without_hub old) meant None new
+  -- An entry of the event had no room in the journal, which has so many bytes. The hub is down, and nothing is seen.
+  abbrev pub LacksRoomFor : World D → Event → ℕ → Hub (Stopping D) → Type 0
+  LacksRoomFor old meant len new = (new.down ≡ true) × (gone : GoesDown old (without_hub old) meant None new)
+      × (len ≡ journal_length here.decls.text gone.journal.synced)
+      × ((entry : Entry) × (here.limit < len + length (entry_bytes entry) + 1))
 
 module _ {D : Type 0} (here : Setting D) where
   -- The journal of a world in which no hub is up was to be opened, and wasn't: it stands on this disk now, and nothing

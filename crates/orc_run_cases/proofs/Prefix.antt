@@ -112,6 +112,7 @@ module _ (schema : SchemaTable) (valid : broken_of schema (opening_data (r1.name
   starts = record {
     holds = tidy_holds (here schema).decls.text (here schema).limit begun_journal tidy_0;
     uncut = refl;
+    unarmed = refl;
     read_back = inr refl;
     ordered = refl;
     legal = record { lawful = All-nil _; unrefused = tt; distinct = tt };

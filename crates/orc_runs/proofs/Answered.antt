@@ -41,7 +41,7 @@ use Rattle.orc_rules.proofs.Slots.{both_true}
 use Rattle.orc_rules.proofs.Telling.{flip}
 use Rattle.orc_rules.proofs.Tracking.{known_at, steps_devices}
 use Rattle.orc_rules.proofs.Turning.{steps_keep}
-use Rattle.orc_runs.specs.Headline.{HasAnswerIn, IsAnswered, StayUp}
+use Rattle.orc_runs.specs.Headline.{HasAnswerIn, IsAnsweredLater, StayUp}
 use Rattle.orc_runs.specs.Runs.{AreDone, LineDone}
 use Rattle.orc_runs.specs.Scripts.{call_on_way, call_under, set_by}
 use Rattle.orc_script.specs.declared.step.ScriptStep.{ScriptStep}
@@ -96,7 +96,7 @@ module _ {D : Type 0} (here : Setting D) (are : AreDecls here.decls) (plans : Pl
     (planning : Planning (over here.decls) (StandsAt here.decls) (FitAt here.decls) (ValidAt here.decls)) where
   -- the call is answered by what is seen in this world
   abbrev IsToldBy : World D → Option Event → Call → Type 0
-  IsToldBy world seen call = (said : Answer) × ((turn : Turn D) → turn.before ≡ world → IsAnswered turn seen call said)
+  IsToldBy world seen call = (said : Answer) × ((turn : Turn D) → turn.before ≡ world → IsAnsweredLater turn seen call said)
 
   -- it waits, or is under way without its decision
   abbrev pub IsOnItsWay : World D → Call → Type 0

@@ -1,13 +1,15 @@
 -- Why a run ends before its script does.
-use Rattle.std.specs.Prelude.{[], ◌≡◌, ◌⊎◌, ℕ, ◌+◌, ◌<◌, Bool, true, false, None, List, ◌∷◌, ◌++◌, IfSome, length}
+use Rattle.std.specs.Prelude.{[], ◌≡◌, ◌⊎◌, ℕ, ◌+◌, ◌<◌, Bool, true, false, Some, None, List, ◌∷◌, ◌++◌, IfSome, length}
+use Rattle.orc_append.specs.declared.outcome.Appended.TheVariants as appended
 use Rattle.orc_datastore.specs.Legal.{IsLegal}
 use Rattle.orc_io.specs.Counts.{Rose}
 use Rattle.orc_journal.specs.Committed.{history_of}
-use Rattle.orc_journal.specs.Entries.{entry_bytes}
-use Rattle.orc_journal.specs.Journals.{IsDamaged, IsForeign, IsGated, IsNotJournal, header, journal_length}
+use Rattle.orc_journal.specs.Journals.{IsDamaged, IsForeign, IsGated, IsNotJournal, header}
 use Rattle.orc_journal.specs.declared.entry.Entry.{Entry}
-use Rattle.orc_rules.specs.Events.{Turn}
-use Rattle.orc_rules.specs.Worlds.{Setting}
+use Rattle.orc_rules.specs.Events.{DoesUnderHub, Turn}
+use Rattle.orc_rules.specs.Hubs.{Hub}
+use Rattle.orc_rules.specs.Journals.{AppendsRow}
+use Rattle.orc_rules.specs.Worlds.{Setting, World}
 use Rattle.orc_rules.specs.declared.event.Event.TheVariants as event
 
 -- Why a run ends.
@@ -33,10 +35,11 @@ module _ {D : Type 0} (here : Setting D) where
   CameToNothing turn IsSo = (turn.meant ≡ event.Recover) × (turn.seen ≡ None)
       × IfSome (here.disk.content turn.before.journal.disk) IsSo
 
-  -- an entry has no room behind the journal of so many bytes
+  -- of the entries that the turn was to append one has no room, behind the journal of so many bytes
   abbrev pub IsFullAt : Turn D → ℕ → Type 0
-  IsFullAt turn len = (len ≡ journal_length here.decls.text turn.behind.journal.synced)
-      × ((entry : Entry) × (here.limit < len + length (entry_bytes entry) + 1))
+  IsFullAt turn len = (hub : Hub) × (row : List Entry) × (next : World D) × (turn.before.hub ≡ Some hub)
+      × DoesUnderHub here turn.before hub turn.meant row next
+      × AppendsRow here.disk here.decls.text here.limit turn.before.journal row (appended.Full len) turn.behind.journal
 
   -- the journal of this file holds calls that are no legal history
   abbrev pub IsIllegalJournal : List ℕ → Type 0

@@ -121,17 +121,22 @@ queued (turn ∷ turns) = queued_by turn.seen ++ queued turns
 abbrev pub calls_of : List ℕ → List Call → List Call
 calls_of caller calls = filter (λ call. is_same_text call.caller caller) calls
 
--- this answer is given to this call
+-- this answer is given to this call, which was queued
+abbrev pub IsAnsweredLater : {D : Type 0} → Turn D → Option Event → Call → Answer → Type 0
+IsAnsweredLater turn (Some (event.Admit t given)) call said =
+    (call_under turn.before t ≡ Some call) × (given ≡ Some said)
+IsAnsweredLater turn (Some (event.Decide t given)) call said = (call_under turn.before t ≡ Some call) × (given ≡ said)
+IsAnsweredLater turn other call said = ⊥
+
+-- this answer is given to this call, as it is submitted or later
 abbrev pub IsAnswered : {D : Type 0} → Turn D → Option Event → Call → Answer → Type 0
 IsAnswered turn (Some (event.Submit submitted front given)) call said = (submitted ≡ call) × (given ≡ Some said)
-IsAnswered turn (Some (event.Admit t given)) call said = (call_under turn.before t ≡ Some call) × (given ≡ Some said)
-IsAnswered turn (Some (event.Decide t given)) call said = (call_under turn.before t ≡ Some call) × (given ≡ said)
-IsAnswered turn other call said = ⊥
+IsAnswered turn other call said = IsAnsweredLater turn other call said
 
--- this call is answered in a turn of these
+-- this call, which was queued, is answered in a turn of these
 abbrev pub HasAnswerIn : {D : Type 0} → List (Turn D) → Call → Type 0
 HasAnswerIn {D} turns call =
-    (turn : Turn D) × (said : Answer) × Contains turns turn × IsAnswered turn turn.seen call said
+    (turn : Turn D) × (said : Answer) × Contains turns turn × IsAnsweredLater turn turn.seen call said
 
 -- after none of these turns the hub is down
 abbrev pub StayUp : {D : Type 0} → List (Turn D) → Type 0

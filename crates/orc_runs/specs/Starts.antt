@@ -47,12 +47,13 @@ cause_at_first true = None
 cause_at_first false = Some why.Recovered
 
 -- A run begins with a new hub over a journal that was opened. The disk gave these bytes as it was opened: they are the
--- journal of a legal history, or there are none, and the journal was begun. Nothing of it is at stake. What a recovery
--- reads is what was written, since the disk tells what it holds, or by what is granted. Each device runs its base. No
--- device is stale where the disk was empty, and else each is, since the hub recovered.
+-- journal of a legal history, or there are none, and the journal was begun. Nothing of it is at stake, and no stop is
+-- armed. What a recovery reads is what was written, since the disk tells what it holds, or by what is granted. Each
+-- device runs its base. No device is stale where the disk was empty, and else each is, since the hub recovered.
 pub record StartsRun {D : Type 0} (here : Setting D) (world : World D) : Type 0 where
   pub holds : HoldsEntries here.disk here.decls.text here.limit world.journal
   pub uncut : world.journal.cut ≡ []
+  pub unarmed : world.journal.armed ≡ 0
   pub read_back : IsReadBack here.disk here.decls.text here.limit here.granted world.journal.disk
   pub ordered : IsTrue (is_ordered world.journal.synced)
   pub legal : IsLegal here.decls (history_of world.journal.synced)
