@@ -15,8 +15,8 @@ use Rattle.orc_decls.specs.Devices.{is_same_text}
 use Rattle.orc_rules.specs.Asked.{answered_at, answered_one, is_of, is_open_of, new_slot, open_of, slot_of, slot_set}
 use Rattle.orc_rules.specs.declared.asked.Asked.{Asked}
 use Rattle.orc_hub.specs.Keeps.{IsAsker}
-use Rattle.orc_hub.proofs.Positions.{found_again, found_last}
-use Rattle.orc_hub.proofs.Slots.{own}
+use Rattle.orc_hub_parts.proofs.Positions.{found_again, found_last}
+use Rattle.orc_hub_parts.proofs.CallSlots.{own}
 use Rattle.orc_hub.proofs.Waiting.{get_last, get_set}
 
 -- another place is as it was

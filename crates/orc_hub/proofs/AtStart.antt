@@ -23,10 +23,10 @@ use Rattle.orc_rules.specs.declared.transaction.Waiting.{Waiting}
 use Rattle.orc_hub.specs.Keeps.{AreAskers, IsHub}
 use Rattle.orc_hub.specs.Starts.{HasStarted, known_at_start}
 use Rattle.orc_hub.specs.declared.hub.Hub.{Hub}
-use Rattle.orc_hub.specs.declared.past.Past.{Past}
-use Rattle.orc_hub.specs.Numbered.{is_given}
-use Rattle.orc_hub.specs.inside.Pasts.{IsPast}
-use Rattle.orc_hub.proofs.Pasts.{none_given}
+use Rattle.orc_hub_parts.specs.declared.past.Past.{Past}
+use Rattle.orc_hub_parts.specs.Numbered.{is_given}
+use Rattle.orc_hub_parts.specs.Pasts.{IsPast}
+use Rattle.orc_hub_parts.proofs.Pasts.{none_given}
 
 -- one thing for each device
 length_declared : {X : Type 0} (decls : Decls) (x : X) (row : List X) → row ≡ map (λ device. x) (declared decls) → length row ≡ length decls.names

@@ -40,7 +40,8 @@ use Rattle.orc_tree.specs.declared.change.ChangeSet.{ChangeSet}
 use Rattle.orc_worker.specs.Workers.{new_worker}
 use Rattle.orc_hub.specs.Admits.{TurnsAway, WritesIntent, row_by, waiting_name}
 use Rattle.orc_hub.specs.Hubs.{record_of, with_record}
-use Rattle.orc_hub.specs.Keeps.{AreAskers, AreNumbers, IsAsker, IsHub}
+use Rattle.orc_hub_parts.specs.Numbered.{AreNumbers}
+use Rattle.orc_hub.specs.Keeps.{AreAskers, IsAsker, IsHub}
 use Rattle.orc_hub.specs.Submits.{HasKept, IsQueued, Submits}
 use Rattle.orc_hub.specs.Writes.{HasWritten}
 use Rattle.orc_hub.specs.declared.hub.Admit.{Admit}
@@ -48,8 +49,8 @@ use Rattle.orc_hub.specs.declared.hub.Admit.TheVariants as admit
 use Rattle.orc_hub.specs.declared.hub.Hub.{Hub}
 use Rattle.orc_hub.specs.declared.hub.Submitted.{Submitted}
 use Rattle.orc_hub.specs.declared.hub.Submitted.TheVariants as submitted
-use Rattle.orc_hub.specs.declared.numbers.Numbers.{Numbers}
-use Rattle.orc_hub.specs.Numbered.{GivesNumber, IsLeastFree, is_given, is_noted}
+use Rattle.orc_hub_parts.specs.declared.numbers.Numbers.{Numbers}
+use Rattle.orc_hub_parts.specs.Numbered.{GivesNumber, IsLeastFree, is_given, is_noted}
 use Rattle.orc_hub.proofs.Asking.{asks_beside, asks_now, asks_still, none_open}
 use Rattle.orc_hub.proofs.Keeping.{log_more, numbers_more}
 use Rattle.orc_hub.proofs.Submissions.{next_number}

@@ -13,7 +13,7 @@ use Rattle.orc_rules.specs.declared.duty.Duty.{Duty}
 use Rattle.orc_rules.specs.declared.transaction.Transaction.{Transaction}
 use Rattle.orc_state.specs.Commits.{IsCommitted}
 use Rattle.orc_state.specs.States.{State}
-use Rattle.orc_hub.specs.Askers.{named_at}
+use Rattle.orc_hub_parts.specs.Askers.{named_at}
 use Rattle.orc_hub.specs.Decisions.{CommitsOne, GivesUp, GivesUpFor, WritesAbort, WritesDecide, asker_name}
 use Rattle.orc_hub.specs.declared.hub.Decided.{Decided}
 use Rattle.orc_hub.specs.declared.hub.Hub.{Hub}

@@ -12,7 +12,7 @@ use Rattle.orc_rules.specs.Verdicts.{are_heard}
 use Rattle.orc_rules.specs.declared.asked.Asked.{Asked}
 use Rattle.orc_rules.specs.declared.transaction.Transaction.{Transaction}
 use Rattle.orc_state.specs.Checks.{CanCommit}
-use Rattle.orc_hub.specs.Askers.{IsOpenAt, named_at}
+use Rattle.orc_hub_parts.specs.Askers.{IsOpenAt, named_at}
 use Rattle.orc_hub.specs.Decisions.{asker_name}
 use Rattle.orc_hub.specs.Keeps.{IsAsker, IsHub, IsSoundHub}
 use Rattle.orc_hub.specs.declared.hub.Hub.{Hub}

@@ -4,7 +4,7 @@ use Rattle.std.specs.List.{fold}
 use Rattle.std.proofs.lemmas.List.Elements.{All-head, All-tail}
 use Rattle.std.proofs.lemmas.Option.{same_Some}
 use Rattle.orc_rules.specs.Due.{due_with, is_entry_due, least_due, lesser_number}
-use Rattle.orc_hub.specs.Decisions.{IsDueAs}
+use Rattle.orc_hub_parts.specs.Due.{IsDueAs}
 use Rattle.orc_rules.specs.declared.duty.Duty.{Duty}
 use Rattle.orc_rules.specs.declared.transaction.Transaction.{Transaction}
 

@@ -16,7 +16,8 @@ use Rattle.orc_rules.specs.declared.duty.Duty.{Duty}
 use Rattle.orc_rules.specs.declared.duty.Duty.TheVariants.{Free, Works, Mends}
 use Rattle.orc_tree.specs.declared.change.ChangeSet.{ChangeSet}
 use Rattle.orc_worker.specs.Workers.{order_at}
-use Rattle.orc_hub.specs.Orders.{IsEditDue, WantsEdit}
+use Rattle.orc_hub_parts.specs.Due.{WantsEdit}
+use Rattle.orc_hub.specs.Orders.{IsEditDue}
 
 mends_edit : (left : List (ℕ × Bool)) (due : Config) (at : MendStage) → is_editing at ≡ true
     → (changes : ChangeSet) × (mend_order differences left due at ≡ Some (op.Edit changes))

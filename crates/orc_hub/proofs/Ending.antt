@@ -18,13 +18,13 @@ use Rattle.orc_rules.specs.declared.transaction.Waiting.{Waiting}
 use Rattle.orc_rules.proofs.Entering.{named_by}
 use Rattle.orc_rules.proofs.Legality.{same_history}
 use Rattle.orc_hub.specs.Keeps.{IsHub, IsSoundHub, KeepsHub}
-use Rattle.orc_hub.specs.Logs.{settled_by, unsettled_by}
+use Rattle.orc_hub_parts.specs.Logs.{settled_by, unsettled_by}
 use Rattle.orc_hub.specs.Laws.{MendingEndedKeeps}
 use Rattle.orc_hub.specs.Mends.{EndsMending, SettlesAll, SettlesOne, mending_ended, row_ended, settled_ones}
 use Rattle.orc_hub.specs.Mends.SettlesAll.{none_left, one_less, fails}
 use Rattle.orc_hub.specs.Writes.{HasWritten}
 use Rattle.orc_hub.specs.declared.hub.Hub.{Hub}
-use Rattle.orc_hub.specs.declared.log.Unsettled.{Unsettled}
+use Rattle.orc_hub_parts.specs.declared.log.Unsettled.{Unsettled}
 use Rattle.orc_hub.proofs.AtStart.{nothing}
 use Rattle.orc_hub.proofs.Keeping.{log_more, numbers_more, taken_by}
 use Rattle.orc_hub.proofs.Unsettling.{may_settle, settled_cons}

@@ -43,15 +43,16 @@ use Rattle.orc_state.specs.Commits.{IsCommitted}
 use Rattle.orc_state.specs.States.{State}
 use Rattle.orc_hub.specs.Decisions.{CommitsOne, GivesUp, WritesAbort, WritesDecide, WritesSettled, asker_name}
 use Rattle.orc_hub.specs.Hubs.{record_of, with_record}
-use Rattle.orc_hub.specs.Keeps.{AreAskers, AreNumbers, IsAsker, IsHub}
-use Rattle.orc_hub.specs.Logs.{IsLog, noted}
+use Rattle.orc_hub_parts.specs.Numbered.{AreNumbers}
+use Rattle.orc_hub.specs.Keeps.{AreAskers, IsAsker, IsHub}
+use Rattle.orc_hub_parts.specs.Logs.{IsLog, noted}
 use Rattle.orc_hub.specs.Writes.{HasBroken, HasNoRoom, HasWritten}
 use Rattle.orc_hub.specs.declared.hub.Decided.{Decided}
 use Rattle.orc_hub.specs.declared.hub.Decided.TheVariants as decided
 use Rattle.orc_hub.specs.declared.hub.Hub.{Hub}
-use Rattle.orc_hub.specs.declared.log.Unsettled.{Unsettled}
-use Rattle.orc_hub.specs.declared.numbers.Numbers.{Numbers}
-use Rattle.orc_hub.specs.Numbered.{is_given, is_noted}
+use Rattle.orc_hub_parts.specs.declared.log.Unsettled.{Unsettled}
+use Rattle.orc_hub_parts.specs.declared.numbers.Numbers.{Numbers}
+use Rattle.orc_hub_parts.specs.Numbered.{is_given, is_noted}
 use Rattle.orc_hub.proofs.Asking.{asks_still}
 use Rattle.orc_hub.proofs.Lefts.{begun_before, still_left}
 

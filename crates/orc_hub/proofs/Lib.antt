@@ -1,14 +1,8 @@
-mod Told
-mod Places
 mod Dues
 mod Encodable
 mod Ranges
 mod Standing
 mod Checked
-mod Positions
-mod Slots
-mod Noting
-mod Numbering
 mod DecisionDue
 mod Waiting
 mod Commits
@@ -19,8 +13,6 @@ mod Lefts
 mod Keeping
 mod Settlings
 pub mod Coming
-mod Pasts
-mod Replayed
 mod AtStart
 mod Wholly
 pub mod Unsettling

@@ -25,8 +25,8 @@ use Rattle.orc_hub.specs.Submits.AnswersAgain.{again, reused}
 use Rattle.orc_hub.specs.declared.hub.Hub.{Hub}
 use Rattle.orc_hub.specs.declared.hub.Submitted.{Submitted}
 use Rattle.orc_hub.specs.declared.hub.Submitted.TheVariants as submitted
-use Rattle.orc_hub.specs.declared.numbers.Numbers.{Numbers}
-use Rattle.orc_hub.specs.Numbered.{IsLeastFree, is_given, is_noted}
+use Rattle.orc_hub_parts.specs.declared.numbers.Numbers.{Numbers}
+use Rattle.orc_hub_parts.specs.Numbered.{IsLeastFree, is_given, is_noted}
 
 -- there is no plan, for this
 abbrev refused : Answer → Result Plan Answer

@@ -13,8 +13,8 @@ use Rattle.orc_journal.specs.declared.entry.Entry.TheVariants.{Intent, Decide, A
 use Rattle.orc_journal.proofs.Orderings.{is_ordered-push}
 use Rattle.orc_rules.specs.Admissions.{without}
 use Rattle.orc_rules.proofs.Entering.{intent_push, named_by, without_suc}
-use Rattle.orc_hub.specs.Logs.{decided_by, has_number, noted, place_for, placed_in, settled_by, unsettled_by}
-use Rattle.orc_hub.specs.declared.log.Unsettled.{Unsettled}
+use Rattle.orc_hub_parts.specs.Logs.{decided_by, has_number, noted, place_for, placed_in, settled_by, unsettled_by}
+use Rattle.orc_hub_parts.specs.declared.log.Unsettled.{Unsettled}
 
 -- no two have one number
 abbrev pub AreApart : List Unsettled → Type 0

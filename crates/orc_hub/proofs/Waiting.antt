@@ -1,27 +1,28 @@
 -- What comes of a submission, told of the hub before it.
-use Rattle.std.proofs.Common.{◌≡◌, ℕ, ◌<◌, suc, zero, true, false, cond, List, [], ◌∷◌, ◌++◌, Option, None, Some, is_some, length, get_or, set, refl, sym, ap, subst, ◌∙◌, arith}
+use Rattle.std.proofs.Common.{◌≡◌, ℕ, ◌<◌, suc, zero, Bool, true, false, cond, List, [], ◌∷◌, ◌++◌, Option, None, Some, is_some, length, get_or, set, refl, sym, ap, subst, ◌∙◌, arith}
 use Rattle.std.specs.Prelude.{MatchOption, slice_get}
-use Rattle.std.specs.Option.{option_map_or}
+use Rattle.std.specs.List.{find}
+use Rattle.std.specs.Option.{option_map, option_map_or}
 use Rattle.std.specs.Cmp.{first_so}
 use Rattle.std.specs.Cmp.Lexicographic.{bytes_decides}
 use Rattle.std.proofs.lemmas.List.{set-set, set_at}
 use Rattle.std.proofs.lemmas.List.Quantifiers.{position-Some}
-use Rattle.std.proofs.lemmas.Option.{same_Some, slice_get-get_or}
+use Rattle.std.proofs.lemmas.Option.{none-some, same_Some, slice_get-get_or}
 use Rattle.orc_call.specs.declared.answer.Answer.{Answer}
 use Rattle.orc_call.specs.declared.answer.Answer.TheVariants as answer
 use Rattle.orc_call.specs.declared.call.Call.{Call}
 use Rattle.orc_datastore.specs.declared.plan.Plan.{Plan}
 use Rattle.orc_decls.specs.Devices.{is_same_text}
-use Rattle.orc_rules.specs.Asked.{KeepsAnswer, is_of, last_at, new_slot, open_of, slot_of, slot_set, with_answer, with_open}
+use Rattle.orc_rules.specs.Asked.{KeepsAnswer, is_of, is_open_of, last_at, new_slot, open_of, slot_of, slot_set, with_answer, with_open}
 use Rattle.orc_rules.specs.Asked.KeepsAnswer.{kept, wanting}
 use Rattle.orc_rules.specs.declared.asked.Asked.{Asked}
-use Rattle.orc_hub.specs.Askers.{opened_at, opened_one}
+use Rattle.orc_hub_parts.specs.Askers.{opened_at, opened_one}
 use Rattle.orc_hub.specs.Submits.{HasKept, IsQueued, Queues, Waits}
 use Rattle.orc_hub.specs.declared.hub.Hub.{Hub}
 use Rattle.orc_hub.specs.declared.hub.Submitted.{Submitted}
 use Rattle.orc_hub.specs.declared.hub.Submitted.TheVariants as submitted
-use Rattle.orc_hub.proofs.Positions.{found_again, found_last}
-use Rattle.orc_hub.proofs.Slots.{own}
+use Rattle.orc_hub_parts.proofs.Positions.{found_again, found_last}
+use Rattle.orc_hub_parts.proofs.CallSlots.{own}
 
 -- the slot of a call has its caller's name
 pub named_slot : (asked : List Asked) (call : Call) (place : ℕ) (name : List ℕ) → slot_of asked call ≡ Some place → name ≡ call.caller
@@ -32,6 +33,44 @@ named_slot asked call place name is named =
     let one = get_or asked place d in
     let caller : one.caller ≡ call.caller = (bytes_decides one.caller call.caller).0 (first_so (is_same_text one.caller call.caller) _ here.1) in
     subst (λ (o : Option Asked). MatchOption o ⊥ (λ (slot : Asked). slot.caller ≡ name)) (sym (slice_get-get_or asked place d here.0)) (caller ∙ sym named)
+
+-- a caller without an open call has none where one of its slots is closed
+
+module _ {X : Type 0} (p : X → Bool) where
+  found_no_more : (xs : List X) (y : X) → find p xs ≡ None → p y ≡ false → find p (xs ++ y ∷ []) ≡ None
+  found_no_more [] y none fails = ap (λ (b : Bool). cond b (Some y) None) fails
+  found_no_more (x ∷ xs) y none fails = on (p x) refl (λ later. found_no_more xs y later fails)
+    where
+      on : (b : Bool) → p x ≡ b → (find p xs ≡ None → find p (xs ++ y ∷ []) ≡ None) → find p (x ∷ xs ++ y ∷ []) ≡ None
+      on true e rest = absurd (none-some x (sym none ∙ ap (λ (b : Bool). cond b (Some x) (find p xs)) e))
+      on false e rest = ap (λ (b : Bool). cond b (Some x) (find p (xs ++ y ∷ []))) e
+          ∙ rest (sym (ap (λ (b : Bool). cond b (Some x) (find p xs)) e) ∙ none)
+
+  found_no_other : (xs : List X) (i : ℕ) (y : X) → find p xs ≡ None → p y ≡ false → find p (set xs i y) ≡ None
+  found_no_other [] i y none fails = refl
+  found_no_other (x ∷ xs) i y none fails = on i (p x) refl (λ k later. found_no_other xs k y later fails)
+    where
+      on : (i : ℕ) (b : Bool) → p x ≡ b → ((k : ℕ) → find p xs ≡ None → find p (set xs k y) ≡ None) → find p (set (x ∷ xs) i y) ≡ None
+      on i true e rest = absurd (none-some x (sym none ∙ ap (λ (b : Bool). cond b (Some x) (find p xs)) e))
+      on zero false e rest = ap (λ (b : Bool). cond b (Some y) (find p xs)) fails
+          ∙ sym (ap (λ (b : Bool). cond b (Some x) (find p xs)) e) ∙ none
+      on (suc k) false e rest = ap (λ (b : Bool). cond b (Some x) (find p (set xs k y))) e
+          ∙ rest k (sym (ap (λ (b : Bool). cond b (Some x) (find p xs)) e) ∙ none)
+
+pub still_closed : (asked : List Asked) (call : Call) (place : Option ℕ) (said : Answer) → open_of asked call.caller ≡ None
+    → open_of (slot_set asked call place (Some said) false) call.caller ≡ None
+still_closed asked call place said closed = on place
+  where
+    none : (o : Option Asked) → option_map (λ (one : Asked). one.number) o ≡ None → o ≡ None
+    none None e = refl
+    none (Some x) e = absurd (none-some x.number (sym e))
+
+    before : find (is_open_of call.caller) asked ≡ None
+    before = none (find (is_open_of call.caller) asked) closed
+
+    on : (o : Option ℕ) → open_of (slot_set asked call o (Some said) false) call.caller ≡ None
+    on None = ap (option_map (λ (one : Asked). one.number)) (found_no_more (is_open_of call.caller) asked (new_slot call (Some said) false) before refl)
+    on (Some i) = ap (option_map (λ (one : Asked). one.number)) (found_no_other (is_open_of call.caller) asked i (new_slot call (Some said) false) before refl)
 
 -- what is kept of an answer where the caller has no open call
 pub kept_answer : (asked new : List Asked) (call : Call) (said : Answer) → open_of asked call.caller ≡ None

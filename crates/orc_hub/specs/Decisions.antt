@@ -9,11 +9,10 @@ use Rattle.orc_datastore.specs.Next.{invalid}
 use Rattle.orc_disk.specs.Meanings.{DiskMeaning}
 use Rattle.orc_journal.specs.declared.entry.Entry.TheVariants as entry
 use Rattle.orc_rules.specs.Asked.{answered_at}
-use Rattle.orc_rules.specs.Due.{is_decision_due, is_entry_due, least_due}
+use Rattle.orc_rules.specs.Due.{is_decision_due, least_due}
 use Rattle.orc_rules.specs.Hubs.{answered, hub_told}
 use Rattle.orc_rules.specs.Transactions.{is_other, is_settling}
 use Rattle.orc_rules.specs.Verdicts.{verdict}
-use Rattle.orc_rules.specs.declared.duty.Duty.{Duty}
 use Rattle.orc_rules.specs.declared.transaction.Phase.TheVariants as phase
 use Rattle.orc_rules.specs.declared.transaction.Transaction.{Transaction}
 use Rattle.orc_state.specs.Commits.{IsCommitted}
@@ -23,10 +22,6 @@ use Rattle.orc_hub.specs.Writes.{HasBroken, HasNoRoom, HasWritten}
 use Rattle.orc_hub.specs.declared.hub.Decided.{Decided}
 use Rattle.orc_hub.specs.declared.hub.Decided.TheVariants as decided
 use Rattle.orc_hub.specs.declared.hub.Hub.{Hub}
-
--- something is due for a transaction, and this is its number
-abbrev pub IsDueAs : List Duty → ℕ → Transaction → Type 0
-IsDueAs duties t it = (it.t ≡ t) × (is_entry_due duties it ≡ true)
 
 -- this caller and number get this answer
 abbrev pub answered_to : List ℕ × ℕ → Answer → Decided

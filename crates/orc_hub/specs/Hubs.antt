@@ -3,7 +3,7 @@ use Rattle.std.specs.Prelude.{◌≡◌, ◌⊎◌, ℕ, Bool, true, false, List
 use Rattle.orc_call.specs.declared.answer.Why.{Why}
 use Rattle.orc_rules.specs.Hubs.{Hub as HubState}
 use Rattle.orc_hub.specs.declared.hub.Hub.{Hub}
-use Rattle.orc_hub.specs.Numbered.{is_given}
+use Rattle.orc_hub_parts.specs.Numbered.{is_given}
 
 -- the record that the rules of a network speak of
 abbrev pub record_of : {D : Type 0} → Hub D → HubState

@@ -1,13 +1,11 @@
 -- What is kept of the hub by each call.
-use Rattle.std.specs.Prelude.{◌≡◌, ◌⊎◌, ℕ, true, false, List, Option, ◌++◌, All, length, slice_get}
+use Rattle.std.specs.Prelude.{◌≡◌, ℕ, true, false, List, Option, ◌++◌, All, length, slice_get}
 use Rattle.std.specs.declared.option.Option.TheVariants.{Some}
 use Rattle.orc_call.specs.declared.answer.RecFault.{RecFault}
 use Rattle.orc_call.specs.declared.call.Call.{Call}
 use Rattle.orc_decls.specs.Declarations.{AreDecls}
 use Rattle.orc_disk.specs.Meanings.{DiskMeaning}
 use Rattle.orc_journal.specs.Committed.{history_of}
-use Rattle.orc_journal.specs.Entries.{number_of}
-use Rattle.orc_journal.specs.Laws.{IsUnnamed}
 use Rattle.orc_journal.specs.declared.entry.Entry.{Entry}
 use Rattle.orc_recover.specs.Menders.{MenderState}
 use Rattle.orc_rules.specs.Kept.{EachPreparing, HubKept}
@@ -18,16 +16,9 @@ use Rattle.orc_rules.specs.declared.transaction.Phase.TheVariants.{Left}
 use Rattle.orc_rules.specs.declared.transaction.Transaction.{Transaction}
 use Rattle.orc_rules.specs.declared.transaction.Waiting.{Waiting}
 use Rattle.orc_state.specs.States.{IsStateUnder}
-use Rattle.orc_hub.specs.Logs.{IsLog}
+use Rattle.orc_hub_parts.specs.Logs.{IsLog}
+use Rattle.orc_hub_parts.specs.Numbered.{AreNumbers, is_given}
 use Rattle.orc_hub.specs.declared.hub.Hub.{Hub}
-use Rattle.orc_hub.specs.declared.numbers.Numbers.{Numbers}
-use Rattle.orc_hub.specs.Numbered.{is_given, is_noted}
-
--- the number of each entry was noted as the journal was opened, or given since; and each that was noted is an entry's
-pub record AreNumbers (numbers : Numbers) (entries : List Entry) : Type 0 where
-  pub taken : All (λ entry. (is_noted numbers (number_of entry) ≡ true)
-      ⊎ (is_given numbers (number_of entry) ≡ true)) entries
-  pub noted : (t : ℕ) → is_noted numbers t ≡ true → IsUnnamed entries t → ⊥
 
 -- the open call of the one who asked at this place has this caller and number
 pub record IsAsker (asked : List Asked) (place : ℕ) (call : Call) : Type 0 where

@@ -1,8 +1,4 @@
-pub mod Numbered
-pub mod Logs
-pub mod Askers
 pub mod Orders
-pub mod inside
 pub mod Hubs
 pub mod Keeps
 pub mod Writes

@@ -15,7 +15,7 @@ use Rattle.orc_rules.specs.declared.duty.Duty.{Duty}
 use Rattle.orc_rules.specs.declared.duty.Duty.TheVariants as duty
 use Rattle.orc_hub.specs.Writes.{HasBroken, HasNoRoom, HasWritten}
 use Rattle.orc_hub.specs.declared.hub.Hub.{Hub}
-use Rattle.orc_hub.specs.declared.log.Unsettled.{Unsettled}
+use Rattle.orc_hub_parts.specs.declared.log.Unsettled.{Unsettled}
 
 -- the Intent of the transaction names the device
 abbrev pub names_device : ℕ → Unsettled → Bool

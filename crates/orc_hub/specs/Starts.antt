@@ -1,27 +1,19 @@
 -- Starting over the entries of a journal.
-use Rattle.std.specs.Prelude.{◌≡◌, ℕ, ◌+◌, Bool, true, false, List, [], Some, None, Option, length, map, take, slice_get}
+use Rattle.std.specs.Prelude.{◌≡◌, ℕ, ◌+◌, Bool, true, false, List, Some, None, Option, length, map, take}
 use Rattle.orc_call.specs.declared.answer.Why.{Why}
 use Rattle.orc_call.specs.declared.answer.Why.TheVariants.{Recovered}
-use Rattle.orc_datastore.specs.Legal.{IsLegal}
 use Rattle.orc_decls.specs.declared.declarations.Decls.{Decls}
 use Rattle.orc_journal.specs.Committed.{history_of}
 use Rattle.orc_journal.specs.Journals.{journal_bytes}
 use Rattle.orc_journal.specs.Opened.{OpenJournal}
 use Rattle.orc_journal.specs.declared.entry.Entry.{Entry}
-use Rattle.orc_journal.specs.declared.entry.Entry.TheVariants.{Decide}
 use Rattle.orc_rules.specs.Worlds.{declared, new_hub}
 use Rattle.orc_rules.specs.declared.duty.Duty.TheVariants.{Free}
+use Rattle.orc_hub_parts.specs.Pasts.{IsIllegalDecide}
 use Rattle.orc_hub.specs.Hubs.{record_of}
 use Rattle.orc_hub.specs.declared.hub.Hub.{Hub}
 use Rattle.orc_hub.specs.declared.starting.StartFault.{StartFault}
 use Rattle.orc_hub.specs.declared.starting.StartFault.TheVariants as fault
-
--- the entry at this place is a Decide that makes the history illegal, which is legal without it
-pub record IsIllegalDecide (decls : Decls) (entries : List Entry) (place : ℕ) : Type 0 where
-  pub t : ℕ
-  pub decide : slice_get entries place ≡ Some (Decide t)
-  pub before : IsLegal decls (history_of (take place entries))
-  pub illegal : IsLegal decls (history_of (take (place + 1) entries)) → ⊥
 
 -- Why these entries make no hub: the n-th decided call isn't legal, whose Decide stands at this offset; want of memory is
 -- free.

@@ -10,12 +10,12 @@ use Rattle.orc_datastore.specs.declared.plan.Plan.{Plan}
 use Rattle.orc_rules.specs.Asked.{KeepsAnswer, open_of, slot_of, with_open}
 use Rattle.orc_rules.specs.Worlds.{AnswersSubmission, IsNumberedEntry}
 use Rattle.orc_rules.specs.declared.transaction.Waiting.{Waiting}
-use Rattle.orc_hub.specs.Askers.{opened_at}
+use Rattle.orc_hub_parts.specs.Askers.{opened_at}
 use Rattle.orc_hub.specs.Hubs.{record_of}
 use Rattle.orc_hub.specs.declared.hub.Hub.{Hub}
 use Rattle.orc_hub.specs.declared.hub.Submitted.{Submitted}
 use Rattle.orc_hub.specs.declared.hub.Submitted.TheVariants as submitted
-use Rattle.orc_hub.specs.Numbered.{GivesNumber, IsLeastFree}
+use Rattle.orc_hub_parts.specs.Numbered.{GivesNumber, IsLeastFree}
 
 -- The answer to a call whose caller and number an entry has: that entry again where the call is equal, else that the
 -- number is taken.

@@ -4,7 +4,7 @@ use Rattle.orc_disk.specs.Meanings.{DiskMeaning}
 use Rattle.orc_journal.specs.Appends.{HasAppended, HasFailed, IsTooLong, LeavesBeforeOrAfter}
 use Rattle.orc_journal.specs.declared.entry.Entry.{Entry}
 use Rattle.orc_rules.specs.declared.asked.Asked.{Asked}
-use Rattle.orc_hub.specs.Logs.{noted}
+use Rattle.orc_hub_parts.specs.Logs.{noted}
 use Rattle.orc_hub.specs.declared.hub.Hub.{Hub}
 
 module _ {D : Type 0} where

@@ -8,16 +8,16 @@ ghost use Rattle.orc_rules.specs.Fits.{first_stale};
 ghost use Rattle.orc_rules.specs.Standing.{IsWaiting};
 ghost use Rattle.orc_state.specs.States.{IsStateUnder};
 ghost use Rattle.orc_hub.specs.Admits.{Admits, AdmitsOne, HasFields, TurnsAway, WritesIntent, WritesIntentOf, waiting_name};
-ghost use Rattle.orc_hub.specs.Askers.{IsOpenAt, named_at};
+ghost use Rattle.orc_hub_parts.specs.Askers.{IsOpenAt, named_at};
 ghost use Rattle.orc_hub.specs.Hubs.{record_of};
 ghost use Rattle.orc_hub.specs.Keeps.{IsSoundHub, KeepsHub};
 
 use crate::hub::{Admit, Hub};
 use crate::kept::each_admission_keeps;
-use crate::stale::first_stale;
 use crate::writing::twice;
 use orc_call::Answer;
 use orc_disk::Disk;
+use orc_hub_parts::first_stale;
 use orc_journal::{AppendFault, Entry};
 use orc_plans::planned_stands;
 use orc_rules::{Duty, Phase, Transaction, Waiting};

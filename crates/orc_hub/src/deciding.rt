@@ -8,19 +8,18 @@ ghost use Rattle.orc_rules.specs.Due.{is_decision_due, is_entry_due, least_due};
 ghost use Rattle.orc_rules.specs.Hubs.{answered, hub_told};
 ghost use Rattle.orc_rules.specs.Verdicts.{verdict};
 ghost use Rattle.orc_state.specs.Commits.{CommitsCall};
-ghost use Rattle.orc_hub.specs.Askers.{IsOpenAt, named_at};
+ghost use Rattle.orc_hub_parts.specs.Askers.{IsOpenAt, named_at};
 ghost use Rattle.orc_hub.specs.Decisions.{answered_to, CommitsOne, Decides, DecidesOn, GivesUp, WritesAbort, WritesDecide, WritesSettled};
 ghost use Rattle.orc_hub.specs.Hubs.{record_of, with_record};
 ghost use Rattle.orc_hub.specs.Keeps.{IsHub, IsSoundHub, KeepsHub};
 
-use crate::due::{is_settling, least_due, place_of};
-use crate::duties::tell_all;
 use crate::hub::{Decided, Hub};
 use crate::kept::each_decision_keeps;
-use crate::retiring::{come_all, leave, retire_all};
-use crate::verdict::verdict;
 use orc_call::Answer;
 use orc_disk::Disk;
+use orc_hub_parts::{
+    come_all, is_settling, least_due, leave, place_due, retire_all, tell_all, verdict,
+};
 use orc_journal::{AppendFault, Entry};
 use orc_plans::{plan_stands, unclashed_stands};
 use orc_rules::Phase;
@@ -61,7 +60,7 @@ impl<D: Disk> Hub<D> {
         requires due { least_due self.old.duties self.old.active ≡ Some t }
         ensures { Decides D.disk self.old result self.new }
     {
-        match place_of(self.duties.as_slice(), self.active.as_slice(), t) {
+        match place_due(self.duties.as_slice(), self.active.as_slice(), t) {
             Some(place) => self.decide_at(alloc, place),
             None => unreachable!(),
         }

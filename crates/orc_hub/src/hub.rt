@@ -1,12 +1,10 @@
 //! The hub, and what one who looks at it sees.
 ghost use Rattle.std.specs.Prelude.{◌≡◌};
 
-use crate::askers::Askers;
-use crate::log::Log;
-use crate::numbers::Numbers;
 use orc_call::{Answer, RecFault, Why};
 use orc_decls::Decls;
 use orc_disk::{Disk, StopDisk};
+use orc_hub_parts::{Askers, Log, Numbers};
 use orc_queue::Queue;
 use orc_rules::{Duty, Transaction, Waiting};
 use orc_state::State;

@@ -3,18 +3,18 @@ ghost use Rattle.std.specs.Prelude.{◌≡◌, ◌↔◌, ◌<◌, false, IfOk, 
 ghost use Rattle.std.specs.List.{list_all};
 ghost use Rattle.std.specs.Option.{option_map};
 ghost use Rattle.orc_hub.specs.Admits.{IsNextToAdmit, NoneFits};
-ghost use Rattle.orc_hub.specs.Askers.{answer_of};
+ghost use Rattle.orc_hub_parts.specs.Askers.{answer_of};
 ghost use Rattle.orc_rules.specs.Due.{least_due};
 ghost use Rattle.orc_rules.specs.Worlds.{IsIdle, is_over};
 ghost use Rattle.orc_state.specs.States.{IsSnapshotAt};
 ghost use Rattle.orc_hub.specs.Hubs.{record_of};
 ghost use Rattle.orc_hub.specs.Keeps.{IsSoundHub};
 
-use crate::due::least_due;
 use crate::hub::Hub;
 use orc_call::Answer;
 use orc_datastore::Snapshot;
 use orc_disk::Disk;
+use orc_hub_parts::least_due;
 use orc_rules::{Phase, Transaction, Waiting};
 use orc_text::{Memory, Text};
 use std::alloc::Global;

@@ -4,11 +4,11 @@ ghost use Rattle.orc_rules.specs.Hubs.{due_on, has_met_failure};
 ghost use Rattle.orc_hub.specs.Hubs.{record_of};
 ghost use Rattle.orc_hub.specs.Orders.{IsEditDue};
 
-use crate::duty::next_op;
 use crate::hub::Hub;
 use orc_call::RecFault;
 use orc_device::Op;
 use orc_disk::Disk;
+use orc_hub_parts::next_op;
 use orc_text::Memory;
 use std::alloc::Global;
 

@@ -12,9 +12,9 @@ ghost use Rattle.orc_hub.specs.Mends.{EndsMending, SettlesAll, SettlesOne, begun
 
 use crate::hub::Hub;
 use crate::kept::{each_mending_begun_keeps, each_mending_ended_keeps};
-use crate::log::Unsettled;
 use orc_call::RecFault;
 use orc_disk::Disk;
+use orc_hub_parts::Unsettled;
 use orc_journal::{AppendFault, Entry};
 use orc_recover::Mender;
 use orc_rules::Duty;

@@ -7,13 +7,12 @@ ghost use Rattle.orc_hub.specs.Hubs.{record_of, with_record};
 ghost use Rattle.orc_hub.specs.Orders.{is_awaited};
 ghost use Rattle.orc_hub.specs.Keeps.{KeepsHub};
 
-use crate::duties::{mend_fault, take_on};
 use crate::hub::Hub;
 use crate::kept::each_report_keeps;
-use crate::retiring::retire_all;
 use orc_call::RecFault;
 use orc_device::Reply;
 use orc_disk::Disk;
+use orc_hub_parts::{mend_fault, retire_all, take_on};
 use orc_recover::Mend;
 use orc_text::Row;
 use std::alloc::Global;

@@ -7,15 +7,13 @@ ghost use Rattle.orc_journal.specs.Orders.{is_ordered};
 ghost use Rattle.orc_rules.specs.Worlds.{declared};
 ghost use Rattle.orc_hub.specs.Keeps.{IsHub};
 ghost use Rattle.orc_hub.specs.Starts.{HasStarted, IsStartFault, known_at_start};
-ghost use Rattle.orc_hub.specs.inside.Pasts.{IsPast};
+ghost use Rattle.orc_hub_parts.specs.Pasts.{IsPast};
 
-use crate::askers::Askers;
 use crate::hub::Hub;
-use crate::log::Log;
-use crate::past::{Past, PastFault};
 use orc_call::Why;
 use orc_decls::Decls;
 use orc_disk::Disk;
+use orc_hub_parts::{Askers, Log, Past, PastFault};
 use orc_journal::{Entry, Journal};
 use orc_queue::Queue;
 use orc_rules::Duty;

@@ -11,7 +11,7 @@ ghost use Rattle.orc_hub.specs.Hubs.{record_of};
 ghost use Rattle.orc_hub.specs.Keeps.{IsHub, IsSoundHub, KeepsHub};
 ghost use Rattle.orc_hub.specs.Submits.{AnswersAgain, AnswersNow, Queues, Submits, Waits};
 ghost use Rattle.orc_hub.specs.declared.hub.Submitted.TheVariants as submitted;
-ghost use Rattle.orc_hub.specs.Numbered.{IsLeastFree};
+ghost use Rattle.orc_hub_parts.specs.Numbered.{IsLeastFree};
 
 use crate::hub::{Hub, Submitted};
 use crate::kept::each_submission_keeps;
@@ -175,6 +175,7 @@ impl<D: Disk> Hub<D> {
         last: Option<Answer>,
     ) -> Submitted
         requires name { name ≡ call.caller }
+        requires closed { open_of self.old.askers call.caller ≡ None }
         requires slot { slot_of self.old.askers call ≡ Some asker }
         ensures { Waits self.old call plan asker last result self.new }
     {
@@ -197,6 +198,7 @@ impl<D: Disk> Hub<D> {
     // Lets a call wait, whose number is the least that is free.
     fn wait(&mut self, alloc: Global, it: Waiting, name: Text, last: Option<Answer>) -> Submitted
         requires name { name ≡ it.call.caller }
+        requires closed { open_of self.old.askers it.call.caller ≡ None }
         requires slot { slot_of self.old.askers it.call ≡ Some it.asker }
         requires number { IsLeastFree self.old.numbers it.t }
         ensures { Waits self.old it.call it.plan it.asker last result self.new }

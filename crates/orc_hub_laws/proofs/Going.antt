@@ -20,7 +20,7 @@ use Rattle.orc_journal.specs.declared.entry.Entry.{Entry}
 use Rattle.orc_hub.specs.Hubs.{record_of}
 use Rattle.orc_hub.specs.Keeps.{IsHub}
 use Rattle.orc_hub.specs.declared.hub.Hub.{Hub}
-use Rattle.orc_hub.specs.declared.log.Log.{Log}
+use Rattle.orc_hub_parts.specs.declared.log.Log.{Log}
 use Rattle.orc_rules.specs.Events.{DoesUnderHub, Steps, seen_failing}
 use Rattle.orc_rules.specs.Journals.{AppendsRow, Journal, entries_read, history_read}
 use Rattle.orc_rules.specs.Worlds.{Setting, World, stopped, without_hub}
@@ -207,6 +207,10 @@ module _ {D : Type 0} (here : Setting D) (laws : DiskLaws here.disk) where
               disk = ap (λ (j : OpenJournal (Stopping D)). j.disk.inner) (sym same);
               holds = row.outlives.holds;
             },
-            row.ends.1,
-            (row.ends.2.0, row.ends.2.3),
+            record_of old,
+            entry ∷ [],
+            next,
+            own.is,
+            does,
+            in_world (entry ∷ []) (appended.Full len) journal row,
           )

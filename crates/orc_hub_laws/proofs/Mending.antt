@@ -29,8 +29,8 @@ use Rattle.orc_hub.specs.Laws.{MendingBegunKeeps, MendingEndedKeeps}
 use Rattle.orc_hub.specs.Mends.{EndsMending, SettlesAll, SettlesOne, begun_on, begun_to_mend, mending_ended, resolved_on, row_ended, settled_ones}
 use Rattle.orc_hub.specs.Mends.SettlesAll.{fails, none_left, one_less}
 use Rattle.orc_hub.specs.declared.hub.Hub.{Hub}
-use Rattle.orc_hub.specs.declared.log.Log.{Log}
-use Rattle.orc_hub.specs.declared.log.Unsettled.{Unsettled}
+use Rattle.orc_hub_parts.specs.declared.log.Log.{Log}
+use Rattle.orc_hub_parts.specs.declared.log.Unsettled.{Unsettled}
 use Rattle.orc_hub.proofs.Ending.{behind_first}
 use Rattle.orc_io.specs.Counts.{Rose}
 use Rattle.orc_path.specs.Configurations.{Config}
@@ -347,8 +347,12 @@ module _ {D : Type 0} (here : Setting D) (laws : DiskLaws here.disk) (order : Ke
               disk = f.disk ∙ sym (ap (λ (h : Hub (Stopping D)). h.log.journal.disk.inner) same);
               holds = f.row_so.outlives.holds;
             },
-            f.row_so.ends.1,
-            (f.row_so.ends.2.0, f.row_so.ends.2.3),
+            record_of old,
+            row,
+            ended,
+            own.is,
+            does,
+            in_world here laws world old own row (appended.Full len) f.journal f.row_so,
           )
 
       ill : (result : Result Unit RecFault) (met : RecFault) (behind : Hub (Stopping D)) → result ≡ Err met → SettlesAll (inside here.disk) old (Err met) behind

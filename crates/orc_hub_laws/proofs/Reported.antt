@@ -14,7 +14,7 @@ use Rattle.orc_journal.specs.Opened.{Holds}
 use Rattle.orc_hub.specs.Hubs.{record_of, with_record}
 use Rattle.orc_hub.specs.Keeps.{IsHub}
 use Rattle.orc_hub.specs.Laws.{ReportKeeps}
-use Rattle.orc_hub.specs.Logs.{IsLog}
+use Rattle.orc_hub_parts.specs.Logs.{IsLog}
 use Rattle.orc_hub.specs.declared.hub.Hub.{Hub}
 use Rattle.orc_rules.specs.Events.{DoesUnderHub, Steps, performed, unsent}
 use Rattle.orc_print.specs.Printed.{is_end_among}

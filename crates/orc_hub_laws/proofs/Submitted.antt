@@ -18,7 +18,7 @@ use Rattle.orc_journal.specs.declared.entry.Entry.{Entry}
 use Rattle.orc_hub.specs.Hubs.{record_of}
 use Rattle.orc_hub.specs.Keeps.{IsAsker, IsHub}
 use Rattle.orc_hub.specs.Laws.{SubmitKeeps}
-use Rattle.orc_hub.specs.Numbered.{is_given}
+use Rattle.orc_hub_parts.specs.Numbered.{is_given}
 use Rattle.orc_hub.specs.Submits.{HasKept, IsFree, IsQueued, Submits}
 use Rattle.orc_hub.specs.declared.hub.Hub.{Hub}
 use Rattle.orc_hub.specs.declared.hub.Submitted.{Submitted}

@@ -14,9 +14,9 @@ use Rattle.orc_journal.specs.Orders.{are_ordered, follows, is_ordered}
 use Rattle.orc_journal.specs.declared.entry.Entry.{Entry}
 use Rattle.orc_journal.specs.declared.entry.Entry.TheVariants.{Intent, Decide, Abort, Settled}
 use Rattle.orc_journal.proofs.Orderings.{is_ordered-push}
-use Rattle.orc_hub.specs.Logs.{decided_by, noted, place_for, placed_in, settled_by, unsettled_by}
+use Rattle.orc_hub_parts.specs.Logs.{decided_by, noted, place_for, placed_in, settled_by, unsettled_by}
 use Rattle.orc_hub.specs.Mends.{names_device, resolved_on}
-use Rattle.orc_hub.specs.declared.log.Unsettled.{Unsettled}
+use Rattle.orc_hub_parts.specs.declared.log.Unsettled.{Unsettled}
 use Rattle.orc_hub.proofs.Unsettling.{AreApart, all_decided, all_more, all_settled, both, gone, same_number, settled_cons}
 use Rattle.orc_rules.specs.Cells.{updated_at}
 use Rattle.orc_rules.specs.Network.{Noted}

@@ -1,5 +1,6 @@
 -- A world under a real hub, and what becomes of both.
-use Rattle.std.specs.Prelude.{◌≡◌, ◌⊎◌, ℕ, ◌+◌, ◌<◌, Bool, true, false, Option, None, Some, List, [], Err, IsTrue, length}
+use Rattle.std.specs.Prelude.{◌≡◌, ◌⊎◌, ℕ, Bool, true, false, Option, None, Some, List, [], Err, IsTrue, length}
+use Rattle.orc_append.specs.declared.outcome.Appended.TheVariants as appended
 use Rattle.orc_call.specs.declared.answer.RecFault.{RecFault}
 use Rattle.orc_decls.specs.declared.declarations.Decls.{Decls}
 use Rattle.orc_device.specs.Nodes.{DeviceKind}
@@ -9,12 +10,11 @@ use Rattle.orc_hub.specs.Hubs.{record_of}
 use Rattle.orc_hub.specs.Keeps.{IsHub}
 use Rattle.orc_hub.specs.declared.hub.Hub.{Hub}
 use Rattle.orc_io.specs.Counts.{Rose}
-use Rattle.orc_journal.specs.Entries.{entry_bytes}
-use Rattle.orc_journal.specs.Journals.{journal_length}
 use Rattle.orc_journal.specs.declared.entry.Entry.{Entry}
 use Rattle.orc_print.specs.Printed.{is_end_among}
-use Rattle.orc_rules.specs.Events.{Comes, seen_failing}
-use Rattle.orc_rules.specs.Journals.{HoldsEntries, Journal}
+use Rattle.orc_rules.specs.Events.{Comes, DoesUnderHub, seen_failing}
+use Rattle.orc_rules.specs.Hubs.{Hub as HubState}
+use Rattle.orc_rules.specs.Journals.{AppendsRow, HoldsEntries, Journal}
 use Rattle.orc_rules.specs.Laws.{setting}
 use Rattle.orc_rules.specs.Worlds.{Setting, World, stopped, without_hub}
 use Rattle.orc_rules.specs.declared.event.Event.{Event}
@@ -81,8 +81,9 @@ module _ {D : Type 0} (here : Setting D) where
   -- An entry of the event had no room in the journal, which has so many bytes. The hub is down, and nothing is seen.
   abbrev pub LacksRoomFor : World D → Event → ℕ → Hub (Stopping D) → Type 0
   LacksRoomFor old meant len new = (new.down ≡ true) × (gone : GoesDown old (without_hub old) meant None new)
-      × (len ≡ journal_length here.decls.text gone.journal.synced)
-      × ((entry : Entry) × (here.limit < len + length (entry_bytes entry) + 1))
+      × (hub : HubState) × (row : List Entry) × (next : World D) × (old.hub ≡ Some hub)
+      × DoesUnderHub here old hub meant row next
+      × AppendsRow here.disk here.decls.text here.limit old.journal row (appended.Full len) gone.journal
 
 module _ {D : Type 0} (here : Setting D) where
   -- The journal of a world in which no hub is up was to be opened, and wasn't: it stands on this disk now, and nothing

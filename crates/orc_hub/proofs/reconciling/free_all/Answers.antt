@@ -1,5 +1,5 @@
 use Rattle.orc_rules.specs.Events.{mender_freed}
-use Rattle.orc_hub.proofs.Told.{told_more}
+use Rattle.orc_hub_parts.proofs.Told.{told_more}
 use Rattle.orc_hub.proofs.reconciling.free_all.Goals as goal
 
 pub loop-duty-preserved : goal.loop-duty-preserved

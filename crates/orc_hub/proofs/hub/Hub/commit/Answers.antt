@@ -7,12 +7,12 @@ use Rattle.orc_rules.specs.declared.transaction.Transaction.{Transaction}
 use Rattle.orc_state.specs.Commits.{CommitsCall}
 use Rattle.orc_state.specs.States.{State}
 use Rattle.orc_text.specs.declared.memory.Memory.{Memory}
-use Rattle.orc_hub.specs.Askers.{IsOpenAt}
+use Rattle.orc_hub_parts.specs.Askers.{IsOpenAt}
 use Rattle.orc_hub.specs.Decisions.{CommitsOne, GivesUp}
 use Rattle.orc_hub.specs.declared.hub.Hub.{Hub}
 use Rattle.orc_hub.proofs.Commits.{committed, given_up}
 use Rattle.orc_hub.proofs.DecisionDue.{asks, named_there, open_there}
-use Rattle.orc_hub.proofs.Places.{at_there, of_there, read_there}
+use Rattle.orc_hub_parts.proofs.Places.{at_there, of_there, read_there}
 use Rattle.orc_hub.proofs.hub.Hub.commit.Goals as goal
 
 pub write_decide-requires-clause-asks : goal.write_decide-requires-clause-asks

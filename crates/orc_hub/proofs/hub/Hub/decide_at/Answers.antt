@@ -5,7 +5,7 @@ use Rattle.orc_rules.specs.declared.transaction.Transaction.{Transaction}
 use Rattle.orc_hub.specs.Decisions.{CommitsOne, DecidesOn, GivesUp}
 use Rattle.orc_hub.proofs.Commits.{decision_due, given_up}
 use Rattle.orc_hub.proofs.DecisionDue.{asks, named_there, open_there}
-use Rattle.orc_hub.proofs.Places.{at_there, of_there, read_there}
+use Rattle.orc_hub_parts.proofs.Places.{at_there, of_there, read_there}
 use Rattle.orc_hub.proofs.hub.Hub.decide_at.Goals as goal
 
 pub abort-requires-clause-asks : goal.abort-requires-clause-asks

@@ -1,5 +1,5 @@
 use Rattle.std.proofs.Common.{List, All, subst}
-use Rattle.orc_hub.specs.Decisions.{IsDueAs}
+use Rattle.orc_hub_parts.specs.Due.{IsDueAs}
 use Rattle.orc_rules.specs.declared.duty.Duty.{Duty}
 use Rattle.orc_rules.specs.declared.transaction.Transaction.{Transaction}
 use Rattle.orc_hub.proofs.Dues.{is_found}

@@ -5,7 +5,7 @@ use Rattle.orc_rules.specs.declared.transaction.Transaction.{Transaction}
 use Rattle.orc_state.specs.Checks.{CanCommit}
 use Rattle.orc_state.specs.Commits.{CommitsCall}
 use Rattle.orc_hub.proofs.DecisionDue.{ready}
-use Rattle.orc_hub.proofs.Places.{at_there, read_there}
+use Rattle.orc_hub_parts.proofs.Places.{at_there, read_there}
 use Rattle.orc_hub.proofs.hub.Hub.enter.Goals as goal
 
 pub commit-requires-clause-ready : goal.commit-requires-clause-ready

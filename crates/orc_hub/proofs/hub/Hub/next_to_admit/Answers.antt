@@ -4,7 +4,7 @@ use Rattle.orc_rules.specs.declared.transaction.Transaction.{Transaction}
 use Rattle.orc_rules.specs.declared.transaction.Waiting.{Waiting}
 use Rattle.orc_queue.specs.Queues.{IsFirstToFit, NoneToFit}
 use Rattle.orc_hub.proofs.Admissions.{first_fits, none_fits}
-use Rattle.orc_hub.proofs.Places.{of_there}
+use Rattle.orc_hub_parts.proofs.Places.{of_there}
 use Rattle.orc_hub.proofs.hub.Hub.next_to_admit.Goals as goal
 
 pub returns-in-None : goal.returns-in-None

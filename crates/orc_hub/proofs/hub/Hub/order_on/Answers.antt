@@ -2,7 +2,7 @@ use Rattle.std.proofs.Common.{◌≡◌, List, get_or, subst}
 use Rattle.orc_rules.specs.declared.duty.Duty.{Duty}
 use Rattle.orc_hub.specs.Hubs.{record_of}
 use Rattle.orc_hub.proofs.EditsDue.{edit_due, on_err}
-use Rattle.orc_hub.proofs.Places.{there}
+use Rattle.orc_hub_parts.proofs.Places.{there}
 use Rattle.orc_hub.proofs.hub.Hub.order_on.Goals as goal
 
 pub returns-clause-memory : goal.returns-clause-memory

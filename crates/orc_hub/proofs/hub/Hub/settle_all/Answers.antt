@@ -2,7 +2,7 @@ use Rattle.std.proofs.Common.{◌≡◌, ℕ, List, [], ◌∷◌, ◌++◌, Ok,
 use Rattle.orc_journal.specs.declared.entry.Entry.TheVariants as entry
 use Rattle.orc_hub.specs.Mends.{SettlesOne}
 use Rattle.orc_hub.specs.Mends.SettlesAll.{fails, none_left, one_less}
-use Rattle.orc_hub.specs.declared.log.Unsettled.{Unsettled}
+use Rattle.orc_hub_parts.specs.declared.log.Unsettled.{Unsettled}
 use Rattle.orc_hub.proofs.Settlings.{begins, ends}
 use Rattle.orc_hub.proofs.hub.Hub.settle_all.Goals as goal
 

@@ -5,7 +5,7 @@ use Rattle.orc_journal.specs.Committed.{history_of}
 use Rattle.orc_journal.specs.Journals.{gated}
 use Rattle.orc_journal.specs.declared.entry.Entry.{Entry}
 use Rattle.orc_journal.specs.declared.entry.Entry.TheVariants.{Decide}
-use Rattle.orc_hub.specs.Starts.{IsIllegalDecide}
+use Rattle.orc_hub_parts.specs.Pasts.{IsIllegalDecide}
 use Rattle.orc_hub.proofs.AtStart.{offset_of, offset_there}
 use Rattle.orc_hub.proofs.hub.Hub.start.Goals as goal
 

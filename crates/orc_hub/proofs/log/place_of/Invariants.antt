@@ -1,6 +1,0 @@
-use Rattle.std.proofs.Common.{◌≡◌, ◌<◌, ℕ, false, get_or, nat_eq}
-use Rattle.orc_hub.specs.declared.log.Unsettled.{Unsettled}
-use Rattle.orc_hub.proofs.log.place_of.Given as goal
-
-abbrev pub invariant-loop-place : goal.invariant-loop-place
-invariant-loop-place l = (k : ℕ) (d : Unsettled) → k < l.place → nat_eq (get_or l.unsettled k d).t l.t ≡ false

@@ -1,0 +1,10 @@
+pub mod Told
+pub mod Places
+pub mod Positions
+pub mod CallSlots
+pub mod Noting
+pub mod Numbering
+pub mod Pasts
+pub mod Replayed
+pub mod Indexing
+pub mod Indexed
