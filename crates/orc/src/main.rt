@@ -11,7 +11,7 @@ use orc_disk::{Disk, FileDisk, MemDisk};
 use orc_explain::explanation;
 use orc_findings::finding;
 use orc_io::{KeptSource, Source, StdSink, StdSource};
-use orc_run::{Stop, orchestrate, status};
+use orc_run::{Done, Stop, orchestrate, status};
 use orc_text::{Memory, Text};
 use orc_words::{Command, WordsFault, command_of, journal_word, usage_text};
 use std::alloc::Global;
@@ -25,6 +25,11 @@ const JOURNAL_ROOM: u64 = 67_108_864;
 // The status where the journal's file can't be used.
 const FILE_STATUS: u8 = 14;
 
+// What is said of devices where a run goes on from a journal.
+const OUT_OF_STEP: &str =
+    "The journal wasn't empty, and devices began at their declared bases: each is \
+                           out of step with its history until a line `reconcile`.";
+
 // The words are looked at before the file that they name is opened.
 fn main(rt: HostRuntime) -> ExitCode {
     let words = match words(&rt) {
@@ -35,18 +40,18 @@ fn main(rt: HostRuntime) -> ExitCode {
     match command_of(rt.alloc(), words) {
         Ok(command) => match journal_word(words) {
             Some(name) => run_over_file(&rt, words, &command, name),
-            None => run_in_memory(&rt, words),
+            None => run_in_memory(&rt, words, &command),
         },
         Err(WordsFault::Usage) => ends(&rt, words, &Stop::Usage),
         Err(WordsFault::Memory) => ends(&rt, words, &Stop::Memory),
     }
 }
 
-// Does what the words ask for over the journal in the file of this name, which only `run` makes. It says where the
+// Does what the words ask for over the journal in the file of this name, which only `run` and `gen` make. It says where the
 // journal begins there: over a misspelt name nothing is known of earlier calls, and each is done anew. A file that was
 // made and in which no journal began is taken away.
 fn run_over_file(rt: &HostRuntime, words: &[String], command: &Command, name: &str) -> ExitCode {
-    let makes = matches!(command, Command::Run);
+    let makes = matches!(command, Command::Run | Command::Gen { .. });
     let journal = match journal_file(rt, name, makes) {
         Ok(journal) => journal,
         Err(error) if error.kind() == io::ErrorKind::OutOfMemory => {
@@ -57,7 +62,8 @@ fn run_over_file(rt: &HostRuntime, words: &[String], command: &Command, name: &s
     if makes && journal.is_empty {
         let _ = eprintln!(rt; "The journal in \"{name}\" is new: its history is empty.");
     }
-    let (status, mut disk) = run(rt, words, FileDisk::over(journal.file));
+    let recovers = matches!(command, Command::Run) && !journal.is_empty;
+    let (status, mut disk) = run(rt, words, command, recovers, FileDisk::over(journal.file));
     if journal.is_made && matches!(disk.len(), Ok(0)) {
         remove(rt, name);
     }
@@ -65,19 +71,29 @@ fn run_over_file(rt: &HostRuntime, words: &[String], command: &Command, name: &s
 }
 
 // Does what the words ask for over a journal in memory.
-fn run_in_memory(rt: &HostRuntime, words: &[String]) -> ExitCode {
+fn run_in_memory(rt: &HostRuntime, words: &[String], command: &Command) -> ExitCode {
     match journal_disk(rt.alloc()) {
-        Ok(disk) => run(rt, words, disk).0,
+        Ok(disk) => run(rt, words, command, false, disk).0,
         Err(stop) => ends(rt, words, &stop),
     }
 }
 
 // Does what the words ask for over the journal of a disk, which is handed back. A fault of the bundle is explained, unless
-// memory was wanting to keep the bundle's bytes.
-fn run<D: Disk>(rt: &HostRuntime, words: &[String], disk: D) -> (ExitCode, D) {
+// memory was wanting to keep the bundle's bytes. Where a script was run over a journal that wasn't empty, it is said that
+// devices begin at their bases.
+fn run<D: Disk>(
+    rt: &HostRuntime,
+    words: &[String],
+    command: &Command,
+    recovers: bool,
+    disk: D,
+) -> (ExitCode, D) {
     let mut source = KeptSource::new(rt.alloc(), StdSource::new(rt.reader()));
     let mut sink = StdSink::new(io::writer(rt));
     let ended = orchestrate(rt.alloc(), words, &mut source, &mut sink, disk);
+    if recovers && is_script_run(&ended.status) {
+        let _ = eprintln!(rt; "{OUT_OF_STEP}");
+    }
     let status = match &ended.status {
         Ok(_) => ExitCode::from(status(&ended.status)),
         Err(Stop::Bundle { line, rule }) => {
@@ -91,12 +107,32 @@ fn run<D: Disk>(rt: &HostRuntime, words: &[String], disk: D) -> (ExitCode, D) {
         Err(stop) => {
             let status = ends(rt, words, stop);
             if let Stop::Foreign { at } = stop {
-                tell_line(rt, &source, *at);
+                if reads_bundle(command) {
+                    tell_line(rt, &source, *at);
+                }
             }
             status
         }
     };
     (status, ended.disk)
+}
+
+// Whether the command reads a bundle, and doesn't make one.
+fn reads_bundle(command: &Command) -> bool {
+    match command {
+        Command::Gen { .. } => false,
+        _ => true,
+    }
+}
+
+// Whether the journal was opened, as far as the end of the run tells that.
+fn is_script_run(ended: &Result<Done, Stop>) -> bool {
+    match ended {
+        Ok(Done) => true,
+        Err(Stop::WriteFault) => true,
+        Err(Stop::Full { .. }) => true,
+        Err(_) => false,
+    }
 }
 
 // Writes in which line of the bundle the declarations differ from a journal's, unless memory was wanting to keep its bytes.

@@ -18,6 +18,7 @@ stop 1 0
 stop
 show r1
 recover
+reconcile
 call al 4
 delete a
 end

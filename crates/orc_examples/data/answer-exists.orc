@@ -8,17 +8,17 @@ literal a
 write r1 /if:port[e0]/mtu = 9000
 end
 settle
+# The answer comes at once, so no `settle` is needed behind it.
 call al 2
 literal a
 end
-settle
+show r1
 # Nothing of a refused call is done, whichever of its actions is at fault; and its number is free.
 call al 2
 literal b
 write r1 /if:port[e1]/mtu = 9000
 literal a
 end
-settle
 show r1
 call al 2
 delete a

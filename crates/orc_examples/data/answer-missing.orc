@@ -8,10 +8,11 @@ literal a
 write r1 /if:port[e0]/mtu = 9000
 end
 settle
+# The answer comes at once, so no `settle` is needed behind it.
 call al 2
 delete aa
 end
-settle
+history
 call al 2
 delete a
 end

@@ -13,6 +13,7 @@ write pe1 /if:port[ge-0/0/1]/mtu = 9000
 end
 settle
 recover
+reconcile
 call noc 1
 literal acme
 write pe1 /if:port[ge-0/0/1]/mtu = 9000
@@ -25,6 +26,7 @@ delete acme
 end
 settle
 recover
+reconcile
 call noc 2
 delete acme
 end

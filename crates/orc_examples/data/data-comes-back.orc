@@ -31,6 +31,7 @@ end
 settle
 data
 recover
+reconcile
 data
 stop 8 1
 call al 2

@@ -33,6 +33,7 @@ unbase r2 /if:desc
 end
 settle
 recover
+reconcile
 meta r1 /if:port[e0]/mtu
 
 # A call that is sent again is not done twice; other actions have another number.
@@ -54,6 +55,7 @@ unbase r1 /if:port[e1]
 end
 settle
 recover
+reconcile
 show r2
 call al 3
 delete a

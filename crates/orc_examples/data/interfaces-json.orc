@@ -57,6 +57,7 @@ show f1
 stop
 json f1
 recover
+reconcile
 call al 2
 delete clock
 delete ports

@@ -28,6 +28,7 @@ literal uplink-at-new
 end
 settle
 recover
+reconcile
 show old
 call ops 2
 delete uplink-at-old
@@ -44,6 +45,7 @@ write new /acl:list[customers]/rule[20]/permit = 2001:db8:4711::/48
 end
 settle
 recover
+reconcile
 call ops 3
 literal uplink-at-new
 write new /if:interface[xe0]/description = Hooli, circuit 4711

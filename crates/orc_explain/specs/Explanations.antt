@@ -19,9 +19,10 @@ use Rattle.orc_decls.specs.declared.rule.Rule.TheVariants as rule
 unfoldable pub known_words : List ℕ
 known_words =
     codes "A line begins with `device`, `base`, `rule`, `data`, `yang`, `datamodel`, `devicetype`, `template` or "
-    ++ codes "`script`; below `script` with `show`, `json`, `meta`, `data`, `call`, `settle`, `stop`, `recover` or "
-    ++ codes "`history`; within a call with `create`, `modify`, `redeploy`, `literal`, `write`, `delete`, `set`, "
-    ++ codes "`unset`, `base`, `unbase` or `end`."
+    ++ codes "`script`; below `script` with `begin`, `call`, `admit`, `step`, `decide`, `settle`, `tick`, `restart`, "
+    ++ codes "`fault`, `stop`, `recover`, `reconcile`, `show`, `json`, `log`, `meta`, `data` or `history`; within a "
+    ++ codes "call with `create`, `modify`, `redeploy`, `literal`, `write`, `delete`, `set`, `unset`, `base`, "
+    ++ codes "`unbase` or `end`."
 
 -- a line of a call, or a word that begins no line
 unfoldable pub call_line_words : Keyword → List ℕ
@@ -50,33 +51,33 @@ call_line_words keyword.Unset =
 call_line_words keyword.Unbase =
     codes "An action `unbase DEVICE PATH` stands within a call, which has 64 actions at most."
 call_line_words keyword.End =
-    codes "The line `end` ends a call that has an action, and `settle` is the next line."
+    codes "The line `end` ends a call that has an action."
 call_line_words _ = known_words
 
 -- a step that drives devices, or another line
 unfoldable pub device_line_words : Keyword → List ℕ
 device_line_words keyword.Begin =
-    codes "The step `begin CALLER` stands below the line `script`, and not within a call; it isn't served yet."
+    codes "The step `begin CALLER` stands below the line `script`, and not within a call."
 device_line_words keyword.Admit =
     codes "The step `admit` has nothing behind that word, and stands below the line `script` and not within a "
-    ++ codes "call; it isn't served yet."
+    ++ codes "call."
 device_line_words keyword.Step =
-    codes "The step `step DEVICE` stands below the line `script`, and not within a call; it isn't served yet."
+    codes "The step `step DEVICE` stands below the line `script`, and not within a call."
 device_line_words keyword.Decide =
     codes "The step `decide` has nothing behind that word, and stands below the line `script` and not within a "
-    ++ codes "call; it isn't served yet."
+    ++ codes "call."
 device_line_words keyword.Tick =
-    codes "The step `tick SECONDS` stands below the line `script`, and not within a call; it isn't served yet."
+    codes "The step `tick SECONDS` stands below the line `script`, and not within a call."
 device_line_words keyword.Restart =
-    codes "The step `restart DEVICE` stands below the line `script`, and not within a call; it isn't served yet."
+    codes "The step `restart DEVICE` stands below the line `script`, and not within a call."
 device_line_words keyword.Fault =
     codes "The step `fault DEVICE OPERATION before` or `fault DEVICE OPERATION after`, with the name of an operation "
-    ++ codes "as `log` prints it, stands below the line `script` and not within a call; it isn't served yet."
+    ++ codes "as `log` prints it, stands below the line `script` and not within a call."
 device_line_words keyword.Reconcile =
     codes "The step `reconcile` has nothing behind that word, and stands below the line `script` and not within a "
-    ++ codes "call; it isn't served yet."
+    ++ codes "call."
 device_line_words keyword.Log =
-    codes "The step `log DEVICE` stands below the line `script`, and not within a call; it isn't served yet."
+    codes "The step `log DEVICE` stands below the line `script`, and not within a call."
 device_line_words word = call_line_words word
 
 -- a step of the script, or another line

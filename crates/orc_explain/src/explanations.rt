@@ -314,35 +314,35 @@ fn device_line_words(word: Keyword) -> &'static str
 {
     match word {
         Keyword::Begin => {
-            "The step `begin CALLER` stands below the line `script`, and not within a call; it isn't served yet."
+            "The step `begin CALLER` stands below the line `script`, and not within a call."
         }
         Keyword::Admit => {
             "The step `admit` has nothing behind that word, and stands below the line `script` and not within a \
-             call; it isn't served yet."
+             call."
         }
         Keyword::Step => {
-            "The step `step DEVICE` stands below the line `script`, and not within a call; it isn't served yet."
+            "The step `step DEVICE` stands below the line `script`, and not within a call."
         }
         Keyword::Decide => {
             "The step `decide` has nothing behind that word, and stands below the line `script` and not within a \
-             call; it isn't served yet."
+             call."
         }
         Keyword::Tick => {
-            "The step `tick SECONDS` stands below the line `script`, and not within a call; it isn't served yet."
+            "The step `tick SECONDS` stands below the line `script`, and not within a call."
         }
         Keyword::Restart => {
-            "The step `restart DEVICE` stands below the line `script`, and not within a call; it isn't served yet."
+            "The step `restart DEVICE` stands below the line `script`, and not within a call."
         }
         Keyword::Fault => {
             "The step `fault DEVICE OPERATION before` or `fault DEVICE OPERATION after`, with the name of an operation \
-             as `log` prints it, stands below the line `script` and not within a call; it isn't served yet."
+             as `log` prints it, stands below the line `script` and not within a call."
         }
         Keyword::Reconcile => {
             "The step `reconcile` has nothing behind that word, and stands below the line `script` and not within a \
-             call; it isn't served yet."
+             call."
         }
         Keyword::Log => {
-            "The step `log DEVICE` stands below the line `script`, and not within a call; it isn't served yet."
+            "The step `log DEVICE` stands below the line `script`, and not within a call."
         }
         _ => call_line_words(word),
     }
@@ -387,9 +387,7 @@ fn call_line_words(word: Keyword) -> &'static str
         Keyword::Unbase => {
             "An action `unbase DEVICE PATH` stands within a call, which has 64 actions at most."
         }
-        Keyword::End => {
-            "The line `end` ends a call that has an action, and `settle` is the next line."
-        }
+        Keyword::End => { "The line `end` ends a call that has an action." }
         _ => known_words(),
     }
 }
@@ -400,7 +398,8 @@ fn known_words() -> &'static str
     ensures { result.now ≡ known_words }
 {
     "A line begins with `device`, `base`, `rule`, `data`, `yang`, `datamodel`, `devicetype`, \
-     `template` or `script`; below `script` with `show`, `json`, `meta`, `data`, `call`, `settle`, \
-     `stop`, `recover` or `history`; within a call with `create`, `modify`, `redeploy`, `literal`, \
-     `write`, `delete`, `set`, `unset`, `base`, `unbase` or `end`."
+     `template` or `script`; below `script` with `begin`, `call`, `admit`, `step`, `decide`, `settle`, \
+     `tick`, `restart`, `fault`, `stop`, `recover`, `reconcile`, `show`, `json`, `log`, `meta`, `data` or \
+     `history`; within a call with `create`, `modify`, `redeploy`, `literal`, `write`, `delete`, `set`, \
+     `unset`, `base`, `unbase` or `end`."
 }

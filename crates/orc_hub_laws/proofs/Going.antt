@@ -27,7 +27,7 @@ use Rattle.orc_rules.specs.Worlds.{Setting, World, stopped, without_hub}
 use Rattle.orc_rules.specs.declared.event.Event.{Event}
 use Rattle.orc_rules.specs.declared.event.Event.TheVariants as event
 use Rattle.orc_hub_laws.specs.Under.{FailsIn, GoesDown, GoesOnUnder, IsWorldOf, LacksRoomFor, NamesMet, journal_of, with_journal}
-use Rattle.orc_hub_laws.proofs.Rows.{IsHeld, RowDone, journal_cut, none_done, one_more, row_done, row_failed, row_full, row_stopped}
+use Rattle.orc_hub_laws.proofs.Rows.{IsHeld, RowDone, RowLaws, journal_cut, none_done, one_more, row_done, row_failed, row_full, row_stopped}
 
 -- what each disk promises
 pub record DiskLaws {D : Type 0} (disk : DiskMeaning D) : Type 0 where
@@ -49,6 +49,9 @@ abbrev pub view_of : {D : Type 0} → Hub (Stopping D) → List Entry → Journa
 view_of hub entries = journal_view hub.log.journal entries
 
 module _ {D : Type 0} (here : Setting D) (laws : DiskLaws here.disk) where
+  pub row_laws : RowLaws here.disk here.decls.text
+  row_laws = record { on = laws.goes_on; counts = laws.counts; counts_ops = laws.counts_ops }
+
   pub held_of : (journal : OpenJournal (Stopping D)) (entries : List Entry) → IsOpen here.disk journal here.decls.text entries
       → IsHeld here.disk here.decls.text (journal_view journal entries)
   held_of journal entries is = record { reads = is.holds.file; durable = is.holds.durable }
@@ -97,7 +100,7 @@ module _ {D : Type 0} (here : Setting D) (laws : DiskLaws here.disk) where
     in_world row outcome journal is = subst (λ (j : Journal D). AppendsRow here.disk here.decls.text here.limit j row outcome journal) (sym own.journal) is
 
     pub none_yet : RowDone here.disk here.decls.text (view_of old world.journal.synced) [] (view_of old world.journal.synced)
-    none_yet = none_done here.disk here.decls.text laws.only_now (view_of old world.journal.synced) (held_of old.log.journal world.journal.synced is_open)
+    none_yet = none_done here.disk here.decls.text row_laws laws.stays laws.only_now (view_of old world.journal.synced) (held_of old.log.journal world.journal.synced is_open)
 
     -- no entry
     pub quiet : (next : World D) (meant : Event) (new : Hub (Stopping D)) → DoesUnderHub here world (record_of old) meant [] next → next.hub ≡ Some (record_of new)
@@ -138,7 +141,7 @@ module _ {D : Type 0} (here : Setting D) (laws : DiskLaws here.disk) where
             comes = Steps.done (record_of old) (entry ∷ []) next (with_journal journal next) own.is does
                 (in_world (entry ∷ []) appended.Done journal
                 (row_done here.disk here.decls.text here.limit (view_of old entries) own.limit (view_of new (entries ++ entry ∷ [])) (entry ∷ [])
-                (one_more here.disk here.decls.text (view_of old entries) (view_of old entries) (view_of new (entries ++ entry ∷ [])) [] entry none_yet is)
+                (one_more here.disk here.decls.text row_laws (view_of old entries) (view_of old entries) (view_of new (entries ++ entry ∷ [])) [] entry none_yet is)
                 (held_of new.log.journal (entries ++ entry ∷ []) behind))) refl;
             is = record {
               up = up;

@@ -6,6 +6,7 @@ pub mod Decided
 pub mod Reported
 pub mod Telling
 pub mod Mending
+pub mod Openings
 pub mod Recovered
 pub mod Nowhere
 mod Ruled

@@ -48,7 +48,7 @@ use Rattle.orc_rules.specs.declared.event.Event.TheVariants as event
 use Rattle.orc_rules.proofs.Devices.{over_is_due, told_history}
 use Rattle.orc_hub_laws.specs.Turns.{ComesToEnd, MendingBegins, MendingEnds, world_with}
 use Rattle.orc_hub_laws.specs.Under.{FailsIn, GoesDown, GoesOnUnder, IsWorldOf, LacksRoomFor, journal_of, with_journal}
-use Rattle.orc_hub_laws.proofs.Going.{DiskLaws, appended_of, entries_are, failed_of, held_of, history_is, in_world, is_open, none_yet, open_behind, quiet, stopped_of, view_of}
+use Rattle.orc_hub_laws.proofs.Going.{DiskLaws, appended_of, entries_are, failed_of, held_of, history_is, in_world, is_open, none_yet, open_behind, quiet, row_laws, stopped_of, view_of}
 use Rattle.orc_hub_laws.proofs.Rows.{RowDone, journal_cut, one_more, row_done, row_failed, row_full, row_stopped}
 use Rattle.orc_hub_laws.proofs.Telling.{AreNoted, are_unsettled, noted_so, number, resolved_same}
 
@@ -231,7 +231,7 @@ module _ {D : Type 0} (here : Setting D) (laws : DiskLaws here.disk) (order : Ke
         let e = entry.Settled first.t in
         let behind = open_behind here laws old.log.journal between.log.journal e entries open_now one.0.appended in
         let appends = appended_of here laws old.log.journal between.log.journal e entries open_now one.0.appended one.0.leaves in
-        let more = one_more here.disk here.decls.text from (view_of old entries) (view_of between (entries ++ e ∷ [])) added e done appends in
+        let more = one_more here.disk here.decls.text (row_laws here laws) from (view_of old entries) (view_of between (entries ++ e ∷ [])) added e done appends in
         goes_back old between new added entries first later result is (behind_first (inside here.disk) old between first later is one.0) one.1
         (settles_so between new result rest (added ++ e ∷ []) (entries ++ e ∷ []) more behind)
     settles_so _ _ _ (fails old new met first later is one) added entries done open_now =

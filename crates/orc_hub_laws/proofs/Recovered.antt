@@ -6,6 +6,8 @@ use Rattle.std.proofs.lemmas.Option.{none-some}
 use Rattle.std.proofs.lemmas.List.{append_assoc, append-nil}
 use Rattle.orc_append.specs.Rows.{HasSomeOf}
 use Rattle.orc_call.specs.declared.answer.Why.TheVariants as why
+use Rattle.orc_call.specs.declared.call.Call.{Call}
+use Rattle.orc_datastore.specs.Legal.{IsLegal}
 use Rattle.orc_decls.specs.declared.declarations.Decls.{Decls}
 use Rattle.orc_disk.specs.Moments.{LeavesOnly}
 use Rattle.orc_disk.specs.Rows.{Course}
@@ -14,6 +16,7 @@ use Rattle.orc_hub.specs.Hubs.{record_of}
 use Rattle.orc_hub.specs.Keeps.{IsHub}
 use Rattle.orc_hub.specs.Starts.{HasStarted, known_at_start}
 use Rattle.orc_hub.specs.declared.hub.Hub.{Hub}
+use Rattle.orc_journal.specs.Committed.{history_of}
 use Rattle.orc_journal.specs.Journals.{IsGated, journal_bytes}
 use Rattle.orc_journal.specs.Opened.{OpenJournal}
 use Rattle.orc_journal.specs.Opening.{HasOpened, HasRefused, IsOpening, LeavesOpening, MayBecome}
@@ -31,6 +34,7 @@ use Rattle.orc_rules.specs.declared.event.Event.TheVariants as event
 use Rattle.orc_hub_laws.specs.Turns.{OpeningStaysDown, RefusalStaysDown, StartIsRecovery, world_with}
 use Rattle.orc_hub_laws.specs.Under.{GoesOnUnder, IsWorldOf, StaysDown, journal_of, with_journal}
 use Rattle.orc_hub_laws.proofs.Going.{DiskLaws}
+use Rattle.orc_hub_laws.proofs.Openings.{journal_inside, opened_inside}
 
 gated_more : (decls held more : List ℕ) (entries : List Entry) → IsGated held decls entries → IsGated (held ++ more) decls entries
 gated_more decls held more entries is = record {
@@ -173,9 +177,9 @@ module _ {D : Type 0} (here : Setting D) (laws : DiskLaws here.disk) where
     still : journal.disk.stopped ≡ false
     still = has.course.1.runs refl running
 
-    reopens : (here.granted ≡ true → entries ≡ entries_read world.journal)
-        → Reopens here.disk here.decls.text here.limit here.granted world.journal (opened_as journal entries)
-    reopens granted =
+    reopens : journal.fresh ≡ false → IsLegal here.decls (history_of entries) → (here.granted ≡ true → entries ≡ entries_read world.journal)
+        → Reopens here.disk here.decls here.limit here.granted world.journal (opened_as journal entries)
+    reopens stale legal granted =
         let passed = (has.course.1.passes running still).0 in
         let now : HoldsEntries here.disk here.decls.text here.limit (opened_as journal entries) = record {
           read = has.holds.file;
@@ -188,6 +192,12 @@ module _ {D : Type 0} (here : Setting D) (laws : DiskLaws here.disk) where
           };
         } in
         record {
+          journal = journal_inside journal;
+          opened = subst (λ (d : D). HasOpened here.disk here.decls.text here.limit d (journal_inside journal) entries) same
+              (opened_inside here.disk here.decls.text here.limit from journal entries running has);
+          on = refl;
+          stood = stale;
+          legal = legal;
           synced = λ back. ⊎_elim granted (same_entries from journal.disk has.leaves world.journal same holds entries has.holds.file) back;
           cut = refl;
           unarmed = omega (arith, passed, unarmed);
@@ -198,13 +208,15 @@ module _ {D : Type 0} (here : Setting D) (laws : DiskLaws here.disk) where
         → IsHub (inside here.disk) hub entries → HasStarted here.decls journal hub → GoesOnUnder here world (world_with hub world) event.Recover hub
     recovers none stale granted hub sound started =
         let j = journal_of hub entries in
+        let legal : IsLegal here.decls (history_of entries) = subst (λ (d : Decls). IsLegal d (history_of entries)) started.decls_are
+        (subst (λ (history : List Call). IsLegal hub.decls history) (sym sound.history) sound.state.legal) in
         let hub_is : record_of hub ≡ new_hub (map (λ device. duty.Free) (declared here.decls)) (map (λ device. Some why.Recovered) (declared here.decls)) =
         started.hub_is
         ∙ ap (λ (b : Bool). new_hub (map (λ device. duty.Free) (declared here.decls)) (map (λ device. known_at_start b) (declared here.decls))) stale in
         record {
           journal = j;
           comes = Steps.recovers (with_journal j (world_with hub world)) none refl
-              (subst (λ (o : OpenJournal (Stopping D)). Reopens here.disk here.decls.text here.limit here.granted world.journal (opened_as o entries)) (sym started.journal_is) (reopens granted))
+              (subst (λ (o : OpenJournal (Stopping D)). Reopens here.disk here.decls here.limit here.granted world.journal (opened_as o entries)) (sym started.journal_is) (reopens stale legal granted))
               (ap (λ (h : HubState). record world { journal = j; hub = Some h }) hub_is);
           is = record {
             up = started.up;

@@ -3,22 +3,27 @@ use Rattle.std.specs.Prelude.{◌≡◌, ◌⊎◌, ℕ, ◌+◌, ◌-◌, ◌*�
 use Rattle.std.proofs.Common.{arith, inl, inr, refl, sym, ap, subst, ◌∙◌, ⊎_elim, length-append, lt-ltb, ltb-true}
 use Rattle.std.proofs.lemmas.Bool.{cases_eq, cases_lt, false≢true}
 use Rattle.std.proofs.lemmas.List.{append_assoc, append-nil}
-use Rattle.orc_append.specs.Appends.{ComesNearer, FailsAppend, FindsNoRoom, IsAppendedTo, IsStoppedAt, LeavesOldOrNew, StopsAppend, ops_to_append}
+use Rattle.std.specs.Option.{option_map}
+use Rattle.orc_append.specs.Appends.{ComesNearer, Did, FailsAppend, FindsNoRoom, IsAppendedTo, IsStoppedAt, LeavesOldOrNew, StopsAppend, ops_to_append}
 use Rattle.orc_append.specs.Rows.{HasSomeOf}
 use Rattle.orc_append.specs.Views.{JournalView}
 use Rattle.orc_append.specs.declared.outcome.Appended.TheVariants as appended
-use Rattle.orc_append.proofs.Rows.{ComesNearer-trans}
+use Rattle.orc_append.proofs.Outcomes.{did}
+use Rattle.orc_append.proofs.Rows.{ComesNearer-trans, Did-trans}
+use Rattle.orc_disk.specs.Course.{Counted}
 use Rattle.orc_disk.specs.Crashes.{LeavesAsRead}
 use Rattle.orc_disk.specs.Meanings.{DiskMeaning}
 use Rattle.orc_disk.specs.Moments.{LeavesOnly}
+use Rattle.orc_disk.specs.Rows.{Course, joined, row}
 use Rattle.orc_disk.proofs.Moments as moments
 use Rattle.orc_io.specs.Counts.{Rose}
-use Rattle.orc_journal.specs.Appends.{IsBeforeOrAfter}
+use Rattle.orc_text.specs.Counts.{capped}
+use Rattle.orc_journal.specs.Appends.{IsBeforeOrAfter, PutsShort, with_entry}
 use Rattle.orc_journal.specs.Entries.{entry_bytes}
 use Rattle.orc_journal.specs.Journals.{IsGated, journal_length}
 use Rattle.orc_journal.specs.declared.entry.Entry.{Entry}
 use Rattle.orc_journal.proofs.Puts.{journal_length-push}
-use Rattle.orc_rules.specs.Journals.{AppendsRow, HoldsEntries, Journal, OutlivesRow, StopsIn}
+use Rattle.orc_rules.specs.Journals.{AppendsRow, HoldsEntries, Journal, OutlivesRow, PutsUntilFault, PutsUntilStop, StopsIn, with_entries}
 
 -- the journal of a view, where nothing is cut
 abbrev pub journal_in : {D : Type 0} → JournalView D → Journal D
@@ -87,15 +92,43 @@ read_at op bytes among decls entries entry (Some file) is = on (nat_lt 3 (op + m
         (λ other. ⊎_elim (λ early. is.before early)
         (λ late. absurd (false≢true (sym e ∙ lt-ltb 3 (op + min bytes 1) (omega (arith, other, late))))) (cases_lt op 3)) (cases_eq op 3)
 
+-- the bytes of a row
+
+with_entries_push : (decls : List ℕ) (entries added : List Entry) (entry : Entry) (file : List ℕ) → with_entries decls entries (added ++ entry ∷ []) file
+    ≡ with_entry (journal_length decls (entries ++ added)) entry (with_entries decls entries added file)
+with_entries_push decls entries [] entry file = ap (λ (l : List Entry). with_entry (journal_length decls l) entry file) (sym (append-nil entries))
+with_entries_push decls entries (first ∷ later) entry file =
+    let behind = with_entry (journal_length decls entries) first file in
+    with_entries_push decls (entries ++ first ∷ []) later entry behind
+    ∙ ap (λ (l : List Entry). with_entry (journal_length decls l) entry (with_entries decls (entries ++ first ∷ []) later behind)) (append_assoc entries (first ∷ []) later)
+
+no_bytes : (decls : List ℕ) (entries : List Entry) (content : Option (List ℕ)) → content ≡ option_map (with_entries decls entries []) content
+no_bytes decls entries None = refl
+no_bytes decls entries (Some file) = refl
+
+more_bytes : (decls : List ℕ) (entries added : List Entry) (entry : Entry) (content : Option (List ℕ))
+    → option_map (with_entry (journal_length decls (entries ++ added)) entry) (option_map (with_entries decls entries added) content)
+    ≡ option_map (with_entries decls entries (added ++ entry ∷ [])) content
+more_bytes decls entries added entry None = refl
+more_bytes decls entries added entry (Some file) = ap Some (sym (with_entries_push decls entries added entry file))
+
 -- rows
 
 module _ {D : Type 0} (disk : DiskMeaning D) (decls : List ℕ) where
+  -- that a row of operations goes on from where another ended, and what rows count
+  pub record RowLaws : Type 0 where
+    pub on : (first second : Course) (a b c : D) → disk.leads first a b → disk.leads second b c → disk.leads (joined first second) a c
+    pub counts : (course : Course) (a b : D) → disk.leads course a b → Counted course.failed (disk.faults a) (disk.faults b)
+    pub counts_ops : (course : Course) (a b : D) → disk.leads course a b → disk.ops b ≡ capped (disk.ops a + course.operations)
+
   -- These entries were appended in turn to the journal of the first view, and the second is that of the journal then.
   pub record RowDone (old : JournalView D) (added : List Entry) (new : JournalView D) : Type 0 where
     pub known : new.entries ≡ old.entries ++ added
     pub limit : new.limit ≡ old.limit
     pub nearer : ComesNearer (4 * length added) old new
-    pub later : disk.faults old.disk ≤ disk.faults new.disk
+    pub did : Did disk (4 * length added) false old.disk new.disk
+    pub becomes : disk.content new.disk ≡ option_map (with_entries decls old.entries added) (disk.content old.disk)
+    pub durable : LeavesAsRead (disk.content new.disk) (disk.may_leave new.disk)
     pub tells : is_some (disk.content new.disk) ≡ is_some (disk.content old.disk)
     pub any_moment : LeavesOnly disk old.disk new.disk (HasSomeOf decls old.entries added)
     pub fits : (added ≡ []) ⊎ (journal_length decls (old.entries ++ added) ≤ old.limit)
@@ -110,12 +143,15 @@ module _ {D : Type 0} (disk : DiskMeaning D) (decls : List ℕ) where
       let is = held.durable file left in
       subst (λ (o : Option (List ℕ)). IfSome o (λ (f : List ℕ). IsGated f decls view.entries)) is held.reads
 
-  pub none_done : ((d : D) (file : List ℕ) → disk.left_since d (disk.moment d) file → disk.may_leave d file) → (view : JournalView D) → IsHeld view → RowDone view [] view
-  none_done only_now view held = record {
+  pub none_done : RowLaws → ((d : D) → disk.leads (row 0 false) d d) → ((d : D) (file : List ℕ) → disk.left_since d (disk.moment d) file → disk.may_leave d file)
+      → (view : JournalView D) → IsHeld view → RowDone view [] view
+  none_done goes stays only_now view held = record {
     known = sym (append-nil view.entries);
     limit = refl;
     nearer = record { later = ⊎_elim (λ some. inr (omega (arith, some))) (λ le. inl (omega (arith, le))) (cases_lt 0 view.armed); armed = omega arith; bytes = refl };
-    later = omega arith;
+    did = did disk goes.on goes.counts goes.counts_ops 0 false view.disk view.disk (stays view.disk);
+    becomes = no_bytes decls view.entries (disk.content view.disk);
+    durable = held.durable;
     tells = refl;
     any_moment = moments.started disk view.disk (HasSomeOf decls view.entries [])
         (λ file left. none_of decls view.entries [] file (gated_now view held file (only_now view.disk file left)));
@@ -132,9 +168,9 @@ module _ {D : Type 0} (disk : DiskMeaning D) (decls : List ℕ) where
       (moments.weaker disk between.disk new.disk (IsBeforeOrAfter decls between.entries entry) P
       (λ file either. next_of decls old.entries added between.entries entry later file done.known either) leaves.any_moment)
 
-  pub one_more : (old between new : JournalView D) (added : List Entry) (entry : Entry) → RowDone old added between → IsAppendedTo disk decls between entry new
+  pub one_more : RowLaws → (old between new : JournalView D) (added : List Entry) (entry : Entry) → RowDone old added between → IsAppendedTo disk decls between entry new
       → RowDone old (added ++ entry ∷ []) new
-  one_more old between new added entry done is =
+  one_more goes old between new added entry done is =
       let count : 4 * length added + 4 ≡ 4 * length (added ++ entry ∷ []) = omega (arith, length-append added (entry ∷ [])) in
       let all : between.entries ++ entry ∷ [] ≡ old.entries ++ (added ++ entry ∷ []) =
       ap (λ (l : List Entry). l ++ entry ∷ []) done.known ∙ append_assoc old.entries added (entry ∷ []) in
@@ -142,7 +178,13 @@ module _ {D : Type 0} (disk : DiskMeaning D) (decls : List ℕ) where
         known = is.known ∙ all;
         limit = is.limit ∙ done.limit;
         nearer = subst (λ (n : ℕ). ComesNearer n old new) count (ComesNearer-trans (4 * length added) 4 old between new done.nearer is.nearer);
-        later = omega (arith, done.later, is.did.faults.later);
+        did = subst (λ (n : ℕ). Did disk n false old.disk new.disk) count
+            (Did-trans disk goes.on goes.counts goes.counts_ops (4 * length added) 4 false false old.disk between.disk new.disk done.did is.did);
+        becomes = is.becomes
+            ∙ ap (λ (l : List Entry). option_map (with_entry (journal_length decls l) entry) (disk.content between.disk)) done.known
+            ∙ ap (option_map (with_entry (journal_length decls (old.entries ++ added)) entry)) done.becomes
+            ∙ more_bytes decls old.entries added entry (disk.content old.disk);
+        durable = is.durable;
         tells = is.leaves.still_tells ∙ done.tells;
         any_moment = images_more old between new added entry [] done is.leaves;
         fits = inr (omega (arith, is.fits, done.limit, journal_length-push decls between.entries entry, ap (journal_length decls) all));
@@ -161,9 +203,10 @@ module _ {D : Type 0} (disk : DiskMeaning D) (decls : List ℕ) where
       parts = sym (append-nil added);
       synced = done.known;
       ends = (refl, refl, record { none = done.nearer.later; nearer = done.nearer.armed; bytes = done.nearer.bytes });
+      puts = record { between = new.disk; did = done.did; becomes = done.becomes; durable = done.durable; last = refl };
       fits = ⊎_elim (λ none. inl (append-nil new.entries ∙ done.known ∙ ap (λ (l : List Entry). old.entries ++ l) none ∙ append-nil old.entries))
           (λ fits. inr (omega (arith, fits, limited, ap (journal_length decls) (append-nil new.entries ∙ done.known)))) done.fits;
-      outlives = record { each_moment = done.any_moment; holds = holds_so new held; tells = done.tells; later = done.later };
+      outlives = record { each_moment = done.any_moment; holds = holds_so new held; tells = done.tells; later = done.did.faults.later };
     }
 
     module _ (between new : JournalView D) (added : List Entry) (entry : Entry) (later : List Entry) (done : RowDone old added between) where
@@ -179,6 +222,32 @@ module _ {D : Type 0} (disk : DiskMeaning D) (decls : List ℕ) where
           → journal_length decls (new.entries ++ entry ∷ []) ≤ limit
       fits_cut same fits =
           omega (arith, fits, done.limit, limited, journal_length-push decls between.entries entry, ap (λ (l : List Entry). journal_length decls (l ++ entry ∷ [])) same)
+
+      -- what the disk did of the next one, up to where the armed stop came, and up to where the disk failed
+      until_stop : (stops : StopsAppend disk decls between entry new) → PutsUntilStop disk decls between.armed old.bytes new.entries entry between.disk new.disk
+      until_stop stops =
+          subst (λ (l : List Entry). PutsUntilStop disk decls between.armed old.bytes l entry between.disk new.disk) (sym stops.known)
+          (subst (λ (bytes : ℕ). PutsUntilStop disk decls between.armed bytes between.entries entry between.disk new.disk) done.nearer.bytes
+          (record {
+            failed = stops.failed;
+            before = stops.before;
+            ran = stops.ran;
+            last = stops.last;
+            did = stops.did;
+            undone = stops.undone;
+            reached = stops.reached;
+            becomes = stops.becomes;
+            synced = stops.synced;
+          }))
+
+      abbrev until_fault : (fails : FailsAppend disk decls between entry new) → PutsUntilFault disk decls new.entries entry between.disk new.disk
+      until_fault fails = record {
+        done = fails.done;
+        fewer = fails.fewer;
+        did = fails.did;
+        fails = fails.fails;
+        puts = subst (λ (l : List Entry). PutsShort disk fails.done (journal_length decls l) entry between.disk new.disk) (sym fails.known) fails.puts;
+      }
 
       -- the armed stop came in the next one
       pub record StopsRow : Type 0 where
@@ -204,12 +273,25 @@ module _ {D : Type 0} (disk : DiskMeaning D) (decls : List ℕ) where
             reads = reads;
           },
         );
+        puts = record {
+          between = between.disk;
+          did = done.did;
+          becomes = done.becomes;
+          durable = done.durable;
+          last = (
+            entry,
+            between.armed,
+            refl,
+            ⊎_elim (λ none. absurd (omega (arith, none, done.nearer.armed, stops.one))) (λ more. omega (arith, more, done.nearer.armed)) done.nearer.later,
+            until_stop stops,
+          );
+        };
         fits = inr (fits_cut stops.known stops.fits);
         outlives = record {
           each_moment = images_more old between new added entry later done stops.leaves;
           holds = holds_cut read stops.known is stops.leaves;
           tells = stops.leaves.still_tells ∙ done.tells;
-          later = omega (arith, done.later, stops.did.faults.later);
+          later = omega (arith, done.did.faults.later, stops.did.faults.later);
         };
       }
 
@@ -219,7 +301,7 @@ module _ {D : Type 0} (disk : DiskMeaning D) (decls : List ℕ) where
           on : (b : Bool) → stops.failed ≡ b → StopsRow
           on true failed =
               let found = is_read decls between.entries entry (disk.content new.disk) stops.leaves.read in
-              record { read = found.read; row = stops_by stops found.read found.holds (inl (omega (arith, done.later, stops.did.faults.rose failed))) }
+              record { read = found.read; row = stops_by stops found.read found.holds (inl (omega (arith, done.did.faults.later, stops.did.faults.rose failed))) }
           on false well =
               let read = nat_lt 3 (between.armed + min between.bytes 1) in
               let is = read_at between.armed between.bytes stops.among decls between.entries entry (disk.content new.disk)
@@ -245,15 +327,22 @@ module _ {D : Type 0} (disk : DiskMeaning D) (decls : List ℕ) where
               synced = fails.known ∙ done.known;
               ends = (
                 (entry, later, refl, refl),
-                omega (arith, done.later, fails.did.faults.rose refl),
+                omega (arith, done.did.faults.later, fails.did.faults.rose refl),
                 (fails.done + 1, omega (arith, fails.fewer), record { none = nearer.later; nearer = nearer.armed; bytes = nearer.bytes }),
               );
+              puts = record {
+                between = between.disk;
+                did = done.did;
+                becomes = done.becomes;
+                durable = done.durable;
+                last = (entry, refl, until_fault fails, record { none = nearer.later; nearer = nearer.armed; bytes = nearer.bytes });
+              };
               fits = inr (fits_cut fails.known fails.fits);
               outlives = record {
                 each_moment = images_more old between new added entry later done fails.leaves;
                 holds = holds_cut found.read fails.known found.holds fails.leaves;
                 tells = fails.leaves.still_tells ∙ done.tells;
-                later = omega (arith, done.later, fails.did.faults.later);
+                later = omega (arith, done.did.faults.later, fails.did.faults.later);
               };
             };
           }
@@ -268,6 +357,7 @@ module _ {D : Type 0} (disk : DiskMeaning D) (decls : List ℕ) where
         parts = refl;
         synced = done.known;
         ends = (refl, full.length, (entry, later, refl, omega (arith, full.length, full.no_room, done.limit, limited)));
+        puts = record { between = between.disk; did = done.did; becomes = done.becomes; durable = done.durable; last = refl };
         fits = ⊎_elim (λ none. inl (append-nil between.entries ∙ done.known ∙ ap (λ (l : List Entry). old.entries ++ l) none ∙ append-nil old.entries))
             (λ fits. inr (omega (arith, fits, limited, ap (journal_length decls) (append-nil between.entries ∙ done.known)))) done.fits;
         outlives = record {
@@ -275,6 +365,6 @@ module _ {D : Type 0} (disk : DiskMeaning D) (decls : List ℕ) where
               (more_of decls old.entries added (entry ∷ later)) done.any_moment;
           holds = holds_so between held;
           tells = done.tells;
-          later = done.later;
+          later = done.did.faults.later;
         };
       }

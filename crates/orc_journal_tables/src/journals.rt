@@ -8,6 +8,8 @@
 //! - `entry INDEX KIND NUMBER PLACE`, and `commits` behind it: this is its entry, which begins at this
 //!   offset, and commits a call or none
 //! - `again LIMIT`: its entries are appended to an empty disk and spell it; then no other one fits
+//! - `room LIMIT -> OUTCOME`: to an empty disk with this limit a Decide of 1 is appended, which is `done`,
+//!   or `Full LEN`
 //! - `stop OPERATION BYTES -> OUTCOME READ LEFT`: a Decide of 1 is appended where this stop is armed.
 //!   So many entries are read then, and so many are left where no write outlives a crash that was
 //!   not synced
@@ -52,6 +54,7 @@ impl Table for Journals {
             "fronts" => self.gives(rest),
             "entry" => self.has(rest),
             "again" => self.is_written(rest),
+            "room" => self.has_room(rest),
             "stop" => self.is_stopped(rest),
             _ => Err(Undone),
         }
@@ -126,6 +129,14 @@ impl Journals {
         append_all(self.alloc, &mut journal, &entries)?;
         let was_full = is_full(self.alloc, &mut journal, self.bytes.len() as u64);
         Ok(was_full && self.is_left(journal)?)
+    }
+
+    // Whether a Decide on an empty disk comes to this, as `LIMIT -> OUTCOME`.
+    fn has_room(&self, rest: &str) -> Result<bool, Undone> {
+        let (limit, wanted) = rest.split_once(" -> ").ok_or(Undone)?;
+        let (mut journal, _) = self.opened(b"", limit.parse()?)?;
+        let shown = shown_append(self.alloc, &mut journal)?;
+        Ok(shown.as_str() == wanted)
     }
 
     // Whether a crash leaves these bytes of a journal.
@@ -235,6 +246,17 @@ fn outcome_of(alloc: Global, journal: &mut Journal<TableDisk>) -> &'static str
         Ok(()) => "done",
         Err(AppendFault::DiskFault) if journal.stopped() => "stopped",
         Err(_) => "failed",
+    }
+}
+
+// What appending a Decide comes to where no stop is armed.
+fn shown_append(alloc: Global, journal: &mut Journal<TableDisk>) -> Result<String, AllocError>
+    requires ready { IsReady (inside memory_disk) journal.old }
+{
+    match journal.append(alloc, &Entry::Decide { t: 1 }) {
+        Ok(()) => String::from_str(alloc, "done"),
+        Err(AppendFault::Full { len }) => format!(in alloc; "Full {len}"),
+        Err(_) => String::from_str(alloc, "failed"),
     }
 }
 

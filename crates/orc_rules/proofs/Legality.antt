@@ -87,7 +87,7 @@ module _ {D : Type 0} (here : Setting D) where
       on true = front_all here.decls journal.synced journal.cut kept.fronts
       on false = front_none here.decls journal.synced journal.cut kept.fronts
 
-  pub reopens_kept : (old new : Journal D) → JournalKept here old → Reopens here.disk here.decls.text here.limit here.granted old new → JournalKept here new
+  pub reopens_kept : (old new : Journal D) → JournalKept here old → Reopens here.disk here.decls here.limit here.granted old new → JournalKept here new
   reopens_kept old new kept r =
       let read = read_so old kept in
       record {

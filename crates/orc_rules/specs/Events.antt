@@ -256,7 +256,7 @@ module _ {D : Type 0} (here : Setting D) where
         → StaysClosed here.disk here.decls.text here.limit old.journal new.journal
         → new ≡ record old { journal = new.journal } → Steps old meant None new
     recovers : (new : World D) → old.hub ≡ None → meant ≡ event.Recover
-        → Reopens here.disk here.decls.text here.limit here.granted old.journal new.journal
+        → Reopens here.disk here.decls here.limit here.granted old.journal new.journal
         → new ≡ record old {
           journal = new.journal;
           hub = Some (new_hub (map (λ device. duty.Free) (declared here.decls))

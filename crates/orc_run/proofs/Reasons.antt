@@ -24,7 +24,7 @@ or_true false b h = h
 
 module _ {D : Type 0} (disk : DiskMeaning D) where
   -- what it gave from its first sync on is what it held
-  told : (old : D) (synced last : Stopping D) (file : List ℕ) → IsSynced (inside disk) (unstopped old) synced last
+  pub told : (old : D) (synced last : Stopping D) (file : List ℕ) → IsSynced (inside disk) (unstopped old) synced last
       → Heard (inside disk) synced last file → IfSome (disk.content old) (λ held. file ≡ held)
   told old synced last file looked heard =
       ⊎_elim
@@ -51,7 +51,7 @@ module _ {D : Type 0} (disk : DiskMeaning D) where
         (counts (joined ran.inner_course fails.failed.inner_course) old new.inner
         (goes_on ran.inner_course fails.failed.inner_course old fails.last.inner new.inner ran.inner fails.failed.inner))
 
-    led_later : (operations : ℕ) (old : D) (new : Stopping D) → LedBy (inside disk) operations (unstopped old) new
+    pub led_later : (operations : ℕ) (old : D) (new : Stopping D) → LedBy (inside disk) operations (unstopped old) new
         → disk.faults old ≤ disk.faults new.inner
     led_later operations old new led = (counts led.1.inner_course old new.inner led.1.inner).later
 

@@ -1,200 +1,126 @@
--- The run of a bundle: what its declarations and its script are, and how it ends.
-use Rattle.std.proofs.Common.{◌≡◌, ◌⊎◌, ℕ, ◌+◌, ◌<◌, ◌≤◌, ◌^◌, Bool, true, false, List, [], ◌++◌, length, IsTrue, Some, None, Ok, Err, Option, Result, IfSome, IfErr, OnOk, OnErr, is_some, is_err, if◌then◌else◌, inl, inr, ⊎_elim, refl, sym, ap, subst, ◌∙◌, arith}
-use Rattle.std.specs.List.{list_all}
-use Rattle.std.proofs.lemmas.List.{length-take-le}
+-- The run of a bundle: how it ended, by the status.
+use Rattle.std.proofs.Common.{◌≡◌, ◌⊎◌, ℕ, ◌+◌, true, false, List, [], Some, None, Ok, Err, Option, Result, IfErr, OnOk, OnErr, is_err, inl, inr, ⊎_elim, refl, sym, subst, append-nil, arith}
+use Rattle.std.specs.Io.KnownBytes.{Appends, Consumes}
+use Rattle.std.proofs.lemmas.Bool.{false≢true}
 use Rattle.orc_io.specs.Counts.{Rose}
-use Rattle.std.specs.Io.KnownBytes.{Consumes}
-use Rattle.orc_io.specs.Pieces.{GivesUpTo}
+use Rattle.orc_io.specs.Pieces.{GivesUpTo, TakesFront}
 use Rattle.orc_lines.specs.declared.lines.TheConstants.{LARGEST_BUNDLE}
-use Rattle.orc_disk.specs.Moments.{LeavesOnly}
-use Rattle.orc_script.specs.Steps.{is_step}
-use Rattle.orc_bundle.specs.Bundles.{IsScripted}
-use Rattle.orc_print.specs.Printed.{recovered_line}
-use Rattle.orc_run.specs.Views.{View, HasHistory}
-use Rattle.orc_run.specs.Steps.{EndsBecause}
-use Rattle.orc_run.specs.inside.Controllers.{known_of, pending_of, view_of, CanRun, IsSound, Opens}
-use Rattle.orc_run.specs.Opening.{IsRefused, MayBeOpening}
-use Rattle.orc_run.specs.inside.Inputs.{IsInputStop, IsRunStop}
-use Rattle.orc_run.specs.Checks.{EndsCheck}
-use Rattle.orc_run.specs.Ends.{Outside, GivesFault, Starts, Wrote, BundleRun, IsUnopened, EndsOver, WholeCheck, WholeHistory, WholeRun, EndsBy, asking_history}
-use Rattle.orc_words.specs.declared.words.Command.{Command}
-use Rattle.orc_words.specs.declared.words.Command.TheVariants.{Check, Run, History}
-use Rattle.orc_decls.specs.declared.rule.Rule.{Rule}
-use Rattle.orc_run.specs.inside.Halts.{greeting, Finishes, GreetsAndFinishes}
+use Rattle.orc_disk.specs.Course.{Counted}
 use Rattle.orc_disk.specs.Meanings.{DiskMeaning}
+use Rattle.orc_disk.specs.Moments.{LeavesOnly}
+use Rattle.orc_disk.specs.Rows.{Course, joined}
 use Rattle.orc_bundle.specs.declared.scripted.ScriptedBundle.{ScriptedBundle}
-use Rattle.orc_script.specs.declared.step.ScriptStep.{ScriptStep}
-use Rattle.orc_run.specs.declared.controller.Controller.{Controller}
 use Rattle.orc_decls.specs.declared.declarations.Decls.{Decls}
+use Rattle.orc_decls.specs.declared.rule.Rule.{Rule}
+use Rattle.orc_runs.specs.Laws.{BundleRunsHaveTheHeadline}
+use Rattle.orc_script.specs.declared.step.ScriptStep.{ScriptStep}
+use Rattle.orc_words.specs.declared.words.Command.{Command}
+use Rattle.orc_words.specs.declared.words.Command.TheVariants.{Check, Run, History, Gen}
+use Rattle.orc_world.specs.Begins.{HasBegun}
+use Rattle.orc_world.specs.Stands.{HasDisk, run_setting}
+use Rattle.orc_world.specs.declared.world.World.{World}
+use Rattle.orc_run.specs.Checks.{EndsCheck}
+use Rattle.orc_run.specs.Ends.{BundleRun, EndsBy, EndsOver, EndsSummed, GivesBundle, GivesBundleFor, GivesFaultFor, Outside, WholeCheck, WholeGeneration, WholeHistory, WholeRun, asking_history}
+use Rattle.orc_run.specs.Opening.{IsRefused, MayBeOpening}
+use Rattle.orc_run.specs.declared.opening.TheConstants.{LARGEST_JOURNAL}
 use Rattle.orc_run.specs.declared.stop.Done.{Done}
 use Rattle.orc_run.specs.declared.stop.Stop.{Stop}
 use Rattle.orc_run.specs.declared.stop.Stop.TheVariants as ending
-use Rattle.orc_journal.specs.declared.entry.Entry.{Entry}
-use Rattle.orc_run.proofs.Runs.{fault_rose, ends_with_cause}
-use Rattle.orc_run.proofs.Keeps.{keeps_all}
+use Rattle.std.specs.Prelude.{is_some}
+use Rattle.orc_run.specs.inside.Inputs.{IsInputStop, IsRunStop, numbers_of}
+use Rattle.orc_run.specs.inside.Scripts.{EndsOrNeverBegins, Finishes, Greets}
+use Rattle.orc_run.specs.inside.Sums.{SumsOrNeverBegins}
+use Rattle.orc_run.proofs.Beginning.{begins_over, given, is_first, none_done, opening_over}
+use Rattle.orc_run.proofs.Finishing.{disk_there, runs_so_far}
+use Rattle.orc_run.proofs.Rising.{rose_later, run_rose}
+use Rattle.orc_run.proofs.Writing.{all_of, took_behind, took_one, wrote_more}
 
 -- ---- how it ends
 
 module _ {D : Type 0} (meaning : DiskMeaning D) where
-  greets_so : (file : List ℕ) (fresh : Bool) (n m : ℕ) → n ≡ m → (fresh ≡ true → file ≡ []) × (file ≡ [] → fresh ≡ true)
-      → ((file ≡ []) × ((if fresh then [] else recovered_line n) ≡ [])) ⊎ ((file ≡ [] → ⊥) × ((if fresh then [] else recovered_line n) ≡ recovered_line m))
-  greets_so file true n m e iff = inl (iff.0 refl, refl)
-  greets_so file false n m e iff = inr ((λ none. apart (iff.1 none)), ap recovered_line e)
-    where
-      apart : false ≡ true → ⊥
-      apart h = cc
-
-  -- what was opened is the start of a run
-  pub starts : (decls : Decls) (disk : D) (c : Controller D) (is : Opens meaning decls disk c)
-      → (c.up ≡ true) × (c.journal.disk.op ≡ 0) × (pending_of c ≡ []) → IfSome (meaning.content disk) (λ file. HasHistory decls file (known_of c))
-      → LeavesOnly meaning disk c.journal.disk.inner (MayBeOpening meaning decls disk)
-      → is_some (meaning.content c.journal.disk.inner) ≡ is_some (meaning.content disk) → meaning.faults disk ≤ meaning.faults c.journal.disk.inner
-      → Starts meaning decls disk (view_of c is.entries) (greeting c)
-  starts decls disk c is up tells opening told later = record {
-    up = up.0;
-    armed = up.1;
-    pending = up.2;
-    legal = is.knows.legal;
-    history = tells;
-    opened = (is.entries, record { journal = c.journal; disk_is = refl; opened = is.opened }, is.decided);
-    entries = refl;
-    greeting_is = greets_so is.opened.file c.journal.fresh c.known (length (known_of c)) (sym (length-take-le c.known c.past.state.history is.knows.within)) is.opened.fresh;
-    opening = opening;
-    still_tells = told;
-    later = later;
-    rests = is.knows.rests;
-  }
-
-  -- it ran
-  pub is_run : ((d : D) (c : List ℕ) → meaning.left_since d (meaning.moment d) c → meaning.may_leave d c)
-      → (bundle : ScriptedBundle) (before after : Outside D) (c : Controller D) (entries : List Entry) (status : Result Done Stop)
-      → Starts meaning bundle.decls before.disk (view_of c entries) (greeting c)
-      → Finishes meaning before.held after.held bundle.decls (view_of c entries) bundle.steps (greeting c) after.disk status
-      → BundleRun meaning bundle before after status
-  is_run only_now bundle before after c entries status start fin = record {
-    printed = greeting c ++ fin.text;
-    end = fin.end;
-    ran = record {
-      start = view_of c entries;
-      greeting = greeting c;
-      text = fin.text;
-      starts = start;
-      runs = fin.runs;
-      prints = refl;
-      keeps = λ some. keeps_all meaning only_now bundle.decls (view_of c entries) fin.runs.last fin.runs.done fin.runs.rest
-          bundle.steps fin.text fin.end fin.runs.parts start.pending (start.still_tells ∙ some) fin.runs.rests fin.runs.runs;
-    };
-    wrote = fin.wrote;
-    whole = fin.whole;
-    unwritten = fin.unwritten;
-  }
-
   over_run : (bundle : ScriptedBundle) (before after : Outside D) (status : Result Done Stop) → BundleRun meaning bundle before after status
       → EndsOver meaning bundle before after status
   over_run bundle before after (Ok done) run = run
   over_run bundle before after (Err ending.WriteFault) run = run
   over_run bundle before after (Err other) run = inr run
 
-  pub over_unopened : (bundle : ScriptedBundle) (before after : Outside D) (end : Stop) → IsUnopened meaning bundle before after end
-      → EndsOver meaning bundle before after (Err end)
-  over_unopened bundle before after ending.WriteFault not = absurd not.cause
-  over_unopened bundle before after end not = inl not
+  module _ (goes_on : (first second : Course) (a b c : D) → meaning.leads first a b → meaning.leads second b c → meaning.leads (joined first second) a c)
+      (counts : (course : Course) (a b : D) → meaning.leads course a b → Counted course.failed (meaning.faults a) (meaning.faults b)) where
+    -- memory was wanting for what is printed at first
+    pub wanting_over : (decls : Decls) (from : D) (world : World D) (begun : HasBegun meaning decls from LARGEST_JOURNAL world) (steps : List ScriptStep)
+        (left left' held : Option (List ℕ)) (last : D) → HasDisk world.place last
+        → EndsOver meaning (record { decls = decls; steps = steps }) (record { left = left; held = held; disk = from }) (record { left = left'; held = held; disk = last })
+        (Err ending.Memory)
+    wanting_over decls from world begun steps left left' held last has =
+        let same : begun.seen.journal.disk ≡ last = disk_there (run_setting meaning decls LARGEST_JOURNAL false) begun.seen world.place last (begun.is false).place has in
+        inl (record {
+          cause = tt;
+          refused = subst (λ (d : D). IsRefused meaning decls from d ending.Memory) same
+              (inr (begun.seen.journal.synced, (given meaning goes_on counts decls from world begun).opened, tt));
+          opening = subst (λ (d : D). LeavesOnly meaning from d (MayBeOpening meaning decls from)) same (opening_over meaning goes_on counts decls from world begun);
+          same = refl;
+        })
 
-  -- the end of a bundle's run, for what was opened
-  pub over_script : ((d : D) (c : List ℕ) → meaning.left_since d (meaning.moment d) c → meaning.may_leave d c)
-      → (bundle : ScriptedBundle) (before after : Outside D) (c : Controller D) (entries : List Entry) (status : Result Done Stop)
-      → Starts meaning bundle.decls before.disk (view_of c entries) (greeting c)
-      → GreetsAndFinishes meaning before.held after.held bundle.decls c entries bundle.steps after.disk status
-      → EndsOver meaning bundle before after status
-  over_script only_now bundle before after c entries status start ends = ⊎_elim
-      (λ short. subst (EndsOver meaning bundle before after) (sym short.2)
-      (inl (record {
-        cause = tt;
-        refused = subst (λ (d : D). IsRefused meaning bundle.decls before.disk d ending.Memory) (sym short.1) (inr (start.opened.0, start.opened.1, tt));
-        opening = subst (λ (d : D). LeavesOnly meaning before.disk d (MayBeOpening meaning bundle.decls before.disk)) (sym short.1) start.opening;
-        same = short.0;
-      })))
-      (λ fin. over_run bundle before after status (is_run only_now bundle before after c entries status start fin))
-      ends
+    -- it could not be written
+    pub nothing_written : BundleRunsHaveTheHeadline meaning → (decls : Decls) (from : D) (world : World D) (begun : HasBegun meaning decls from LARGEST_JOURNAL world)
+        (steps : List ScriptStep) (left left' a b : Option (List ℕ)) (text : List ℕ) → Greets world.place text → (last : D) → HasDisk world.place last → TakesFront a b text
+        → EndsOver meaning (record { decls = decls; steps = steps }) (record { left = left; held = a; disk = from }) (record { left = left'; held = b; disk = last })
+        (Err ending.WriteFault)
+    nothing_written law decls from world begun steps left left' a b text greets last has front = record {
+      first = begun.seen;
+      greeting = text;
+      begins = begins_over meaning goes_on counts decls from world begun text greets;
+      done = [];
+      rest = steps;
+      parts = refl;
+      texts = [];
+      end = None;
+      ran = runs_so_far meaning law decls begun.seen world (is_first meaning decls from world begun) [] [] world last
+          (none_done meaning decls begun.seen world (is_first meaning decls from world begun)) has;
+      wrote = subst (TakesFront a b) (sym (append-nil text)) front;
+      whole = λ ok. absurd (false≢true ok);
+      unwritten = λ failed. took_one a b text front;
+    }
 
-  -- the same for a controller that was opened
-  pub ran_over : ((d : D) (c : List ℕ) → meaning.left_since d (meaning.moment d) c → meaning.may_leave d c)
-      → (bundle : ScriptedBundle) (before after : Outside D) (c : Controller D) (is : Opens meaning bundle.decls before.disk c)
-      → (c.up ≡ true) × (c.journal.disk.op ≡ 0) × (pending_of c ≡ []) → IfSome (meaning.content before.disk) (λ file. HasHistory bundle.decls file (known_of c))
-      → LeavesOnly meaning before.disk c.journal.disk.inner (MayBeOpening meaning bundle.decls before.disk)
-      → is_some (meaning.content c.journal.disk.inner) ≡ is_some (meaning.content before.disk) → meaning.faults before.disk ≤ meaning.faults c.journal.disk.inner
-      → (steps : List ScriptStep) → steps ≡ bundle.steps → (status : Result Done Stop)
-      → GreetsAndFinishes meaning before.held after.held bundle.decls c is.entries steps after.disk status
-      → EndsOver meaning bundle before after status
-  ran_over only_now bundle before after c is up tells opening told later steps all status ends =
-      over_script only_now bundle before after c is.entries status (starts bundle.decls before.disk c is up tells opening told later)
-      (subst (λ (l : List ScriptStep). GreetsAndFinishes meaning before.held after.held bundle.decls c is.entries l after.disk status) all ends)
-
-  -- what is needed to run the script of a bundle
-  pub can_run : (b : ScriptedBundle) → IsScripted b → length b.decls.text < 2 ^ 32 → (c : Controller D) (steps : List ScriptStep) → steps ≡ b.steps → IsSound meaning b.decls c
-      → CanRun meaning b.decls c steps
-  can_run b lawful short c steps all sound = record {
-    declared = lawful.decls;
-    schemas = lawful.sound;
-    short = short;
-    sound = sound;
-    lawful = subst (λ (l : List ScriptStep). IsTrue (list_all (is_step b.decls) l)) (sym all) lawful.steps;
-  }
-
-  -- a run ends for these causes alone
-  wrote_end : (held held' : Option (List ℕ)) (text : List ℕ) (end : Option Stop) (other : Stop) → (other ≡ ending.WriteFault → ⊥)
-      → Wrote held held' text end (Err other) → end ≡ Some other
-  wrote_end held held' text end ending.WriteFault never wrote = absurd (never refl)
-  wrote_end held held' text end (ending.Bundle line rule) never wrote = wrote.0
-  wrote_end held held' text end ending.Usage never wrote = wrote.0
-  wrote_end held held' text end ending.ReadFault never wrote = wrote.0
-  wrote_end held held' text end ending.JournalFault never wrote = wrote.0
-  wrote_end held held' text end ending.Memory never wrote = wrote.0
-  wrote_end held held' text end (ending.Foreign at) never wrote = wrote.0
-  wrote_end held held' text end (ending.Full len) never wrote = wrote.0
-  wrote_end held held' text end ending.NotJournal never wrote = wrote.0
-  wrote_end held held' text end (ending.Damaged at) never wrote = wrote.0
-
-  run_cause : (bundle : ScriptedBundle) (before after : Outside D) (other : Stop) → (other ≡ ending.WriteFault → ⊥)
-      → BundleRun meaning bundle before after (Err other)
-      → (w last : View D) × (s : ScriptStep) × EndsBecause meaning bundle.decls w s other last
-  run_cause bundle before after other never run =
-      let e = wrote_end before.held after.held run.printed run.end other never run.wrote in
-      let runs = run.ran.runs in
-      let found = ends_with_cause meaning bundle.decls run.ran.start runs.done runs.rest run.ran.text run.end runs.last other e runs.runs in
-      (found.0, runs.last, found.1, found.2)
-
-  pub run_stop : (bundle : ScriptedBundle) (before after : Outside D) (status : Result Done Stop) → EndsOver meaning bundle before after status
-      → IfErr status IsRunStop
-  run_stop bundle before after (Ok done) ends = tt
-  run_stop bundle before after (Err (ending.Bundle line rule)) ends =
-      ⊎_elim (λ not. not.cause) (λ run. (run_cause bundle before after (ending.Bundle line rule) (λ e. cc) run).3) ends
-  run_stop bundle before after (Err ending.Usage) ends =
-      ⊎_elim (λ not. not.cause) (λ run. (run_cause bundle before after ending.Usage (λ e. cc) run).3) ends
-  run_stop bundle before after (Err ending.ReadFault) ends =
-      ⊎_elim (λ not. not.cause) (λ run. (run_cause bundle before after ending.ReadFault (λ e. cc) run).3) ends
-  run_stop bundle before after (Err ending.WriteFault) ends = tt
-  run_stop bundle before after (Err ending.JournalFault) ends = tt
-  run_stop bundle before after (Err ending.Memory) ends = tt
-  run_stop bundle before after (Err (ending.Foreign at)) ends = tt
-  run_stop bundle before after (Err (ending.Full len)) ends = tt
-  run_stop bundle before after (Err ending.NotJournal) ends = tt
-  run_stop bundle before after (Err (ending.Damaged at)) ends = tt
+    -- it was written, and the lines were done
+    pub finished_over : (decls : Decls) (from : D) (world : World D) (begun : HasBegun meaning decls from LARGEST_JOURNAL world)
+        (steps : List ScriptStep) (left left' a b c : Option (List ℕ)) (text : List ℕ) → Greets world.place text → Appends a b text → (last : D) (status : Result Done Stop)
+        → Finishes meaning decls begun.seen b c steps last status
+        → EndsOver meaning (record { decls = decls; steps = steps }) (record { left = left; held = a; disk = from }) (record { left = left'; held = c; disk = last }) status
+    finished_over decls from world begun steps left left' a b c text greets took last status fin = over_run _ _ _ status (record {
+      first = begun.seen;
+      greeting = text;
+      begins = begins_over meaning goes_on counts decls from world begun text greets;
+      done = fin.done;
+      rest = fin.rest;
+      parts = fin.parts;
+      texts = fin.texts;
+      end = fin.end;
+      ran = fin.ran;
+      wrote = wrote_more a b c text (all_of fin.texts) fin.end status took fin.wrote;
+      whole = fin.whole;
+      unwritten = λ failed. took_behind a b c text fin.texts took (fin.unwritten failed);
+    })
 
   -- a fault of the journal's disk was counted
-  pub run_rose : (bundle : ScriptedBundle) (before after : Outside D) (status : Result Done Stop) → EndsOver meaning bundle before after status
+  pub over_rose : (bundle : ScriptedBundle) (before after : Outside D) (status : Result Done Stop) → EndsOrNeverBegins meaning bundle before after status
       → status ≡ Err ending.JournalFault → Rose (meaning.faults before.disk) (meaning.faults after.disk)
-  run_rose bundle before after status ends is = ⊎_elim (λ not. not.cause) fault (subst (EndsOver meaning bundle before after) is ends)
+  over_rose bundle before after status ends is =
+      ⊎_elim never (λ not. ⊎_elim (λ unopened. unopened.cause) fault not) (subst (EndsOrNeverBegins meaning bundle before after) is ends)
     where
-      later : (a b c : ℕ) → a ≤ b → Rose b c → Rose a c
-      later a b c le rose = grind (arith, le, rose)
+      never : (◌≡◌ {A = Result Done Stop} (Err ending.JournalFault) (Err ending.Memory)) × (after.held ≡ before.held) × (after.disk ≡ before.disk)
+          → Rose (meaning.faults before.disk) (meaning.faults after.disk)
+      never so = absurd (apart so.0)
+        where
+          apart : ◌≡◌ {A = Result Done Stop} (Err ending.JournalFault) (Err ending.Memory) → ⊥
+          apart wrong = cc
 
       fault : BundleRun meaning bundle before after (Err ending.JournalFault) → Rose (meaning.faults before.disk) (meaning.faults after.disk)
-      fault run = later (meaning.faults before.disk) (meaning.faults run.ran.start.disk) (meaning.faults after.disk) run.ran.starts.later
-          (fault_rose meaning bundle.decls run.ran.start bundle.steps after.disk run.ran.text run.end run.wrote.0 run.ran.runs)
+      fault run = rose_later (meaning.faults before.disk) (meaning.faults run.first.journal.disk) (meaning.faults after.disk) run.begins.later
+          (run_rose (run_setting meaning bundle.decls LARGEST_JOURNAL false) run.first run.done run.texts run.end after.disk (run.ran false (λ wrong. absurd (false≢true wrong))) run.wrote.0)
 
   -- by the status, where the script of a bundle was run
-  pub by_run : (before after : Outside D) (status : Result Done Stop) → IfErr status IsRunStop
+  by_run : (before after : Outside D) (status : Result Done Stop) → IfErr status IsRunStop
       → WholeRun meaning before after status → EndsBy meaning (Some Run) before after status
   by_run before after (Ok done) why ends = ends
   by_run before after (Err (ending.Bundle line rule)) why ends = absurd why
@@ -208,8 +134,50 @@ module _ {D : Type 0} (meaning : DiskMeaning D) where
   by_run before after (Err ending.NotJournal) why ends = ends
   by_run before after (Err (ending.Damaged at)) why ends = ends
 
+  -- where a bundle was made
+  by_generation : (number devices calls : ℕ) (before after : Outside D) (status : Result Done Stop) → IfErr status IsRunStop
+      → WholeGeneration meaning number devices calls before after status → EndsBy meaning (Some (Gen number devices calls)) before after status
+  by_generation number devices calls before after (Ok done) why ends = ends
+  by_generation number devices calls before after (Err (ending.Bundle line rule)) why ends = absurd why
+  by_generation number devices calls before after (Err ending.Usage) why ends = absurd why
+  by_generation number devices calls before after (Err ending.ReadFault) why ends = absurd why
+  by_generation number devices calls before after (Err ending.Memory) why ends = inr ends
+  by_generation number devices calls before after (Err ending.WriteFault) why ends = ends
+  by_generation number devices calls before after (Err ending.JournalFault) why ends = ends
+  by_generation number devices calls before after (Err (ending.Foreign at)) why ends = ends
+  by_generation number devices calls before after (Err (ending.Full len)) why ends = ends
+  by_generation number devices calls before after (Err ending.NotJournal) why ends = ends
+  by_generation number devices calls before after (Err (ending.Damaged at)) why ends = ends
+
+  generation_by : (number devices calls : ℕ) (bundle : ScriptedBundle) (before after : Outside D) (status : Result Done Stop) → IfErr status IsRunStop
+      → GivesBundleFor (Gen number devices calls) before.left after.left bundle
+      → GivesUpTo (LARGEST_BUNDLE + 1) before.left after.left → (steps : List ScriptStep) → steps ≡ bundle.steps
+      → SumsOrNeverBegins meaning (record { decls = bundle.decls; steps = steps }) before after status
+      → EndsBy meaning (Some (Gen number devices calls)) before after status
+  generation_by number devices calls bundle before after status why gives most steps same ends = ⊎_elim
+      (λ never. subst (λ (s : Result Done Stop). EndsBy meaning (Some (Gen number devices calls)) before after s) (sym never.0) (inl (most, never.1, never.2)))
+      (λ over. by_generation number devices calls before after status why (record {
+        bundle = bundle;
+        made = gives.0;
+        unread = gives.1;
+        ends = subst (λ (l : List ScriptStep). EndsSummed meaning (record { decls = bundle.decls; steps = l }) before after status) same over;
+      }))
+      ends
+
+  -- whatever its numbers are
+  pub made_by : (command : Command) → is_some (numbers_of command) ≡ true → (bundle : ScriptedBundle) (before after : Outside D) (status : Result Done Stop)
+      → IfErr status IsRunStop → GivesBundleFor command before.left after.left bundle
+      → GivesUpTo (LARGEST_BUNDLE + 1) before.left after.left → (steps : List ScriptStep) → steps ≡ bundle.steps
+      → SumsOrNeverBegins meaning (record { decls = bundle.decls; steps = steps }) before after status
+      → EndsBy meaning (Some command) before after status
+  made_by Check is bundle before after status why gives most steps same ends = absurd (false≢true is)
+  made_by Run is bundle before after status why gives most steps same ends = absurd (false≢true is)
+  made_by History is bundle before after status why gives most steps same ends = absurd (false≢true is)
+  made_by (Gen number devices calls) is bundle before after status why gives most steps same ends =
+      generation_by number devices calls bundle before after status why gives most steps same ends
+
   -- where the history was asked for
-  pub by_history : (before after : Outside D) (status : Result Done Stop) → IfErr status IsRunStop
+  by_history : (before after : Outside D) (status : Result Done Stop) → IfErr status IsRunStop
       → WholeHistory meaning before after status → EndsBy meaning (Some History) before after status
   by_history before after (Ok done) why ends = ends
   by_history before after (Err (ending.Bundle line rule)) why ends = absurd why
@@ -223,12 +191,27 @@ module _ {D : Type 0} (meaning : DiskMeaning D) where
   by_history before after (Err ending.NotJournal) why ends = ends
   by_history before after (Err (ending.Damaged at)) why ends = ends
 
-  -- the run of a bundle, where its steps are those of a slice
-  pub ends_over_slice : (bundle : ScriptedBundle) (steps : List ScriptStep) → steps ≡ bundle.steps → (before after : Outside D)
-      (status : Result Done Stop) → EndsOver meaning (record { decls = bundle.decls; steps = steps }) before after status
-      → EndsOver meaning bundle before after status
-  ends_over_slice bundle steps is before after status ends =
-      subst (λ (l : List ScriptStep). EndsOver meaning (record { decls = bundle.decls; steps = l }) before after status) is ends
+  -- whatever became of the run
+  pub run_by : (bundle : ScriptedBundle) (before after : Outside D) (status : Result Done Stop) → IfErr status IsRunStop → GivesBundle before.left after.left bundle
+      → GivesUpTo (LARGEST_BUNDLE + 1) before.left after.left → (steps : List ScriptStep) → steps ≡ bundle.steps
+      → EndsOrNeverBegins meaning (record { decls = bundle.decls; steps = steps }) before after status
+      → EndsBy meaning (Some Run) before after status
+  run_by bundle before after status why gives most steps same ends = ⊎_elim
+      (λ never. subst (λ (s : Result Done Stop). EndsBy meaning (Some Run) before after s) (sym never.0) (inl (most, never.1, never.2)))
+      (λ over. by_run before after status why (record {
+        bundle = bundle;
+        gives = gives;
+        ends = subst (λ (l : List ScriptStep). EndsOver meaning (record { decls = bundle.decls; steps = l }) before after status) same over;
+      }))
+      ends
+
+  pub history_by : (bundle : ScriptedBundle) (before after : Outside D) (status : Result Done Stop) → IfErr status IsRunStop → GivesBundle before.left after.left bundle
+      → GivesUpTo (LARGEST_BUNDLE + 1) before.left after.left → EndsOrNeverBegins meaning (asking_history bundle) before after status
+      → EndsBy meaning (Some History) before after status
+  history_by bundle before after status why gives most ends = ⊎_elim
+      (λ never. subst (λ (s : Result Done Stop). EndsBy meaning (Some History) before after s) (sym never.0) (inl (most, never.1, never.2)))
+      (λ over. by_history before after status why (record { bundle = bundle; gives = gives; ends = over }))
+      ends
 
   -- where memory was wanting for the command of the words
   pub by_words : (command : Option Command) (outside : Outside D) → GivesUpTo (LARGEST_BUNDLE + 1) outside.left outside.left
@@ -252,7 +235,7 @@ module _ {D : Type 0} (meaning : DiskMeaning D) where
 
   -- where no bundle was read
   pub by_input : (command : Command) (before after : Outside D) (end : Stop) → IsInputStop end
-      → ((line : ℕ) (rule : Rule) → end ≡ ending.Bundle line rule → GivesFault before.left after.left line rule)
+      → ((line : ℕ) (rule : Rule) → end ≡ ending.Bundle line rule → GivesFaultFor command before.left after.left line rule)
       → GivesUpTo (LARGEST_BUNDLE + 1) before.left after.left → after.held ≡ before.held → after.disk ≡ before.disk
       → EndsBy meaning (Some command) before after (Err end)
   by_input command before after (ending.Bundle line rule) why fault took held disk = fault line rule refl
@@ -268,23 +251,9 @@ module _ {D : Type 0} (meaning : DiskMeaning D) where
 
 -- ---- small facts
 
--- the cause for which a run ended is one of its causes
-pub run_is : (status : Result Done Stop) (end : Stop) → IfErr status IsRunStop → status ≡ Err end → IsRunStop end
-run_is status end causes is = subst (λ (s : Result Done Stop). IfErr s IsRunStop) is causes
-
--- so it is of a check
+-- a check ends so
 pub check_is : (bundle : ScriptedBundle) (held now : Option (List ℕ)) (status : Result Done Stop) (end : Stop) → EndsCheck bundle held now status → status ≡ Err end → EndsCheck bundle held now (Err end)
 check_is bundle held now status end ends is = subst (λ (s : Result Done Stop). EndsCheck bundle held now s) is ends
-
--- a bundle with `history` as its one step is a bundle
-pub asking_is_bundle : (bundle : ScriptedBundle) → IsScripted bundle → IsScripted (asking_history bundle)
-asking_is_bundle bundle lawful = record {
-  decls = lawful.decls;
-  sound = lawful.sound;
-  steps = refl;
-  few = omega arith;
-  callers = omega arith;
-}
 
 -- a source that was not asked gave no byte
 pub gives_none : (most : ℕ) (left : Option (List ℕ)) → GivesUpTo most left left

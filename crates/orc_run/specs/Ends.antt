@@ -1,31 +1,38 @@
 -- What a run did with its source, its sink and its disk: what they were before and after it.
-use Rattle.std.specs.Prelude.{◌≡◌, ◌⊎◌, ℕ, ◌+◌, ◌≤◌, true, List, [], ◌∷◌, ◌++◌, length, Option, IfSome, is_some, is_ok, Result}
+use Rattle.std.specs.Prelude.{◌≡◌, ◌≢◌, ◌⊎◌, ℕ, ◌+◌, ◌≤◌, Bool, true, All, List, [], ◌∷◌, ◌++◌, length, map, Option, IfSome, is_some, is_ok, Result}
 use Rattle.std.specs.declared.option.Option.TheVariants.{None, Some}
 use Rattle.std.specs.declared.result.Result.TheVariants.{Ok, Err}
+use Rattle.std.specs.List.{flat_map}
+use Rattle.std.specs.Option.{option_map}
 use Rattle.std.specs.Io.KnownBytes.{Appends, Consumes, IsAtEnd}
+use Rattle.orc_generator.specs.Generated.{generated}
 use Rattle.orc_io.specs.Pieces.{GivesUpTo, TakesFront}
-use Rattle.orc_disk.specs.Moments.{LeavesOnly}
-use Rattle.orc_call.specs.declared.call.Call.{Call}
-use Rattle.orc_run.specs.Served.{served_of}
-use Rattle.orc_datastore.specs.Legal.{IsLegal}
-use Rattle.orc_print.specs.Printed.{recovered_line}
-use Rattle.orc_disk.specs.Meanings.{DiskMeaning}
-use Rattle.orc_run.specs.Views.{View, Decodes, HasHistory, Rests}
-use Rattle.orc_run.specs.Steps.{Does}
-use Rattle.orc_run.specs.Runs.{StepsDone, EndsAtStep}
-use Rattle.orc_run.specs.Opening.{IsOpenedAs, IsRefused, IsRefusedBecause, MayBeOpening}
-use Rattle.orc_lines.specs.declared.lines.TheConstants.{LARGEST_BUNDLE}
+use Rattle.orc_bundle.specs.Bundles.{scripted_of}
 use Rattle.orc_bundle.specs.declared.scripted.ScriptedBundle.{ScriptedBundle}
+use Rattle.orc_decls.specs.declared.declarations.Decls.{Decls}
+use Rattle.orc_decls.specs.declared.rule.Rule.{Rule}
+use Rattle.orc_disk.specs.Meanings.{DiskMeaning}
+use Rattle.orc_disk.specs.Moments.{LeavesOnly}
+use Rattle.orc_lines.specs.declared.lines.TheConstants.{LARGEST_BUNDLE}
+use Rattle.orc_print.specs.Printed.{recovered_line}
+use Rattle.orc_rules.specs.Journals.{IsReadBack, history_read}
+use Rattle.orc_rules.specs.Worlds.{Setting, World}
+use Rattle.orc_runs.specs.Ends.{EndOfRun, EndOfRun as ended}
+use Rattle.orc_runs.specs.Headline.{Headline}
+use Rattle.orc_runs.specs.Runs.{Run, lines_in}
+use Rattle.orc_runs.specs.Starts.{StartsRun}
 use Rattle.orc_script.specs.declared.step.ScriptStep.{ScriptStep}
 use Rattle.orc_script.specs.declared.step.ScriptStep.TheVariants as step
-use Rattle.orc_decls.specs.declared.declarations.Decls.{Decls}
+use Rattle.orc_words.specs.declared.words.Command.{Command}
+use Rattle.orc_words.specs.declared.words.Command.TheVariants as word
+use Rattle.orc_world.specs.Stands.{run_setting}
+use Rattle.orc_run.specs.Checks.{EndsCheck}
+use Rattle.orc_run.specs.Summaries.{counts_of, summary_text}
+use Rattle.orc_run.specs.Opening.{HasHistory, IsOpened, IsRefused, IsRefusedBecause, MayBeOpening}
+use Rattle.orc_run.specs.declared.opening.TheConstants.{LARGEST_JOURNAL}
 use Rattle.orc_run.specs.declared.stop.Done.{Done}
 use Rattle.orc_run.specs.declared.stop.Stop.{Stop}
 use Rattle.orc_run.specs.declared.stop.Stop.TheVariants as ending
-use Rattle.orc_decls.specs.declared.rule.Rule.{Rule}
-use Rattle.orc_run.specs.Checks.{EndsCheck}
-use Rattle.orc_words.specs.declared.words.Command.{Command}
-use Rattle.orc_words.specs.declared.words.Command.TheVariants.{Check, Run, History}
 
 -- the declarations of a bundle with `history` as the one step
 abbrev pub asking_history : ScriptedBundle → ScriptedBundle
@@ -49,35 +56,37 @@ pub record GivesFirst (before after : Option (List ℕ)) (bytes : List ℕ) : Ty
 pub record GivesBundle (before after : Option (List ℕ)) (bundle : ScriptedBundle) : Type 0 where
   pub bytes : List ℕ
   pub first : GivesFirst before after bytes
-  pub is : served_of bytes ≡ Ok bundle
+  pub is : scripted_of bytes ≡ Ok bundle
   pub at_end : IsAtEnd after
 
 -- or this line of them is the first one at fault, and this is the first rule that it breaks
 pub record GivesFault (before after : Option (List ℕ)) (line : ℕ) (rule : Rule) : Type 0 where
   pub bytes : List ℕ
   pub first : GivesFirst before after bytes
-  pub is : served_of bytes ≡ Err (line, rule)
+  pub is : scripted_of bytes ≡ Err (line, rule)
 
--- one history is a front of another
-abbrev pub IsPrefix : List Call → List Call → Type 0
-IsPrefix front history = (more : List Call) × (history ≡ front ++ more)
+-- The bytes that a bundle is read of: where the command makes one of its numbers these bytes, and of the source none was
+-- taken; else the source gave them, and this bundle they are.
+abbrev pub GivesBundleFor : Command → Option (List ℕ) → Option (List ℕ) → ScriptedBundle → Type 0
+GivesBundleFor (word.Gen number devices calls) before after bundle =
+    (scripted_of (generated number devices calls) ≡ Ok bundle) × (after ≡ before)
+GivesBundleFor other before after bundle = GivesBundle before after bundle
 
--- some of these calls, in their order
-pub data IsSubsequence : List Call → List Call → Type 0 where
-  none : IsSubsequence [] []
-  skip : (some calls : List Call) (call : Call) → IsSubsequence some calls → IsSubsequence some (calls ++ call ∷ [])
-  take : (some calls : List Call) (call : Call) → IsSubsequence some calls
-      → IsSubsequence (some ++ call ∷ []) (calls ++ call ∷ [])
+-- or this line of them is the first one at fault
+abbrev pub GivesFaultFor : Command → Option (List ℕ) → Option (List ℕ) → ℕ → Rule → Type 0
+GivesFaultFor (word.Gen number devices calls) before after line rule =
+    (scripted_of (generated number devices calls) ≡ Err (line, rule)) × (after ≡ before)
+GivesFaultFor other before after line rule = GivesFault before after line rule
 
--- the file is the journal of a legal history that begins with these calls
-abbrev pub HoldsFrom : Decls → List Call → List ℕ → Type 0
-HoldsFrom decls calls file = (history : List Call) × Decodes decls file history × IsPrefix calls history
-
--- the calls that steps submit
-abbrev pub calls_in : List ScriptStep → List Call
-calls_in [] = []
-calls_in (step.Call call ∷ steps) = call ∷ calls_in steps
-calls_in (other ∷ steps) = calls_in steps
+-- how the program ends where a run ended so
+abbrev pub stop_of_end : EndOfRun → Stop
+stop_of_end ended.Memory = ending.Memory
+stop_of_end ended.WriteFault = ending.WriteFault
+stop_of_end ended.JournalFault = ending.JournalFault
+stop_of_end (ended.Full len) = ending.Full len
+stop_of_end (ended.Foreign at) = ending.Foreign at
+stop_of_end ended.NotJournal = ending.NotJournal
+stop_of_end (ended.Damaged at) = ending.Damaged at
 
 -- How the status of a run fits what its sink took and how its script ended. Where all was done, the whole text was
 -- taken. Behind a fault of the sink a front of it was, and the script may have ended anyhow (`TookUpToLast` says which
@@ -87,109 +96,91 @@ Wrote before after text end (Ok done) = (end ≡ None) × Appends before after t
 Wrote before after text end (Err ending.WriteFault) = TakesFront before after text
 Wrote before after text end (Err other) = (end ≡ Some other) × Appends before after text
 
+-- What a sink took of which a write failed: each text but the last that was to be written, and a front of that one. So
+-- each text was written before the next line was done, and no line was done behind the failure.
+pub record TookUpToLast (texts : List (List ℕ)) (held now : Option (List ℕ)) : Type 0 where
+  pub before : List (List ℕ)
+  pub last : List ℕ
+  pub parts : texts ≡ before ++ last ∷ []
+  pub between : Option (List ℕ)
+  pub took_before : Appends held between (flat_map (λ text. text) before)
+  pub took_last : TakesFront between now last
+
+-- that reads give what was written may be granted where none of these lines opens the journal again
+abbrev pub MayBeGranted : Bool → List ScriptStep → Type 0
+MayBeGranted granted lines = granted ≡ true → All (λ line. line ≢ step.Recover) lines
+
+-- Each of these lines of a script was done in a world that began as the first one, and the run may have ended in the last
+-- of them: what came, what each line printed, why the run ended, if it did, and the disk that it left. No operation was
+-- noted before it. Where reads give what was written, the run has the headline.
+pub record LinesRun {D : Type 0} (here : Setting D) (first : World D) (done : List ScriptStep) (texts : List (List ℕ))
+    (end : Option Stop) (disk : D) : Type 0 where
+  pub last : World D
+  pub run : Run here done first last
+  pub each : run.rest ≡ []
+  pub unnoted : (device : ℕ) → run.noted device ≡ []
+  pub prints : texts ≡ map (λ line. line.text) (lines_in run)
+  pub why : end ≡ option_map stop_of_end run.why
+  pub disk_is : last.journal.disk ≡ disk
+  pub claim : IsReadBack here.disk here.decls.text here.limit here.granted first.journal.disk
+      → Headline here done first last run
+
+-- The script was run from a world on, up to its end or up to a line in which the run ended, and why it did; and this is the
+-- disk that it left, and its summary, where it came to its end. Where reads give what was written, the run has the
+-- headline.
+pub record ScriptRun {D : Type 0} (here : Setting D) (first : World D) (script : List ScriptStep) (summary : List ℕ)
+    (end : Option Stop) (disk : D) : Type 0 where
+  pub last : World D
+  pub run : Run here script first last
+  pub unnoted : (device : ℕ) → run.noted device ≡ []
+  pub why : end ≡ option_map stop_of_end run.why
+  pub disk_is : last.journal.disk ≡ disk
+  pub summary_is : end ≡ None → summary ≡ summary_text (counts_of run)
+  pub claim : IsReadBack here.disk here.decls.text here.limit here.granted first.journal.disk
+      → Headline here script first last run
+
+-- How the status of such a run fits what its sink took: the summary where the script was run to its end, and else
+-- nothing. Memory may be wanting for it, too.
+abbrev pub WroteSummary : Option (List ℕ) → Option (List ℕ) → List ℕ → Option Stop → Result Done Stop → Type 0
+WroteSummary before after summary end (Ok done) = (end ≡ None) × Appends before after summary
+WroteSummary before after summary end (Err ending.WriteFault) = (end ≡ None) × TakesFront before after summary
+WroteSummary before after summary end (Err ending.Memory) = after ≡ before
+WroteSummary before after summary end (Err other) = (end ≡ Some other) × (after ≡ before)
+
 module _ {D : Type 0} (meaning : DiskMeaning D) where
-  -- The journal of the disk was opened: its entries are known, and their history, which are those of the bytes that
-  -- the disk gave. Where it gave any, this is printed.
-  pub record Starts (decls : Decls) (disk : D) (start : View D) (greeting : List ℕ) : Type 0 where
-    pub up : start.up ≡ true
-    pub armed : start.armed ≡ 0
-    pub pending : start.pending ≡ []
-    pub legal : IsLegal decls start.known
-    pub history : IfSome (meaning.content disk) (λ file. HasHistory decls file start.known)
-    pub opened : IsOpenedAs meaning decls disk start.known start.disk
-    pub entries : start.entries ≡ opened.0
-    pub greeting_is : ((opened.1.opened.file ≡ []) × (greeting ≡ []))
-        ⊎ ((opened.1.opened.file ≡ [] → ⊥) × (greeting ≡ recovered_line (length start.known)))
-    pub opening : LeavesOnly meaning disk start.disk (MayBeOpening meaning decls disk)
-    pub still_tells : is_some (meaning.content start.disk) ≡ is_some (meaning.content disk)
-    pub later : meaning.faults disk ≤ meaning.faults start.disk
-    pub rests : Rests meaning decls start
+  -- A world began over the disk, with these devices and a journal that was opened, or begun. The entries of that, and so
+  -- its history, are those of the bytes that the disk gave. Where it gave any, how many calls were recovered is printed.
+  -- (What a recovery reads is what was written where the disk tells what it holds. Over another one it goes on from what
+  -- its reads gave, and nobody says that this was written.)
+  pub record BeginsOver (decls : Decls) (disk : D) (first : World D) (greeting : List ℕ) : Type 0 where
+    pub starts : StartsRun (run_setting meaning decls LARGEST_JOURNAL true) first
+    pub opened : IsOpened meaning decls disk first.journal.synced first.journal.disk
+    pub file_is : starts.file ≡ opened.opened.file
+    pub history : IfSome (meaning.content disk) (λ file. HasHistory decls file (history_read first.journal))
+    pub greeting_is : ((opened.opened.file ≡ []) × (greeting ≡ []))
+        ⊎ ((opened.opened.file ≡ [] → ⊥) × (greeting ≡ recovered_line (length (history_read first.journal))))
+    pub opening : LeavesOnly meaning disk first.journal.disk (MayBeOpening meaning decls disk)
+    pub still_tells : is_some (meaning.content first.journal.disk) ≡ is_some (meaning.content disk)
+    pub later : meaning.faults disk ≤ meaning.faults first.journal.disk
 
-  -- steps of a script were done one after another, and where there is an end, the next one ended the run
-  abbrev pub RunsUntil : Decls → View D → List ScriptStep → List ScriptStep → List ℕ → Option Stop → View D → Type 0
-  RunsUntil decls start done rest text None last = StepsDone meaning decls start done text last
-  RunsUntil decls start done rest text (Some end) last =
-      (step : ScriptStep) × (more : List ScriptStep) × (rest ≡ step ∷ more)
-      × EndsAtStep meaning decls start done step text end last
-
-  -- the last of the steps that were done, and what those before it printed
-  pub record LastDone (decls : Decls) (start : View D) (done : List ScriptStep) (text before last : List ℕ)
-      (view : View D) : Type 0 where
-    pub steps : List ScriptStep
-    pub step : ScriptStep
-    pub old : View D
-    pub parts : done ≡ steps ++ step ∷ []
-    pub runs : StepsDone meaning decls start steps before old
-    pub does : Does meaning decls old step last view
-    pub prints : text ≡ before ++ last
-
-  -- What a run printed last, and what before that: last comes the text of the step that ended the run, or of the last
-  -- step that was done, or the greeting, where there is no such step.
-  abbrev pub PrintsLast : (decls : Decls) (start : View D) (greeting : List ℕ) (done rest : List ScriptStep)
-      (text : List ℕ) (end : Option Stop) (view : View D) → RunsUntil decls start done rest text end view
-      → (before last : List ℕ) → Type 0
-  PrintsLast decls start greeting done rest text None view runs before last =
-      ((done ≡ []) × (before ≡ []) × (last ≡ greeting))
-      ⊎ ((said : List ℕ) × (before ≡ greeting ++ said) × LastDone decls start done text said last view)
-  PrintsLast decls start greeting done rest text (Some end) view runs before last =
-      (before ≡ greeting ++ runs.3.before) × (last ≡ runs.3.more)
-
-  -- the run of a script from a view on: the steps that were done, and how it ended
-  pub record ScriptRun (decls : Decls) (start : View D) (script : List ScriptStep) (disk : D) (text : List ℕ)
-      (end : Option Stop) : Type 0 where
+  -- The script of a bundle was run over the disk, and the sink took what the run printed. A world began; lines were done
+  -- in it, and others not; and so they were by all rules of what comes of a line, over any disk. So they were also where
+  -- it is granted that reads give what was written, unless a line opened the journal again. The run has the headline
+  -- over a disk that tells what it holds, and over another one where that is granted.
+  pub record BundleRun (bundle : ScriptedBundle) (before after : Outside D) (status : Result Done Stop) : Type 0 where
+    pub first : World D
+    pub greeting : List ℕ
+    pub begins : BeginsOver bundle.decls before.disk first greeting
     pub done : List ScriptStep
     pub rest : List ScriptStep
-    pub parts : script ≡ done ++ rest
-    pub last : View D
-    pub runs : RunsUntil decls start done rest text end last
-    pub disk_is : last.disk ≡ disk
-    pub rests : Rests meaning decls last
-
-  -- What a sink took of which a write failed: all that was printed before the last text, and a front of that one. So
-  -- each text was written before the next step was done, and no step was done behind the failure.
-  pub record TookUpToLast (decls : Decls) (start : View D) (script : List ScriptStep) (disk : D)
-      (greeting text : List ℕ) (end : Option Stop) (run : ScriptRun decls start script disk text end)
-      (held now : Option (List ℕ)) : Type 0 where
-    pub before : List ℕ
-    pub last : List ℕ
-    pub prints : PrintsLast decls start greeting run.done run.rest text end run.last run.runs before last
-    pub between : Option (List ℕ)
-    pub took_before : Appends held between before
-    pub took_last : TakesFront between now last
-
-  -- What a run leaves to those who called, where the disk tells what it holds. The disk holds a journal of one legal
-  -- history, so does each file that a crash now may leave, and so did a crash at each moment since the journal was
-  -- opened. The history at entry is a front of each. What is known is a front of the history that the disk holds and
-  -- of what a crash leaves: the history at entry and then some of the script's calls, in their order. (That a call
-  -- which was answered Committed stays is `AcknowledgedStays`.)
-  pub record KeepsAll (decls : Decls) (start last : View D) (script : List ScriptStep) : Type 0 where
-    pub journal : IfSome (meaning.content last.disk) (HoldsFrom decls last.known)
-    pub crash_now : (file : List ℕ) → meaning.may_leave last.disk file → HoldsFrom decls last.known file
-    pub crash_since : (file : List ℕ) → meaning.left_since last.disk (meaning.moment start.disk) file
-        → HoldsFrom decls start.known file
-    pub added : (added : List Call) × (last.known ≡ start.known ++ added) × IsSubsequence added (calls_in script)
-
-  -- the run of a script over a disk: it was opened, what was printed, and how it ended
-  pub record DiskRun (decls : Decls) (script : List ScriptStep) (before after : D) (printed : List ℕ)
-      (end : Option Stop) : Type 0 where
-    pub start : View D
-    pub greeting : List ℕ
-    pub text : List ℕ
-    pub starts : Starts decls before start greeting
-    pub runs : ScriptRun decls start script after text end
-    pub prints : printed ≡ greeting ++ text
-    pub keeps : is_some (meaning.content before) ≡ true → KeepsAll decls start runs.last script
-
-  -- the script of a bundle was run over the disk, and the sink took what the run printed
-  pub record BundleRun (bundle : ScriptedBundle) (before after : Outside D) (status : Result Done Stop) : Type 0 where
-    pub printed : List ℕ
+    pub parts : bundle.steps ≡ done ++ rest
+    pub texts : List (List ℕ)
     pub end : Option Stop
-    pub ran : DiskRun bundle.decls bundle.steps before.disk after.disk printed end
-    pub wrote : Wrote before.held after.held printed end status
-    pub whole : is_ok status ≡ true → ran.runs.rest ≡ []
-    pub unwritten : status ≡ Err ending.WriteFault
-        → TookUpToLast bundle.decls ran.start bundle.steps after.disk ran.greeting ran.text end ran.runs
-        before.held after.held
+    pub ran : (granted : Bool) → MayBeGranted granted done
+        → LinesRun (run_setting meaning bundle.decls LARGEST_JOURNAL granted) first done texts end after.disk
+    pub wrote : Wrote before.held after.held (greeting ++ flat_map (λ text. text) texts) end status
+    pub whole : is_ok status ≡ true → rest ≡ []
+    pub unwritten : status ≡ Err ending.WriteFault → TookUpToLast (greeting ∷ texts) before.held after.held
 
   -- The journal was not opened, for this cause, which is in the bytes that the disk gave, and the sink took nothing.
   -- Unless the disk failed it is as it was, or holds the journal with its gate.
@@ -204,6 +195,33 @@ module _ {D : Type 0} (meaning : DiskMeaning D) where
   EndsOver bundle before after (Ok done) = BundleRun bundle before after (Ok done)
   EndsOver bundle before after (Err ending.WriteFault) = BundleRun bundle before after (Err ending.WriteFault)
   EndsOver bundle before after (Err end) = IsUnopened bundle before after end ⊎ BundleRun bundle before after (Err end)
+
+  -- The script of a bundle was run over the disk, of which the sink took a summary alone. What the lines print, and how
+  -- many calls were recovered, is not written.
+  pub record SummedRun (bundle : ScriptedBundle) (before after : Outside D) (status : Result Done Stop) : Type 0 where
+    pub first : World D
+    pub greeting : List ℕ
+    pub begins : BeginsOver bundle.decls before.disk first greeting
+    pub summary : List ℕ
+    pub end : Option Stop
+    pub ran : (granted : Bool) → MayBeGranted granted bundle.steps
+        → ScriptRun (run_setting meaning bundle.decls LARGEST_JOURNAL granted) first bundle.steps summary end after.disk
+    pub wrote : WroteSummary before.held after.held summary end status
+
+  -- how such a run ended, by its status
+  abbrev pub EndsSummed : ScriptedBundle → Outside D → Outside D → Result Done Stop → Type 0
+  EndsSummed bundle before after (Ok done) = SummedRun bundle before after (Ok done)
+  EndsSummed bundle before after (Err ending.WriteFault) = SummedRun bundle before after (Err ending.WriteFault)
+  EndsSummed bundle before after (Err end) = IsUnopened bundle before after end
+      ⊎ SummedRun bundle before after (Err end)
+
+  -- a bundle was made of three numbers, and its run ended so; the source was not read
+  pub record WholeGeneration (number devices calls : ℕ) (before after : Outside D) (status : Result Done Stop)
+      : Type 0 where
+    pub bundle : ScriptedBundle
+    pub made : scripted_of (generated number devices calls) ≡ Ok bundle
+    pub unread : after.left ≡ before.left
+    pub ends : EndsSummed bundle before after status
 
   -- the source gave a bundle, whose run ended so
   pub record WholeRun (before after : Outside D) (status : Result Done Stop) : Type 0 where
@@ -227,20 +245,24 @@ module _ {D : Type 0} (meaning : DiskMeaning D) where
 
   -- a command was done, to this status
   abbrev pub EndsAs : Command → Outside D → Outside D → Result Done Stop → Type 0
-  EndsAs Check before after status = WholeCheck before after status
-  EndsAs Run before after status = WholeRun before after status
-  EndsAs History before after status = WholeHistory before after status
+  EndsAs word.Check before after status = WholeCheck before after status
+  EndsAs word.Run before after status = WholeRun before after status
+  EndsAs word.History before after status = WholeHistory before after status
+  EndsAs (word.Gen number devices calls) before after status =
+      WholeGeneration number devices calls before after status
 
   -- How the program ended, by the command and the status. Where the words have no command it ends with Usage, or with
   -- Memory, and nowhere else with Usage. Where the first bytes of the source are no bundle it ends with Bundle,
-  -- whatever the command, or with ReadFault or Memory, and nowhere else with Bundle. Behind these two the bytes may not
+  -- whatever the command, or with ReadFault or Memory, and nowhere else with Bundle; for a command that makes a bundle
+  -- its bytes stand for those of the source. Behind these two the bytes may not
   -- all have been read, and no others were.
   abbrev pub EndsBy : Option Command → Outside D → Outside D → Result Done Stop → Type 0
   EndsBy None before after (Err ending.Memory) = after ≡ before
   EndsBy None before after status = status ≡ Err ending.Usage
   EndsBy (Some command) before after (Err ending.Usage) = ⊥
   EndsBy (Some command) before after (Err ending.ReadFault) = GivesUpTo (LARGEST_BUNDLE + 1) before.left after.left
-  EndsBy (Some command) before after (Err (ending.Bundle line rule)) = GivesFault before.left after.left line rule
+  EndsBy (Some command) before after (Err (ending.Bundle line rule)) =
+      GivesFaultFor command before.left after.left line rule
   EndsBy (Some command) before after (Err ending.Memory) =
       (GivesUpTo (LARGEST_BUNDLE + 1) before.left after.left × (after.held ≡ before.held) × (after.disk ≡ before.disk))
       ⊎ EndsAs command before after (Err ending.Memory)

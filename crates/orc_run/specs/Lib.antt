@@ -1,14 +1,9 @@
-pub mod Views
 pub mod Opening
-pub mod Commits
-pub mod Steps
-pub mod Runs
 pub mod Checks
-pub mod Served
 pub mod Ends
+pub mod Summaries
 pub mod Statuses
 pub mod Decided
-pub mod Transcripts
-pub mod Acknowledged
+pub mod Complete
 pub mod Laws
 pub mod inside

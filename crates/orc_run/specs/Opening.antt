@@ -1,41 +1,30 @@
 -- What a disk may hold as a run begins: why its journal isn't opened, and what a crash may leave while it is.
-use Rattle.std.specs.Prelude.{◌≡◌, ◌⊎◌, ℕ, ◌+◌, ◌<◌, List, [], length, take, slice_get, IsTrue, IfSome}
-use Rattle.std.specs.declared.option.Option.TheVariants.{Some}
+use Rattle.std.specs.Prelude.{◌≡◌, ◌⊎◌, ℕ, ◌+◌, ◌<◌, List, [], length, take, IsTrue, IfSome}
 use Rattle.orc_io.specs.Counts.{Rose}
 use Rattle.orc_journal.specs.Orders.{is_ordered}
-use Rattle.orc_journal.specs.Journals.{header, journal_bytes, IsJournal, IsNotJournal, IsForeign, IsDamaged}
+use Rattle.orc_journal.specs.Journals.{header, journal_bytes, IsNotJournal, IsForeign, IsDamaged}
 use Rattle.orc_journal.specs.Committed.{history_of}
 use Rattle.orc_journal.specs.Opened.{OpenJournal}
 use Rattle.orc_append.specs.Views.{unstopped}
-use Rattle.orc_journal.specs.Opening.{IsOpening, HasOpened, HasRefused}
+use Rattle.orc_journal.specs.Opening.{AreEntriesOf, IsOpening, HasOpened, HasRefused}
 use Rattle.orc_journal.specs.declared.entry.Entry.{Entry}
-use Rattle.orc_journal.specs.declared.entry.Entry.TheVariants.{Decide}
 use Rattle.orc_journal.specs.declared.fault.OpenFault.{OpenFault}
 use Rattle.orc_journal.specs.declared.fault.OpenFault.TheVariants as fault
 use Rattle.orc_call.specs.declared.call.Call.{Call}
-use Rattle.orc_datastore.specs.Legal.{IsLegal}
 use Rattle.orc_decls.specs.declared.declarations.Decls.{Decls}
 use Rattle.orc_disk.specs.Meanings.{DiskMeaning}
 use Rattle.orc_disk.specs.Stops.{Stopping, inside}
+use Rattle.orc_runs.specs.Ends.{IsIllegal, IsIllegalAt}
 use Rattle.orc_run.specs.declared.opening.TheConstants.{LARGEST_JOURNAL}
 use Rattle.orc_run.specs.declared.stop.Stop.{Stop}
 use Rattle.orc_run.specs.declared.stop.Stop.TheVariants as ending
 
--- the entry at this place is a Decide that makes the history illegal, which is legal without it
-pub record IsIllegalAt (decls : Decls) (entries : List Entry) (place : ℕ) : Type 0 where
-  pub t : ℕ
-  pub decide : slice_get entries place ≡ Some (Decide t)
-  pub before : IsLegal decls (history_of (take place entries))
-  pub illegal : IsLegal decls (history_of (take (place + 1) entries)) → ⊥
-
--- a Decide at this offset makes the history of the file illegal
-pub record IsIllegal (decls : Decls) (file : List ℕ) (at : ℕ) : Type 0 where
+-- the history of a file that was opened
+pub record HasHistory (decls : Decls) (file : List ℕ) (history : List Call) : Type 0 where
   pub entries : List Entry
-  pub journal : IsJournal file decls.text entries
+  pub are : AreEntriesOf file decls.text entries
   pub ordered : IsTrue (is_ordered entries)
-  pub place : ℕ
-  pub illegal : IsIllegalAt decls entries place
-  pub offset : at ≡ length (journal_bytes decls.text (take place entries)) + 1
+  pub decided : history_of entries ≡ history
 
 -- how a run ends whose journal isn't opened
 abbrev pub stop_of : OpenFault → Stop
@@ -61,11 +50,6 @@ module _ {D : Type 0} (meaning : DiskMeaning D) where
     pub journal : OpenJournal (Stopping D)
     pub disk_is : journal.disk.inner ≡ new
     pub opened : HasOpened (inside meaning) decls.text LARGEST_JOURNAL (unstopped old) journal entries
-
-  -- and this is their history
-  abbrev pub IsOpenedAs : Decls → D → List Call → D → Type 0
-  IsOpenedAs decls old history new =
-      (entries : List Entry) × IsOpened decls old entries new × (history_of entries ≡ history)
 
   -- It was refused: the bytes that it gave are the cause, and unless an operation failed, nothing changed (`HasRefused`
   -- says it of the disk that stops it).

@@ -1,7 +1,4 @@
+-- What functions within the crate do.
 pub mod Inputs
-pub mod Transactions
-pub mod Pasts
-pub mod Serving
-pub mod Controllers
-pub mod Deciding
-pub mod Halts
+pub mod Scripts
+pub mod Sums

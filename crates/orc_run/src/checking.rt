@@ -5,21 +5,24 @@ ghost use Rattle.orc_run.specs.Checks.{EndsCheck, checked_line};
 ghost use Rattle.orc_run.specs.declared.stop.Stop.{Stop};
 
 use crate::{Done, Stop};
-use orc_bundle::ScriptedBundle;
+use orc_decls::Decls;
 use orc_io::{Sink, write_whole};
+use orc_script::ScriptStep;
 use orc_text::Memory;
 use std::alloc::Global;
 
 /// Writes how many devices and steps a bundle has.
 pub(crate) fn check_bundle<K: Sink>(
     alloc: Global,
-    bundle: &ScriptedBundle,
+    decls: &Decls,
+    steps: &[ScriptStep],
     sink: &mut K,
 ) -> Result<Done, Stop>
-    ensures ends { EndsCheck bundle.now (K.sink.held sink.old) (K.sink.held sink.new) result }
+    ensures ends { EndsCheck (record { decls = decls.now; steps = steps.now })
+        (K.sink.held sink.old) (K.sink.held sink.new) result }
     ensures write { IsErrOf result Stop.WriteFault → Rose (K.sink.faults sink.old) (K.sink.faults sink.new) }
 {
-    let line = match checked_line(alloc, bundle) {
+    let line = match checked_line(alloc, decls, steps) {
         Ok(line) => line,
         Err(Memory) => return Err(Stop::Memory),
     };
@@ -30,13 +33,14 @@ pub(crate) fn check_bundle<K: Sink>(
 }
 
 // How many devices and steps the bundle has.
-fn checked_line(alloc: Global, bundle: &ScriptedBundle) -> Result<Vec<u8>, Memory>
-    ensures { IfOk result (λ bytes. bytes.items ≡ checked_line bundle.now) }
+fn checked_line(alloc: Global, decls: &Decls, steps: &[ScriptStep]) -> Result<Vec<u8>, Memory>
+    ensures { IfOk result (λ bytes. bytes.items
+        ≡ checked_line (record { decls = decls.now; steps = steps.now })) }
 {
     let mut out = String::from_str(alloc, "ok ")?;
-    out.push_str(bundle.decls.devices().len().to_string(alloc)?.as_str())?;
+    out.push_str(decls.devices().len().to_string(alloc)?.as_str())?;
     out.push_str(" ")?;
-    out.push_str(bundle.steps.len().to_string(alloc)?.as_str())?;
+    out.push_str(steps.len().to_string(alloc)?.as_str())?;
     out.push_str("\n")?;
     Ok(out.into_bytes())
 }

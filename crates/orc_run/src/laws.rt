@@ -1,9 +1,8 @@
 //! What users rely on of runs, and of files that hold journals. The functions do nothing: their
 //! contracts are the laws.
-ghost use Rattle.orc_run.specs.Acknowledged.{AcknowledgedStays};
+ghost use Rattle.orc_run.specs.Complete.{AreDoneWhereNothingFails};
 ghost use Rattle.orc_run.specs.Decided.{BytesDecide};
-ghost use Rattle.orc_run.specs.Laws.{FileTellsOneHistory, HasTheseNumbers};
-ghost use Rattle.orc_run.specs.Transcripts.{OneTranscript};
+ghost use Rattle.orc_run.specs.Laws.{FileTellsOneHistory, GatedFilesStay, HasTheseNumbers};
 
 use orc_disk::Disk;
 
@@ -13,22 +12,21 @@ pub fn bytes_decide<D: Disk>()
     ensures { BytesDecide D.disk }
 {}
 
-/// A script that arms no stop has one transcript over disks that tell what they hold. What a run
-/// prints that isn't ended by a fault of the disk is a front of it.
-pub fn one_transcript<D: Disk, E: Disk>()
-    ensures { OneTranscript D.disk E.disk }
-{}
-
-/// A call that was answered Committed stays that entry: in what the controller knows, in what the
-/// disk holds as the run ends, and in each file that a crash may leave from then on.
-pub fn acknowledged_stays<D: Disk>()
-    ensures { AcknowledgedStays D.disk }
+/// Where the words and the bundle are right and the journal's history is legal, and nothing fails, all
+/// is done, or memory is wanting.
+pub fn is_done_where_nothing_fails<D: Disk>()
+    ensures { AreDoneWhereNothingFails D.disk }
 {}
 
 /// A file tells one history: a recovery learns the very history that the clauses on stops and crashes
 /// say is in the file.
 pub fn file_tells_one_history()
     ensures { FileTellsOneHistory }
+{}
+
+/// A file with its ending gate stays as it is while it is opened, whatever crash comes.
+pub fn gated_files_stay<D: Disk>()
+    ensures { GatedFilesStay D.disk }
 {}
 
 /// These limits, the journal's first bytes, its gates and the kinds of its entries are the numbers

@@ -3,23 +3,17 @@
 #![tactic(auto)]
 
 mod checking;
-mod commit;
-mod controller;
-mod decision;
 mod laws;
-mod numbers;
 mod opening;
-mod past;
-mod printing;
-mod run;
-mod served;
-mod serving;
-mod step;
+mod reading;
+mod running;
 mod stop;
+mod summing;
 mod top;
 
 pub use laws::{
-    acknowledged_stays, bytes_decide, file_tells_one_history, has_these_numbers, one_transcript,
+    bytes_decide, file_tells_one_history, gated_files_stay, has_these_numbers,
+    is_done_where_nothing_fails,
 };
 pub use orc_decls::Rule;
 pub use stop::{Done, Ended, Stop, status};

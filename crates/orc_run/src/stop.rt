@@ -1,9 +1,11 @@
 //! How a run ends.
 ghost use Rattle.std.specs.Prelude.{◌≡◌, Err};
 ghost use Rattle.orc_run.specs.Statuses.{status_of, stop_status};
+ghost use Rattle.orc_run.specs.inside.Scripts.{stop_of_world};
 
 use orc_decls::Rule;
 use orc_disk::Disk;
+use orc_world::WorldStop;
 use thiserror::Error;
 
 /// The command did all that it is to do.
@@ -83,6 +85,20 @@ impl Stop {
             Stop::NotJournal => 9,
             Stop::Damaged { .. } => 10,
         }
+    }
+}
+
+/// How the program ends where a world ended a run so.
+pub(crate) fn stop_of_world(why: WorldStop) -> Stop
+    ensures { result ≡ stop_of_world why }
+{
+    match why {
+        WorldStop::JournalFault => Stop::JournalFault,
+        WorldStop::Full { len } => Stop::Full { len },
+        WorldStop::Memory => Stop::Memory,
+        WorldStop::Foreign { at } => Stop::Foreign { at },
+        WorldStop::NotJournal => Stop::NotJournal,
+        WorldStop::Damaged { at } => Stop::Damaged { at },
     }
 }
 

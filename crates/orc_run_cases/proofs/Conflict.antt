@@ -619,6 +619,7 @@ module _ (schema : SchemaTable) (valid : broken_of schema (opening_data (r1.name
     why = None;
     because = refl;
     whole = λ none. refl;
+    noted = λ device. [];
     logs = no_logs (one_device schema).names lines_conflict (refl, (refl, (refl, (refl, (refl, (refl, (refl, (refl, (refl, tt)))))))));
   }
 

@@ -46,7 +46,7 @@ use Rattle.orc_tree.specs.declared.change.ChangeSet.{ChangeSet}
 use Rattle.orc_run_cases.specs.Disks.{SureDisk}
 use Rattle.orc_run_cases.specs.OneDevice.{al_1, one_device, r1, write_mtu}
 use Rattle.orc_run_cases.proofs.Done as done
-use Rattle.orc_run_cases.proofs.Journals.{file_of, tidy_holds, with_one, with_one_tidy}
+use Rattle.orc_run_cases.proofs.Journals.{file_of, is_gated, tidy_holds, with_one, with_one_tidy}
 use Rattle.orc_run_cases.proofs.Trees.{changed_9, changes_9, due_9, is_one, no_tree, same_none}
 use Rattle.orc_run_cases.proofs.Turns.{MayStep, Tidy, done_turn, here, hub_in, line_done, step_goes, step_goes_on, step_turns, stepped}
 
@@ -106,7 +106,7 @@ module _ (schema : SchemaTable) (valid : broken_of schema (opening_data (r1.name
   }
 
   pub tidy_0 : Tidy schema world_0
-  tidy_0 = record { left = []; file = refl; writable = All-nil IsWritable; uncut = refl; unread = refl }
+  tidy_0 = record { gated = is_gated (here schema).decls.text [] (All-nil IsWritable); uncut = refl; unread = refl }
 
   pub starts : StartsRun (here schema) world_0
   starts = record {
@@ -204,7 +204,7 @@ module _ (schema : SchemaTable) (valid : broken_of schema (opening_data (r1.name
   no_clash =
       ap (λ (found : Option (List PathStep × List ℕ)). option_or (option_map (λ at. answer.Clash 0 at.0 at.1) found) None) (alone 0 (entries (part_of service_a 0)))
 
-  unrefused_1 : refusal_of (one_device schema) [] al_1 ≡ None
+  pub unrefused_1 : refusal_of (one_device schema) [] al_1 ≡ None
   unrefused_1 = ap (λ (found : Option Breach). option_or (broken found) clash_1) valid ∙ no_clash
 
   exact_1 : IsSetOf (one_device schema) [] al_1 set_1

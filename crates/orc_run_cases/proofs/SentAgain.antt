@@ -62,7 +62,7 @@ one_is_named first rest lower is one less unnamed =
 
 module _ (schema : SchemaTable) (valid : broken_of schema (opening_data (r1.name ∷ []) []) ≡ None) where
   abbrev given_up : World SureDisk
-  given_up = world_18 schema valid 1 0 [] 0 (omega arith) (omega arith) refl
+  given_up = world_18 schema valid 1 0 (omega arith) (omega arith) refl
 
   -- `call al 1` again: it waits, by the next number
 
@@ -97,7 +97,7 @@ module _ (schema : SchemaTable) (valid : broken_of schema (opening_data (r1.name
   call_line = done.call_line schema al_1 given_up None world_20 []
 
   call_done : IsDone (here schema) false call_line
-  call_done = done.call_done schema al_1 given_up None world_20 [] refl refl refl queued refl (tidy_18 schema valid 1 0 [] 0 (omega arith) (omega arith) refl) refl
+  call_done = done.call_done schema al_1 given_up None world_20 [] refl refl refl queued refl (tidy_18 schema valid 1 0 (omega arith) (omega arith) refl) refl
 
   -- `settle`
 
@@ -124,11 +124,11 @@ module _ (schema : SchemaTable) (valid : broken_of schema (opening_data (r1.name
   can : CanSettle schema valid 2 world_20
   unfolding digits
   can = record {
-    tidy = tidy_18 schema valid 1 0 [] 0 (omega arith) (omega arith) refl;
+    tidy = tidy_18 schema valid 1 0 (omega arith) (omega arith) refl;
     unarmed = refl;
     up = refl;
     waits = refl;
-    silent = λ device. silent_18 schema valid 1 0 [] 0 (omega arith) (omega arith) refl device;
+    silent = λ device. silent_18 schema valid 1 0 (omega arith) (omega arith) refl device;
     intends = writable_2;
     decides = decide_writes;
     settles = settle_writes;
@@ -189,7 +189,7 @@ module _ (schema : SchemaTable) (valid : broken_of schema (opening_data (r1.name
   later_lines = call_line ∷ settle_line schema valid 2 world_20 ∷ show_line ∷ []
 
   abbrev all_later : List (LineDone SureDisk)
-  all_later = own_lines schema valid 1 0 [] 0 (omega arith) (omega arith) refl ++ later_lines
+  all_later = own_lines schema valid 1 0 (omega arith) (omega arith) refl ++ later_lines
 
   abbrev lines_again : List (LineDone SureDisk)
   lines_again = prefix_lines schema valid ++ all_later
@@ -199,7 +199,7 @@ module _ (schema : SchemaTable) (valid : broken_of schema (opening_data (r1.name
     lines = lines_again;
     middle = world_33;
     done = prefix_done schema valid all_later world_33
-        (own_done schema valid 1 0 [] 0 (omega arith) (omega arith) refl later_lines world_33
+        (own_done schema valid 1 0 (omega arith) (omega arith) refl later_lines world_33
         (refl, call_done, (refl, settle_done schema valid 2 world_20 can, (refl, show_done, refl))));
     end = None;
     ends = refl;
@@ -208,6 +208,7 @@ module _ (schema : SchemaTable) (valid : broken_of schema (opening_data (r1.name
     why = None;
     because = refl;
     whole = λ none. refl;
+    noted = λ device. [];
     logs = no_logs (one_device schema).names lines_again (refl, (refl, (refl, (refl, (refl, (refl, (refl, (refl, (refl, (refl, (refl, (refl, (refl, (refl, (refl, (refl, tt))))))))))))))));
   }
 

@@ -1,18 +1,21 @@
 -- A stop is armed before the decision; it comes in the append of the Decide, and the controller recovers.
-use Rattle.std.specs.Prelude.{◌≡◌, ℕ, Option, None, Some, List, [], ◌∷◌, ◌++◌, false, true, codes, length, option_map}
-use Rattle.std.proofs.Common.{refl, sym, ap, ◌∙◌, append-nil}
+use Rattle.std.specs.Prelude.{◌≡◌, ℕ, Option, None, Some, List, [], ◌∷◌, ◌++◌, false, true, codes, length, option_map, IsTrue}
+use Rattle.std.proofs.Common.{refl, sym, ap, ◌∙◌, append-nil, arith}
 use Rattle.orc_append.specs.declared.outcome.Appended.TheVariants.{Stopped}
 use Rattle.orc_call.specs.declared.answer.Answer.{Answer}
 use Rattle.orc_call.specs.declared.answer.Answer.TheVariants as answer
 use Rattle.orc_call.specs.declared.answer.Why.TheVariants as why
 use Rattle.orc_check.specs.Validity.{Breach, broken_of}
 use Rattle.orc_decls.specs.Openings.{opening_data}
+use Rattle.orc_datastore.specs.Legal.{IsLegal}
+use Rattle.orc_journal.specs.Committed.{history_of}
+use Rattle.orc_journal.specs.Orders.{is_ordered}
 use Rattle.orc_journal.specs.declared.entry.Entry.TheVariants as entry
 use Rattle.orc_print.specs.Printed.{recovered_line}
 use Rattle.orc_rules.specs.Admissions.{transaction_begun}
 use Rattle.orc_rules.specs.Events.{Comes, DoesUnderHub, Steps, Turn}
 use Rattle.orc_rules.specs.Hubs.{answered, hub_told}
-use Rattle.orc_rules.specs.Journals.{AppendsRow, Journal, history_read}
+use Rattle.orc_rules.specs.Journals.{AppendsRow, Journal, entries_read, history_read}
 use Rattle.orc_rules.specs.Worlds.{World, new_hub, stopped, with_snapshot}
 use Rattle.orc_rules.specs.declared.duty.Duty.TheVariants as duty
 use Rattle.orc_rules.specs.declared.event.Event.TheVariants as event
@@ -39,7 +42,7 @@ module _ (schema : SchemaTable) (valid : broken_of schema (opening_data (r1.name
   world_10 = set_by (step.StopAt operation bytes) (world_9 schema valid)
 
   pub tidy_10 : Tidy schema world_10
-  tidy_10 = let own = tidy_3 schema valid in record { left = own.left; file = own.file; writable = own.writable; uncut = own.uncut; unread = own.unread }
+  tidy_10 = let own = tidy_3 schema valid in record { gated = own.gated; uncut = own.uncut; unread = own.unread }
 
   abbrev pub arm_line : LineDone SureDisk
   arm_line = record { step = step.StopAt operation bytes; before = world_9 schema valid; turns = []; behind = world_10; text = [] }
@@ -83,7 +86,7 @@ module _ (schema : SchemaTable) (valid : broken_of schema (opening_data (r1.name
 
     abbrev pub world_12 : World SureDisk
     world_12 = record world_11 {
-      journal = opened (here schema).decls.text (here schema).limit journal;
+      journal = opened journal;
       hub = Some (new_hub (duty.Free ∷ []) (Some why.Recovered ∷ []));
     }
 
@@ -99,11 +102,11 @@ module _ (schema : SchemaTable) (valid : broken_of schema (opening_data (r1.name
       text = recovered_line (length (history_read world_12.journal));
     }
 
-    pub recover_done : Tidy schema world_12 → IsDone (here schema) false recover_line
-    recover_done tidy =
+    pub recover_done : Tidy schema world_12 → IsTrue (is_ordered (entries_read journal)) → IsLegal (here schema).decls (history_of (entries_read journal)) → IsDone (here schema) false recover_line
+    recover_done tidy ordered legal =
         let words : List ℕ = recovered_line (length (history_read world_12.journal)) in
         let comes : Comes (here schema) recover_turn =
-        Steps.recovers world_12 refl refl (opens (here schema).decls.text (here schema).limit journal tidy cut.outlives.holds) refl in
+        Steps.recovers world_12 refl refl (opens (here schema).decls (here schema).limit journal tidy (omega arith) ordered legal cut.outlives.holds) refl in
         line_done (here schema) recover_line
         (Goes.none part.Stopping (part.Recovery ∷ []) world_11 world_12 (recover_turn ∷ []) (idle_stopping (here schema) world_11 refl)
         (Goes.once part.Recovery [] recover_turn [] world_12 refl tt tt comes (Goes.whole world_12)))

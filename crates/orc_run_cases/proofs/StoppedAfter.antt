@@ -1,12 +1,15 @@
 -- The run that is stopped once the Decide is synced: it is committed.
-use Rattle.std.specs.Prelude.{◌≡◌, ℕ, zero, suc, false, None, Some, List, [], ◌∷◌, ◌++◌, codes}
+use Rattle.std.specs.Prelude.{◌≡◌, ℕ, zero, suc, false, None, Some, List, [], ◌∷◌, ◌++◌, IsTrue, codes}
 use Rattle.std.proofs.Common.{refl, sym, ap, ◌∙◌, arith}
 use Rattle.std.proofs.lemmas.List.Elements.{All-nil, All-cons}
 use Rattle.std.specs.Fmt.{digits}
 use Rattle.std.specs.List.{flat_map}
 use Rattle.orc_append.specs.declared.outcome.Appended.TheVariants.{Stopped}
 use Rattle.orc_call.specs.declared.answer.Answer.TheVariants as answer
+use Rattle.orc_call.specs.declared.call.Call.{Call}
 use Rattle.orc_check.specs.Validity.{broken_of}
+use Rattle.orc_datastore.specs.Legal.{IsLegal}
+use Rattle.orc_decls.specs.Calls.{is_call}
 use Rattle.orc_decls.specs.Openings.{opening_data}
 use Rattle.orc_device.specs.declared.op.Op.TheVariants as op
 use Rattle.orc_journal.specs.Entries.{IsWritable}
@@ -35,12 +38,12 @@ use Rattle.orc_run_cases.specs.Disks.{SureDisk, sure_disk}
 use Rattle.orc_run_cases.specs.Worked.{committed_log, committed_script, committed_text}
 use Rattle.orc_run_cases.specs.OneDevice.{al_1, one_device, r1}
 use Rattle.orc_run_cases.proofs.Done.{call_done, call_line}
-use Rattle.orc_run_cases.proofs.Journals.{all_and, last_stopped, stopped_last}
-use Rattle.orc_run_cases.proofs.Prefix.{prefix_done, prefix_lines, tidy_3, world_0, world_9}
+use Rattle.orc_run_cases.proofs.Journals.{gated_with, last_stopped, stopped_last}
+use Rattle.orc_run_cases.proofs.Prefix.{prefix_done, prefix_lines, tidy_3, unrefused_1, world_0, world_9}
 use Rattle.orc_run_cases.proofs.Reconciled.{IsWell, mended, reconcile_done, reconcile_line, tree_read}
 use Rattle.orc_run_cases.proofs.Recovering.{one_unsettled}
 use Rattle.orc_run_cases.proofs.Stopped.{arm_done, arm_line, decide_done, decide_line, recover_done, recover_line, tidy_10, world_10, world_12}
-use Rattle.orc_run_cases.proofs.Trees.{entries_9, over_9, same_9, tree_9}
+use Rattle.orc_run_cases.proofs.Trees.{entries_9, is_one, over_9, same_9, tree_9}
 use Rattle.orc_run_cases.proofs.Turns.{Tidy, here, hub_in, line_done, one_log}
 
 -- a number that is stored
@@ -67,11 +70,16 @@ module _ (schema : SchemaTable) (valid : broken_of schema (opening_data (r1.name
 
   tidy_12 : Tidy schema recovered
   tidy_12 = record {
-    left = [];
-    file = refl;
-    writable = all_and text limit (world_10 schema valid 4 1).journal.synced (entry.Decide 1) (tidy_3 schema valid).writable decide_writable;
+    gated = gated_with text (world_10 schema valid 4 1).journal.synced (entry.Decide 1) (world_10 schema valid 4 1).journal.disk.file (tidy_3 schema valid).gated decide_writable;
     uncut = refl;
     unread = refl;
+  }
+
+  legal_12 : IsLegal (here schema).decls (al_1 ∷ [])
+  legal_12 = record {
+    lawful = All-cons (λ (call : Call). IsTrue (is_call (here schema).decls call)) al_1 [] (is_one schema) (All-nil _);
+    unrefused = (unrefused_1 schema valid, tt);
+    distinct = (All-nil _, tt);
   }
 
   -- `call al 1` again: it is the first entry
@@ -169,12 +177,12 @@ module _ (schema : SchemaTable) (valid : broken_of schema (opening_data (r1.name
   abbrev lines_after : List (LineDone SureDisk)
   lines_after = front_lines ++ log_line ∷ []
 
-  logs_this : committed_log ≡ log_text (name_of (one_device schema).names 0) (logged 0 front_lines)
+  logs_this : committed_log ≡ log_text (name_of (one_device schema).names 0) (logged 0 [] front_lines)
   unfolding digits
   logs_this = refl
 
   own_done : AreDone (here schema) (world_9 schema valid) (own_lines ++ log_line ∷ []) world_18
-  own_done = (refl, arm_done schema valid 4 1, (refl, decide_done schema valid 4 1 journal cut, (refl, recover_done schema valid 4 1 journal cut tidy_12, (refl, again_done, (refl, mended_done, (refl, show_done, (refl, log_done, refl)))))))
+  own_done = (refl, arm_done schema valid 4 1, (refl, decide_done schema valid 4 1 journal cut, (refl, recover_done schema valid 4 1 journal cut tidy_12 refl legal_12, (refl, again_done, (refl, mended_done, (refl, show_done, (refl, log_done, refl)))))))
 
   pub run_after : Run (here schema) script_after (world_0 schema valid) world_18
   run_after = record {
@@ -188,6 +196,7 @@ module _ (schema : SchemaTable) (valid : broken_of schema (opening_data (r1.name
     why = None;
     because = refl;
     whole = λ none. refl;
+    noted = λ device. [];
     logs = one_log (one_device schema).names front_lines log_line 0 (refl, (refl, (refl, (refl, (refl, (refl, (refl, (refl, (refl, (refl, (refl, (refl, (refl, (refl, tt)))))))))))))) refl logs_this;
   }
 

@@ -27,7 +27,7 @@ use Rattle.orc_schema.specs.Schemas.{SchemaTable}
 use Rattle.orc_run_cases.specs.Disks.{SureDisk, sure_disk}
 use Rattle.orc_run_cases.specs.Worked.{IsWorked, given_up_script, given_up_text}
 use Rattle.orc_run_cases.specs.OneDevice.{network_with, one_device, r1}
-use Rattle.orc_run_cases.proofs.Journals.{stopped_within, with_one_tidy, within_stopped}
+use Rattle.orc_run_cases.proofs.Journals.{gated_behind, put_until, stopped_within, with_one_tidy, within_stopped}
 use Rattle.orc_run_cases.proofs.Prefix.{prefix_done, prefix_lines, starts, tidy_3, world_0, world_9}
 use Rattle.orc_run_cases.proofs.Reconciled.{IsWell, closed_silent, mended, reconcile_done, reconcile_line, settled_writes, tree_read}
 use Rattle.orc_run_cases.proofs.Recovering.{one_unsettled}
@@ -36,7 +36,7 @@ use Rattle.orc_run_cases.proofs.Trees.{entries_none, no_tree, same_none}
 use Rattle.orc_run_cases.proofs.Turns.{no_logs, Tidy, here, hub_in, line_done}
 
 module _ (schema : SchemaTable) (valid : broken_of schema (opening_data (r1.name ∷ []) []) ≡ None)
-    (operation bytes : ℕ) (rest : List ℕ) (asked : ℕ) (least : 1 ≤ operation) (most : operation ≤ 4)
+    (operation bytes : ℕ) (least : 1 ≤ operation) (most : operation ≤ 4)
     (before : nat_lt 3 (operation + min bytes 1) ≡ false) where
   abbrev text : List ℕ
   text = (here schema).decls.text
@@ -47,17 +47,24 @@ module _ (schema : SchemaTable) (valid : broken_of schema (opening_data (r1.name
   -- the stop is armed, `decide` and `recover`
 
   abbrev journal : Journal SureDisk
-  journal = stopped_within text rest asked (entry.Decide 1) (world_10 schema valid operation bytes).journal
+  journal = stopped_within text operation bytes (entry.Decide 1) (world_10 schema valid operation bytes).journal
 
   pub cut : AppendsRow sure_disk text limit (world_10 schema valid operation bytes).journal (entry.Decide 1 ∷ []) Stopped journal
-  cut = within_stopped text limit (world_10 schema valid operation bytes).journal (entry.Decide 1) rest asked operation bytes
+  cut = within_stopped text limit (world_10 schema valid operation bytes).journal (entry.Decide 1) operation bytes
       (tidy_10 schema valid operation bytes) refl refl least most before (omega arith)
 
   abbrev recovered : World SureDisk
   recovered = world_12 schema valid operation bytes journal cut
 
   tidy_12 : Tidy schema recovered
-  tidy_12 = let own = tidy_3 schema valid in record { left = rest; file = refl; writable = own.writable; uncut = refl; unread = own.unread }
+  tidy_12 =
+      let own = tidy_3 schema valid in
+      let start = world_10 schema valid operation bytes in
+      record {
+        gated = gated_behind text start.journal.synced (put_until operation bytes (entry.Decide 1)) start.journal.disk.file own.gated;
+        uncut = refl;
+        unread = own.unread;
+      }
 
   -- `reconcile`
 
@@ -130,7 +137,7 @@ module _ (schema : SchemaTable) (valid : broken_of schema (opening_data (r1.name
   pub own_done : (lines : List (LineDone SureDisk)) (last : World SureDisk) → AreDone (here schema) world_18 lines last
       → AreDone (here schema) (world_9 schema valid) (own_lines ++ lines) last
   own_done lines last done =
-      (refl, arm_done schema valid operation bytes, (refl, decide_done schema valid operation bytes journal cut, (refl, recover_done schema valid operation bytes journal cut tidy_12, (refl, mended_done, (refl, show_done, done)))))
+      (refl, arm_done schema valid operation bytes, (refl, decide_done schema valid operation bytes journal cut, (refl, recover_done schema valid operation bytes journal cut tidy_12 refl (record { lawful = All-nil _; unrefused = tt; distinct = tt }), (refl, mended_done, (refl, show_done, done)))))
 
   pub run_before : Run (here schema) script_before (world_0 schema valid) world_18
   run_before = record {
@@ -144,6 +151,7 @@ module _ (schema : SchemaTable) (valid : broken_of schema (opening_data (r1.name
     why = None;
     because = refl;
     whole = λ none. refl;
+    noted = λ device. [];
     logs = no_logs (one_device schema).names lines_before (refl, (refl, (refl, (refl, (refl, (refl, (refl, (refl, (refl, (refl, (refl, (refl, (refl, tt)))))))))))));
   }
 
@@ -156,14 +164,14 @@ module _ (schema : SchemaTable) (valid : broken_of schema (opening_data (r1.name
   whole_before = refl
 
 -- So it goes wherever the append of the Decide is stopped before its gate is opened.
-pub given_up : (schema : SchemaTable) → AreDecls (one_device schema) → (operation bytes : ℕ) (rest : List ℕ) (asked : ℕ)
+pub given_up : (schema : SchemaTable) → AreDecls (one_device schema) → (operation bytes : ℕ)
     → 1 ≤ operation → operation ≤ 4 → nat_lt 3 (operation + min bytes 1) ≡ false
     → IsWorked (network_with schema) (given_up_script operation bytes) given_up_text
-given_up schema are operation bytes rest asked least most before = record {
+given_up schema are operation bytes least most before = record {
   first = world_0 schema are.valid;
-  last = world_18 schema are.valid operation bytes rest asked least most before;
+  last = world_18 schema are.valid operation bytes least most before;
   starts = starts schema are.valid;
-  run = run_before schema are.valid operation bytes rest asked least most before;
-  whole = whole_before schema are.valid operation bytes rest asked least most before;
-  prints = prints_before schema are.valid operation bytes rest asked least most before;
+  run = run_before schema are.valid operation bytes least most before;
+  whole = whole_before schema are.valid operation bytes least most before;
+  prints = prints_before schema are.valid operation bytes least most before;
 }

@@ -77,7 +77,7 @@ line_done here line goes prints on = record {
 abbrev pub is_log_line : {D : Type 0} → LineDone D → Bool
 is_log_line line = is_log_step line.step
 
-pub no_logs : {D : Type 0} (names : List (List ℕ)) (lines : List (LineDone D)) → Each (λ line. is_log_line line ≡ false) lines → PrintLogs names lines
+pub no_logs : {D : Type 0} (names : List (List ℕ)) (lines : List (LineDone D)) → Each (λ line. is_log_line line ≡ false) lines → PrintLogs names (λ device. []) lines
 no_logs {D = D} names lines each earlier later line device is at =
     absurd (let both : false ≡ true = sym (each_there (λ (l : LineDone D). is_log_line l ≡ false) earlier later lines line is each) ∙ ap is_log_step at in cc)
 
@@ -112,13 +112,13 @@ logged_device other = 0
 
 -- the last line alone prints a log
 pub one_log : {D : Type 0} (names : List (List ℕ)) (front : List (LineDone D)) (last : LineDone D) (device : ℕ)
-    → Each (λ one. is_log_line one ≡ false) front → last.step ≡ step.Log device → last.text ≡ log_text (name_of names device) (logged device front)
-    → PrintLogs names (front ++ last ∷ [])
+    → Each (λ one. is_log_line one ≡ false) front → last.step ≡ step.Log device → last.text ≡ log_text (name_of names device) (logged device [] front)
+    → PrintLogs names (λ device. []) (front ++ last ∷ [])
 one_log {D = D} names front last device each is prints earlier later line other parts at =
     let same = last_logs front earlier later last line other each parts at in
     let number : device ≡ other = ap logged_device (sym is ∙ ap (λ (l : LineDone D). l.step) same.1 ∙ at) in
-    sym (ap (λ (l : LineDone D). l.text) same.1) ∙ prints ∙ ap (λ (d : ℕ). log_text (name_of names d) (logged d front)) number
-    ∙ ap (λ (l : List (LineDone D)). log_text (name_of names other) (logged other l)) (sym same.0)
+    sym (ap (λ (l : LineDone D). l.text) same.1) ∙ prints ∙ ap (λ (d : ℕ). log_text (name_of names d) (logged d [] front)) number
+    ∙ ap (λ (l : List (LineDone D)). log_text (name_of names other) (logged other [] l)) (sym same.0)
 
 -- turns
 

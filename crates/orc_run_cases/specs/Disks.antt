@@ -2,6 +2,7 @@
 use Rattle.std.specs.Prelude.{◌≡◌, ◌⊎◌, ℕ, ◌≤◌, List, [], ◌∷◌, length, Some}
 use Rattle.orc_disk.specs.Course.{Tallied}
 use Rattle.orc_disk.specs.Meanings.{DiskMeaning}
+use Rattle.orc_text.specs.Counts.{capped}
 
 -- a disk that does each write at once and whole: the file that it holds, those that it held at earlier moments, the
 -- latest first, how many writes and syncs came, and what its reads gave
@@ -24,9 +25,9 @@ sure_disk = record {
   moment = λ disk. length disk.earlier;
   left_since = λ disk since file. WasHeld (disk.file ∷ disk.earlier) since file;
   faults = λ disk. 0;
-  ops = λ disk. disk.asked;
+  ops = λ disk. capped disk.asked;
   heard = λ disk. disk.heard;
-  leads = λ course old new. Tallied course 0 0 old.asked new.asked old.heard new.heard;
+  leads = λ course old new. Tallied course 0 0 (capped old.asked) (capped new.asked) old.heard new.heard;
   cut = λ at bytes old new. ⊥;
   cut_sync = λ old new. ⊥;
 }

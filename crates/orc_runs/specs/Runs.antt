@@ -3,6 +3,7 @@ use Rattle.std.specs.Prelude.{[], ◌≡◌, ◌≢◌, ◌⊎◌, ◌==◌, Boo
 use Rattle.std.specs.List.{flat_map, fold}
 use Rattle.std.specs.Option.{option_map_or}
 use Rattle.orc_decls.specs.Devices.{name_of}
+use Rattle.orc_decls.specs.declared.declarations.Decls.{Decls}
 use Rattle.orc_device.specs.declared.reply.Logged.{Logged}
 use Rattle.orc_device.specs.declared.reply.Mark.{Mark}
 use Rattle.orc_rules.specs.Events.{Turn}
@@ -11,7 +12,7 @@ use Rattle.orc_rules.specs.Worlds.{Setting, World}
 use Rattle.orc_rules.specs.declared.event.Event.{Event}
 use Rattle.orc_rules.specs.declared.event.Event.TheVariants as event
 use Rattle.orc_runs.specs.Ends.{EndOfRun, EndedBecause}
-use Rattle.orc_runs.specs.Scripts.{Goes, Prints, line_parts, set_by}
+use Rattle.orc_runs.specs.Scripts.{Goes, Prints, line_parts, said_in, set_by}
 use Rattle.orc_script.specs.declared.step.ScriptStep.{ScriptStep}
 use Rattle.orc_script.specs.declared.step.ScriptStep.TheVariants as step
 use Rattle.orc_print.specs.Logs.{log_text}
@@ -34,6 +35,14 @@ line_list (Some line) = line ∷ []
 abbrev pub EndsRun : {D : Type 0} → Turn D → Type 0
 EndsRun turn = (turn.seen ≡ None)
     ⊎ ((hub : Hub) × (turn.before.hub ≡ Some hub) × (turn.behind.hub ≡ None) × (turn.seen ≢ Some event.Stop))
+
+-- A line in which the run ended prints all that is said in it, up to its last turn; so also the answer JournalFault to a
+-- call for which the disk failed. But where memory was wanting, or the text couldn't be written, that of the last turn may
+-- be missing.
+abbrev pub SaysAllTurns : {D : Type 0} → Decls → LineDone D → EndOfRun → Type 0
+SaysAllTurns decls line EndOfRun.Memory = Unit {0}
+SaysAllTurns decls line EndOfRun.WriteFault = Unit {0}
+SaysAllTurns decls line other = line.text ≡ said_in decls line.step line.turns
 
 -- logs
 
@@ -58,15 +67,16 @@ abbrev pub logged_with : {D : Type 0} → ℕ → List Logged → LineDone D →
 logged_with device rows line =
     if is_log device line.step then [] else rows ++ flat_map (λ turn. operation_of device turn turn.seen) line.turns
 
--- the operations of a device in these lines, since its log was printed last
-abbrev pub logged : {D : Type 0} → ℕ → List (LineDone D) → List Logged
-logged device lines = fold (logged_with device) [] lines
+-- the operations of a device since its log was printed last: those noted before these lines, and those in them
+abbrev pub logged : {D : Type 0} → ℕ → List Logged → List (LineDone D) → List Logged
+logged device noted lines = fold (logged_with device) noted lines
 
--- each line that prints the log of a device prints the operations since it was printed last
-abbrev pub PrintLogs : {D : Type 0} → List (List ℕ) → List (LineDone D) → Type 0
-PrintLogs {D} names lines = (earlier later : List (LineDone D)) (line : LineDone D) (device : ℕ)
+-- Each line that prints the log of a device prints the operations since it was printed last; where these lines didn't
+-- print it before, those also that were noted before them.
+abbrev pub PrintLogs : {D : Type 0} → List (List ℕ) → (ℕ → List Logged) → List (LineDone D) → Type 0
+PrintLogs {D} names noted lines = (earlier later : List (LineDone D)) (line : LineDone D) (device : ℕ)
     → lines ≡ earlier ++ line ∷ later → line.step ≡ step.Log device
-    → line.text ≡ log_text (name_of names device) (logged device earlier)
+    → line.text ≡ log_text (name_of names device) (logged device (noted device) earlier)
 
 module _ {D : Type 0} (here : Setting D) where
   -- it does what the row of its parts says, whole or up to where the run ended
@@ -86,13 +96,14 @@ module _ {D : Type 0} (here : Setting D) where
   EndsIn world None last = world ≡ last
   EndsIn world (Some line) last = (line.before ≡ world) × IsDone true line × (line.behind ≡ last)
 
-  -- and why it did
+  -- and why it did; and that it prints all that is said in it
   abbrev pub EndsFor : Option (LineDone D) → Option EndOfRun → Type 0
   EndsFor None why = why ≡ None
   EndsFor (Some line) None = ⊥
-  EndsFor (Some line) (Some why) = EndedBecause here line.turns why
+  EndsFor (Some line) (Some why) = EndedBecause here line.turns why × SaysAllTurns here.decls line why
 
-  -- A script was run from a world on, up to its end, or up to a line in which the run ended, and why it did.
+  -- A script was run from a world on, up to its end, or up to a line in which the run ended, and why it did. (`noted`
+  -- are the operations of each device before it since its log was printed last.)
   pub record Run (script : List ScriptStep) (first last : World D) : Type 0 where
     pub lines : List (LineDone D)
     pub middle : World D
@@ -104,7 +115,8 @@ module _ {D : Type 0} (here : Setting D) where
     pub rest : List ScriptStep
     pub parts : script ≡ map (λ line. line.step) (lines ++ line_list end) ++ rest
     pub whole : end ≡ None → rest ≡ []
-    pub logs : PrintLogs here.decls.names lines
+    pub noted : ℕ → List Logged
+    pub logs : PrintLogs here.decls.names noted lines
 
 -- its lines, that in which it ended too
 abbrev pub lines_in : {D : Type 0} {here : Setting D} {script : List ScriptStep} {first last : World D}

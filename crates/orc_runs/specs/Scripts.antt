@@ -234,7 +234,7 @@ pub record PrintsAll {D : Type 0} (decls : Decls) (at : ScriptStep) (turns : Lis
   pub shows : Shows decls at turns behind after
 
 -- What a line prints. One in which the run ended shows nothing, and may lack what is said of its last turn, where memory
--- was wanting for that.
+-- was wanting for that. (Where the run ended for the journal it lacks nothing: that is said beside the cause.)
 abbrev pub Prints : {D : Type 0} → Decls → Bool → ScriptStep → List (Turn D) → World D → List ℕ → Type 0
 Prints decls false at turns behind text = PrintsAll decls at turns behind text
 Prints {D} decls true at turns behind text = (front rest : List (Turn D))

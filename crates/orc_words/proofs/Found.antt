@@ -1,17 +1,20 @@
 -- Words that the parser has no cause to refuse have a command.
-use Rattle.std.proofs.Common.{◌≡◌, ◌&&◌, Bool, true, false, not, List, [], ◌∷◌, Option, Some, None, is_some, cond, find, refl, option_map, option_and_then}
+use Rattle.std.proofs.Common.{◌≡◌, ◌⊎◌, inl, inr, ⊎_elim, ℕ, codes, ◌&&◌, Bool, true, false, not, List, [], ◌∷◌, Option, Some, None, is_some, cond, find, refl, option_map, option_and_then}
 use Rattle.std.proofs.lemmas.Bool.{false≢true}
+use Rattle.std.specs.Prelude.{◌||◌}
 use Rattle.std.specs.List.{list_all, list_any}
+use Rattle.std.specs.Str.{bytes_eq}
 use Rattle.clap.specs.Facts.{explicit_source}
 use Rattle.clap.specs.Takes.{is_given}
 use Rattle.clap.specs.Kinds.{Kinds, check_kinds, or_else}
-use Rattle.clap.specs.Walk.{Held, Names, Row, Text, answers_to, finished, nothing_held, settled, walk, walk_from}
+use Rattle.clap.specs.Walk.{Held, Names, Row, Text, answers_to, finished, nothing_held, rows_after, settled, walk, walk_from}
 use Rattle.clap.specs.Simple.{Shape, argument_words, built, entered, label_of, names_of, rows_at}
 use Rattle.clap.specs.Faults.{check_fault, defaults_fault, entered_fault, fault_of, level_fault, settle_fault, walk_fault}
 use Rattle.orc_words.specs.Interface.{program}
-use Rattle.orc_words.specs.Words.{command_named, unless_refused}
+use Rattle.orc_words.specs.Words.{command_named, generation_of, unless_refused}
 use Rattle.orc_words.specs.Laws.{TakenWordsHaveCommand}
 use Rattle.orc_words.specs.declared.words.Command.{Command}
+use Rattle.orc_words.specs.declared.words.Command.TheVariants.{Check, Run, History}
 
 and_left : (a b : Bool) → a && b ≡ true → a ≡ true
 and_left true b both = refl
@@ -50,32 +53,53 @@ was_met s rows false wanted free =
     (not (s.subcommand_negates_reqs && false) && list_any (λ a. a.required && not (is_given a.id rows)) s.rules)
     wanted free)
 
--- what was met is the name of a command
-abbrev is_named : Option (Text × List Row) → Bool
-is_named met = is_some (option_and_then (λ found. command_named found.0) met)
+-- a name of a command
+abbrev names_command : List ℕ → Bool
+names_command name = bytes_eq name (codes "check") || bytes_eq name (codes "run") || bytes_eq name (codes "history")
+    || bytes_eq name (codes "gen")
 
 abbrev is_command : Shape → Bool
-is_command s = is_some (command_named s.name)
+is_command s = names_command s.name
 
-found_is_named : (is : Shape → Bool) (subs : List Shape) (words : List Text) → list_all is_command subs ≡ true
+-- what was met is a command, or `gen` with a number out of its range
+abbrev IsMet : Option (Text × List Row) → Type 0
+IsMet met = (is_some (option_and_then (λ found. command_named found.0 found.1) met) ≡ true)
+    ⊎ ((name : List ℕ) × (rows : List Row) × (met ≡ Some (name, rows)) × (bytes_eq name (codes "gen") ≡ true) × (generation_of rows ≡ None))
+
+named_so : (a b c d : Bool) (made : Option Command) → (a || b || c || d) ≡ true
+    → (is_some (cond a (Some Check) (cond b (Some Run) (cond c (Some History) (cond d made None)))) ≡ true) ⊎ ((d ≡ true) × (made ≡ None))
+named_so true b c d made has = inl refl
+named_so false true c d made has = inl refl
+named_so false false true d made has = inl refl
+named_so false false false true (Some command) has = inl refl
+named_so false false false true None has = inr (refl, refl)
+named_so false false false false made has = absurd (false≢true has)
+
+met_so : (name : List ℕ) (rows : List Row) → names_command name ≡ true → IsMet (Some (name, rows))
+met_so name rows is = ⊎_elim
+    (λ has. inl has)
+    (λ bad. inr (name, rows, refl, bad.0, bad.1))
+    (named_so (bytes_eq name (codes "check")) (bytes_eq name (codes "run")) (bytes_eq name (codes "history")) (bytes_eq name (codes "gen")) (generation_of rows) is)
+
+found_is_met : (is : Shape → Bool) (subs : List Shape) (words : List Text) → list_all is_command subs ≡ true
     → is_some (option_map (λ s. rows_at s words) (find is subs)) ≡ true
-    → is_named (option_map (λ s. rows_at s words) (find is subs)) ≡ true
-found_is_named is [] words all met = absurd (false≢true met)
-found_is_named is (s ∷ subs) words all met =
-    on (is s) (found_is_named is subs words (and_right (is_command s) (list_all is_command subs) all)) met
+    → IsMet (option_map (λ s. rows_at s words) (find is subs))
+found_is_met is [] words all met = absurd (false≢true met)
+found_is_met is (s ∷ subs) words all met =
+    on (is s) (found_is_met is subs words (and_right (is_command s) (list_all is_command subs) all)) met
   where
     on : (t : Bool)
         → (is_some (option_map (λ s. rows_at s words) (find is subs)) ≡ true
-        → is_named (option_map (λ s. rows_at s words) (find is subs)) ≡ true)
+        → IsMet (option_map (λ s. rows_at s words) (find is subs)))
         → is_some (option_map (λ s. rows_at s words) (cond t (Some s) (find is subs))) ≡ true
-        → is_named (option_map (λ s. rows_at s words) (cond t (Some s) (find is subs))) ≡ true
-    on true rest met = and_left (is_command s) (list_all is_command subs) all
+        → IsMet (option_map (λ s. rows_at s words) (cond t (Some s) (find is subs)))
+    on true rest met = met_so s.name (rows_after s.rules [] words) (and_left (is_command s) (list_all is_command subs) all)
     on false rest met = rest met
 
-entered_is_named : (stop : Option (Text × List Text)) → is_some (entered (built program) stop) ≡ true
-    → is_named (entered (built program) stop) ≡ true
-entered_is_named None met = absurd (false≢true met)
-entered_is_named (Some p) met = found_is_named (λ s. answers_to p.0 (label_of s)) (built program).subs p.1 refl met
+entered_is_met : (stop : Option (Text × List Text)) → is_some (entered (built program) stop) ≡ true
+    → IsMet (entered (built program) stop)
+entered_is_met None met = absurd (false≢true met)
+entered_is_met (Some p) met = found_is_met (λ s. answers_to p.0 (label_of s)) (built program).subs p.1 refl met
 
 unrefused : (causes : Kinds) (command : Option Command) → causes ≡ [] → is_some command ≡ true
     → is_some (unless_refused causes command) ≡ true
@@ -88,7 +112,10 @@ taken_words_have_command words free =
     (argument_words program words)).stopped in
     let top = (built program).top in
     let end = (walk top.rules (names_of (built program)) nothing_held (argument_words program words)).held in
-    unrefused (fault_of program words) _ free (entered_is_named stop
+    ⊎_elim
+    (λ has. inl (unrefused (fault_of program words) _ free has))
+    (λ bad. inr (record { name = bad.0; rows = bad.1; met = bad.2; gen = bad.3; none = bad.4 }))
+    (entered_is_met stop
     (was_met top (finished top.rules end) (is_some (entered (built program) stop)) refl
     (level_ends top (names_of (built program)) nothing_held (argument_words program words)
     (is_some (entered (built program) stop)) (entered_fault (built program) stop) free)))

@@ -1,3 +1,4 @@
 pub mod Interface
+pub mod Numbers
 pub mod Words
 pub mod Laws

@@ -2,7 +2,7 @@
 ghost use Rattle.std.specs.Prelude.{◌≡◌, IfOk, false};
 ghost use Rattle.clap.specs.Words.{app_of, rule_of};
 ghost use Rattle.clap.specs.declared.builder.command.Command.TheViews.{out-Command};
-ghost use Rattle.orc_words.specs.Interface.{bare_program, check_interface, history_interface, journal_option, program, run_interface};
+ghost use Rattle.orc_words.specs.Interface.{bare_program, check_interface, gen_interface, history_interface, journal_option, number_argument, program, reading_program, run_interface};
 
 use clap::{Arg, Command};
 use std::alloc::{AllocError, Global};
@@ -10,6 +10,13 @@ use std::alloc::{AllocError, Global};
 /// The program with its commands.
 pub(crate) fn program<'a>(alloc: Global) -> Result<Command<'a>, AllocError>
     ensures { IfOk result (λ command. app_of command ≡ program) }
+{
+    reading_program(alloc)?.subcommand(gen_command(alloc)?)
+}
+
+// The program with the commands that read a bundle.
+fn reading_program<'a>(alloc: Global) -> Result<Command<'a>, AllocError>
+    ensures { IfOk result (λ command. app_of command ≡ reading_program) }
 {
     bare_program(alloc)?
         .subcommand(check_command(alloc))?
@@ -67,6 +74,29 @@ fn history_command<'a>(alloc: Global) -> Result<Command<'a>, AllocError>
             "Prints the journal's calls, under the declarations of the bundle on standard input (`< FILE`)",
         )
         .arg(journal_option(alloc))
+}
+
+// `gen`.
+fn gen_command<'a>(alloc: Global) -> Result<Command<'a>, AllocError>
+    ensures app { IfOk result (λ command. app_of command ≡ gen_interface) }
+    ensures local { IfOk result (λ command. (out-Command command).has_globals ≡ false) }
+{
+    Command::new(alloc, "gen")
+        .about(
+            "Makes a bundle of DEVICES (1 to 64) and CALLS (0 to 5000), drawn from NUMBER, runs it and sums it up",
+        )
+        .arg(number_argument(alloc, "NUMBER"))?
+        .arg(number_argument(alloc, "DEVICES"))?
+        .arg(number_argument(alloc, "CALLS"))?
+        .arg(journal_option(alloc))
+}
+
+// An argument that must stand.
+fn number_argument<'a>(alloc: Global, name: &'a str) -> Arg<'a>
+    ensures rule { rule_of result ≡ number_argument name.now }
+    ensures local { result.global ≡ false }
+{
+    Arg::new(alloc, name).required(true)
 }
 
 // `--journal FILE`.

@@ -1,7 +1,8 @@
 //! How words are written. Each function does nothing: its contract is the law.
 ghost use Rattle.orc_words.specs.Laws.{FaultyWordsAreRefused, TakenWordsHaveCommand, WrittenWordsAreTaken};
 
-/// `check`, and `run` and `history` alone or with a file in either spelling, are taken.
+/// `check`, `run` and `history` alone or with a file in either spelling, and `gen` with its numbers and
+/// with or without a file, are taken.
 pub fn written_words_are_taken()
     ensures { WrittenWordsAreTaken }
 {}
@@ -12,7 +13,8 @@ pub fn faulty_words_are_refused()
     ensures { FaultyWordsAreRefused }
 {}
 
-/// Words that the parser has no cause to refuse have a command.
+/// Words that the parser has no cause to refuse have a command, unless a number of `gen` isn't of its
+/// range.
 pub fn taken_words_have_command()
     ensures { TakenWordsHaveCommand }
 {}

@@ -1,13 +1,14 @@
 //! The words, read by the parser of command lines.
-ghost use Rattle.std.specs.Prelude.{◌≡◌, ◌≢◌, map, IfOk, IsErrOf, Some, None, option_and_then, option_map};
+ghost use Rattle.std.specs.Prelude.{◌≡◌, ◌≢◌, map, IfOk, IsErrOf, Some, None, option_and_then};
 ghost use Rattle.std.specs.String.{string_bytes};
-ghost use Rattle.clap.specs.Words.{kind_of};
+ghost use Rattle.clap.specs.Words.{kind_of, subcommand_rows_of};
 ghost use Rattle.clap.specs.declared.error.kind.ErrorKind.TheVariants.{OutOfMemory};
-ghost use Rattle.orc_words.specs.Words.{command_named, command_of};
+ghost use Rattle.orc_words.specs.Words.{IsInRanges, command_named, command_of};
 
 use crate::interface::program;
-use crate::words::command_named;
+use crate::naming::command_named;
 use crate::{Command, WordsFault};
+use clap::ArgMatches;
 use clap::error::ErrorKind;
 use orc_text::Memory;
 use std::alloc::Global;
@@ -16,26 +17,28 @@ use std::alloc::Global;
 /// they have none, but that memory may be wanting for any words.
 pub fn command_of(alloc: Global, words: &[String]) -> Result<Command, WordsFault>
     ensures command { IfOk result (λ command. command_of (map (λ w. string_bytes w) words.now) ≡ Some command) }
+    ensures ranges { IfOk result IsInRanges }
     ensures usage { IsErrOf result WordsFault.Usage → command_of (map (λ w. string_bytes w) words.now) ≡ None }
 {
     let Ok(program) = program(alloc) else {
         return Err(WordsFault::Memory);
     };
     match program.try_get_matches_from(words) {
-        Ok(matches) => command_found(matches.subcommand_name()),
+        Ok(matches) => command_found(&matches),
         Err(error) => Err(fault_of(error.kind())),
     }
 }
 
-// The command of the name that the parser found.
-fn command_found(name: Option<&str>) -> Result<Command, WordsFault>
-    ensures command { IfOk result (λ command.
-        option_and_then command_named (option_map (λ s. s.now) name.entry) ≡ Some command) }
+// The command that the parser found, with its numbers.
+fn command_found(matches: &ArgMatches) -> Result<Command, WordsFault>
+    ensures command { IfOk result (λ command. option_and_then (λ met. command_named met.0 met.1)
+        (subcommand_rows_of matches.now) ≡ Some command) }
+    ensures ranges { IfOk result IsInRanges }
     ensures usage { IsErrOf result WordsFault.Usage
-        → option_and_then command_named (option_map (λ s. s.now) name.entry) ≡ None }
+        → option_and_then (λ met. command_named met.0 met.1) (subcommand_rows_of matches.now) ≡ None }
 {
-    match name {
-        Some(name) => match command_named(name) {
+    match matches.subcommand() {
+        Some((name, found)) => match command_named(name, found) {
             Some(command) => Ok(command),
             None => Err(WordsFault::Usage),
         },
@@ -53,11 +56,19 @@ fn fault_of(kind: ErrorKind) -> WordsFault
     }
 }
 
+// What is said of words that the parser takes, where a number isn't of its range.
+const RANGES: &str =
+    "error: NUMBER is below 2^64, DEVICES is 1 to 64 and CALLS 0 to 5000, each of 1 to 20 decimal digits\n";
+
 /// What a user is told of words that are refused, or that ask for help or for the version: the text
-/// of the parser, which ends in a line feed. It is empty where the words are taken.
+/// of the parser, or which numbers `gen` takes, which ends in a line feed. It is empty where the words
+/// are taken.
 pub fn usage_text(alloc: Global, words: &[String]) -> Result<String, Memory> {
     match program(alloc)?.try_get_matches_from(words) {
-        Ok(_) => Ok(String::new(alloc)),
+        Ok(matches) => match command_found(&matches) {
+            Ok(_) => Ok(String::new(alloc)),
+            Err(_) => Ok(String::from_str(alloc, RANGES)?),
+        },
         Err(error) => Ok(format!(in alloc; "{error}")?),
     }
 }

@@ -1,6 +1,10 @@
 //! The commands, and why words name none.
-ghost use Rattle.std.specs.Prelude.{◌≡◌};
-ghost use Rattle.orc_words.specs.Words.{command_named};
+
+/// The most devices that a bundle may be made with.
+pub const MOST_DEVICES_MADE: u64 = 64;
+
+/// The most calls that a bundle may be made with.
+pub const MOST_CALLS_MADE: u64 = 5_000;
 
 /// What the program is to do.
 #[derive(Clone, Copy)]
@@ -11,6 +15,13 @@ pub enum Command {
     Run,
     /// Print the history that the journal holds.
     History,
+    /// Make a bundle from a number, with so many devices and calls, run its script over the journal,
+    /// and print a summary.
+    Gen {
+        number: u64,
+        devices: u32,
+        calls: u32,
+    },
 }
 
 /// Why words have no command.
@@ -20,16 +31,4 @@ pub enum WordsFault {
     Usage,
     /// Memory could not be had.
     Memory,
-}
-
-/// The command of a name.
-pub(crate) fn command_named(name: &str) -> Option<Command>
-    ensures { result ≡ command_named name.now }
-{
-    match name {
-        "check" => Some(Command::Check),
-        "run" => Some(Command::Run),
-        "history" => Some(Command::History),
-        _ => None,
-    }
 }

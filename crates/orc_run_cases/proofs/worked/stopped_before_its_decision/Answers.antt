@@ -1,16 +1,12 @@
-use Rattle.std.specs.Prelude.{[], ◌∷◌, ◌++◌, take}
 use Rattle.std.proofs.Common.{refl, arith}
-use Rattle.orc_journal.specs.Entries.{entry_bytes}
-use Rattle.orc_journal.specs.Journals.{closing_gate}
-use Rattle.orc_journal.specs.declared.entry.Entry.TheVariants as entry
 use Rattle.orc_run_cases.proofs.StoppedBefore.{given_up}
 use Rattle.orc_run_cases.proofs.worked.stopped_before_its_decision.Goals as goal
 
 pub returns-clause-unwritten : goal.returns-clause-unwritten
-returns-clause-unwritten c = λ schema are. given_up schema are 1 0 [] 0 (omega arith) (omega arith) refl
+returns-clause-unwritten c = λ schema are. given_up schema are 1 0 (omega arith) (omega arith) refl
 
 pub returns-clause-torn : goal.returns-clause-torn
-returns-clause-torn c = λ schema are. given_up schema are 1 1 (take 1 (entry_bytes (entry.Decide 1))) 1 (omega arith) (omega arith) refl
+returns-clause-torn c = λ schema are. given_up schema are 1 1 (omega arith) (omega arith) refl
 
 pub returns-clause-closed : goal.returns-clause-closed
-returns-clause-closed c = λ schema are. given_up schema are 3 0 (entry_bytes (entry.Decide 1) ++ closing_gate ∷ []) 2 (omega arith) (omega arith) refl
+returns-clause-closed c = λ schema are. given_up schema are 3 0 (omega arith) (omega arith) refl

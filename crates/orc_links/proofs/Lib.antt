@@ -1,0 +1,4 @@
+pub mod States
+pub mod Changed
+pub mod Linked
+pub mod Noted

@@ -1,6 +1,0 @@
-use Rattle.std.proofs.Common.{take}
-use Rattle.orc_run.specs.inside.Pasts.{IsPast}
-use Rattle.orc_run.proofs.past.Past.read.Given as goal
-
-abbrev pub invariant-loop-place : goal.invariant-loop-place
-invariant-loop-place l = IsPast l.decls l.past (take l.place l.entries)

@@ -1,0 +1,6 @@
+use Rattle.orc_world.proofs.Lasted.{RoundsInEach}
+use Rattle.orc_world.proofs.world.World.settle_all.Given as goal
+
+-- rounds came so far
+abbrev pub invariant-rounds : goal.invariant-rounds
+invariant-rounds g l = RoundsInEach g.D.Disk.disk l.fn.self l.fn.out l.self l.out

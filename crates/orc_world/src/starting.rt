@@ -1,0 +1,63 @@
+//! Opening a journal, and starting a hub over it.
+ghost use Rattle.std.specs.Prelude.{◌<◌, ◌^◌, IfErr, IfOk, length};
+ghost use Rattle.orc_decls.specs.Declarations.{AreDecls};
+ghost use Rattle.orc_world.specs.Openings.{IsStarted, IsStartedAgain, IsUnstarted, IsUnstartedAgain};
+
+use crate::stop::{WorldStop, stop_of_opening, stop_of_start};
+use orc_decls::Decls;
+use orc_disk::{Disk, StopDisk};
+use orc_hub::Hub;
+use orc_journal::Journal;
+use std::alloc::Global;
+
+/// A hub over the journal on a disk, which is opened, or begun, where no stop is armed. A refusal hands the
+/// disk back.
+pub(crate) fn start<D: Disk>(
+    alloc: Global,
+    decls: Decls,
+    disk: D,
+    limit: u64,
+) -> Result<Hub<StopDisk<D>>, (WorldStop, D)>
+    requires decls { AreDecls decls }
+    requires short { length decls.text < 2 ^ 32 }
+    requires limit { limit < 2 ^ 32 }
+    ensures started { IfOk result (IsStarted D.disk decls disk limit) }
+    ensures refused { IfErr result (λ refused. IsUnstarted D.disk decls disk limit refused.0 refused.1) }
+{
+    match Journal::attach(alloc, StopDisk::new(disk), decls.text(), limit) {
+        Ok((journal, entries)) => match Hub::start(alloc, decls, journal, entries) {
+            Ok(hub) => Ok(hub),
+            Err((fault, disk)) => Err((stop_of_start(fault), disk.into_inner())),
+        },
+        Err((fault, disk)) => Err((stop_of_opening(fault), disk.into_inner())),
+    }
+}
+
+/// A hub over the journal on a disk, which is opened again, where no stop is armed. A refusal hands the disk
+/// back. A disk that gives no byte is refused, since a journal stood there.
+pub(crate) fn start_again<D: Disk>(
+    alloc: Global,
+    decls: Decls,
+    disk: D,
+    limit: u64,
+) -> Result<Hub<StopDisk<D>>, (WorldStop, D)>
+    requires decls { AreDecls decls }
+    requires short { length decls.text < 2 ^ 32 }
+    requires limit { limit < 2 ^ 32 }
+    ensures started { IfOk result (IsStartedAgain D.disk decls disk limit) }
+    ensures refused { IfErr result (λ refused. IsUnstartedAgain D.disk decls disk limit refused.0 refused.1) }
+{
+    match Journal::attach(alloc, StopDisk::new(disk), decls.text(), limit) {
+        Ok((journal, entries)) => {
+            if journal.fresh() {
+                let disk = journal.into_disk().into_inner();
+                return Err((WorldStop::Damaged { at: 0 }, disk));
+            }
+            match Hub::start(alloc, decls, journal, entries) {
+                Ok(hub) => Ok(hub),
+                Err((fault, disk)) => Err((stop_of_start(fault), disk.into_inner())),
+            }
+        }
+        Err((fault, disk)) => Err((stop_of_opening(fault), disk.into_inner())),
+    }
+}
