@@ -46,6 +46,32 @@ pub(crate) fn remove<R: Files<File = File>>(rt: &R, name: &str) {
     let _ = fs::remove_file(rt, name);
 }
 
+/// Whether the name of a journal is that of a file on a disk, and not of a device.
+pub(crate) fn is_on_disk<R: Files<File = File>>(rt: &R, name: &str) -> bool {
+    match fs::metadata(rt, name) {
+        Ok(metadata) => metadata.is_file(),
+        Err(_) => false,
+    }
+}
+
+/// Writes and syncs a small file beside the journal of this name, and takes it away again: so it is known what is wrong
+/// with the disk where a journal couldn't be written. Where something has its name already that is left as it is.
+pub(crate) fn probe<R: Files<File = File> + AllocGlobal>(rt: &R, name: &str) -> io::Result<()> {
+    let probe = format!(in rt.alloc(); "{name}.probe")?;
+    let mut options = File::options();
+    options.write(true).create_new(true).mode(OWNER_ALONE);
+    let file = options.open(rt, probe.as_str())?;
+    let outcome = fill(&file);
+    let _ = fs::remove_file(rt, probe.as_str());
+    outcome
+}
+
+// Writes as much as a file system keeps in a piece, and syncs it.
+fn fill(file: &File) -> io::Result<()> {
+    file.write_all_at(&[0u8; 4096], 0)?;
+    file.sync_all()
+}
+
 // Opens the file of this name, and says whether it was made.
 fn open<R: Files<File = File>>(rt: &R, name: &str, makes: bool) -> io::Result<(File, bool)> {
     let mut options = File::options();
@@ -97,7 +123,7 @@ fn look(file: &File) -> io::Result<bool> {
 
 // Makes the name of a file in its folder outlive a crash, where a link leads to it the name at the
 // link's end. That comes before anything is written, also where others made the file or gave it its
-// name, so no call is answered whose journal's name may be gone behind a crash.
+// name, so no call is answered whose journal's name may be gone after a crash.
 fn sync_folder<R: Files<File = File> + AllocGlobal>(rt: &R, name: &str) -> io::Result<()> {
     let path = fs::canonicalize(rt, name)?;
     match path.parent() {

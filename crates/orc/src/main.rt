@@ -3,20 +3,23 @@
 #![tactic(auto)]
 
 mod file;
+mod gates;
 mod sentences;
 
-use crate::file::{journal_file, remove};
+use crate::file::{is_on_disk, journal_file, probe, remove};
+use crate::gates::bytes_after_end;
 use crate::sentences::sentence;
 use orc_disk::{Disk, FileDisk, MemDisk};
 use orc_explain::explanation;
-use orc_findings::finding;
+use orc_findings::{finding, repeated_findings};
 use orc_io::{KeptSource, Source, StdSink, StdSource};
 use orc_run::{Done, Stop, orchestrate, status};
 use orc_text::{Memory, Text};
 use orc_words::{Command, WordsFault, command_of, journal_word, usage_text};
 use std::alloc::Global;
+use std::fs::File;
 use std::process::ExitCode;
-use std::rt::Env;
+use std::rt::{Env, Files};
 use std::{env, io};
 
 // The room of a journal in memory, in bytes.
@@ -29,6 +32,9 @@ const FILE_STATUS: u8 = 14;
 const OUT_OF_STEP: &str =
     "The journal wasn't empty, and devices began at their declared bases: each is \
                            out of step with its history until a line `reconcile`.";
+
+// What is said of bytes after a journal.
+const NOT_COUNTED: &str = "They don't count, and the next entry is written over them.";
 
 // The words are looked at before the file that they name is opened.
 fn main(rt: HostRuntime) -> ExitCode {
@@ -62,8 +68,12 @@ fn run_over_file(rt: &HostRuntime, words: &[String], command: &Command, name: &s
     if makes && journal.is_empty {
         let _ = eprintln!(rt; "The journal in \"{name}\" is new: its history is empty.");
     }
-    let recovers = matches!(command, Command::Run) && !journal.is_empty;
-    let (status, mut disk) = run(rt, words, command, recovers, FileDisk::over(journal.file));
+    let notes = Notes {
+        recovers: matches!(command, Command::Run) && !journal.is_empty,
+        after_end: bytes_after_end(&journal.file).unwrap_or(0),
+        name: Some(name),
+    };
+    let (status, mut disk) = run(rt, words, command, &notes, FileDisk::over(journal.file));
     if journal.is_made && matches!(disk.len(), Ok(0)) {
         remove(rt, name);
     }
@@ -73,26 +83,50 @@ fn run_over_file(rt: &HostRuntime, words: &[String], command: &Command, name: &s
 // Does what the words ask for over a journal in memory.
 fn run_in_memory(rt: &HostRuntime, words: &[String], command: &Command) -> ExitCode {
     match journal_disk(rt.alloc()) {
-        Ok(disk) => run(rt, words, command, false, disk).0,
+        Ok(disk) => run(rt, words, command, &Notes::none(), disk).0,
         Err(stop) => ends(rt, words, &stop),
     }
 }
 
-// Does what the words ask for over the journal of a disk, which is handed back. A fault of the bundle is explained, unless
-// memory was wanting to keep the bundle's bytes. Where a script was run over a journal that wasn't empty, it is said that
-// devices begin at their bases.
+// What is known of a journal before a run.
+#[derive(Drop)]
+struct Notes<'a> {
+    // whether a script is to be run over one that isn't empty
+    recovers: bool,
+    // how many bytes stand after its ending gate
+    after_end: u64,
+    // the name of its file
+    name: Option<&'a str>,
+}
+
+impl<'a> Notes<'a> {
+    // Of a new one in memory.
+    fn none() -> Notes<'a> {
+        Notes {
+            recovers: false,
+            after_end: 0,
+            name: None,
+        }
+    }
+}
+
+// Does what the words ask for over the journal of a disk, which is handed back, and says on standard error what is to be
+// known of the run. A fault of the bundle is explained, unless memory ran out for keeping the bundle's bytes.
 fn run<D: Disk>(
     rt: &HostRuntime,
     words: &[String],
     command: &Command,
-    recovers: bool,
+    notes: &Notes<'_>,
     disk: D,
 ) -> (ExitCode, D) {
     let mut source = KeptSource::new(rt.alloc(), StdSource::new(rt.reader()));
     let mut sink = StdSink::new(io::writer(rt));
     let ended = orchestrate(rt.alloc(), words, &mut source, &mut sink, disk);
-    if recovers && is_script_run(&ended.status) {
-        let _ = eprintln!(rt; "{OUT_OF_STEP}");
+    if is_opened(&ended.status) {
+        tell_notes(rt, notes);
+    }
+    if reads_bundle(command) && source.is_all() {
+        tell_repeated(rt, &ended.status, source.kept());
     }
     let status = match &ended.status {
         Ok(_) => ExitCode::from(status(&ended.status)),
@@ -106,10 +140,10 @@ fn run<D: Disk>(
         }
         Err(stop) => {
             let status = ends(rt, words, stop);
-            if let Stop::Foreign { at } = stop {
-                if reads_bundle(command) {
-                    tell_line(rt, &source, *at);
-                }
+            match stop {
+                Stop::Foreign { at } if reads_bundle(command) => tell_line(rt, &source, *at),
+                Stop::JournalFault => tell_cause(rt, notes.name),
+                _ => {}
             }
             status
         }
@@ -126,7 +160,7 @@ fn reads_bundle(command: &Command) -> bool {
 }
 
 // Whether the journal was opened, as far as the end of the run tells that.
-fn is_script_run(ended: &Result<Done, Stop>) -> bool {
+fn is_opened(ended: &Result<Done, Stop>) -> bool {
     match ended {
         Ok(Done) => true,
         Err(Stop::WriteFault) => true,
@@ -135,7 +169,47 @@ fn is_script_run(ended: &Result<Done, Stop>) -> bool {
     }
 }
 
-// Writes in which line of the bundle the declarations differ from a journal's, unless memory was wanting to keep its bytes.
+// Writes what is to be known of a journal that was opened: that devices begin at their bases where it wasn't empty, and
+// how many bytes of its file don't count.
+fn tell_notes<R: Eprint>(rt: &R, notes: &Notes<'_>) {
+    if notes.recovers {
+        let _ = eprintln!(rt; "{OUT_OF_STEP}");
+    }
+    let count = notes.after_end;
+    if count > 0 {
+        let _ = eprintln!(rt;
+            "Bytes after the gate that ended the journal: {count}. {NOT_COUNTED}"
+        );
+    }
+}
+
+// Writes which members stand twice in the JSON texts of a bundle, where it is one.
+fn tell_repeated<R: Eprint + AllocGlobal>(rt: &R, ended: &Result<Done, Stop>, bundle: &[u8]) {
+    if let Err(Stop::Bundle { .. }) = ended {
+        return;
+    }
+    if let Ok(found) = repeated_findings(rt.alloc(), bundle) {
+        for words in found.as_slice() {
+            let _ = eprintln!(rt; "{}", words.as_str());
+        }
+    }
+}
+
+// Writes what else is wrong where a journal in the file of a name failed: whether another file can be written beside it.
+fn tell_cause<R: Eprint + Files<File = File> + AllocGlobal>(rt: &R, name: Option<&str>) {
+    let Some(name) = name else {
+        return;
+    };
+    if !is_on_disk(rt, name) {
+        return;
+    }
+    let _ = match probe(rt, name) {
+        Ok(()) => eprintln!(rt; "A small file could be written beside it just now."),
+        Err(error) => eprintln!(rt; "No other file could be written beside it either: {error}."),
+    };
+}
+
+// Writes in which line of the bundle the declarations differ from a journal's, unless memory ran out for its bytes.
 fn tell_line<R: Eprint, S: Source>(rt: &R, source: &KeptSource<S>, at: u64) {
     if source.is_all() {
         let line = line_at(source.kept(), at);
@@ -199,7 +273,7 @@ fn journal_disk(alloc: Global) -> Result<MemDisk, Stop> {
     }
 }
 
-// The command words, which are the arguments behind the program's name. Words that are not UTF-8
+// The command words, which are the arguments after the program's name. Words that are not UTF-8
 // are none.
 fn words<R: Env + AllocGlobal>(rt: &R) -> Result<Vec<String>, Stop> {
     let mut arguments = match env::args(rt) {

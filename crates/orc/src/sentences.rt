@@ -9,17 +9,16 @@ pub(crate) fn sentence(stop: &Stop) -> &'static str {
         Stop::Usage => "The words are none that the program takes.",
         Stop::ReadFault => "Standard input couldn't be read to its end. Nothing was run.",
         Stop::WriteFault => {
-            "Standard output didn't take all that was printed. No step was done behind that."
+            "Standard output didn't take all that was printed. No step was done after that."
         }
         Stop::JournalFault => {
             "The journal couldn't be read, written or synced. What was answered Committed before is in it; a call that \
              was being served may be in it too, which a later run says."
         }
-        Stop::Memory =>
-            "Memory could not be had. What was answered Committed before is in the journal.",
+        Stop::Memory => "Memory ran out. What was answered Committed before is in the journal.",
         Stop::Foreign { .. } => {
             "The journal was begun with other declarations. The number is the first byte of them, counted from 0, in \
-             which the lines in front of the bundle's `script` differ. The journal is left as it was."
+             which the lines before the bundle's `script` differ. The journal is left as it was."
         }
         Stop::Full { .. } => {
             "The next entry would make the journal, which has so many bytes, longer than the 268435456 bytes that it \

@@ -3,12 +3,12 @@ use orc_schema_findings::{push_quoted, text_of};
 use orc_text::Memory;
 use std::alloc::Global;
 
-/// The text in front of a place.
+/// The text before a place.
 pub(crate) fn front_of(text: &[u8], at: usize) -> &str {
     text_of(text.get(..at).unwrap_or(text))
 }
 
-/// The text behind a place.
+/// The text after a place.
 pub(crate) fn rest_of(text: &[u8], at: usize) -> &str {
     text_of(text.get(at..).unwrap_or(&[]))
 }

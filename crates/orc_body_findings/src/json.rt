@@ -6,7 +6,7 @@ use serde_json::{Error, Value};
 use std::alloc::Global;
 
 /// Adds where a text that is no JSON stops being it: the byte, from 1, and the line where the text has
-/// lines below one of this number. What is at fault stands there or right in front of it.
+/// lines below one of this number. What is at fault stands there or right before it.
 pub(crate) fn push_json_fault(
     out: &mut String,
     alloc: Global,
@@ -39,7 +39,7 @@ fn push_error(
     }
     let byte = error.column() as u64;
     out.push_str(format!(in alloc; " at byte {byte}")?.as_str())?;
-    out.push_str(", or right in front of it, stands what can't stand there.")?;
+    out.push_str(", or right before it, stands what can't stand there.")?;
     Ok(())
 }
 

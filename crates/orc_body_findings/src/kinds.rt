@@ -17,7 +17,7 @@ pub(crate) fn push_kind_fault(out: &mut String, alloc: Global, kind: &Kind) -> R
         Kind::Decimal(digits) => {
             let digits = *digits;
             let words = "is no decimal number of 64 bits with at most";
-            out.push_str(format!(in alloc; "{words} {digits} digits behind the point")?.as_str())?;
+            out.push_str(format!(in alloc; "{words} {digits} digits after the point")?.as_str())?;
         }
         Kind::Str(lengths) => {
             out.push_str("is no text of ")?;
@@ -89,7 +89,7 @@ fn push_names(out: &mut String, alloc: Global, names: &[Text]) -> Result<(), Mem
     Ok(())
 }
 
-// Adds what stands in front of the next one, and says whether it is told.
+// Adds what stands before the next one, and says whether it is told.
 fn goes_on(out: &mut String, told: usize) -> Result<bool, Memory> {
     if told == TOLD {
         out.push_str(", ..")?;

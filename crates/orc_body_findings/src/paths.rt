@@ -11,9 +11,9 @@ use std::alloc::Global;
 /// What a line wants of its path.
 #[derive(Clone, Copy, PartialEq, Eq)]
 pub enum PathForm {
-    /// That of an entry: nothing stands behind it.
+    /// That of an entry: nothing stands after it.
     Entry,
-    /// That of a leaf: a value stands behind it.
+    /// That of a leaf: a value stands after it.
     Leaf,
     /// That of an entry or of a leaf.
     Item,
@@ -151,7 +151,7 @@ fn leaf_words(has_keys: bool) -> Option<&'static str> {
     match has_keys {
         true => None,
         false => {
-            Some("ends without keys, so that it is a leaf: ` = ` and a value stand behind it.")
+            Some("ends without keys, so that it is a leaf: ` = ` and a value stand after it.")
         }
     }
 }
@@ -159,7 +159,7 @@ fn leaf_words(has_keys: bool) -> Option<&'static str> {
 // What is said of a path with a value.
 fn entry_words(has_keys: bool) -> Option<&'static str> {
     match has_keys {
-        true => Some("ends in keys, so that it is an entry: nothing stands behind it."),
+        true => Some("ends in keys, so that it is an entry: nothing stands after it."),
         false => None,
     }
 }
@@ -229,7 +229,7 @@ fn is_list(node: &Node) -> bool {
 
 // What is said of a step that has another number of keys than its node.
 fn keys_message(alloc: Global, way: &[Step], step: &Step, node: &Node) -> Result<Text, Memory> {
-    let mut out = String::from_str(alloc, "Texts in brackets behind ")?;
+    let mut out = String::from_str(alloc, "Texts in brackets after ")?;
     push_step(&mut out, alloc, way, step)?;
     let count = step.keys.len() as u64;
     out.push_str(format!(in alloc; ": {count}. It is ")?.as_str())?;
@@ -268,20 +268,20 @@ fn end_words(node: &Node, form: PathForm) -> Option<&'static str> {
     }
 }
 
-// What is said of a node behind whose path no value stands.
+// What is said of a node after whose path no value stands.
 fn unvalued_words(node: &Node) -> Option<&'static str> {
     match node {
-        Node::Leaf(_) => Some("is a leaf: ` = ` and a value stand behind it."),
+        Node::Leaf(_) => Some("is a leaf: ` = ` and a value stand after it."),
         _ => item_words(node),
     }
 }
 
-// What is said of a node behind whose path a value stands.
+// What is said of a node after whose path a value stands.
 fn valued_words(node: &Node) -> Option<&'static str> {
     match node {
-        Node::List(_) => Some("is a list: nothing stands behind the path of an entry."),
+        Node::List(_) => Some("is a list: nothing stands after the path of an entry."),
         Node::LeafList(_) => {
-            Some("is a leaf-list: its value stands in brackets, and nothing behind the path.")
+            Some("is a leaf-list: its value stands in brackets, and nothing after the path.")
         }
         _ => item_words(node),
     }
@@ -323,7 +323,7 @@ fn names_message(alloc: Global, steps: &[Step], words: &str) -> Result<Text, Mem
     Ok(Text::from_string(out))
 }
 
-// Adds the names of these steps and of the one behind them.
+// Adds the names of these steps and of the one after them.
 fn push_step(out: &mut String, alloc: Global, way: &[Step], step: &Step) -> Result<(), Memory> {
     push_names(out, alloc, way)?;
     out.push_str("/")?;

@@ -1,9 +1,12 @@
 //! What is at fault in the text of a template.
 use crate::json::push_json_fault;
+use crate::members::push_block_fault;
 use orc_path::Path;
 use orc_schema::Schema;
-use orc_template::{Template, TemplateFault};
+use orc_template::{Template, TemplateFault, View};
 use orc_text::{Memory, Text};
+use orc_tree::Tree;
+use serde_json::Value;
 use std::alloc::Global;
 
 /// What is at fault in the text below a line `template T LISTPATH N` of this number, a template of a list
@@ -17,7 +20,7 @@ pub fn template_finding(
 ) -> Result<Option<Text>, Memory> {
     match Template::read(alloc, text, schema, list) {
         Ok(_) => Ok(None),
-        Err(fault) => Ok(Some(fault_message(alloc, line, text, &fault)?)),
+        Err(fault) => Ok(Some(fault_message(alloc, line, text, schema, list, &fault)?)),
     }
 }
 
@@ -26,16 +29,21 @@ fn fault_message(
     alloc: Global,
     line: u64,
     text: &[u8],
+    schema: &Schema,
+    list: &Path,
     fault: &TemplateFault,
 ) -> Result<Text, Memory> {
     match fault {
         TemplateFault::NotJson => syntax_message(alloc, line, text),
-        TemplateFault::BadMember { block } => member_message(alloc, *block),
+        TemplateFault::BadMember { block } => member_message(alloc, text, schema, list, *block),
         TemplateFault::BadExpr { block } => block_message(
             alloc,
+            text,
+            schema,
+            list,
             *block,
-            "has an expression that is none or leads to no node of the schema of the data, or a string with \
-             a brace that is left alone.",
+            "it has an expression that is none or leads to no node of the schema of the data, or a string \
+             with a brace that is left alone.",
         ),
         TemplateFault::Memory => Err(Memory),
     }
@@ -57,7 +65,13 @@ fn without_end(text: &[u8]) -> &[u8] {
 }
 
 // What is said of a member that may not stand in a block; block 0 is the template itself.
-fn member_message(alloc: Global, block: u32) -> Result<Text, Memory> {
+fn member_message(
+    alloc: Global,
+    text: &[u8],
+    schema: &Schema,
+    list: &Path,
+    block: u32,
+) -> Result<Text, Memory> {
     if block == 0 {
         return Text::from_str(
             alloc,
@@ -66,18 +80,52 @@ fn member_message(alloc: Global, block: u32) -> Result<Text, Memory> {
     }
     block_message(
         alloc,
+        text,
+        schema,
+        list,
         block,
-        "has a member that no block has, or one of another kind than it may have, or `device` or `config` \
+        "it has a member that no block has, or one of another kind than it may have, or `device` or `config` \
          without the other.",
     )
 }
 
-// What is said of a block, and how blocks are counted.
-fn block_message(alloc: Global, block: u32, words: &str) -> Result<Text, Memory> {
-    let said = format!(in alloc;
-        "Block {block} {words} Blocks count from 1 on, in the order of the text, "
-    )?;
-    let mut out = String::from_str(alloc, said.as_str())?;
+// What is said of a block, in these words where what is at fault in it isn't found, and how blocks are counted.
+fn block_message(
+    alloc: Global,
+    text: &[u8],
+    schema: &Schema,
+    list: &Path,
+    block: u32,
+    words: &str,
+) -> Result<Text, Memory> {
+    let mut out = String::from_str(alloc, format!(in alloc; "Block {block}: ")?.as_str())?;
+    if !push_found(&mut out, alloc, text, schema, list, block)? {
+        out.push_str(words)?;
+    }
+    out.push_str(" Blocks count from 1 on, in the order of the text, ")?;
     out.push_str("an outer one before those inside.")?;
     Ok(Text::from_string(out))
+}
+
+// Adds what is at fault in the block of this number, and says whether that was found.
+fn push_found(
+    out: &mut String,
+    alloc: Global,
+    text: &[u8],
+    schema: &Schema,
+    list: &Path,
+    block: u32,
+) -> Result<bool, Memory> {
+    let tree = Tree::new(alloc);
+    let view = View {
+        tree: &tree,
+        schema,
+    };
+    match Value::from_slice(alloc, text) {
+        Ok(template) => push_block_fault(out, alloc, &view, list, &template, block),
+        Err(error) => match error.is_memory() {
+            true => Err(Memory),
+            false => Ok(false),
+        },
+    }
 }

@@ -1,4 +1,4 @@
-//! What is at fault in the keys of a path, and in the value behind it.
+//! What is at fault in the keys of a path, and in the value after it.
 use crate::cuts::{front_of, push_cut, rest_of};
 use crate::kinds::push_kind_fault;
 use crate::paths::push_names;
@@ -9,7 +9,7 @@ use orc_text::{Memory, Text};
 use orc_value::{Kind, ValueFault, canon};
 use std::alloc::Global;
 
-/// What is at fault in the value behind a path, where one stands there, and in the keys of the path: the
+/// What is at fault in the value after a path, where one stands there, and in the keys of the path: the
 /// place where a text isn't one of a value, or the first text that is no value of its type under the
 /// schema, with what the type has.
 pub fn value_finding(
@@ -82,7 +82,7 @@ fn bad_place(text: &str) -> usize {
     escape.unwrap_or(at)
 }
 
-// Whether a character stands behind a backslash.
+// Whether a character stands after a backslash.
 fn is_escaped(character: char) -> bool {
     character == '\\' || character == 't' || character == 'n' || character == 'r'
 }

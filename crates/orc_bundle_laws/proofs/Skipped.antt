@@ -8,7 +8,7 @@ use Rattle.orc_lines.specs.declared.declared.Declared.{Declared}
 use Rattle.orc_decls.specs.declared.declarations.Decls.{Decls}
 use Rattle.orc_script.specs.declared.script.Script.{Script}
 
--- a line, in front of which stand so many bytes, is empty or a comment, UTF-8, and passes no limit
+-- a line, before which stand so many bytes, is empty or a comment, UTF-8, and passes no limit
 pub record IsPassed (at : ℕ) (line : List ℕ) : Type 0 where
   pub small : is_large at line ≡ false
   pub utf8 : is_utf8 (text_of line) ≡ true

@@ -1,4 +1,4 @@
--- A skipped line put into a bundle only moves the lines behind it.
+-- A skipped line put into a bundle only moves the lines after it.
 use Rattle.std.proofs.Common.{◌≡◌, ℕ, zero, suc, ◌<◌, ◌≤◌, ◌+◌, ◌-◌, Bool, true, false, not, ◌||◌, cond, nat_eq, nat_lt, List, [], ◌∷◌, ◌++◌, codes, length, take, Result, Ok, Err, Option, Some, None, refl, ap, sym, ◌∙◌, arith, ltb-false}
 use Rattle.std.specs.List.{list_any}
 use Rattle.std.specs.Option.{is_none, option_and_then, option_map, option_map_or}
@@ -52,7 +52,7 @@ passes at line is within = record {
   skipped = is.skipped;
 }
 
--- what lines look for behind them
+-- what a line looks for in the lines after it
 
 kept_same : (before after : List (List ℕ)) (line : List ℕ) → IsSkipped line → first_kept (before ++ line ∷ after) ≡ first_kept (before ++ after)
 kept_same [] after line is = let skip = is.skipped in rw skip refl
@@ -67,7 +67,7 @@ unfolding is_followed
 followed_same keyword.Call before after line is = end_same before after line is
 followed_same _ before after line is = refl
 
--- a block in front of the line
+-- a block that ends before the line
 pub block_same : (n : ℕ) (before a b : List (List ℕ)) → left_of_block n before ≡ 0 → block_of n (before ++ a) ≡ block_of n (before ++ b)
 block_same zero before a b h = refl
 block_same (suc n) [] a b h = absurd (omega arith)
@@ -215,7 +215,7 @@ of_front f = with_script f.declared (script_steps (decls_in f.declared) no_steps
 abbrev go : Declared → ℕ → ℕ → List (List ℕ) → Meant
 go d at n lines = on_ok (declarations_of d at n lines) of_front
 
--- the script behind declarations that end in the line of this number
+-- the script after declarations that end in the line of this number
 abbrev started : ℕ → Bool → Meant → Meant
 started n opens meant = cond opens meant (Err (n, rule.Opening))
 

@@ -28,7 +28,7 @@ use Rattle.orc_lines.proofs.Numbers.{own}
 abbrev pub is_line_byte : ℕ → Bool
 is_line_byte b = not (b == 10) && not (b == 13)
 
--- and no space
+-- no line feed, no carriage return and no space
 abbrev pub is_word_byte : ℕ → Bool
 is_word_byte b = is_line_byte b && not (b == 32)
 

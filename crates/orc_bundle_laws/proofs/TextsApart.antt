@@ -16,7 +16,7 @@ use Rattle.orc_script.specs.declared.script.Script.{Script}
 use Rattle.orc_script.specs.declared.script.Part.{Part}
 use Rattle.orc_script.specs.declared.script.Part.TheVariants as part
 
--- the same declarations, with another text
+-- declarations with another text
 module _ (d : Decls) (other : List ℕ) where
   abbrev e : Decls
   e = record d { text = other }

@@ -1,4 +1,4 @@
--- A bundle with its script is read line by line: the bytes behind the declarations are their later lines.
+-- A bundle with its script is read line by line: the bytes after the declarations are their later lines.
 use Rattle.std.proofs.Common.{◌≡◌, ℕ, ◌+◌, Bool, true, false, ◌==◌, cond, List, [], ◌∷◌, length, drop, Result, Ok, Err, refl, ap, sym, subst, ◌∙◌}
 use Rattle.std.proofs.lemmas.List.{drop-drop}
 use Rattle.orc_decls.specs.declared.rule.Rule.{Rule}
@@ -15,7 +15,7 @@ use Rattle.orc_bundle.specs.Bundles.{bundle_in, header_rule, scripted_of}
 use Rattle.orc_bundle.specs.declared.scripted.ScriptedBundle.{ScriptedBundle}
 use Rattle.orc_lines.proofs.Rules.{err, no_ok, same_ok}
 
--- the bytes behind the first line are the later lines
+-- the bytes after the first line are the later lines
 
 behind_first : (bytes line : List ℕ) (later : List (List ℕ)) → lines_of bytes ≡ line ∷ later → later ≡ lines_of (drop (length line) bytes)
 behind_first [] line later h = absurd cc
@@ -39,7 +39,7 @@ behind_first (b ∷ bs) line later h = on (b == 10) (λ l ls is. behind_first bs
       sym same ∙ ap (λ (l : List ℕ). lines_of (drop (length l) (b ∷ bs))) first
   on false more h = led (lines_of bs) refl more h
 
--- so are those behind the declarations
+-- the bytes after the declarations are the later lines
 
 module _ (bytes : List ℕ) where
   -- the lines from a place on

@@ -21,7 +21,7 @@ use Rattle.orc_bundle_laws.proofs.Texts.{IsLawfulName, lawful_name, lawful_under
 use Rattle.orc_bundle_laws.proofs.WrittenDeclarations.{Fronts, one_declaration}
 use Rattle.orc_bundle_laws.proofs.WrittenDevices.{at_data, at_devices, base_read, base_text, data_read, data_text, device_line, device_read, device_text, forbid_read, forbid_text, max_read, max_text, new_device, same_back, schema_last}
 
--- a name that is distinct from those behind it and before it
+-- a name that is distinct from those after it and before it
 none_same : (name : List ℕ) (ns : List (List ℕ)) → AllByRecursion (λ (n : List ℕ). is_same_text name n ≡ false) ns → is_among ns name ≡ false
 none_same name [] h = refl
 none_same name (n ∷ ns) h = or_from (is_same_text name n) (is_among ns name) h.0 (none_same name ns h.1)
@@ -38,7 +38,7 @@ is_new (n ∷ ns) name rest h = or_from (is_same_text name n) (is_among ns name)
 names_joined : (done todo : List Device) → names_of (done ++ todo) ≡ names_of done ++ names_of todo
 names_joined done todo = map-append (λ (d : Device). d.name) done todo
 
--- what is known of a device behind the preamble
+-- what is known of a device after the preamble
 pub record IsKnownDevice (h : Preamble) (kind : ℕ → List ℕ) (d : Device) : Type 0 where
   pub name : IsLawfulName d.name
   pub of_kind : IsLawfulName (kind d.schema)

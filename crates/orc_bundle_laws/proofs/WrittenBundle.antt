@@ -80,7 +80,7 @@ declarations_read h kind decls line later script distinct few known items apart 
     let found = devices_read h e line later kind [] devices (lines ++ []) distinct few known (data_lines_read h e line later devices [] puts [] items apart front) in
     subst (λ (ts : List (List ℕ)). Fronts (preamble_alone h) ts e line later) (ap (λ (ts : List (List ℕ)). flat_map (device_lines kind) devices ++ ts) (append-nil lines)) found
 
--- what is known of a bundle behind its head
+-- what is known of a bundle after its head
 module _ (b : ScriptedBundle) (h : Preamble) (kind : ℕ → List ℕ) (is : IsScripted b) (under : FollowPreamble h kind b.decls) where
   devices_good : list_all (is_device h.schemas) b.decls.devices ≡ true
   devices_good = subst (λ (ss : List SchemaTable). list_all (is_device ss) b.decls.devices ≡ true) under.types is.decls.devices
@@ -123,14 +123,14 @@ module _ (b : ScriptedBundle) (h : Preamble) (kind : ℕ → List ℕ) (json : L
   abbrev bytes : List ℕ
   bytes = concat (head ++ front ++ line ∷ later)
 
-  -- the lines behind the preamble
+  -- the lines after the preamble
   abbrev rest : List (List ℕ)
   rest = front ++ line ∷ later
 
   abbrev size : ℕ
   size = 0 + bytes_of head + bytes_of front
 
-  -- the line `script` and what stands behind it are lines too
+  -- the line `script` and what stands after it are lines too
   behind : AreLinesOf (codes "script" ∷ script_lines json b.decls.names b.steps) (line ∷ later)
   behind = one (codes "script") line (script_lines json b.decls.names b.steps) later w.script w.steps
 

@@ -114,7 +114,7 @@ base_path_known d name p known h =
     let there : is_among d.names name ≡ true = ap (λ (ns : List (List ℕ)). is_among ns name) known.named ∙ sym (named_same name d.devices) ∙ parts.0 in
     record { device = lawful_name name (lawful_among d.names name known.lawful there); declared = there; under = parts.1 }
 
--- it is read again
+-- the text of a path on a device is read as that name and path
 device_path_again : (d : Decls) (name : List ℕ) (p : List PathStep) → IsPathOn d name p → device_path_of d (name ++ codes " " ++ path_text p) ≡ Ok (name, p)
 unfolding device_path_of
 device_path_again d name p k =
@@ -221,7 +221,7 @@ named_seam : (xs : List Action) (a : Action) (ys : List Action) (id : List ℕ) 
 named_seam [] a ys id h = (or_parts (names a id) (is_service_among ys id) h).0
 named_seam (x ∷ xs) a ys id h = named_seam xs a ys id (or_parts (names x id) (is_service_among (xs ++ a ∷ ys) id) h).1
 
--- the actions in front of one don't name the service that it names
+-- the actions before one don't name the service that it names
 new_name : (xs : List Action) (a : Action) (ys : List Action) (id : List ℕ) → service_of a ≡ Some id → services_once (xs ++ a ∷ ys) ≡ true → is_service_among xs id ≡ false
 new_name [] a ys id is h = refl
 new_name (x ∷ xs) a ys id is h =
@@ -333,11 +333,11 @@ unbase_text s name p l h =
 
 -- the places inside a call
 module _ (callers : List (List ℕ)) (done : List ScriptStep) (caller : List ℕ) (number : ℕ) where
-  -- these actions stand
+  -- the open call has these actions
   abbrev pub opened : List Action → Script
   opened actions = record { part = part.Call; callers = callers; steps = done; caller = caller; number = number; actions = actions; name = []; writes = [] }
 
-  -- and behind them a literal, whose writes may go on
+  -- the open call has these actions and after them a literal, whose writes may go on
   abbrev literal : List Action → List ℕ → List DevicePut → Script
   literal actions id writes =
       record { part = part.Literal; callers = callers; steps = done; caller = caller; number = number; actions = actions; name = id; writes = writes }
@@ -544,10 +544,10 @@ module _ (callers : List (List ℕ)) (done : List ScriptStep) (caller : List ℕ
       (writes_read d actions id (before ++ w ∷ []) ws rest r known parts.1
       (subst (λ (all : List DevicePut). Ends d (literal actions id all) rest r) (sym (append_assoc before (w ∷ []) ws)) behind))
 
-  -- an action in front of what is read behind it
+  -- an action before what is read after it
   module _ (json : List ℕ → List Put → List ℕ) (d : Decls) (known : AreNamed d) (before : List Action) (room : nat_le MOST_ACTIONS (length before) ≡ false) (s : Script) (has : HasActions s before)
       (rest : List (List ℕ)) (r : Result (List ScriptStep) (ℕ × Rule)) where
-    -- wherever the call stands behind the action
+    -- wherever the call stands after the action
     abbrev Behind : Action → Type 0
     Behind a = (u : Script) → HasActions u (before ++ a ∷ []) → Ends d u rest r
 

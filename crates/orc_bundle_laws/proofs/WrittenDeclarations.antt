@@ -38,7 +38,7 @@ passed_over d at t line later spells skip utf8 short within none_left =
     declarations at line later d
     (record { small = not_large t line at spells.says short within; utf8 = ap is_utf8 spells.says ∙ utf8; skipped = ap is_skipped spells.says ∙ skip }) none_left
 
--- Wherever they begin, lines of these texts with the line `script` behind them are read as these declarations.
+-- Wherever they begin, lines of these texts with the line `script` after them are read as these declarations.
 abbrev pub Fronts : Declared → List (List ℕ) → Declared → List ℕ → List (List ℕ) → Type 0
 Fronts d ts e line later =
     (ls : List (List ℕ)) → AreLinesOf ts ls → (at n : ℕ) → at + bytes_of (ls ++ line ∷ later) ≤ LARGEST_BUNDLE
@@ -51,7 +51,7 @@ on_front n r at next later = on_line (n + 1) r (λ e.
     then opened (n + 1) (record { declared = e; size = at; at = next; number = n + 1; later = later })
     else declarations_of e next (n + 1) later)
 
--- what is found behind a line is found behind it and the line
+-- what is found after a line is found after one more before it
 module _ (e : Declared) (line : List ℕ) (later : List (List ℕ)) where
   abbrev found_at : ℕ → ℕ → Result Front (ℕ × Rule)
   found_at size k = Ok (record { declared = e; size = size; at = size + length line; number = k; later = later })
@@ -69,7 +69,7 @@ module _ (e : Declared) (line : List ℕ) (later : List (List ℕ)) where
             ∙ ap (λ (m : ℕ). found_at m found.0) sum,
       )
 
-  -- a text more in front
+  -- one text more before these
   pub one_declaration : (d f : Declared) (t : List ℕ) (ts : List (List ℕ))
       → IsText t → d.skip ≡ 0 → is_script d.section ≡ false → ((rest : List (List ℕ)) → after_text d t rest ≡ Ok f) → is_script f.section ≡ false
       → Fronts f ts e line later → Fronts d (t ∷ ts) e line later

@@ -37,11 +37,11 @@ use Rattle.orc_bundle_laws.proofs.WrittenLines.{IsText, cut_word, number_again}
 use Rattle.std.proofs.lemmas.Bool.{or_from}
 use Rattle.orc_services.specs.declared.list.ServiceList.{ServiceList}
 
--- behind the preamble these devices are declared
+-- after the preamble these devices are declared
 abbrev pub at_devices : Preamble → List Device → Declared
 at_devices h devices = record (preamble_alone h) { names = names_of devices; devices = devices }
 
--- these devices and these items of the data
+-- after the preamble these devices and these items of the data are declared
 abbrev pub at_data : Preamble → List Device → List Put → Declared
 at_data h devices puts = record (at_devices h devices) { «data» = puts }
 

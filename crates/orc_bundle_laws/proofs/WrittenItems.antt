@@ -139,7 +139,7 @@ leaf_found lists s p v is free =
     let fits_too = value.short in
     rw some (rw kept (rw value_kept (rw again (rw free (rw carries (rw reads (rw own (rw own_item (rw short (rw fits_too refl))))))))))
 
--- a leaf's text in front of its value
+-- a leaf's item is cut into its path and its value
 leaf_cut : (p : List PathStep) (v : List ℕ) → is_path p ≡ true → cut_at 32 (item_text p (Leaf v)) ≡ Some (path_text p, 61 ∷ 32 ∷ value_text v)
 leaf_cut p v is = ap (cut_at 32) (append_assoc (path_text p) (codes " = ") (value_text v)) ∙ cut_word (path_text p) (61 ∷ 32 ∷ value_text v) (word_of_path p is)
 

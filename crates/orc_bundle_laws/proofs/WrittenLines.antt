@@ -85,7 +85,7 @@ plain_lines (t ∷ ts) h =
     let parts = and_parts (list_all is_line_byte t) (list_all (list_all is_line_byte) ts) h in
     one t (as_line t) ts (map as_line ts) (plain_line t parts.0) (plain_lines ts parts.1)
 
--- what stands behind a line is found in its place
+-- what is found among texts is found among their lines
 pub among : (texts lines : List (List ℕ)) (t : List ℕ) (f : List ℕ → Bool) → AreLinesOf texts lines → ((line : List ℕ) → text_of line ≡ t → f line ≡ true)
     → Contained t texts → list_any f lines ≡ true
 among texts lines t f none so has = absurd has
@@ -113,7 +113,7 @@ not_at c (b ∷ bs) h (suc i) lt = not_at c bs (and_parts (not (b == c)) (lacks 
 lacks_space : (t : List ℕ) → list_all is_word_byte t ≡ true → lacks 32 t ≡ true
 lacks_space t h = all_so is_word_byte (λ b. not (b == 32)) t (λ b k. (and_parts (is_line_byte b) (not (b == 32)) k).1) h
 
--- a word, a space and something behind it
+-- a word, a space and something after it
 pub cut_word : (w rest : List ℕ) → IsWord w → cut_at 32 (w ++ 32 ∷ rest) ≡ Some (w, rest)
 cut_word w rest is = cut_some 32 w rest (not_at 32 w (lacks_space w is.bytes))
 

@@ -1,4 +1,4 @@
--- What stands behind lines that declare modules, types of devices and the data schema is read behind them.
+-- What stands after lines that declare modules, types of devices and the data schema is read after them.
 use Rattle.std.proofs.Common.{◌≡◌, ℕ, ◌≤◌, ◌+◌, Bool, true, false, cond, List, [], ◌∷◌, ◌++◌, codes, length, refl, ap, ap₂, sym, ◌∙◌, arith, append-nil, Result, Ok, Err, Some}
 use Rattle.std.specs.Option.{is_none}
 use Rattle.std.proofs.lemmas.Bool.{false≢true}
@@ -16,7 +16,7 @@ use Rattle.orc_bundle_laws.proofs.SkippedLines.{block_same, declared_same, left_
 use Rattle.orc_bundle_laws.proofs.WrittenDeclarations.{on_front}
 use Rattle.orc_bundle_laws.proofs.Bytes.{bytes_of}
 
--- a block that ends in these lines is the same where more stand behind them
+-- a block that ends in these lines is the same where more stand after them
 block_in : (l : List ℕ) (ls more : List (List ℕ)) → left_of_block 0 (l ∷ ls) ≡ 0 → block_of (lines_taken (text_of l)) (ls ++ more) ≡ block_of (lines_taken (text_of l)) ls
 block_in l ls more h = on (is_text (text_of l) (codes "script")) refl where
   on : (b : Bool) → is_text (text_of l) (codes "script") ≡ b → block_of (lines_taken (text_of l)) (ls ++ more) ≡ block_of (lines_taken (text_of l)) ls
@@ -26,7 +26,7 @@ block_in l ls more h = on (is_text (text_of l) (codes "script")) refl where
   on false is =
       block_same (lines_taken (text_of l)) ls more [] (left_here l ls h is) ∙ ap (block_of (lines_taken (text_of l))) (append-nil ls)
 
--- the lines behind the preamble are read behind what it declares
+-- the lines after the preamble are read after what it declares
 pub head_read : (d e : Declared) (at n : ℕ) (head more : List (List ℕ)) → is_script d.section ≡ false → left_of_block d.skip head ≡ 0
     → at + bytes_of head ≤ LARGEST_BUNDLE → declared_by d at head ≡ Ok e
     → declarations_of d at n (head ++ more) ≡ declarations_of e (at + bytes_of head) (n + length head) more

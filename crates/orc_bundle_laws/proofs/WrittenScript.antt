@@ -70,7 +70,7 @@ no_line d s ls (skipped text l texts more spells over utf8 short are) at n withi
     (passed_over d s at text l more spells over utf8 short (omega arith))
     ∙ no_line d s more are (at + length l) (n + 1) (omega arith)
 
--- a text more in front
+-- one text more before these
 pub one_line : (d : Decls) (s u : Script) (t : List ℕ) (ts : List (List ℕ)) (r : Result (List ScriptStep) (ℕ × Rule))
     → IsText t → ((later : List (List ℕ)) → AreLinesOf ts later → after_step d s t later ≡ Ok u)
     → Ends d u ts r → Ends d s (t ∷ ts) r
@@ -172,7 +172,7 @@ unfolding moment_named
 moment_again moment.Before = refl
 moment_again moment.After = refl
 
--- it is read again
+-- the text of a link's fault is read as that fault
 fault_again : (operation : OpKind) (at : When) → link_fault_of (failing_text operation at) ≡ Ok (operation, at)
 unfolding link_fault_of operation_named
 fault_again kind.OpenSession at = let m = moment_again at in rw m refl

@@ -30,8 +30,8 @@ pub record IsSkipped (line : List ℕ) : Type 0 where
   pub utf8 : is_utf8 (text_of line) ≡ true
   pub skipped : is_skipped (text_of line) ≡ true
 
--- How many lines of a `yang` or `template` block are still to come behind these lines, where so many are in front of
--- them. Behind the line `script` there is no block.
+-- How many lines of a `yang` or `template` block are still to come after these lines, where so many were still to
+-- come before them. After the line `script` there is no block.
 abbrev pub left_of_block : ℕ → List (List ℕ) → ℕ
 left_of_block n [] = n
 left_of_block (suc n) (line ∷ later) = left_of_block n later
@@ -43,13 +43,13 @@ abbrev pub meaning_of : Result ScriptedBundle (ℕ × Rule) → Result ScriptedB
 meaning_of (Ok bundle) = Ok (record bundle { decls = record bundle.decls { text = [] } })
 meaning_of (Err fault) = Err fault
 
--- the same with the fault's line one further down, unless it is one of the first so many
+-- an answer with its fault's line one further down, unless it is one of the first so many
 abbrev pub moved_behind : {X : Type 0} → ℕ → Result X (ℕ × Rule) → Result X (ℕ × Rule)
 moved_behind before (Ok x) = Ok x
 moved_behind before (Err fault) = Err (if nat_le fault.0 before then fault.0 else fault.0 + 1, fault.1)
 
 -- A skipped line, put in where no block is open, changes neither what is declared, nor the steps, nor a fault's rule:
--- it only moves the fault's line, where that stands behind it. Some line has to be no skipped one, since else line 1 is
+-- it only moves the fault's line, where that stands after it. Some line has to be no skipped one, since else line 1 is
 -- at fault, and the longer bytes have to keep the limit of a bundle.
 abbrev pub SkippedLinesChangeNothing : Type 0
 SkippedLinesChangeNothing =
@@ -70,7 +70,7 @@ pub record Preamble : Type 0 where
   pub templates : List (List ℕ)
   pub services : List ServiceList
 
--- these are declared, and no device and no data
+-- a preamble is declared, and no device and no data
 abbrev pub preamble_alone : Preamble → Declared
 preamble_alone preamble = record {
   section = section.Declarations;
@@ -88,14 +88,14 @@ preamble_alone preamble = record {
   services = preamble.services;
 }
 
--- What lines make of what was declared, none of which is the line `script`; so many bytes stand in front of them.
+-- What lines make of what was declared, none of which is the line `script`; so many bytes stand before them.
 abbrev pub declared_by : Declared → ℕ → List (List ℕ) → Result Declared Rule
 declared_by d at [] = Ok d
 declared_by d at (line ∷ later) =
     on_ok (declared_at d at line later) (λ e.
     if is_script e.section then Err rule.Line else declared_by e (at + length line) later)
 
--- Lines with the header among them, no block of which goes on behind them, are read as this preamble.
+-- Lines with the header among them, no block of which goes on after them, are read as this preamble.
 pub record IsPreamble (preamble : Preamble) (lines : List (List ℕ)) : Type 0 where
   pub ended : AreLinesOf (map text_of lines) lines
   pub whole : left_of_block 0 lines ≡ 0
@@ -114,7 +114,7 @@ pub record FollowPreamble (preamble : Preamble) (kind : ℕ → List ℕ) (decls
   pub services : decls.services ≡ preamble.services
   pub kinds : IsTrue (list_all (is_kind preamble kind) decls.devices)
 
--- Each spelling of a bundle is read as that bundle, behind any lines that declare modules, types of devices, the data
+-- Each spelling of a bundle is read as that bundle, after any lines that declare modules, types of devices, the data
 -- schema and templates, with no device and no item of the data among them: with comments and empty lines put in, and
 -- with carriage returns before line feeds.
 abbrev pub SpelledIsRead : Type 0

@@ -120,7 +120,7 @@ step_lines json names (Meta device path) = (codes "meta " ++ name_of names devic
 step_lines json names ShowData = codes "data" ∷ []
 step_lines json names History = codes "history" ∷ []
 
--- the declarations behind those of modules, types and the data schema
+-- the declarations after those of modules, types and the data schema
 abbrev pub declared_lines : (ℕ → List ℕ) → Decls → List (List ℕ)
 declared_lines kind decls = flat_map (device_lines kind) decls.devices ++ map data_line decls.data
 
@@ -166,7 +166,7 @@ pub data AreLinesOf : List (List ℕ) → List (List ℕ) → Type 0 where
       → is_skipped text ≡ true → is_utf8 text ≡ true → length text ≤ LONGEST_LINE
       → AreLinesOf texts lines → AreLinesOf texts (line ∷ lines)
 
--- Behind lines that declare modules, types, the data schema and templates, these are the lines of the other
+-- After lines that declare modules, types, the data schema and templates, these are the lines of the other
 -- declarations, the line `script`, and those of the script. The text of the declarations is that of their lines, and
 -- all keep the limit of a bundle. Each body is spelled as a JSON text.
 pub record IsSpelling (bundle : ScriptedBundle) (kind : ℕ → List ℕ) (json : List ℕ → List Put → List ℕ)
@@ -180,7 +180,7 @@ pub record IsSpelling (bundle : ScriptedBundle) (kind : ℕ → List ℕ) (json 
 
 -- the plainest spelling
 
--- these lines as one text
+-- lines as one text
 abbrev pub text_of_lines : List (List ℕ) → List ℕ
 text_of_lines texts = flat_map as_line texts
 

@@ -72,7 +72,7 @@ type_more d name schema known sound =
       sound = All-push IsSound d.schemas schema known.sound sound;
     }
 
--- the same of what was read
+-- a type more, with the names and the schemas that its reader then has
 
 with_new : (names : List (List ℕ)) (name : List ℕ) → is_among names name ≡ false → with_name names name ≡ names ++ name ∷ []
 with_new names name new = ap (λ (b : Bool). cond b names (names ++ name ∷ [])) new

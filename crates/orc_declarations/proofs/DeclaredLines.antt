@@ -138,7 +138,7 @@ module _ (d e : Declared) (text : List ℕ) (later : List (List ℕ)) (none : d.
         declared here (sym (ap (λ (x : Declared). x.section) same) ∙ here)
         (sym (ap (λ (x : Declared). x.skip) same) ∙ sym (takes keyword.Yang is ∙ ap block_size one.1.0)) no_script
 
-    -- the list and its template, behind the name
+    -- the list and its template, after the name
     of_list : keyword_of words.0 ≡ keyword.Template → (name : List ℕ) (front : List ℕ × List ℕ) → cut_at 32 words.1 ≡ Some front
         → (o : Option (List ℕ × List ℕ)) → cut_at 32 front.1 ≡ o → template_line d name later o ≡ Ok e → Declares d text e
     unfolding taken_by

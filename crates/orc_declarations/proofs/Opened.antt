@@ -59,7 +59,7 @@ opening_fault answer n front (At line broken) is h =
     is ∙ ap (λ (b : Bool). cond b (front_at front) (fault_at n rule.Opening)) h.0
     ∙ ap (λ (l : ℕ). fault_at l rule.Opening) (sym h.1) ∙ ap (λ (r : Rule). fault_at line r) (sym h.2)
 
--- it is handed on
+-- a fault of the opening is handed on
 handed_on : (r : Result Behind BundleFault) (answer : Result Front (ℕ × Rule)) (n : ℕ) (front : Front) (fault : BundleFault)
     → IsErrAnd r (λ y. y ≡ fault) → answer ≡ opened n front → IsOpened front.declared n (opens_not fault) → Declares answer front.declared r
 handed_on r answer n front fault handed is h =
@@ -88,12 +88,12 @@ drop_front : (front later : List ℕ) → drop (length front) (front ++ later) �
 drop_front [] later = refl
 drop_front (b ∷ bs) later = drop_front bs later
 
--- the bytes behind a line are those from its end on
+-- the bytes after a line are those from its end on
 pub later_bytes : (bytes rest line later : List ℕ) (at : ℕ) → rest ≡ drop at bytes → rest ≡ line ++ later → later ≡ drop (at + length line) bytes
 later_bytes bytes rest line later at is parts =
     sym (drop_front line later) ∙ ap (drop (length line)) (sym parts ∙ is) ∙ drop-drop (length line) at bytes
 
--- behind the line `script`
+-- after the line `script`
 module _ (answer : Result Front (ℕ × Rule)) (d e : Declared) (at n : ℕ) (line : List ℕ) (later lines : List (List ℕ))
     (so_far : answer ≡ declarations_of d at n lines) (first : lines ≡ line ∷ later) (takes : declared_at d at line later ≡ Ok e)
     (here : is_script e.section ≡ true) where
@@ -109,7 +109,7 @@ module _ (answer : Result Front (ℕ × Rule)) (d e : Declared) (at n : ℕ) (li
   pub script_faults : (r : Result Behind BundleFault) (fault : BundleFault) → IsErrAnd r (λ y. y ≡ fault) → IsOpened e (n + 1) (opens_not fault) → Declares answer e r
   script_faults r fault handed h = handed_on r answer (n + 1) behind_script fault handed ends_script h
 
--- or behind the last line
+-- after the last line, where no line `script` came
 module _ (answer : Result Front (ℕ × Rule)) (d : Declared) (at n size : ℕ) (rest : List ℕ)
     (so_far : answer ≡ declarations_of d at n (lines_of rest)) (none : length rest ≡ 0) (all : at + length rest ≡ size) where
   abbrev pub behind_text : Front

@@ -45,12 +45,12 @@ module _ (s : SchemaTable) (list : List PathStep) (text : List ℕ) where
   unfolding is_utf8 judged
   refused d fault is at = ap judged (is_of d (Some fault) is at)
 
-  -- it is a template
+  -- a text that is read as a template
   pub template_read : (read : List ℕ) → read ≡ text → ReadsTemplate place text (Ok (template_json read)) → template_of s list text ≡ Ok read
   unfolding judged
   template_read read same good = ap judged (is_of (template_json read) None good.0 good.1) ∙ ap (λ (t : List ℕ). Ok t) (sym same)
 
-  -- it is none
+  -- a text that is refused as a template
   pub template_refused : (fault : TemplateFault) → ReadsTemplate place text (Err fault) → ReadsLine (template_of s list text) (Err (of_template fault))
   unfolding is_utf8 judged holds
   template_refused template.Memory h = tt

@@ -125,7 +125,7 @@ type_words declared (name ∷ first ∷ later) =
 unfoldable pub after_devicetype : Declared → List ℕ → Result Declared Rule
 after_devicetype declared rest = type_words declared (words_of rest)
 
--- the place of the schema of devices of a kind: the plain one stands in front, and behind it those of the types
+-- the place of the schema of devices of a kind: the plain one stands first, and after it those of the types
 abbrev pub schema_place : Declared → List ℕ → Option ℕ
 schema_place declared kind =
     if is_text kind (codes "plain") then Some 0 else option_map suc (place_of declared.types kind)
@@ -175,15 +175,15 @@ base_words declared (Some words) =
 unfoldable pub after_base : Declared → List ℕ → Result Declared Rule
 after_base declared rest = base_words declared (cut_at 32 rest)
 
--- it has one rule more: a list's path, and the most entries that it may have
+-- the device of this number has one rule more: a list's path, and the most entries that it may have
 abbrev pub with_max : ℕ → List PathStep × ℕ → List Device → List Device
 with_max number limit = changed_at number (λ device. record device { max = device.max ++ limit ∷ [] })
 
--- or a leaf's path, and a text that it may not have
+-- the device of this number has one rule more: a leaf's path, and a text that it may not have
 abbrev pub with_forbid : ℕ → List PathStep × List ℕ → List Device → List Device
 with_forbid number leaf = changed_at number (λ device. record device { forbid = device.forbid ++ leaf ∷ [] })
 
--- `rule D max LISTPATH N`, behind the word `max`
+-- `rule D max LISTPATH N`, after the word `max`
 abbrev pub max_words : Declared → List ℕ → Option (List ℕ × List ℕ) → Result Declared Rule
 max_words declared name None = Err rule.Line
 max_words declared name (Some words) =
@@ -195,7 +195,7 @@ max_words declared name (Some words) =
 unfoldable pub after_max : Declared → List ℕ → List ℕ → Result Declared Rule
 after_max declared name rest = max_words declared name (cut_at 32 rest)
 
--- `rule D forbid PATH = VALUE`, behind the word `forbid`
+-- `rule D forbid PATH = VALUE`, after the word `forbid`
 unfoldable pub after_forbid : Declared → List ℕ → List ℕ → Result Declared Rule
 after_forbid declared name rest =
     on_ok (forbidden_of (schema_named declared.schemas declared.devices name) (is_long_name name) rest) (λ leaf.
@@ -236,7 +236,7 @@ with_module declared count yang_module = record declared {
   skip = count;
 }
 
--- `yang N`, with the lines behind it
+-- `yang N`, with the lines after it
 unfoldable pub after_yang : Declared → List ℕ → List (List ℕ) → Result Declared Rule
 after_yang declared rest later =
     or_rule (number_in rest) rule.Line (λ count.
@@ -278,7 +278,7 @@ list_template declared name count list text =
     ∷ [])
     (Ok (with_template declared count name (record { list = list; template = text })))
 
--- Such a line behind its name, with the lines behind it. The limits of what it says go before the lines that may be
+-- A line `template` after its name, with the lines after it. The limits of what it says go before the lines that may be
 -- missing.
 abbrev pub template_block : Declared → List ℕ → ℕ → List ℕ → List (List ℕ) → Result Declared Rule
 template_block declared name count word later =
@@ -290,7 +290,7 @@ template_block declared name count word later =
     or_rule (path_of word) rule.Path (λ list.
     list_template declared name count list text)))
 
--- `template T LISTPATH N` behind its name
+-- `template T LISTPATH N` after its name
 abbrev pub template_line : Declared → List ℕ → List (List ℕ) → Option (List ℕ × List ℕ) → Result Declared Rule
 template_line declared name later None = Err rule.Line
 template_line declared name later (Some words) =
@@ -370,7 +370,7 @@ abbrev pub in_open_block : Declared → Result Declared Rule → Result Declared
 in_open_block declared other =
     if nat_lt 0 declared.skip then Ok (record declared { skip = declared.skip - 1 }) else other
 
--- a line with the lines behind it; so many bytes stand in front of it
+-- a line with the lines after it; so many bytes stand before it
 unfoldable pub declared_at : Declared → ℕ → List ℕ → List (List ℕ) → Result Declared Rule
 declared_at declared at line later =
     checked ((is_large at line, rule.Size) ∷ [])
@@ -384,8 +384,8 @@ is_opening declared =
     is_none (broken_of declared.data_schema (opening_data declared.names declared.data))
     && list_all (accepts_base declared.schemas) declared.devices
 
--- What was declared: the bytes in front of the line `script`, or all where there is none; the bytes and the lines in
--- front of the script, and its lines.
+-- What was declared: the bytes before the line `script`, or all where there is none; the bytes and the lines
+-- before the script, and its lines.
 pub record Front : Type 0 where
   pub declared : Declared
   pub size : ℕ
@@ -398,11 +398,11 @@ abbrev pub is_script : Section → Bool
 is_script section.Script = true
 is_script _ = false
 
--- The declarations end in the line of this number, or behind the last one.
+-- The declarations end in the line of this number, or after the last one.
 abbrev pub opened : ℕ → Front → Result Front (ℕ × Rule)
 opened number front = if is_opening front.declared then Ok front else Err (number, rule.Opening)
 
--- the declarations in lines, in front of which stand so many bytes and so many lines
+-- the declarations in lines, before which stand so many bytes and so many lines
 abbrev pub declarations_of : Declared → ℕ → ℕ → List (List ℕ) → Result Front (ℕ × Rule)
 declarations_of declared at number [] =
     opened (number + 1) (record { declared = declared; size = at; at = at; number = number; later = [] })

@@ -50,7 +50,7 @@ is_long_head keyword argument =
 abbrev pub long_step : Stmt-F Bool → Bool
 long_step level = is_long_head level.keyword level.argument || list_any (λ is_long. is_long) level.subs
 
--- so has the statement or one below it
+-- the statement or one below it has a keyword or a name with a part past the limit
 abbrev pub has_long_name : Stmt → Bool
 has_long_name = fold-Stmt Bool long_step
 
@@ -87,7 +87,7 @@ module_of text = module_of_statements (statements_of text)
 
 -- the built-in module
 
--- a statement with an argument; the place where it stands tells nothing
+-- a statement with an argument; the place where it stands says nothing
 abbrev pub with_argument : List ℕ → List ℕ → List Stmt → Stmt
 with_argument keyword argument subs = statement keyword (Some argument) subs 0
 

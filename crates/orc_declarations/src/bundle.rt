@@ -27,7 +27,7 @@ pub struct Bundle {
     pub decls: Decls,
     /// What each device accepts, in the order of their numbers.
     pub accepts: Row<Accept>,
-    /// The bytes and the lines in front of the script, the line `script` among them: all of them where
+    /// The bytes and the lines before the script, the line `script` among them: all of them where
     /// there is none.
     pub rest: usize,
     pub line: u64,

@@ -37,7 +37,7 @@ fn push_base(devices: &mut [Device], n: usize, put: Put) -> Result<(), Memory>
     }
 }
 
-// The same in a row.
+// Adds an item to the base of the device of a number, in a row.
 fn add_base(alloc: Global, devices: &mut Row<Device>, n: usize, put: Put) -> Result<(), Memory>
     ensures { OnOk result (devices.new ≡ with_base n put devices.old) }
 {
@@ -58,7 +58,7 @@ fn push_max(devices: &mut [Device], n: usize, limit: (Path, u64)) -> Result<(), 
     }
 }
 
-// The same in a row.
+// Adds a list's path and its most entries to the device of a number, in a row.
 fn add_max(
     alloc: Global,
     devices: &mut Row<Device>,
@@ -84,7 +84,7 @@ fn push_forbid(devices: &mut [Device], n: usize, leaf: (Path, Text)) -> Result<(
     }
 }
 
-// The same in a row.
+// Adds a leaf's path and a text that it may not have to the device of a number, in a row.
 fn add_forbid(
     alloc: Global,
     devices: &mut Row<Device>,
@@ -203,7 +203,7 @@ fn take_base(alloc: Global, declared: &mut Declared, rest: &str) -> Result<(), L
     Ok(())
 }
 
-// `rule D max LISTPATH N`, behind the word `max`.
+// `rule D max LISTPATH N`, after the word `max`.
 #[tactic(auto, unfolding(crate::specs::Declarations::after_max))]
 fn take_max(alloc: Global, declared: &mut Declared, name: &str, rest: &str) -> Result<(), LineFault>
     requires { declared.old.names ≡ names_of declared.old.devices }
@@ -227,7 +227,7 @@ fn take_max(alloc: Global, declared: &mut Declared, name: &str, rest: &str) -> R
     Ok(())
 }
 
-// `rule D forbid PATH = VALUE`, behind the word `forbid`.
+// `rule D forbid PATH = VALUE`, after the word `forbid`.
 #[tactic(auto, unfolding(crate::specs::Declarations::after_forbid))]
 fn take_forbid(
     alloc: Global,
@@ -301,7 +301,7 @@ fn take_data(alloc: Global, declared: &mut Declared, rest: &str) -> Result<(), L
     Ok(())
 }
 
-// `yang N`, with the bytes behind the line.
+// `yang N`, with the bytes after the line.
 #[tactic(auto, unfolding(crate::specs::Declarations::after_yang))]
 fn take_yang(
     alloc: Global,
@@ -399,7 +399,7 @@ fn take_text(
     }
 }
 
-/// A line, with the bytes behind it. So many bytes stand in front of it.
+/// A line, with the bytes after it. So many bytes stand before it.
 #[tactic(auto, unfolding(crate::specs::Declarations::declared_at))]
 pub(crate) fn take_line(
     alloc: Global,

@@ -16,9 +16,9 @@ use std::alloc::Global;
 /// What is left where the declarations end.
 #[derive(Drop)]
 pub struct Behind<'a> {
-    /// The bytes in front of the line `script`, or all of them where there is none.
+    /// The bytes before the line `script`, or all of them where there is none.
     pub size: usize,
-    /// The bytes and the lines in front of the script.
+    /// The bytes and the lines before the script.
     pub at: u64,
     pub number: u64,
     /// The bytes of the script.

@@ -108,7 +108,7 @@ fn read_template(
     }
 }
 
-// The list gets its template: the text of the block of so many lines behind the line.
+// The list gets its template: the text of the block of so many lines after the line.
 fn add_template(
     alloc: Global,
     declared: &mut Declared,
@@ -163,7 +163,7 @@ fn take_block(
     add_template(alloc, declared, name, count, list, text.as_slice())
 }
 
-// The list and the number of lines, behind the template's name.
+// The list and the number of lines, after the template's name.
 fn take_list(
     alloc: Global,
     declared: &mut Declared,
@@ -184,7 +184,7 @@ fn take_list(
     take_block(alloc, declared, name, count, word, later)
 }
 
-/// `template T LISTPATH N`, with the bytes behind the line.
+/// `template T LISTPATH N`, with the bytes after the line.
 #[tactic(auto, unfolding(crate::specs::Declarations::after_template))]
 pub(crate) fn take_template(
     alloc: Global,

@@ -44,7 +44,7 @@ fn has_long_name(words: &[Text]) -> bool
     words.iter().any(|word| is_long_name(word.as_str()))
 }
 
-/// The names, and this one behind them where it is new: the modules of the schema of the data are those
+/// The names, and this one after them where it is new: the modules of the schema of the data are those
 /// that the line `datamodel` names and `orc`.
 pub fn with_name(alloc: Global, names: &Row<Text>, name: &str) -> Result<Row<Text>, Memory>
     ensures { IfOk result (λ more. more ≡ with_name names.now name.now) }
@@ -231,7 +231,7 @@ pub(crate) fn schema_place(
     }
 }
 
-// The place of a type's schema, behind the plain one. So many types as have none want memory.
+// The place of a type's schema, after the plain one. So many types as have none run out of memory.
 fn place_behind(n: usize) -> Result<Option<u32>, Memory>
     ensures { IfOk result (λ place. place ≡ Some (suc n)) }
 {

@@ -3,8 +3,8 @@
 use crate::device::on_device;
 use crate::duty::{Duty, mender_of, worker_of};
 use crate::many::{fill, transact};
-use crate::words::{Placed, placed_of, tree_of};
 use orc_check::Accept;
+use orc_device_words::{Placed, placed_of, tree_of};
 use orc_node::{Link, Node, NodeFault};
 use orc_path::{Item, Path};
 use orc_schema::Schema;

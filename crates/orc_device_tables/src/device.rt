@@ -1,9 +1,7 @@
 //! Lines on the device of a table, and on the link to it.
 
-use crate::ops::{kind_of, op_of, when_of};
-use crate::shown::{push_mark, push_op, push_reply};
-use crate::words::{parted, tree_of};
 use orc_device::{Device, Logged, Op, Reply};
+use orc_device_words::{kind_of, op_of, parted, push_mark, push_op, push_reply, tree_of, when_of};
 use orc_node::{Link, Node};
 use orc_table_programs::{Undone, first_word};
 use std::alloc::Global;

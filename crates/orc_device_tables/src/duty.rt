@@ -1,10 +1,8 @@
 //! Lines on the work that is done on the device.
 
 use crate::device::{is_op, is_reply};
-use crate::ops::reply_of;
-use crate::shown::{push_mend, push_report};
-use crate::words::{changes_of, parted, tree_of};
 use orc_device::{Device, Op, Reply};
+use orc_device_words::{changes_of, parted, push_mend, push_report, reply_of, tree_of};
 use orc_node::Link;
 use orc_recover::Mender;
 use orc_table_programs::{Undone, first_word};

@@ -28,9 +28,6 @@ mod bench;
 mod device;
 mod duty;
 mod many;
-mod ops;
-mod shown;
-mod words;
 
 use crate::bench::Bench;
 use orc_table_programs::{ended, given_words, run_lines};

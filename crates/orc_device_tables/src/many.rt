@@ -1,7 +1,7 @@
 //! Large devices, and many transactions on one.
 
-use crate::words::{changes_of, parted};
 use orc_device::Device;
+use orc_device_words::{changes_of, parted};
 use orc_node::Link;
 use orc_path::{Item, Path};
 use orc_table_programs::{Undone, first_word};

@@ -8,7 +8,7 @@ literal a
 write r1 /if:port[e0]/mtu = 9000
 end
 settle
-# The answer comes at once, so no `settle` is needed behind it.
+# The answer comes at once, so no `settle` is needed after it.
 call al 2
 literal a
 end

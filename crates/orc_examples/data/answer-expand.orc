@@ -1,4 +1,4 @@
-# Expand: the template of this service can't be expanded on the data behind the call, in this block by this rule. What to
+# Expand: the template of this service can't be expanded on the data after the call, in this block by this rule. What to
 # do: mend the body, or the data that the block looks up, in the same call.
 orc 1
 yang 4

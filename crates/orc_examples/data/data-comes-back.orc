@@ -23,7 +23,7 @@ settle
 recover
 data
 
-# Stopped in front of the decision of a call, and behind it.
+# Stopped before the decision of a call, and after it.
 stop 6 1
 call al 2
 set /m:limit = 8

@@ -136,8 +136,8 @@ unset /access:profile[gold]
 end
 settle
 
-# An action before it in the same call may take the ground away, and one behind it may give it: a service is expanded
-# on the data behind all actions of its call.
+# An action before it in the same call may take the ground away, and one after it may give it: a service is expanded
+# on the data after all actions of its call.
 call net 16
 create /access:line[ge2] {"switch": "sw2", "profile": "bare", "vlan": [20]}
 unset /access:profile[bare]

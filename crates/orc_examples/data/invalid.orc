@@ -1,5 +1,5 @@
 # Calls whose data would break a rule of the schema: the least path, and there the first rule. The data is looked at
-# behind all actions of a call, and a refused call changes nothing.
+# after all actions of a call, and a refused call changes nothing.
 orc 1
 yang 11
 module net { namespace "urn:example:net"; prefix n; import orc { prefix o; }

@@ -35,7 +35,7 @@ delete uplink-at-old
 end
 settle
 
-# It stops behind the decision: the new uplink is there, and its call need not be sent again.
+# It stops after the decision: the new uplink is there, and its call need not be sent again.
 stop 8 1
 call ops 3
 literal uplink-at-new

@@ -2,8 +2,8 @@
 
 use std::alloc::{AllocError, Global};
 
-/// The lines of the block of this kind and name, each behind its `|` and the space there, with an
-/// end of line behind each.
+/// The lines of the block of this kind and name, each after its `|` and the space there, with an
+/// end of line after each.
 pub(crate) fn text_of(
     alloc: Global,
     case: &str,
@@ -27,7 +27,7 @@ pub(crate) fn text_of(
     Ok(found.then_some(text))
 }
 
-/// The text with the words of a line behind the first in their places: `$1`, `$2`, and so on.
+/// The text with the words of a line after the first in their places: `$1`, `$2`, and so on.
 pub(crate) fn filled(alloc: Global, text: String, line: &str) -> Result<String, AllocError> {
     let mut filled = text;
     let mut number: u64 = 0;
@@ -84,7 +84,7 @@ pub(crate) fn repeated(alloc: Global, text: &str) -> Result<Option<String>, Allo
     Ok(Some(out))
 }
 
-// Adds a piece that ends in front of a closing bracket or at the end, and says whether it is one.
+// Adds a piece that ends before a closing bracket or at the end, and says whether it is one.
 fn push_piece(out: &mut String, alloc: Global, piece: &str) -> Result<bool, AllocError> {
     let Some((before, body)) = piece.split_once('{') else {
         out.push_str(piece)?;
@@ -116,7 +116,7 @@ fn push_times(out: &mut String, alloc: Global, times: u64, body: &str) -> Result
     Ok(())
 }
 
-// The byte that stands behind a backslash, and what follows it.
+// The byte that stands after a backslash, and what follows it.
 fn escaped(piece: &str) -> Option<(u8, &str)> {
     if let Some(rest) = piece.strip_prefix("n") {
         return Some((b'\n', rest));

@@ -14,10 +14,10 @@
 //!   print this text, or `nothing`, and end with this status and, where that isn't 0, this fault
 //! - `again BUNDLE ..`: the same over the disk that the run before left, where a file is opened anew
 //! - `says WORDS`: so the fault of the run before, which is one of its bundle, is explained
-//! - `finds WORDS`: so it is told what in particular is at fault there
+//! - `finds WORDS`: so it is said what in particular is at fault there
 //! - `refused TEXT`: each line of the text is a row `LINE RULE BUNDLE`, as `row` says
 //! - `taken TEXT`: each is a row `DEVICES STEPS BUNDLE`
-//! - either of them with `behind NAME` at its end: each bundle stands behind this text
+//! - either of them with `behind NAME` at its end: each bundle stands after this text
 //! - `left NAME`: the disk of the run before now holds these bytes
 
 use crate::block::{bytes_of, filled, spelled, text_of};
@@ -62,7 +62,7 @@ enum Left {
 // What a line came to.
 #[derive(Drop)]
 enum Verdict {
-    // It does what it must, or says nothing.
+    // The line does what it must, or says nothing.
     Good,
     // It is no line of a case.
     Unread,
@@ -182,7 +182,7 @@ impl<'a> Case<'a> {
         Ok(verdict)
     }
 
-    // Runs a bundle over a file, which is closed behind that.
+    // Runs a bundle over a file, which is closed after that.
     fn run_in_file(&mut self, file: File, streams: Streams, line: &str) -> io::Result<Verdict> {
         let (verdict, disk) = self.run(FileDisk::over(file), streams, line)?;
         if disk.is_some() {
@@ -232,7 +232,7 @@ impl<'a> Case<'a> {
         Ok(Verdict::Differs(format!(in alloc; "{is}, status {ended}")?))
     }
 
-    // Holds each row of a text to what it says, behind the text that the line names, if it names one.
+    // Holds each row of a text to what it says, after the text that the line names, if it names one.
     fn run_rows(&mut self, line: &str, rows: Rows) -> io::Result<Verdict> {
         let alloc = self.alloc;
         let (name, head) = line.split_once(" behind ").unwrap_or((line, ""));
@@ -277,7 +277,7 @@ impl<'a> Case<'a> {
         }
     }
 
-    // The text of a block, with the words behind the first of this line in their places.
+    // The text of a block, with the words after the first of this line in their places.
     fn text_in(&self, line: &str, name: &str) -> io::Result<Option<String>> {
         if name == "nothing" {
             return Ok(Some(String::new(self.alloc)));
@@ -369,7 +369,7 @@ fn said_of<D: Disk>(
     }
 }
 
-// What in particular is at fault in a run's bundle, where that is told.
+// What in particular is at fault in a run's bundle, where that is said.
 fn found_of<D: Disk>(
     alloc: Global,
     bundle: &[u8],

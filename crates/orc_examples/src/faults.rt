@@ -1,4 +1,4 @@
-//! The faults that no example of a folder can show: want of memory, and a journal of more than 268 million bytes.
+//! The faults that no example of a folder can show: out of memory, and a journal of more than 268 million bytes.
 
 use orc_run::{Stop, file_tells_one_history, status};
 use std::io;

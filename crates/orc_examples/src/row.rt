@@ -23,7 +23,7 @@ pub(crate) enum Rows {
 }
 
 impl Rows {
-    /// Whether it is as a row says, where its bundle stands behind the head, and none where that is no row.
+    /// Whether it is as a row says, where its bundle stands after the head, and none where that is no row.
     pub(crate) fn hold(
         self,
         alloc: Global,

@@ -32,7 +32,7 @@ impl Settings {
         })
     }
 
-    /// Takes a word and what stands behind it, and says whether they set something.
+    /// Takes a word and what stands after it, and says whether they set something.
     pub(crate) fn take(
         &mut self,
         alloc: Global,
@@ -78,7 +78,7 @@ impl DiskSettings {
         }
     }
 
-    // Takes what stands behind the word `disk`, and says whether it sets something.
+    // Takes what stands after the word `disk`, and says whether it sets something.
     fn take(&mut self, alloc: Global, case: &str, rest: &str) -> Result<bool, AllocError> {
         let Some((word, rest)) = rest.split_once(' ') else {
             return Ok(false);

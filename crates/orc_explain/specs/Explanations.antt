@@ -59,12 +59,12 @@ unfoldable pub device_line_words : Keyword → List ℕ
 device_line_words keyword.Begin =
     codes "The step `begin CALLER` stands below the line `script`, and not within a call."
 device_line_words keyword.Admit =
-    codes "The step `admit` has nothing behind that word, and stands below the line `script` and not within a "
+    codes "The step `admit` has nothing after that word, and stands below the line `script` and not within a "
     ++ codes "call."
 device_line_words keyword.Step =
     codes "The step `step DEVICE` stands below the line `script`, and not within a call."
 device_line_words keyword.Decide =
-    codes "The step `decide` has nothing behind that word, and stands below the line `script` and not within a "
+    codes "The step `decide` has nothing after that word, and stands below the line `script` and not within a "
     ++ codes "call."
 device_line_words keyword.Tick =
     codes "The step `tick SECONDS` stands below the line `script`, and not within a call."
@@ -74,7 +74,7 @@ device_line_words keyword.Fault =
     codes "The step `fault DEVICE OPERATION before` or `fault DEVICE OPERATION after`, with the name of an operation "
     ++ codes "as `log` prints it, stands below the line `script` and not within a call."
 device_line_words keyword.Reconcile =
-    codes "The step `reconcile` has nothing behind that word, and stands below the line `script` and not within a "
+    codes "The step `reconcile` has nothing after that word, and stands below the line `script` and not within a "
     ++ codes "call."
 device_line_words keyword.Log =
     codes "The step `log DEVICE` stands below the line `script`, and not within a call."
@@ -91,15 +91,15 @@ step_line_words keyword.Meta =
 step_line_words keyword.Call =
     codes "A call begins with `call CALLER NUMBER`, below the line `script` and not within another call."
 step_line_words keyword.Settle =
-    codes "The step `settle` has nothing behind that word, and stands below the line `script` and not within a "
+    codes "The step `settle` has nothing after that word, and stands below the line `script` and not within a "
     ++ codes "call."
 step_line_words keyword.Stop =
     codes "A step `stop`, or `stop K B` with two numbers, stands below the line `script` and not within a call."
 step_line_words keyword.Recover =
-    codes "The step `recover` has nothing behind that word, and stands below the line `script` and not within "
+    codes "The step `recover` has nothing after that word, and stands below the line `script` and not within "
     ++ codes "a call."
 step_line_words keyword.History =
-    codes "The step `history` has nothing behind that word, and stands below the line `script` and not within "
+    codes "The step `history` has nothing after that word, and stands below the line `script` and not within "
     ++ codes "a call."
 step_line_words word = device_line_words word
 
@@ -120,7 +120,7 @@ form_words keyword.Base =
     ++ codes "action."
 form_words keyword.Data =
     codes "An item of the opening data is `data PATH` for an entry or `data PATH = VALUE` for a leaf, before "
-    ++ codes "the line `script`; below that line the step `data` has nothing behind that word, and stands not "
+    ++ codes "the line `script`; below that line the step `data` has nothing after that word, and stands not "
     ++ codes "within a call."
 form_words keyword.Yang =
     codes "A module is the line `yang N` and the N lines below it, before the line `script`."
@@ -128,7 +128,7 @@ form_words keyword.Template =
     codes "A template is the line `template NAME PATH N` and the N lines below it, before the line `script`; PATH is "
     ++ codes "that of a list of the data, without keys."
 form_words keyword.Script =
-    codes "The line `script` ends the declarations, once, and has nothing behind that word."
+    codes "The line `script` ends the declarations, once, and has nothing after that word."
 form_words word = step_line_words word
 
 -- words, names and numbers
@@ -136,7 +136,7 @@ abbrev pub word_words : List ℕ
 word_words =
     codes " Exactly one space parts two words, and a space in a key is written \\s; "
     ++ codes "a name is a letter or `_`, then letters, digits, `_`, `-` and `.`; "
-    ++ codes "a number has no needless zero in front and is below 2^64."
+    ++ codes "a number has no needless zero before it and is below 2^64."
 
 -- a form, and what holds of its words
 abbrev pub whole_form : Keyword → List ℕ
@@ -185,15 +185,15 @@ rule_words rule.Size word =
 rule_words rule.Utf8 word = codes "A bundle is UTF-8 text; <U+FFFD> stands where this line is none."
 rule_words rule.Header word = codes "The first line that is neither empty nor a comment is `orc 1`."
 rule_words rule.Path word =
-    codes "A path is written as /if:port[ge-0/0/1]/mtu: in front of its first name stands the module's, and "
+    codes "A path is written as /if:port[ge-0/0/1]/mtu: before its first name stands the module's, and "
     ++ codes "keys stand in brackets; in a key a backslash is \\\\, a closing bracket \\], a space \\s, a tab "
     ++ codes "\\t, a line feed \\n, a carriage return \\r. A path that ends in keys is an entry and has no ` = "
     ++ codes "VALUE`; any other is a leaf and has one, but in `unset` and `unbase`, which have a path alone. On a "
     ++ codes "device with a type, and in the data, the names are those of its modules, an entry has each key of its "
     ++ codes "list, or a leaf-list's value, and a key has no line of its own. No line of the data (`data`, `set` and "
-    ++ codes "`unset`) names /orc:device or a list that has a template, nor what stands below it. Behind `template` "
+    ++ codes "`unset`) names /orc:device or a list that has a template, nor what stands below it. After `template` "
     ++ codes "stands the path of a list of the data that is reached through containers alone and has no items yet; "
-    ++ codes "behind `create`, `modify` and `redeploy` an entry of a list that has a template. Behind `max` stands "
+    ++ codes "after `create`, `modify` and `redeploy` an entry of a list that has a template. After `max` stands "
     ++ codes "the path of a list or leaf-list, without keys at its end; `meta` takes any path of its device, that of "
     ++ codes "a container, of a key or of a whole list too."
 rule_words rule.Value word =
@@ -222,7 +222,7 @@ allowed_words rule word _ = rule_words rule word
 abbrev pub looked_at : List ℕ → List ℕ
 looked_at text = utf8_lossy (take LOOKED_AT text)
 
--- what is said of a rule and a line, behind which one is `end` or not
+-- what is said of a rule and a line, after which one is `end` or not
 abbrev pub line_explained : List ℕ → Bool → ℕ → Rule → List ℕ
 line_explained text ends line rule =
     codes "Line " ++ digits 10 false line ++ codes " is \"" ++ quoted text ++ codes "\". "

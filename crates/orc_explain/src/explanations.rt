@@ -18,7 +18,7 @@ const LOOKED_AT: usize = 404;
 // What holds of words, names and numbers in every line.
 const WORDS: &str =
     " Exactly one space parts two words, and a space in a key is written \\s; a name is a letter or \
-    `_`, then letters, digits, `_`, `-` and `.`; a number has no needless zero in front and is below \
+    `_`, then letters, digits, `_`, `-` and `.`; a number has no needless zero before it and is below \
     2^64.";
 
 /// What a fault of a bundle means, in words: what stands in its line, and what may stand there.
@@ -49,8 +49,8 @@ pub fn lines_from(bytes: &[u8], line: u64) -> &[u8]
     let mut rest = bytes;
     let mut left = line.saturating_sub(1);
     'lines: while left > 0 && !rest.is_empty() {
-        let (_, behind) = first_line(rest);
-        rest = behind;
+        let (_, later) = first_line(rest);
+        rest = later;
         left -= 1;
     }
     rest
@@ -77,7 +77,7 @@ fn no_line_explained(alloc: Global, line: u64, rule: Rule) -> Result<Text, Memor
     Ok(Text::from_string(out))
 }
 
-// What is said of a line and those behind it.
+// What is said of a line and those after it.
 fn line_explained(
     alloc: Global,
     text: &str,
@@ -189,17 +189,17 @@ fn rule_words(rule: Rule, word: Keyword) -> &'static str
         Rule::Utf8 => "A bundle is UTF-8 text; <U+FFFD> stands where this line is none.",
         Rule::Header => "The first line that is neither empty nor a comment is `orc 1`.",
         Rule::Path => {
-            "A path is written as /if:port[ge-0/0/1]/mtu: in front of its first name stands the \
+            "A path is written as /if:port[ge-0/0/1]/mtu: before its first name stands the \
              module's, and keys stand in brackets; in a key a backslash is \\\\, a closing bracket \
              \\], a space \\s, a tab \\t, a line feed \\n, a carriage return \\r. A path that ends \
              in keys is an entry and has no ` = VALUE`; any other is a leaf and has one, but in \
              `unset` and `unbase`, which have a path alone. On a device with a type, and in the data, \
              the names are those of its modules, an entry has each key of its list, or a leaf-list's \
              value, and a key has no line of its own. No line of the data (`data`, `set` and `unset`) \
-             names /orc:device or a list that has a template, nor what stands below it. Behind \
+             names /orc:device or a list that has a template, nor what stands below it. After \
              `template` stands the path of a list of the data that is reached through containers alone \
-             and has no items yet; behind `create`, `modify` and `redeploy` an entry of a list that has \
-             a template. Behind `max` stands the path of a list or leaf-list, without keys at its end; \
+             and has no items yet; after `create`, `modify` and `redeploy` an entry of a list that has \
+             a template. After `max` stands the path of a list or leaf-list, without keys at its end; \
              `meta` takes any path of its device, that of a container, of a key or of a whole list too."
         }
         Rule::Value => {
@@ -251,7 +251,7 @@ fn form_words(word: Keyword) -> &'static str
         }
         Keyword::Data => {
             "An item of the opening data is `data PATH` for an entry or `data PATH = VALUE` for a \
-             leaf, before the line `script`; below that line the step `data` has nothing behind that \
+             leaf, before the line `script`; below that line the step `data` has nothing after that \
              word, and stands not within a call."
         }
         Keyword::Yang => {
@@ -262,7 +262,7 @@ fn form_words(word: Keyword) -> &'static str
              `script`; PATH is that of a list of the data, without keys."
         }
         Keyword::Script => {
-            "The line `script` ends the declarations, once, and has nothing behind that word."
+            "The line `script` ends the declarations, once, and has nothing after that word."
         }
         _ => step_line_words(word),
     }
@@ -288,7 +288,7 @@ fn step_line_words(word: Keyword) -> &'static str
              call."
         }
         Keyword::Settle => {
-            "The step `settle` has nothing behind that word, and stands below the line `script` and \
+            "The step `settle` has nothing after that word, and stands below the line `script` and \
              not within a call."
         }
         Keyword::Stop => {
@@ -296,11 +296,11 @@ fn step_line_words(word: Keyword) -> &'static str
              within a call."
         }
         Keyword::Recover => {
-            "The step `recover` has nothing behind that word, and stands below the line `script` and \
+            "The step `recover` has nothing after that word, and stands below the line `script` and \
              not within a call."
         }
         Keyword::History => {
-            "The step `history` has nothing behind that word, and stands below the line `script` and \
+            "The step `history` has nothing after that word, and stands below the line `script` and \
              not within a call."
         }
         _ => device_line_words(word),
@@ -317,14 +317,14 @@ fn device_line_words(word: Keyword) -> &'static str
             "The step `begin CALLER` stands below the line `script`, and not within a call."
         }
         Keyword::Admit => {
-            "The step `admit` has nothing behind that word, and stands below the line `script` and not within a \
+            "The step `admit` has nothing after that word, and stands below the line `script` and not within a \
              call."
         }
         Keyword::Step => {
             "The step `step DEVICE` stands below the line `script`, and not within a call."
         }
         Keyword::Decide => {
-            "The step `decide` has nothing behind that word, and stands below the line `script` and not within a \
+            "The step `decide` has nothing after that word, and stands below the line `script` and not within a \
              call."
         }
         Keyword::Tick => {
@@ -338,7 +338,7 @@ fn device_line_words(word: Keyword) -> &'static str
              as `log` prints it, stands below the line `script` and not within a call."
         }
         Keyword::Reconcile => {
-            "The step `reconcile` has nothing behind that word, and stands below the line `script` and not within a \
+            "The step `reconcile` has nothing after that word, and stands below the line `script` and not within a \
              call."
         }
         Keyword::Log => {

@@ -47,7 +47,7 @@ fn line_below(
     }
 }
 
-// The line `yang N` that so many others stand above: its number, N, and the bytes behind it.
+// The line `yang N` that so many others stand above: its number, N, and the bytes after it.
 fn block_at<'a>(bytes: &'a [u8], place: usize) -> Option<(u64, u64, &'a [u8])> {
     let mut rest = bytes;
     let mut number: u64 = 0;
@@ -81,17 +81,17 @@ fn module_lines(line: &[u8]) -> Option<u64> {
     }
 }
 
-// How many lines a line `template T LISTPATH N` takes.
-fn template_lines(line: &[u8]) -> Option<u64> {
+/// How many lines a line `template T LISTPATH N` takes.
+pub(crate) fn template_lines(line: &[u8]) -> Option<u64> {
     let (word, rest) = cut(read_text(line)?)?;
     match keyword_of(word) {
-        Keyword::Template => count_behind(rest),
+        Keyword::Template => count_after(rest),
         _ => None,
     }
 }
 
-// The number behind two words.
-fn count_behind(words: &str) -> Option<u64> {
+// The number after two words.
+fn count_after(words: &str) -> Option<u64> {
     let (_, rest) = cut(words)?;
     let (_, count) = cut(rest)?;
     number_of(count)

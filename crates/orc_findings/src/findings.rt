@@ -1,4 +1,4 @@
-//! What in particular is at fault in a line, over what was declared in front of it.
+//! What in particular is at fault in a line, over what was declared before it.
 ghost use Rattle.std.specs.Prelude.{◌≡◌, ◌⊎◌, IfOk, IsTrue, None};
 ghost use Rattle.orc_findings.specs.Findings.{has_finding};
 
@@ -52,7 +52,7 @@ fn found_of(alloc: Global, bytes: &[u8], line: u64, rule: Rule) -> Result<Option
     }
 }
 
-// The bytes in which all is declared that counts for this rule: those in front of the line at fault,
+// The bytes in which all is declared that counts for this rule: those before the line at fault,
 // from which on so many are left, and for the opening all of them.
 fn declared_in(bytes: &[u8], left: usize, rule: Rule) -> &[u8] {
     match rule {

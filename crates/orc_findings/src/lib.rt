@@ -8,5 +8,7 @@ mod lines;
 mod named;
 mod openings;
 mod paths;
+mod repeated;
 
 pub use findings::finding;
+pub use repeated::repeated_findings;

@@ -32,7 +32,7 @@ pub(crate) fn line_finding(
     }
 }
 
-// The finding in a line of this text, with the bytes behind it.
+// The finding in a line of this text, with the bytes after it.
 fn text_finding(
     alloc: Global,
     bytes: &[u8],
@@ -60,7 +60,7 @@ fn text_finding(
     }
 }
 
-// The finding in the block of a line `yang N` of this number, with the bytes behind it.
+// The finding in the block of a line `yang N` of this number, with the bytes after it.
 fn in_yang(alloc: Global, line: u64, words: &str, later: &[u8]) -> Result<Option<Text>, Memory> {
     match block_under(alloc, words, later)? {
         Some(text) => Ok(Some(module_finding(alloc, line, text.as_slice())?)),
@@ -68,7 +68,7 @@ fn in_yang(alloc: Global, line: u64, words: &str, later: &[u8]) -> Result<Option
     }
 }
 
-// The finding in the block of a line `template T LISTPATH N` of this number, with the bytes behind it.
+// The finding in the block of a line `template T LISTPATH N` of this number, with the bytes after it.
 fn in_template(
     alloc: Global,
     declared: &Declared,

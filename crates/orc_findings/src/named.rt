@@ -18,12 +18,12 @@ pub(crate) fn named_finding(
     let all = words_of(alloc, words)?;
     match word {
         Keyword::Datamodel => of_data(alloc, bytes, declared, &all),
-        _ => of_names(alloc, bytes, declared, behind_first(all.as_slice())),
+        _ => of_names(alloc, bytes, declared, after_first(all.as_slice())),
     }
 }
 
-// All words but the first: behind `devicetype` a type stands in front of its modules.
-fn behind_first(words: &[Text]) -> &[Text] {
+// All words but the first: after `devicetype` a type stands before its modules.
+fn after_first(words: &[Text]) -> &[Text] {
     match words {
         [] => words,
         [_, names @ ..] => names,

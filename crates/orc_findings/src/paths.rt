@@ -1,4 +1,4 @@
-//! What is at fault in the path of a line, in its keys, or in the value behind it.
+//! What is at fault in the path of a line, in its keys, or in the value after it.
 use crate::openings::schema_in;
 use orc_body_findings::{PathForm, path_finding, value_finding};
 use orc_decls::Rule;
@@ -7,7 +7,7 @@ use orc_schema::Schema;
 use orc_text::{Memory, Text};
 use std::alloc::Global;
 
-// What a line names: a path of a device, or of the data, and the value that stands behind it.
+// What a line names: a path of a device, or of the data, and the value that stands after it.
 #[derive(Drop)]
 struct Named<'a> {
     device: Option<&'a str>,
@@ -16,7 +16,7 @@ struct Named<'a> {
     form: PathForm,
 }
 
-/// The finding in a line with this keyword and these words behind it that breaks `path`, or else `value`.
+/// The finding in a line with this keyword and these words after it that breaks `path`, or else `value`.
 pub(crate) fn named_path_finding(
     alloc: Global,
     declared: &Declared,
@@ -76,7 +76,7 @@ fn schema_of<'a>(declared: &'a Declared, name: &Text, plain: &'a Schema) -> &'a 
     }
 }
 
-// What the words behind a keyword name.
+// What the words after a keyword name.
 fn named_in<'a>(word: Keyword, words: &'a str) -> Option<Named<'a>> {
     match word {
         Keyword::Data | Keyword::Set => Some(item_in(None, words)),
@@ -120,7 +120,7 @@ fn item_in<'a>(device: Option<&'a str>, words: &'a str) -> Named<'a> {
     }
 }
 
-// What stands behind `=` and a space.
+// What stands after `=` and a space.
 fn value_in(rest: &str) -> Option<&str> {
     match cut(rest) {
         Some((_, value)) => Some(value),

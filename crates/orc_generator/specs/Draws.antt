@@ -1,7 +1,7 @@
--- Numbers that are drawn one behind another.
+-- Numbers that are drawn one after another.
 use Rattle.std.specs.Prelude.{ℕ, ◌+◌, ◌*◌, ◌^◌, ◌%◌, ◌/◌}
 
--- the state of a linear congruential generator modulo 2 to the 64th behind one
+-- the state of a linear congruential generator modulo 2 to the 64th after one
 abbrev pub next_state : ℕ → ℕ
 next_state state = (state * 6364136223846793005 + 1442695040888963407) % 2 ^ 64
 

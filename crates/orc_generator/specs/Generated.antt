@@ -27,7 +27,7 @@ generated_action choice service device key =
     ++ entry_line device (key + 2))
     else (codes "delete s" ++ decimal service ++ codes "\n")
 
--- the state behind the four draws of a call
+-- the state after the four draws of a call
 abbrev pub behind_call : ℕ → ℕ
 behind_call state = next_state (next_state (next_state (next_state state)))
 
@@ -44,12 +44,12 @@ generated_call devices calls state number =
     (drawn (next_state (next_state (next_state state))) devices) (drawn (behind_call state) 100)
     ++ codes "end\n"
 
--- the state behind so many calls
+-- the state after so many calls
 abbrev pub behind_calls : ℕ → ℕ → ℕ
 behind_calls number zero = number
 behind_calls number (suc before) = behind_call (behind_calls number before)
 
--- behind each sixteenth call all is settled
+-- after each sixteenth call all is settled
 abbrev pub settle_line : ℕ → List ℕ
 settle_line number = if nat_eq (number % 16) 0 then codes "settle\n" else []
 

@@ -1,4 +1,4 @@
-//! Numbers that are drawn one behind another.
+//! Numbers that are drawn one after another.
 ghost use Rattle.std.specs.Prelude.{◌≡◌, ◌<◌};
 ghost use Rattle.orc_generator.specs.Draws.{drawn, next_state};
 
@@ -13,7 +13,7 @@ pub(crate) struct Draws {
     pub(crate) state: u64,
 }
 
-// The state behind one.
+// The state after this one.
 fn next_state(state: u64) -> u64
     ensures { result ≡ next_state state }
 {

@@ -75,7 +75,7 @@ fn push_calls(
     Ok(())
 }
 
-// A line `settle` behind each sixteenth call.
+// A line `settle` after each sixteenth call.
 fn push_settle(out: &mut String, number: u32) -> Result<(), Memory>
     ensures { Adds result out.old out.new (settle_line number) }
 {

@@ -1,4 +1,4 @@
--- Admission: what is known of the call, and what appending its Intent does, told of the hub before the transaction was noted.
+-- Admission: what is known of the call, and what appending its Intent does, of a hub before the transaction is noted.
 use Rattle.std.proofs.Common.{◌≡◌, ◌⊎◌, inl, inr, ⊎_elim, ℕ, ◌-◌, ◌<◌, ◌^◌, List, [], ◌∷◌, ◌++◌, All, Ok, take, length, IsTrue, refl, sym, ap, subst, ◌∙◌, arith}
 use Rattle.std.proofs.lemmas.List.{length-append}
 use Rattle.std.proofs.Math.Seq.{take-append_seam}

@@ -1,4 +1,4 @@
--- A transaction whose decision is due is committed, or given up: told of the hub before.
+-- A transaction whose decision is due is committed, or given up: said of the hub before.
 use Rattle.std.proofs.Common.{◌≡◌, ◌⊎◌, ⊎_elim, inl, inr, ℕ, ◌+◌, false, true, ◌||◌, List, [], ◌∷◌, ◌++◌, None, length, refl, sym, ap, subst, ◌∙◌, arith}
 use Rattle.std.specs.declared.result.Result.TheVariants.{Ok, Err}
 use Rattle.std.proofs.lemmas.List.{length-append}

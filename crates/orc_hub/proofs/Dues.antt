@@ -31,7 +31,7 @@ module _ (duties : List Duty) (t : ℕ) where
       one found it (All-head (λ it. IsDueAs duties t it → ⊥) it active none)
       (none_found (due_with duties found it) active (All-tail (λ it. IsDueAs duties t it → ⊥) it active none) h)
 
--- so where it is that of none, there is none
+-- where nothing is due, there is no least number that is
 pub is_found : (duties : List Duty) (active : List Transaction) (t : ℕ) → All (λ it. IsDueAs duties t it → ⊥) active
     → least_due duties active ≡ Some t → ⊥
 is_found duties active t none h = absurd (none_some t (none_found duties t None active none h))

@@ -146,7 +146,7 @@ service_text decls id h = on (path_of id) refl h
         let placed = (unset_lawful decls.data_schema path named).0 in
         subst (λ (t : List ℕ). IsText t) (text_of_path path id is).1 placed.1
 
--- an item behind another one
+-- an item after another one
 put_lawful : (before : Option (List PathStep)) (put : Put) (rest : List Field) → is_item_at put.path put.item ≡ true
     → IfSome before (λ (earlier : List PathStep). path_cmp earlier put.path ≡ Less) → AreLawful rest → AreLawful (put_fields before put ++ rest)
 put_lawful before put rest h behind more =
@@ -156,7 +156,7 @@ put_lawful before put rest h behind more =
 abbrev Rows : Type 0
 Rows = List (List PathStep × Item)
 
--- what stands in front of each of the rows, where something does
+-- what stands before each of the rows, where something does
 abbrev is_before : Option (List PathStep) → Rows → Bool
 is_before None rows = true
 is_before (Some earlier) rows = below_all path_cmp earlier rows
@@ -272,7 +272,7 @@ action_lawful decls (BaseRemove device path) h k =
     let known = known_name device (names_of decls.devices) h (sym (declared-named decls.devices device) ∙ declared) in
     ((omega arith, omega arith), (name_text device known, under_lawful schema path under))
 
--- fields behind fields
+-- fields after fields
 lawful-append : (fs gs : List Field) → AreLawful fs → AreLawful gs → AreLawful (fs ++ gs)
 lawful-append [] gs h k = k
 lawful-append (f ∷ fs) gs h k = (h.0, lawful-append fs gs h.1 k)

@@ -171,7 +171,7 @@ module _ {D : Type 0} (disk : DiskMeaning D) where
     mending = λ met mends. absurd (none-some met mends);
   }
 
-  -- behind the entries with a Settled of each
+  -- after the entries with a Settled of each
   pub ended_so : KeepsOrder → (old new : Hub D) (entries : List Entry) (result : Result Unit RecFault) → IsHub disk old entries → EndsMending disk old result new → new.down ≡ false
       → IsHub disk new (entries ++ row_ended result old)
   ended_so law old new entries result own so up =

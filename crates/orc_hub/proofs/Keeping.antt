@@ -125,7 +125,7 @@ module _ {D : Type 0} (disk : DiskMeaning D) where
     asks : IsAsker hub.askers it.asker it.call
     asks = own.askers.prepares place it is preparing
 
-    -- the others' slots are open behind its answer
+    -- the others' slots are open after its answer
     others_ask : (said : Answer) (to : Phase) (told : is_preparing to ≡ false) (duties : List Duty)
         → AreAskers (answered_at it.asker said hub.askers) hub.waiting (map (retired duties) (map (in_phase it.t to) hub.active))
     others_ask said to told duties = record {

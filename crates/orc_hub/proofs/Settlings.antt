@@ -7,7 +7,7 @@ pub begins : {X : Type 0} (xs : List X) (x : X) (b : Bool) → b ≡ (length xs 
 begins [] x b is none first = absurd (false≢true (sym none ∙ is))
 begins (y ∷ xs) x b is none first = ap (λ z. z ∷ xs) (sym first)
 
--- and one without is empty
+-- a list without an element is empty
 pub ends : {X : Type 0} (xs : List X) (b : Bool) → b ≡ (length xs == 0) → b ≡ true → xs ≡ []
 ends [] b is all = refl
 ends (x ∷ xs) b is all = absurd (let no = eqb-true (length (x ∷ xs)) 0 (sym is ∙ all) in omega (arith, no))

@@ -15,7 +15,7 @@ use Rattle.orc_rules.specs.declared.transaction.Transaction.{Transaction}
 use Rattle.orc_rules.proofs.Standings.{still_stands}
 use Rattle.orc_state.specs.Checks.{CanCommit, clash_of}
 
--- the state behind a history, from that behind a front of it on
+-- the state after a history, from that after a prefix of it on
 state_since : (decls : Decls) (history : List Call) (it : Transaction)
     → fold_from decls (state_of decls (take it.since history)) (drop it.since history) ≡ state_of decls history
 state_since decls history it =

@@ -63,7 +63,7 @@ module _ {D : Type 0} (disk : DiskMeaning D) where
     history = λ up. absurd (false≢true (sym up ∙ down));
   }
 
-  -- it was up, and its history has these calls more
+  -- the hub was up, and its history has these calls more
   grows : (old new : Hub D) (more : List Call) → new.decls ≡ old.decls → new.state.history ≡ old.state.history ++ more → old.down ≡ false
       → ((entries : List Entry) → IsHub disk old entries → new.down ≡ false → (later : List Entry) × IsHub disk new later) → KeepsHub disk old new
   grows old new more decls history was keeps = record {
@@ -73,7 +73,7 @@ module _ {D : Type 0} (disk : DiskMeaning D) where
     history = λ up. (more, history);
   }
 
-  -- and no call more
+  -- the hub was up, and its history has no call more
   stays : (old new : Hub D) → new.decls ≡ old.decls → new.state.history ≡ old.state.history → old.down ≡ false
       → ((entries : List Entry) → IsHub disk old entries → new.down ≡ false → (later : List Entry) × IsHub disk new later) → KeepsHub disk old new
   stays old new decls history was keeps = grows old new [] decls (history ∙ sym (append-nil old.state.history)) was keeps

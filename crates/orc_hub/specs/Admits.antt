@@ -54,7 +54,7 @@ row_by (admit.Admitted t) it = intent_entry it ∷ []
 row_by other it = []
 
 module _ {D : Type 0} (disk : DiskMeaning D) where
-  -- what appending this Intent does, of a transaction that was noted already behind the others
+  -- what appending this Intent does, of a transaction that was noted already after the others
   abbrev pub WritesIntentOf : Hub D → ℕ → ℕ → (List ℕ × ℕ) → Entry → List (ℕ × ChangeSet) → Admit → Hub D → Type 0
   WritesIntentOf old t asker name intent sets (admit.Admitted given) new =
       (given ≡ t) × HasWritten disk old intent new
@@ -68,7 +68,7 @@ module _ {D : Type 0} (disk : DiskMeaning D) where
   WritesIntentOf old t asker name intent sets admit.Nothing new = ⊥
 
   -- What appending the Intent of a call that was waiting does: it is under way, and its workers begin; or its caller is
-  -- answered that memory is wanting, and nothing else changes; or the disk failed, or there is no room, and the hub is
+  -- answered that memory ran out, and nothing else changes; or the disk failed, or there is no room, and the hub is
   -- down.
   abbrev pub WritesIntent : Hub D → Waiting → List (ℕ × ChangeSet) → Admit → Hub D → Type 0
   WritesIntent old it sets (admit.Admitted given) new =
@@ -93,7 +93,7 @@ module _ {D : Type 0} (disk : DiskMeaning D) where
     pub known : first_stale it.plan.held.devices old.stale ≡ None
     pub written : WritesIntent old it sets result new
 
-  -- it isn't admitted, for this cause
+  -- a waiting call isn't admitted, for this cause
   pub record IsNotAdmitted (old : Hub D) (it : Waiting) (result : Admit) (new : Hub D) : Type 0 where
     pub given : Answer
     pub cause : IsTurnedAway old.decls old.state.history (record_of old) it given

@@ -32,8 +32,8 @@ abbrev pub asker_name : Transaction → List ℕ × ℕ
 asker_name it = (it.call.caller, it.call.number)
 
 module _ {D : Type 0} (disk : DiskMeaning D) where
-  -- What appending the Decide of a transaction does, whose call is the entry of this number: its caller is told the
-  -- entry and its workers go on; or the disk failed, or there is no room, and the hub is down.
+  -- What appending the Decide of a transaction does, whose call is the entry of this number: its caller is answered so,
+  -- and its workers go on; or the disk failed, or there is no room, and the hub is down.
   abbrev pub WritesDecide : Hub D → ℕ → ℕ → (List ℕ × ℕ) → ℕ → Decided → Hub D → Type 0
   WritesDecide old t asker name n (decided.Answered caller number given) new =
       ((caller, number) ≡ name) × (((given ≡ answer.Committed n)
@@ -48,7 +48,7 @@ module _ {D : Type 0} (disk : DiskMeaning D) where
   WritesDecide old t asker name n (decided.Settled other) new = ⊥
   WritesDecide old t asker name n decided.Down new = ⊥
 
-  -- what appending the Abort of a transaction does, whose caller is to be told this
+  -- what appending the Abort of a transaction does, whose caller is to get this answer
   abbrev pub WritesAbort : Hub D → ℕ → ℕ → (List ℕ × ℕ) → Answer → Decided → Hub D → Type 0
   WritesAbort old t asker name due (decided.Answered caller number given) new =
       ((caller, number) ≡ name) × (((given ≡ due)
@@ -73,13 +73,13 @@ module _ {D : Type 0} (disk : DiskMeaning D) where
         (length old.state.history + 1) result new
 
   -- why it is given up: what its devices say; where these are all prepared, that the data isn't valid with it, or that
-  -- memory is wanting
+  -- memory ran out
   abbrev pub GivesUpFor : Hub D → Transaction → Answer → Type 0
   GivesUpFor old it given = (verdict old.duties it.t it.plan.held.devices ≡ Some given)
       ⊎ ((verdict old.duties it.t it.plan.held.devices ≡ None) × ((given ≡ answer.Memory)
       ⊎ (invalid old.decls.data_schema (data_after it.call.actions old.state.datastore.data) ≡ Some given)))
 
-  -- it is given up for this, and its Abort appended
+  -- a transaction is given up for this answer, and its Abort appended
   pub record GivesUp (old : Hub D) (it : Transaction) (result : Decided) (new : Hub D) : Type 0 where
     pub given : Answer
     pub cause : GivesUpFor old it given

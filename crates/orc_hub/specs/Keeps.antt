@@ -58,7 +58,7 @@ module _ {D : Type 0} (disk : DiskMeaning D) where
     pub stale : length hub.stale ≡ length hub.decls.names
     pub mending : (met : Option RecFault) → hub.mends ≡ Some met → AreLeft hub.active hub.duties
 
-  -- it is so of a hub that is up, over some entries
+  -- a hub is sound: where it is up, it is one over some entries
   abbrev pub IsSoundHub : Hub D → Type 0
   IsSoundHub hub = hub.down ≡ false → (entries : List Entry) × IsHub hub entries
 

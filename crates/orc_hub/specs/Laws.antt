@@ -40,7 +40,7 @@ ReportKeeps {D} disk =
     (hub : Hub D) (entries : List Entry) (device : ℕ) (reply : Reply) (faults : ℕ) → IsHub disk hub entries
     → IsHub disk (with_record hub (hub_reported device reply faults (record_of hub))) entries
 
--- So does the commit of a transaction whose decision is due, behind the entries with its Decide, where the hub is still
+-- The commit of a transaction whose decision is due keeps the hub, over the entries with its Decide, where it is still
 -- up.
 abbrev pub CommitKeeps : {D : Type 0} → DiskMeaning D → Type 0
 CommitKeeps {D} disk =
@@ -48,21 +48,21 @@ CommitKeeps {D} disk =
     → slice_get hub.active place ≡ Some it → is_decision_due hub.duties it ≡ true → CommitsOne disk hub it result new
     → new.down ≡ false → IsHub disk new (entries ++ entry.Decide it.t ∷ [])
 
--- So does giving it up, behind the entries with its Abort.
+-- Giving up a transaction keeps the hub, over the entries with its Abort, where it is still up.
 abbrev pub AbortKeeps : {D : Type 0} → DiskMeaning D → Type 0
 AbortKeeps {D} disk =
     (hub new : Hub D) (entries : List Entry) (place : ℕ) (it : Transaction) (result : Decided) → IsHub disk hub entries
     → slice_get hub.active place ≡ Some it → is_decision_due hub.duties it ≡ true → GivesUp disk hub it result new
     → new.down ≡ false → IsHub disk new (entries ++ entry.Abort it.t ∷ [])
 
--- So does the settling of one that is to be settled, behind the entries with its Settled.
+-- Settling a transaction keeps the hub, over the entries with its Settled, where it is still up.
 abbrev pub SettleKeeps : {D : Type 0} → DiskMeaning D → Type 0
 SettleKeeps {D} disk =
     (hub new : Hub D) (entries : List Entry) (place : ℕ) (it : Transaction) (result : Decided) → IsHub disk hub entries
     → slice_get hub.active place ≡ Some it → is_settling it.phase ≡ true → WritesSettled disk hub it.t result new
     → new.down ≡ false → IsHub disk new (entries ++ entry.Settled it.t ∷ [])
 
--- So does a submission that was planned on a snapshot.
+-- A submission that was planned on a snapshot keeps the hub.
 abbrev pub SubmitKeeps : {D : Type 0} → DiskMeaning D → Type 0
 SubmitKeeps {D} disk =
     (hub new : Hub D) (entries : List Entry) (call : Call) (front : ℕ) (plan : Result Plan Answer) (result : Submitted)
@@ -71,7 +71,7 @@ SubmitKeeps {D} disk =
     ⊎ (plan ≡ planned hub.decls (state_of hub.decls (take front hub.state.history)) front call)
     → Submits hub call front plan result new → IsHub disk new entries
 
--- So does an admission that answers the call.
+-- An admission that answers the call keeps the hub.
 abbrev pub TurnAwayKeeps : {D : Type 0} → DiskMeaning D → Type 0
 TurnAwayKeeps {D} disk =
     (hub new : Hub D) (entries : List Entry) (place : ℕ) (it : Waiting) (given : Answer) (result : Admit)
@@ -79,7 +79,7 @@ TurnAwayKeeps {D} disk =
     → TurnsAway (record hub { waiting = without place hub.waiting }) it.asker (waiting_name it) given result new
     → IsHub disk new entries
 
--- And one that appends its Intent, behind the entries with that, where the hub is still up.
+-- An admission that appends its Intent keeps the hub, over the entries with that, where it is still up.
 abbrev pub BeginKeeps : {D : Type 0} → DiskMeaning D → Type 0
 BeginKeeps {D} disk =
     (hub new : Hub D) (entries : List Entry) (place : ℕ) (it : Waiting) (sets : List (ℕ × ChangeSet)) (result : Admit)
@@ -89,31 +89,31 @@ BeginKeeps {D} disk =
     → WritesIntent disk (record hub { waiting = without place hub.waiting }) it sets result new → new.down ≡ false
     → IsHub disk new (entries ++ row_by result it)
 
--- So does the beginning of a reconciliation, where the hub is idle.
+-- The beginning of a reconciliation keeps the hub, where it is idle.
 abbrev pub MendingBegunKeeps : {D : Type 0} → DiskMeaning D → Type 0
 MendingBegunKeeps {D} disk =
     (hub : Hub D) (entries : List Entry) → IsHub disk hub entries → IsIdle (record_of hub)
     → IsHub disk (begun_to_mend hub) entries
 
--- So does the end of a reconciliation, behind the entries with a Settled of each transaction that isn't settled, where
--- it ends well and the hub is still up.
+-- The end of a reconciliation keeps the hub, over the entries with a Settled of each unsettled transaction where it
+-- ended well, and where the hub is still up.
 abbrev pub MendingEndedKeeps : {D : Type 0} → DiskMeaning D → Type 0
 MendingEndedKeeps {D} disk =
     (old new : Hub D) (entries : List Entry) (result : Result Unit RecFault) → IsHub disk old entries
     → EndsMending disk old result new → new.down ≡ false → IsHub disk new (entries ++ row_ended result old)
 
--- So each call keeps the hub: a report,
+-- Each report keeps the hub.
 abbrev pub EachReportKeeps : {D : Type 0} → DiskMeaning D → Type 0
 EachReportKeeps {D} disk =
     (hub : Hub D) (device : ℕ) (reply : Reply) (faults : ℕ)
     → KeepsHub disk hub (with_record hub (hub_reported device reply faults (record_of hub)))
 
--- a decision,
+-- Each decision keeps the hub.
 abbrev pub EachDecisionKeeps : {D : Type 0} → DiskMeaning D → Type 0
 EachDecisionKeeps {D} disk =
     (old new : Hub D) (result : Decided) → Decides disk old result new → KeepsHub disk old new
 
--- a submission that was planned on a snapshot, where the hub is up,
+-- Each submission keeps the hub, where it was planned on a snapshot if the hub is up.
 abbrev pub EachSubmissionKeeps : {D : Type 0} → DiskMeaning D → Type 0
 EachSubmissionKeeps {D} disk =
     (old new : Hub D) (call : Call) (front : ℕ) (plan : Result Plan Answer) (result : Submitted)
@@ -122,17 +122,17 @@ EachSubmissionKeeps {D} disk =
     ⊎ (plan ≡ planned old.decls (state_of old.decls (take front old.state.history)) front call))
     → Submits old call front plan result new → KeepsHub disk old new
 
--- an admission,
+-- Each admission keeps the hub.
 abbrev pub EachAdmissionKeeps : {D : Type 0} → DiskMeaning D → Type 0
 EachAdmissionKeeps {D} disk =
     (old new : Hub D) (result : Admit) → old.down ≡ false → old.mends ≡ None → Admits disk old result new
     → KeepsHub disk old new
 
--- the beginning of a reconciliation,
+-- The beginning of a reconciliation on an idle hub keeps it, up or down.
 abbrev pub EachMendingBegunKeeps : {D : Type 0} → DiskMeaning D → Type 0
 EachMendingBegunKeeps {D} disk = (hub : Hub D) → IsIdle (record_of hub) → KeepsHub disk hub (begun_to_mend hub)
 
--- and its end.
+-- The end of a reconciliation on a hub that is up keeps it, however it ends.
 abbrev pub EachMendingEndedKeeps : {D : Type 0} → DiskMeaning D → Type 0
 EachMendingEndedKeeps {D} disk =
     (old new : Hub D) (result : Result Unit RecFault) → old.down ≡ false → EndsMending disk old result new

@@ -38,7 +38,7 @@ module _ {D : Type 0} where
     mends = Some None;
   }
 
-  -- and with it over
+  -- the hub once a reconciliation is over
   abbrev pub mending_ended : Hub D → Hub D
   mending_ended hub = record hub { duties = map mender_freed hub.duties; mends = None }
 

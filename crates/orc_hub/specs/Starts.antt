@@ -15,8 +15,8 @@ use Rattle.orc_hub.specs.declared.hub.Hub.{Hub}
 use Rattle.orc_hub.specs.declared.starting.StartFault.{StartFault}
 use Rattle.orc_hub.specs.declared.starting.StartFault.TheVariants as fault
 
--- Why these entries make no hub: the n-th decided call isn't legal, whose Decide stands at this offset; want of memory is
--- free.
+-- Why these entries make no hub: the n-th decided call isn't legal, whose Decide stands at this offset; or memory ran
+-- out.
 abbrev pub IsStartFault : Decls → List Entry → StartFault → Type 0
 IsStartFault decls entries fault.Memory = Unit {0}
 IsStartFault decls entries (fault.Damaged n at) =

@@ -35,7 +35,7 @@ module _ {D : Type 0} (old : Hub D) (call : Call) where
     pub kept : KeepsAnswer call said old.askers new.askers
     pub rest : new ≡ record old { askers = new.askers }
 
-  -- the call gets this answer at once, or that memory is wanting
+  -- the call gets this answer at once, or that memory ran out
   abbrev pub AnswersNow : Answer → Submitted → Hub D → Type 0
   AnswersNow due (submitted.Answered said) new = ((said ≡ due) ⊎ (said ≡ answer.Memory)) × HasKept said new
   AnswersNow due (submitted.Queued t) new = ⊥
@@ -53,13 +53,13 @@ module _ {D : Type 0} (old : Hub D) (call : Call) where
       numbers = new.numbers;
     }
 
-  -- it waits, or is answered that memory is wanting
+  -- the call waits, or is answered that memory ran out
   abbrev pub Queues : Plan → Submitted → Hub D → Type 0
   Queues plan (submitted.Answered said) new = (said ≡ answer.Memory) × HasKept said new
   Queues plan (submitted.Queued t) new = IsQueued plan t new
 
   -- What `submit` does: where the hub is down the call is answered so, and nothing changes. Else it gets the answer
-  -- that is due at once, or waits. That its caller has an open call is told without memory.
+  -- that is due at once, or waits. That its caller has an open call is answered without memory.
   abbrev pub Submits : ℕ → Result Plan Answer → Submitted → Hub D → Type 0
   Submits front plan (submitted.Answered said) new =
       ((old.down ≡ true) × (said ≡ answer.Down) × (new ≡ old))
@@ -68,7 +68,7 @@ module _ {D : Type 0} (old : Hub D) (call : Call) where
   Submits front plan (submitted.Queued t) new =
       (old.down ≡ false) × IsFree × ((it : Plan) × (plan ≡ Ok it) × IsQueued it t new)
 
--- A call with its slot at this place, which is answered that memory is wanting: it waits, and the slot is open, with
+-- A call with its slot at this place, which is answered that memory ran out: it waits, and the slot is open, with
 -- this last answer; or nothing changes.
 abbrev pub Waits : {D : Type 0} → Hub D → Call → Plan → ℕ → Option Answer → Submitted → Hub D → Type 0
 Waits old call plan asker last (submitted.Answered said) new = (said ≡ answer.Memory) × (new ≡ old)

@@ -8,7 +8,7 @@ use Rattle.orc_hub_parts.specs.Logs.{noted}
 use Rattle.orc_hub.specs.declared.hub.Hub.{Hub}
 
 module _ {D : Type 0} where
-  -- The entry was appended, and what it tells is noted. A crash at any moment leaves the entries before, or those and
+  -- The entry was appended, and what it says is noted. A crash at any moment leaves the entries before, or those and
   -- this one.
   pub record HasWritten (disk : DiskMeaning D) (old : Hub D) (entry : Entry) (new : Hub D) : Type 0 where
     pub appended : HasAppended disk old.log.journal new.log.journal entry

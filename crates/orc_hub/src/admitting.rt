@@ -53,7 +53,7 @@ fn intent(alloc: Global, it: &Waiting) -> Result<Entry, Memory>
     })
 }
 
-// The waiting call as a transaction, behind so many calls.
+// The waiting call as a transaction, after so many calls.
 fn transaction_begun(it: Waiting, since: usize) -> Transaction
     ensures { result ≡ transaction_begun since it }
 {

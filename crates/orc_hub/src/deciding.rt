@@ -107,8 +107,8 @@ impl<D: Disk> Hub<D> {
         }
     }
 
-    // Commits the call of the transaction at this place to the state, and tells the number of its entry; or
-    // answers what is broken in the data with it. Then, and after want of memory, the state is as it was.
+    // Commits the call of the transaction at this place to the state, and gives the number of its entry; or
+    // answers what is broken in the data with it. Then, and if memory runs out, the state is as it was.
     fn enter(&mut self, alloc: Global, place: usize) -> Result<Result<u64, Answer>, Memory>
         requires hub { IsSoundHub D.disk self.old }
         requires up { self.old.down ≡ false }
@@ -142,7 +142,7 @@ impl<D: Disk> Hub<D> {
         }
     }
 
-    // Appends the Abort of a transaction whose caller is to be told this; or that memory is wanting, where a
+    // Appends the Abort of a transaction whose caller is to get this answer; or that memory ran out, where a
     // copy of it takes some.
     fn abort(&mut self, alloc: Global, t: u64, asker: usize, answer: Answer) -> Decided
         requires ready { IsReady D.disk self.old.log.journal }
@@ -157,7 +157,7 @@ impl<D: Disk> Hub<D> {
         }
     }
 
-    // The same, where this is the answer once more.
+    // Appends the Abort of a transaction whose caller is to get this answer, which is given twice.
     fn write_abort(
         &mut self,
         alloc: Global,
@@ -196,7 +196,7 @@ impl<D: Disk> Hub<D> {
         }
     }
 
-    // The disk failed and the hub is down, and the one who asked at this place is told.
+    // The disk failed and the hub is down, and the one who asked at this place is answered.
     fn fail(&mut self, alloc: Global, asker: usize) -> Decided
         requires { IsOpenAt self.old.askers asker }
         ensures result { result ≡ answered_to (named_at self.old.askers asker) Answer.JournalFault }

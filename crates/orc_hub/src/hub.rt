@@ -10,7 +10,7 @@ use orc_rules::{Duty, Transaction, Waiting};
 use orc_state::State;
 use orc_text::{Row, Text};
 
-/// The hub, which decides what is committed: it owns the journal and the state behind it, and knows which
+/// The hub, which decides what is committed: it owns the journal and the state that this gives, and knows which
 /// calls wait, which are under way, what is done on each device, and who asked.
 #[derive(Drop)]
 pub struct Hub<D: Disk> {
@@ -38,7 +38,7 @@ pub struct Hub<D: Disk> {
 pub enum Submitted {
     /// The call is answered at once.
     Answered(Answer),
-    /// It waits, as the transaction of this number.
+    /// The call waits, as the transaction of this number.
     Queued(u64),
 }
 
@@ -83,7 +83,7 @@ pub enum Decided {
 }
 
 impl<D: Disk> Hub<D> {
-    /// The state behind the history.
+    /// The state that the history gives.
     pub fn state(&self) -> &State
         ensures { result.now ≡ self.now.state }
     {

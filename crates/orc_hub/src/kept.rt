@@ -11,7 +11,7 @@ pub fn report_keeps<D: Disk>()
     ensures { ReportKeeps D.disk }
 {}
 
-/// So does the commit of a transaction, where the hub is still up behind it.
+/// The commit of a transaction keeps the hub, where it is still up after that.
 pub fn commit_keeps<D: Disk>()
     ensures { CommitKeeps D.disk }
 {
@@ -19,59 +19,59 @@ pub fn commit_keeps<D: Disk>()
     plan_stands();
 }
 
-/// So does giving one up.
+/// Giving up a transaction keeps the hub, where it is still up after that.
 pub fn abort_keeps<D: Disk>()
     ensures { AbortKeeps D.disk }
 {
     keeps_order();
 }
 
-/// So does settling one.
+/// Settling a transaction keeps the hub, where it is still up after that.
 pub fn settle_keeps<D: Disk>()
     ensures { SettleKeeps D.disk }
 {
     keeps_order();
 }
 
-/// So does a submission that was planned on a snapshot.
+/// A submission that was planned on a snapshot keeps the hub.
 pub fn submit_keeps<D: Disk>()
     ensures { SubmitKeeps D.disk }
 {
     plan_is_at_front();
 }
 
-/// So does an admission that answers its call.
+/// An admission that answers its call keeps the hub.
 pub fn turn_away_keeps<D: Disk>()
     ensures { TurnAwayKeeps D.disk }
 {}
 
-/// And one that appends its Intent.
+/// An admission that appends its Intent keeps the hub, where it is still up after that.
 pub fn begin_keeps<D: Disk>()
     ensures { BeginKeeps D.disk }
 {
     keeps_order();
 }
 
-/// So does the beginning of a reconciliation.
+/// The beginning of a reconciliation keeps the hub.
 pub fn mending_begun_keeps<D: Disk>()
     ensures { MendingBegunKeeps D.disk }
 {}
 
-/// So does its end.
+/// The end of a reconciliation keeps the hub, where it is still up after that.
 pub fn mending_ended_keeps<D: Disk>()
     ensures { MendingEndedKeeps D.disk }
 {
     keeps_order();
 }
 
-// So each report keeps the hub,
+// Each report keeps the hub.
 pub(crate) fn each_report_keeps<D: Disk>()
     ensures { EachReportKeeps D.disk }
 {
     report_keeps::<D>();
 }
 
-// each decision,
+// Each decision keeps the hub.
 pub(crate) fn each_decision_keeps<D: Disk>()
     ensures { EachDecisionKeeps D.disk }
 {
@@ -80,14 +80,14 @@ pub(crate) fn each_decision_keeps<D: Disk>()
     settle_keeps::<D>();
 }
 
-// each submission,
+// Each submission keeps the hub.
 pub(crate) fn each_submission_keeps<D: Disk>()
     ensures { EachSubmissionKeeps D.disk }
 {
     submit_keeps::<D>();
 }
 
-// each admission,
+// Each admission keeps the hub.
 pub(crate) fn each_admission_keeps<D: Disk>()
     ensures { EachAdmissionKeeps D.disk }
 {
@@ -95,14 +95,14 @@ pub(crate) fn each_admission_keeps<D: Disk>()
     begin_keeps::<D>();
 }
 
-// the beginning of a reconciliation,
+// Each beginning of a reconciliation keeps the hub.
 pub(crate) fn each_mending_begun_keeps<D: Disk>()
     ensures { EachMendingBegunKeeps D.disk }
 {
     mending_begun_keeps::<D>();
 }
 
-// and its end.
+// Each end of a reconciliation keeps the hub.
 pub(crate) fn each_mending_ended_keeps<D: Disk>()
     ensures { EachMendingEndedKeeps D.disk }
 {

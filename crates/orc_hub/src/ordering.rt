@@ -37,7 +37,7 @@ impl<D: Disk> Hub<D> {
         self.order_on(alloc, device)
     }
 
-    // The same where the hub is up, and no reconciliation has met a failure.
+    // The operation that is due on a device, where the hub is up, and no reconciliation has met a failure.
     fn order_on(&self, alloc: Global, device: u32) -> Result<Option<Op>, Memory>
         requires within { device < length self.now.duties }
         requires up { self.now.down ≡ false }

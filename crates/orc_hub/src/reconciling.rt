@@ -70,7 +70,7 @@ fn free_all(duties: &mut [Duty])
 
 impl<D: Disk> Hub<D> {
     /// Begins a reconciliation: on each device a mender has what isn't settled there and the tree that is
-    /// due. After want of memory the hub is as it was. It asks that the hub is up and idle.
+    /// due. If memory runs out, the hub is as it was. It asks that the hub is up and idle.
     pub fn begin_reconcile(&mut self, alloc: Global) -> Result<(), Memory>
         requires hub { IsSoundHub D.disk self.old }
         requires up { self.old.down ≡ false }

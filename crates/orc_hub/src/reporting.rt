@@ -18,7 +18,7 @@ use orc_text::Row;
 use std::alloc::Global;
 use std::mem;
 
-// What a reconciliation has met behind the end of one on a device.
+// What a reconciliation has met after the end of mending on a device.
 fn met_by(
     mends: Option<Option<RecFault>>,
     device: u32,

@@ -25,7 +25,7 @@ use std::alloc::Global;
 pub enum StartFault {
     /// The n-th decided call isn't legal after those before it; its Decide stands at this offset.
     Damaged { n: u64, at: u64 },
-    /// Memory could not be had.
+    /// Memory ran out.
     Memory,
 }
 
@@ -64,6 +64,20 @@ fn at_start(
     Ok((all_free(alloc, decls)?, all_known(alloc, decls, fresh)?))
 }
 
+// The disk of a journal that makes no hub: all else is let go here, once.
+fn disk_of<D: Disk>(_decls: Decls, journal: Journal<D>, _entries: Vec<Entry>) -> D
+    ensures { result ≡ journal.disk }
+{
+    journal.into_disk()
+}
+
+// The disk of a journal whose past makes no hub.
+fn disk_without<D: Disk>(_decls: Decls, journal: Journal<D>, _past: Past) -> D
+    ensures { result ≡ journal.disk }
+{
+    journal.into_disk()
+}
+
 impl<D: Disk> Hub<D> {
     /// The hub over an open journal, whose entries these are. A refusal hands the disk back.
     pub fn start(
@@ -84,9 +98,12 @@ impl<D: Disk> Hub<D> {
             Ok(past) => Hub::of_past(alloc, decls, journal, past),
             Err(PastFault::Illegal { place, n }) => {
                 let at = journal.offset(&entries, place);
-                Err((StartFault::Damaged { n, at }, journal.into_disk()))
+                Err((
+                    StartFault::Damaged { n, at },
+                    disk_of(decls, journal, entries),
+                ))
             }
-            Err(PastFault::Memory) => Err((StartFault::Memory, journal.into_disk())),
+            Err(PastFault::Memory) => Err((StartFault::Memory, disk_of(decls, journal, entries))),
         }
     }
 
@@ -121,7 +138,7 @@ impl<D: Disk> Hub<D> {
                 mends: None,
                 down: false,
             }),
-            Err(Memory) => Err((StartFault::Memory, journal.into_disk())),
+            Err(Memory) => Err((StartFault::Memory, disk_without(decls, journal, past))),
         }
     }
 }

@@ -83,7 +83,7 @@ impl<D: Disk> Hub<D> {
         }
     }
 
-    // The same where the hub is up and the caller has no open call.
+    // Submits a call where the hub is up and its caller has no open call.
     fn submit_closed(
         &mut self,
         alloc: Global,
@@ -140,7 +140,7 @@ impl<D: Disk> Hub<D> {
         }
     }
 
-    // Lets a call wait by this plan, or answers that memory is wanting.
+    // Lets a call wait by this plan, or answers that memory ran out.
     fn queue(&mut self, alloc: Global, call: Call, plan: Plan) -> Submitted
         requires { open_of self.old.askers call.caller ≡ None }
         ensures { Queues self.old call plan result self.new }
@@ -151,7 +151,7 @@ impl<D: Disk> Hub<D> {
         }
     }
 
-    // The same, where this is the caller's name once more.
+    // Lets a call wait by this plan, where this is its caller's name once more.
     fn queue_as(&mut self, alloc: Global, call: Call, plan: Plan, name: Text) -> Submitted
         requires closed { open_of self.old.askers call.caller ≡ None }
         requires name { name ≡ call.caller }
@@ -163,7 +163,7 @@ impl<D: Disk> Hub<D> {
         }
     }
 
-    // The same, where the call's slot is at this place, answered that memory is wanting, and this was its
+    // Lets a call wait whose slot is at this place, answered that memory ran out, where this was its
     // last answer before.
     fn number(
         &mut self,

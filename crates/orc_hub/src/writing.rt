@@ -11,7 +11,7 @@ use orc_journal::{AppendFault, Entry};
 use orc_text::Memory;
 use std::alloc::Global;
 
-/// Two answers that are one: the one that is due, or that memory is wanting.
+/// Two answers that are one: the one that is due, or that memory ran out.
 pub(crate) fn twice(alloc: Global, answer: Answer) -> (Answer, Answer)
     ensures same { result.1 ≡ result.0 }
     ensures due { (result.0 ≡ answer) ⊎ (result.0 ≡ Answer.Memory) }
@@ -24,7 +24,7 @@ pub(crate) fn twice(alloc: Global, answer: Answer) -> (Answer, Answer)
 
 impl<D: Disk> Hub<D> {
     // Appends an entry. Where the disk fails, or there is no room, the hub is down. Only an Intent takes
-    // memory, and after want of it the hub is as it was.
+    // memory, and where that runs out the hub is as it was.
     pub(crate) fn write(&mut self, alloc: Global, entry: &Entry) -> Result<(), AppendFault>
         requires ready { IsReady D.disk self.old.log.journal }
         requires entry { IsEntry entry.now }

@@ -84,14 +84,14 @@ module _ {D : Type 0} (here : Setting D) (laws : DiskLaws here.disk) (commit : C
     -- decided
 
     module _ (due : is_decision_due old.duties it ≡ true) where
-      -- the world in which it is committed, and its caller told this
+      -- the world in which the transaction is committed, and its caller has this answer
       abbrev behind_commit : Answer → World D
       behind_commit said = record world {
         snapshots = with_snapshot world.snapshots it.call.caller None;
         hub = Some (answered it.asker said (hub_told it.t phase.Decided true (record_of old)));
       }
 
-      -- and in which it is given up
+      -- the world in which the transaction is given up, and its caller has this answer
       abbrev behind_abort : Answer → World D
       behind_abort said = record world {
         snapshots = with_snapshot world.snapshots it.call.caller None;

@@ -44,7 +44,7 @@ pub same_met : {D : Type 0} (old new : Hub (Stopping D)) → new.decls ≡ old.d
 same_met old new decls mends names =
     subst (λ (d : Decls). NamesMet d new.mends) (sym decls) (subst (NamesMet old.decls) (sym mends) names)
 
--- what can be told of a hub's journal
+-- what can be said of a hub's journal
 abbrev pub view_of : {D : Type 0} → Hub (Stopping D) → List Entry → JournalView D
 view_of hub entries = journal_view hub.log.journal entries
 

@@ -50,7 +50,7 @@ module _ {D : Type 0} (disk : DiskMeaning D) where
   leaves_inside : (old new : Stopping D) (P : List ℕ → Type 0) → LeavesOnly (inside disk) old new P → LeavesOnly disk old.inner new.inner P
   leaves_inside old new P leaves = record { later = leaves.later; each = leaves.each; earlier_rows = leaves.earlier_rows }
 
-  -- it was synced there too, by as many syncs
+  -- the disk inside was synced too, by as many syncs
   synced_there : (old synced new : Stopping D) → old.stopped ≡ false → (looked : IsSynced (inside disk) old synced new)
       → (there : IsSynced disk old.inner synced.inner new.inner) × (syncs disk there ≡ syncs (inside disk) looked)
   synced_there old synced new running (inl was) = (
@@ -75,7 +75,7 @@ module _ {D : Type 0} (disk : DiskMeaning D) where
   pub synced_inside : (old synced new : Stopping D) → old.stopped ≡ false → IsSynced (inside disk) old synced new → IsSynced disk old.inner synced.inner new.inner
   synced_inside old synced new running looked = (synced_there old synced new running looked).0
 
-  -- and runs on
+  -- the synced disk isn't stopped
   runs_synced : (old synced new : Stopping D) → old.stopped ≡ false → IsSynced (inside disk) old synced new → synced.stopped ≡ false
   runs_synced old synced new running (inl was) = ap (λ (s : Stopping D). s.stopped) was.at_once ∙ running
   runs_synced old synced new running (inr was) = was.looked.runs refl running

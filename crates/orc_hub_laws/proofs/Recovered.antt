@@ -107,11 +107,11 @@ module _ {D : Type 0} (here : Setting D) (laws : DiskLaws here.disk) where
         subst (λ (d : D). OutlivesRow here.disk text here.limit (record old { disk = d }) [] (record new { disk = to.inner })) same
         (record { each_moment = moments; holds = holds_new; tells = leaves.still_tells; later = faults })
 
-    -- it isn't opened
+    -- the journal isn't opened
     pub stays_closed : here.disk.faults from.inner ≤ here.disk.faults to.inner → StaysClosed here.disk text here.limit old (record old { disk = to.inner })
     stays_closed faults = record { synced = refl; cut = (refl, refl); outlives = outlives faults old (record { read = read_now; crash = crash_now }) }
 
-    -- where a disk tells what it holds, it reads what was written
+    -- where a disk reports what it holds, it reads what was written
     pub same_entries : (entries : List Entry) → IfSome (here.disk.content to.inner) (λ file. IsGated file text entries) → is_some (here.disk.content old.disk) ≡ true → entries ≡ entries_read old
     same_entries entries gated some =
         on (here.disk.content to.inner) gated read_now (leaves.still_tells ∙ ap (λ (d : D). is_some (here.disk.content d)) same ∙ some)
@@ -158,9 +158,9 @@ module _ {D : Type 0} (here : Setting D) (laws : DiskLaws here.disk) where
   opening_stays_down_so world from journal entries none holds same has =
       down_again world from journal.disk none holds same has.leaves (led_later _ from journal.disk has.course)
 
-  -- it is opened, and a hub starts over it
+  -- the journal is opened, and a hub starts over it
 
-  -- the journal of a world behind this opening
+  -- the journal of a world after this opening
   abbrev opened_as : OpenJournal (Stopping D) → List Entry → Journal D
   opened_as journal entries = record {
     disk = journal.disk.inner;

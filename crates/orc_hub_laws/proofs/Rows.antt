@@ -133,7 +133,7 @@ module _ {D : Type 0} (disk : DiskMeaning D) (decls : List ℕ) where
     pub any_moment : LeavesOnly disk old.disk new.disk (HasSomeOf decls old.entries added)
     pub fits : (added ≡ []) ⊎ (journal_length decls (old.entries ++ added) ≤ old.limit)
 
-  -- it holds what it is of
+  -- the disk of a view holds what the view is of
   pub record IsHeld (view : JournalView D) : Type 0 where
     pub reads : IfSome (disk.content view.disk) (λ file. IsGated file decls view.entries)
     pub durable : LeavesAsRead (disk.content view.disk) (disk.may_leave view.disk)

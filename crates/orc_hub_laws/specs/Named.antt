@@ -38,13 +38,13 @@ SubmissionsAreNamed {D} disk =
     (old new : Hub D) (call : Call) (front : ℕ) (plan : Result Plan Answer) (given : Answer)
     → Submits old call front plan (submitted.Answered given) new → IsNamedAnswer old.decls given
 
--- So does each to an admission,
+-- Each answer to an admission names a device or a rule that is known.
 abbrev pub AdmissionsAreNamed : {D : Type 0} → DiskMeaning D → Type 0
 AdmissionsAreNamed {D} disk =
     (old new : Hub D) (entries : List Entry) (caller : List ℕ) (number : ℕ) (given : Answer) → IsHub disk old entries
     → Admits disk old (admit.Answered caller number given) new → IsNamedAnswer old.decls given
 
--- and each to a decision.
+-- Each answer to a decision names a device or a rule that is known.
 abbrev pub DecisionsAreNamed : {D : Type 0} → DiskMeaning D → Type 0
 DecisionsAreNamed {D} disk =
     (old new : Hub D) (entries : List Entry) (caller : List ℕ) (number : ℕ) (given : Answer) → IsHub disk old entries

@@ -89,7 +89,7 @@ world_armed operation bytes world =
 abbrev pub world_with : {D : Type 0} → Hub (Stopping D) → World D → World D
 world_with hub world = record world { hub = Some (record_of hub) }
 
--- and without a snapshot of this caller
+-- the world with the record of this hub, and without a snapshot of this caller
 abbrev pub world_answered : {D : Type 0} → List ℕ → Hub (Stopping D) → World D → World D
 world_answered caller hub world =
     record (world_with hub world) { snapshots = with_snapshot world.snapshots caller None }
@@ -161,7 +161,7 @@ module _ {D : Type 0} (here : Setting D) where
       → GoesOnUnder here world (world_heard device new world)
       (event.Report device kind (mark_of reply) (world.links device).faults) new
 
-  -- it is meant to decide the transaction of this number, or to settle it
+  -- an event is meant to decide the transaction of this number, or to settle it
   abbrev pub MeansToDecide : ℕ → Event → Type 0
   MeansToDecide t meant = ((given : Answer) × (meant ≡ event.Decide t given)) ⊎ (meant ≡ event.Settle t)
 
@@ -189,7 +189,7 @@ module _ {D : Type 0} (here : Setting D) where
   LettingGoIsStop = (world : World D) (hub : Hub (Stopping D)) → IsWorldOf here world hub
       → GoesDown here world (stopped world) event.Stop (Some event.Stop) hub
 
-  -- What `begin_reconcile` does is the beginning of a reconciliation,
+  -- What `begin_reconcile` does is the beginning of a reconciliation.
   abbrev pub MendingBegins : Type 0
   MendingBegins = (world : World D) (old new : Hub (Stopping D)) → IsWorldOf here world old → IsIdle (record_of old)
       → new ≡ begun_to_mend old → GoesOnUnder here world (world_with new world) (event.Reconcile None) new
@@ -201,7 +201,7 @@ module _ {D : Type 0} (here : Setting D) where
       ⊎ ((len : ℕ) × (result ≡ Err (fault.Full len))
       × LacksRoomFor here world (event.Reconcile (Some (Ok tt))) len new))
 
-  -- and what `finish_reconcile` does is its end, where what was replied was heard.
+  -- What `finish_reconcile` does is the end of a reconciliation, where what was replied was heard.
   abbrev pub MendingEnds : Type 0
   MendingEnds = (world : World D) (old new : Hub (Stopping D)) (result : Result Unit RecFault)
       → IsWorldOf here world old
@@ -227,7 +227,7 @@ module _ {D : Type 0} (here : Setting D) where
       → HoldsEntries here.disk here.decls.text here.limit world.journal → from.inner ≡ world.journal.disk
       → HasRefused (inside here.disk) here.decls.text here.limit from to cause → StaysDown here world to.inner
 
-  -- So does one that was opened, where no hub starts over it.
+  -- A journal that was opened stays as it is, where no hub starts over it.
   abbrev pub OpeningStaysDown : Type 0
   OpeningStaysDown = (world : World D) (from : Stopping D) (journal : OpenJournal (Stopping D)) (entries : List Entry)
       → world.hub ≡ None → HoldsEntries here.disk here.decls.text here.limit world.journal

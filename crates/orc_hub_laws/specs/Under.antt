@@ -71,7 +71,7 @@ module _ {D : Type 0} (here : Setting D) where
     pub holds : HoldsEntries here.disk here.decls.text here.limit journal
 
   -- The armed stop came as an entry of the event was appended, and no more than that is seen; or the disk failed, and has
-  -- counted that. The hub is down, and its disk tells which.
+  -- counted that. The hub is down, and its disk reports which.
   abbrev pub FailsIn : World D → Event → Hub (Stopping D) → Type 0
   FailsIn old meant new = (new.down ≡ true)
       × (((new.log.journal.disk.stopped ≡ true) × GoesDown old (stopped old) meant (Some event.Stop) new)

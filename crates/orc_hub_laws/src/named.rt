@@ -12,12 +12,12 @@ pub fn submissions_are_named<D: Disk>()
     faults_are_named();
 }
 
-/// So does each to an admission,
+/// Each answer to an admission names a declared device, if one, and a rule that there is.
 pub fn admissions_are_named<D: Disk>()
     ensures { AdmissionsAreNamed D.disk }
 {}
 
-/// and each to a decision.
+/// Each answer to a decision names a declared device, if one, and a rule that there is.
 pub fn decisions_are_named<D: Disk>()
     ensures { DecisionsAreNamed D.disk }
 {}

@@ -61,7 +61,7 @@ pub fn letting_go_is_stop<D: Disk>()
     ensures { InEach D.disk LettingGoIsStop }
 {}
 
-/// What `begin_reconcile` does is the beginning of a reconciliation,
+/// What `begin_reconcile` does is the beginning of a reconciliation.
 pub fn mending_begins<D: Disk>()
     ensures { InEach D.disk MendingBegins }
 {
@@ -69,7 +69,7 @@ pub fn mending_begins<D: Disk>()
     mending_begun_keeps::<StopDisk<D>>();
 }
 
-/// and what `finish_reconcile` does is its end.
+/// What `finish_reconcile` does is the end of a reconciliation.
 pub fn mending_ends<D: Disk>()
     ensures { InEach D.disk MendingEnds }
 {
@@ -87,7 +87,7 @@ pub fn refusal_stays_down<D: Disk>()
     ensures { InEach D.disk RefusalStaysDown }
 {}
 
-/// So does one over which no hub starts.
+/// A journal that was opened stays as it is, where no hub starts over it.
 pub fn opening_stays_down<D: Disk>()
     ensures { InEach D.disk OpeningStaysDown }
 {}

@@ -4,7 +4,7 @@ use Rattle.std.specs.Option.{option_map}
 use Rattle.orc_lines.specs.Lines.{lines_of, block_of, as_line, text_of}
 use Rattle.orc_lines.proofs.LinesOf.{block_step}
 
--- what stands in front of a block is added twice
+-- what stands before a block is added in two steps
 added : (front text : List ℕ) (o : Option (List ℕ))
     → option_map (λ (block : List ℕ). front ++ block) (option_map (λ (block : List ℕ). as_line text ++ block) o)
     ≡ option_map (λ (block : List ℕ). (front ++ as_line text) ++ block) o

@@ -36,7 +36,7 @@ own_names s path own h = on s.plain h where
   on true h = let same : path ≡ own = cc in sym (ap path_names same)
   on false h = steps_names s [] path own h
 
--- and they decide where a path stands
+-- the names of a path's steps decide whether it is kept
 
 abbrev names_kept : List (List ℕ) → Bool
 names_kept [] = true

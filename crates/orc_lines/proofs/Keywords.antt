@@ -34,7 +34,7 @@ skipped_word (b ∷ bs) h =
       comment None = refl
       comment (Some parts) = refl
 
--- so is not `end`
+-- a skipped line is not `end`
 pub skipped_no_end : (text : List ℕ) → is_skipped text ≡ true → is_text text (codes "end") ≡ false
 skipped_no_end [] h = refl
 skipped_no_end (b ∷ bs) h = subst (λ (c : ℕ). is_text (c ∷ bs) (codes "end") ≡ false) (sym (eqb-true b 35 h)) refl

@@ -46,6 +46,6 @@ pub block_step : (n : ℕ) (line : List ℕ) (later : List (List ℕ)) → 0 < n
 block_step zero line later some = absurd (omega arith)
 block_step (suc n) line later some = simp unary_clauses refl
 
--- a line and what is behind it have the bytes of all
+-- a line and what comes after it have as many bytes as all
 pub parted : (bytes line later : List ℕ) → bytes ≡ line ++ later → length bytes ≡ length line + length later
 parted bytes line later parts = ap (λ (x : List ℕ). length x) parts ∙ length-append line later

@@ -1,4 +1,4 @@
--- A name more behind numbered names.
+-- A name added after numbered names.
 use Rattle.std.proofs.Common.{◌≡◌, ◌+◌, ℕ, suc, List, [], ◌∷◌, ◌++◌, Bool, true, false, not, cond, nat_lt, ◌||◌, length, Option, Some, None, is_some, refl, ap, sym, ◌∙◌, subst}
 use Rattle.std.specs.List.{IsDistinct, list_any, position, position_or_len}
 use Rattle.std.specs.Option.{option_map, option_or}
@@ -14,7 +14,7 @@ use Rattle.orc_lines.specs.Names.{is_among, place_of}
 use Rattle.orc_lines.specs.inside.Numbered.{HasPlaces}
 use Rattle.orc_lines.proofs.SchemaPlaces.{one_more, within_more, some_first}
 
--- the first place of a list with one more in front
+-- the first place of a list with one more at its head
 
 abbrev further : Option ℕ → Option ℕ
 further o = option_map suc o
@@ -43,7 +43,7 @@ place-found p (x ∷ xs) = ap is_some (place-first p x xs) ∙ on (p x) (positio
   on false None h = h
   on false (Some n) h = h
 
--- one more behind them
+-- the first place of a list with one more at its end
 
 place-behind : {X : Type 0} (p : X → Bool) (xs : List X) (y : X)
     → position p (xs ++ y ∷ []) ≡ option_or (position p xs) (cond (p y) (Some (length xs)) None)
@@ -66,7 +66,7 @@ absent names name new = on (place_of names name) (place-found (is_same_text name
   on None h = refl
   on (Some n) h = absurd (false≢true (sym h))
 
--- the map with the number of a new name has those of the names with this one behind them
+-- the map with the number of a new name has those of the names with this one after them
 
 put_place : (names : List (List ℕ)) (name q : List ℕ) (old new : Option ℕ) → is_among names name ≡ false → old ≡ place_of names q
     → new ≡ cond (is_eq (slice_cmp nat_cmp name q)) (Some (length names)) old → new ≡ place_of (names ++ name ∷ []) q

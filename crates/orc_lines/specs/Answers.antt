@@ -8,19 +8,19 @@ use Rattle.orc_decls.specs.declared.fault.BundleFault.TheVariants as bundle
 use Rattle.orc_lines.specs.declared.fault.LineFault.{LineFault}
 use Rattle.orc_lines.specs.declared.fault.LineFault.TheVariants.{Breaks, Memory}
 
--- the answer, a value or a line at fault with its rule; want of memory may come in its place
+-- the answer, a value or a line at fault with its rule; running out of memory may come in its place
 abbrev pub Gives : {X : Type 0} → Result X (ℕ × Rule) → Result X BundleFault → Type 0
 Gives answer (Ok value) = answer ≡ Ok value
 Gives answer (Err (At line rule)) = answer ≡ Err (line, rule)
 Gives answer (Err Memory) = Unit {0}
 
--- what a reader that changes what was read so far answers; want of memory is free
+-- what a reader that changes what was read so far answers; memory may run out
 abbrev pub Takes : {X T : Type 0} → Result X Rule → X → Result T LineFault → Type 0
 Takes answer new (Ok _) = answer ≡ Ok new
 Takes answer new (Err (Breaks rule)) = answer ≡ Err rule
 Takes answer new (Err Memory) = Unit {0}
 
--- the same of a reader of a value
+-- what a reader of a value answers; memory may run out
 abbrev pub ReadsLine : {X : Type 0} → Result X Rule → Result X LineFault → Type 0
 ReadsLine answer (Ok value) = answer ≡ Ok value
 ReadsLine answer (Err (Breaks rule)) = answer ≡ Err rule

@@ -52,12 +52,12 @@ stored_put own own_item =
 abbrev pub canonical_put : SchemaTable → List PathStep → Item → Result Put Rule
 canonical_put schema path item = stored_put (canonical_path schema path) (canonical_item schema path item)
 
--- the path that a word is, which keeps the limits; what stands in front of it may pass one
+-- the path that a word is, which keeps the limits; what stands before it may pass one
 abbrev pub kept_path_of : Bool → List ℕ → Result (List PathStep) Rule
 kept_path_of is_long word =
     checked ((is_long || is_past_path (path_of word), rule.Size) ∷ []) (of_option (path_of word) rule.Path)
 
--- `PATH`, an entry, of the data with its lists of services or of a device; a name in front of it may be too long
+-- `PATH`, an entry, of the data with its lists of services or of a device; a name before it may be too long
 abbrev pub entry_of : Option (List ServiceList) → SchemaTable → Bool → List ℕ → Result Put Rule
 entry_of lists schema is_long word =
     checked ((nat_eq (length word) 0, rule.Line) ∷ [])
@@ -77,7 +77,7 @@ leaf_of lists schema is_long word text =
     (or_rule (value_of text) rule.Value (λ value.
     canonical_put schema path (Leaf value)))))
 
--- what stands behind = and a space
+-- what stands after = and a space
 abbrev pub marked : Option (List ℕ × List ℕ) → Option (List ℕ)
 marked None = None
 marked (Some words) = if is_text words.0 (codes "=") then Some words.1 else None
@@ -85,14 +85,14 @@ marked (Some words) = if is_text words.0 (codes "=") then Some words.1 else None
 abbrev pub after_mark : List ℕ → Option (List ℕ)
 after_mark rest = marked (cut_at 32 rest)
 
--- a path's text, and what stands behind it and a space
+-- a path's text, and what stands after it and a space
 abbrev pub item_words : Option (List ServiceList) → SchemaTable → Bool → List ℕ → Option (List ℕ × List ℕ)
     → Result Put Rule
 item_words lists schema is_long text None = entry_of lists schema is_long text
 item_words lists schema is_long text (Some words) =
     or_rule (after_mark words.1) rule.Line (λ value. leaf_of lists schema is_long words.0 value)
 
--- an item and where it stands, as a schema stores them; a name in front of it may be too long
+-- an item and where it stands, as a schema stores them; a name before it may be too long
 abbrev pub put_of : Option (List ServiceList) → SchemaTable → Bool → List ℕ → Result Put Rule
 put_of lists schema is_long text = item_words lists schema is_long text (cut_at 32 text)
 
@@ -117,11 +117,11 @@ abbrev pub names_service : List ServiceList → SchemaTable → List PathStep �
 names_service lists schema path =
     is_some (list_with lists path) && (not (is_kept path) && can_carry schema path (blank_item path))
 
--- The same of one that keeps the limits and whose keys are in canonical form.
+-- The path is an entry of one of these lists of services, keeps the limits, and has its keys in canonical form.
 abbrev pub is_service_at : List ServiceList → SchemaTable → List PathStep → Bool
 is_service_at lists schema path = is_data_path schema path && is_some (list_with lists path)
 
--- what is stored of one: its canonical form, looked at once more in the same way
+-- what is stored of a service's path: its canonical form, looked at once more in the same way
 abbrev pub stored_service_path : List ServiceList → SchemaTable → Option (List PathStep) → Result (List PathStep) Rule
 stored_service_path lists schema own =
     or_rule own rule.Value (λ path. checked ((not (is_service_at lists schema path), rule.Size) ∷ []) (Ok path))
@@ -147,7 +147,7 @@ abbrev pub stored_list_path : SchemaTable → Option (List PathStep) → Result 
 stored_list_path schema own =
     or_rule own rule.Value (λ path. checked ((not (is_list_path schema path), rule.Size) ∷ []) (Ok path))
 
--- `LISTPATH`; a name in front of it may be too long
+-- `LISTPATH`; a name before it may be too long
 abbrev pub list_path_of : SchemaTable → Bool → List ℕ → Result (List PathStep) Rule
 list_path_of schema is_long word =
     checked ((nat_eq (length word) 0, rule.Line) ∷ [])
@@ -160,7 +160,7 @@ abbrev pub leaf_in : List PathStep → Item → Result (List PathStep × List �
 leaf_in path Entry = Err rule.Line
 leaf_in path (Leaf text) = Ok (path, text)
 
--- `PATH = VALUE`, which has to be a leaf; a name in front of it may be too long
+-- `PATH = VALUE`, which has to be a leaf; a name before it may be too long
 abbrev pub forbidden_words : SchemaTable → Bool → Option (List ℕ × List ℕ) → Result (List PathStep × List ℕ) Rule
 forbidden_words schema is_long None = Err rule.Line
 forbidden_words schema is_long (Some words) =

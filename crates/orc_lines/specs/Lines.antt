@@ -9,7 +9,7 @@ use Rattle.orc_lines.specs.declared.lines.TheConstants.{LARGEST_BUNDLE, LONGEST_
 abbrev pub seen : List ℕ → List ℕ
 seen bytes = take (LARGEST_BUNDLE + 1) bytes
 
--- a byte in front of the first line
+-- a byte put at the head of the first line
 abbrev pub led_by : ℕ → List (List ℕ) → List (List ℕ)
 led_by byte [] = (byte ∷ []) ∷ []
 led_by byte (line ∷ lines) = (byte ∷ line) ∷ lines
@@ -19,7 +19,7 @@ abbrev pub lines_of : List ℕ → List (List ℕ)
 lines_of [] = []
 lines_of (b ∷ bs) = if b == 10 then (10 ∷ []) ∷ lines_of bs else led_by b (lines_of bs)
 
--- of a line from its end: its line feed, and one carriage return in front of that, are no part of its text
+-- of a line from its end: its line feed, and one carriage return before that, are no part of its text
 abbrev pub without_return : List ℕ → List ℕ
 without_return [] = []
 without_return (b ∷ bs) = if b == 13 then bs else b ∷ bs
@@ -37,11 +37,11 @@ abbrev pub is_skipped : List ℕ → Bool
 is_skipped [] = true
 is_skipped (b ∷ bs) = b == 35
 
--- the bundle passes its limit in this line, in front of which stand so many bytes, or the line passes its own
+-- the bundle passes its limit in this line, before which stand so many bytes, or the line passes its own
 abbrev pub is_large : ℕ → List ℕ → Bool
 is_large at line = nat_lt LARGEST_BUNDLE (at + length line) || nat_lt LONGEST_LINE (length (text_of line))
 
--- what lines look for behind them
+-- what a line looks for in the lines after it
 
 -- a text and a line feed
 abbrev pub as_line : List ℕ → List ℕ

@@ -25,7 +25,7 @@ on_ok (Err fault) next = Err fault
 
 -- reading line by line
 
--- what goes on behind the line of this number, unless it breaks a rule
+-- what goes on after the line of this number, unless it breaks a rule
 abbrev pub on_line : {P X : Type 0} → ℕ → Result P Rule → (P → Result X (ℕ × Rule)) → Result X (ℕ × Rule)
 on_line number (Ok value) next = next value
 on_line number (Err rule) next = Err (number, rule)

@@ -7,7 +7,7 @@ use Rattle.std.specs.declared.option.Option.TheVariants.{None, Some}
 use Rattle.std.specs.Option.{option_map}
 use Rattle.std.specs.Cmp.Lexicographic.{pointwise}
 
--- the text in front of the first such byte, and the text behind it; words are parted by one space, the byte 32
+-- the text before the first such byte, and the text after it; words are parted by one space, the byte 32
 abbrev pub cut_at : ℕ → List ℕ → Option (List ℕ × List ℕ)
 cut_at byte [] = None
 cut_at byte (b ∷ bs) =
@@ -29,7 +29,7 @@ words_of text = slice_split (λ byte. byte == 32) text
 abbrev pub is_text : List ℕ → List ℕ → Bool
 is_text = pointwise nat_eq
 
--- a sign or a needless zero stands in front
+-- the word begins with a sign or a needless zero
 abbrev pub is_padded : List ℕ → Bool
 is_padded [] = false
 is_padded (first ∷ rest) = (first == 43) || ((first == 48) && nat_lt 0 (length rest))

@@ -36,7 +36,7 @@ pub struct Declared {
     pub has_data: bool,
     /// The types of devices.
     pub types: SortedNames,
-    /// The plain schema, and behind it that of each type.
+    /// The plain schema, and after it that of each type.
     pub schemas: Row<Schema>,
     /// The names of the devices.
     pub names: Names,

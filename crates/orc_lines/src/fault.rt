@@ -8,9 +8,9 @@ use orc_text::Memory;
 /// Why a line was not taken.
 #[derive(Clone, Copy)]
 pub enum LineFault {
-    /// It breaks this rule, and none before it.
+    /// The line breaks this rule, and none before it.
     Breaks(Rule),
-    /// Memory could not be had.
+    /// Memory ran out.
     Memory,
 }
 

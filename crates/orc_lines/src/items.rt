@@ -54,7 +54,7 @@ pub fn is_past_path(path: &Option<Path>) -> bool
     }
 }
 
-/// The path that a word is, which keeps the limits. What stands in front of it may pass one. A limit
+/// The path that a word is, which keeps the limits. What stands before it may pass one. A limit
 /// that is passed is rule `size`, and a word that is no path rule `path`.
 pub fn read_kept_path(alloc: Global, is_long: bool, word: &str) -> Result<Path, LineFault>
     ensures { ReadsLine (kept_path_of is_long word.now) result }
@@ -79,7 +79,7 @@ fn is_past_value(value: &Option<Text>) -> bool
     }
 }
 
-// What stands behind `=` and a space.
+// What stands after `=` and a space.
 fn after_mark(rest: &str) -> Option<&str>
     ensures { MatchOption result (after_mark rest.now ≡ None) (λ value. after_mark rest.now ≡ Some value.now) }
 {
@@ -197,8 +197,8 @@ fn read_leaf(
     canonical_put(alloc, schema, &path, &Item::Leaf(value))
 }
 
-/// An item line: a path, and behind it ` = ` and a value or nothing. It is stored in canonical form,
-/// as the schema has it. A name in front of it may be too long. Of the data, which has these lists of
+/// An item line: a path, and after it ` = ` and a value or nothing. It is stored in canonical form,
+/// as the schema has it. A name before it may be too long. Of the data, which has these lists of
 /// services, a line may name neither what the orchestrator keeps itself nor a service.
 pub fn read_put(
     alloc: Global,
@@ -327,7 +327,7 @@ fn stored_list_path(alloc: Global, schema: &Schema, path: &Path) -> Result<Path,
 }
 
 /// The path of a list or a leaf-list, in a line `rule D max`. It is stored in canonical form. A name
-/// in front of it may be too long.
+/// before it may be too long.
 pub fn read_list_path(
     alloc: Global,
     schema: &Schema,
@@ -359,7 +359,7 @@ fn leaf_in(path: Path, item: Item) -> Result<(Path, Text), LineFault>
     }
 }
 
-/// The leaf of a line `rule D forbid`, and the text that it may not have. A name in front of it may
+/// The leaf of a line `rule D forbid`, and the text that it may not have. A name before it may
 /// be too long.
 #[tactic(auto, unfolding(crate::specs::Items::forbidden_of))]
 pub fn read_forbidden(

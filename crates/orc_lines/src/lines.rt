@@ -36,7 +36,7 @@ fn cut_line(bytes: &[u8]) -> Option<usize>
     None
 }
 
-/// The first line and the bytes behind it.
+/// The first line and the bytes after it.
 pub fn first_line<'a>(bytes: &'a [u8]) -> (&'a [u8], &'a [u8])
     requires { 0 < length bytes.now }
     ensures lines { lines_of bytes.now ≡ result.0.now ∷ lines_of result.1.now }
@@ -49,7 +49,7 @@ pub fn first_line<'a>(bytes: &'a [u8]) -> (&'a [u8], &'a [u8])
     }
 }
 
-/// A line without its line feed and one carriage return in front of that.
+/// A line without its line feed and one carriage return before that.
 pub fn line_text(line: &[u8]) -> &[u8]
     ensures { result.now ≡ text_of line.now }
 {
@@ -70,7 +70,7 @@ pub fn is_skipped(text: &[u8]) -> bool
     }
 }
 
-/// Whether the bundle passes its limit in this line, in front of which stand so many bytes, or the
+/// Whether the bundle passes its limit in this line, before which stand so many bytes, or the
 /// line passes its own.
 pub fn is_large(at: u64, line: &[u8]) -> bool
     requires { at + length line.now < 2 ^ 63 }

@@ -31,7 +31,7 @@ impl Model for SortedNames {
     ghost invariant = { λ all. HasPlaces all.places all.names.items };
 }
 
-// Adds a name behind the others, among which it isn't. After want of memory all is as it was.
+// Adds a name after the others, among which it isn't. If memory runs out, all is as it was.
 fn put_behind(
     names: &mut Vec<Text>,
     places: &mut BTreeMap<Text, usize>,
@@ -80,7 +80,7 @@ impl SortedNames {
         self.place(name).is_some()
     }
 
-    /// Adds a name behind the others where it is new.
+    /// Adds a name after the others where it is new.
     pub fn add(&mut self, name: Text) -> Result<(), Memory>
         ensures { OnOk result (self.new ≡ with_name self.old name) }
     {

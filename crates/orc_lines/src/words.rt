@@ -8,7 +8,7 @@ use orc_text::{Memory, Row, Text};
 use std::alloc::Global;
 use std::str;
 
-/// The text in front of the first space and the text behind it.
+/// The text before the first space and the text after it.
 pub fn cut(text: &str) -> Option<(&str, &str)>
     ensures { MatchOption result (cut_at 32 text.now ≡ None)
         (λ parts. cut_at 32 text.now ≡ Some (parts.0.now, parts.1.now)) }
@@ -16,7 +16,7 @@ pub fn cut(text: &str) -> Option<(&str, &str)>
     text.split_once(' ')
 }
 
-/// The text in front of the first colon and the text behind it.
+/// The text before the first colon and the text after it.
 pub fn cut_prefix(text: &str) -> Option<(&str, &str)>
     ensures { MatchOption result (cut_at 58 text.now ≡ None)
         (λ parts. cut_at 58 text.now ≡ Some (parts.0.now, parts.1.now)) }
@@ -34,7 +34,7 @@ pub fn first_word(text: &str) -> &str
     }
 }
 
-// The first word and the text behind it, where there are more.
+// The first word and the text after it, where there are more.
 fn cut_word(text: &str) -> Option<(&str, &str)>
     ensures { MatchOption result (words_of text.now ≡ text.now ∷ [])
         (λ parts. CutsWord text.now parts.0.now parts.1.now) }
@@ -56,7 +56,7 @@ pub fn words_of(alloc: Global, text: &str) -> Result<Row<Text>, Memory>
     Ok(all)
 }
 
-// Whether a sign or a needless zero stands in front.
+// Whether the word begins with a sign or a needless zero.
 fn is_padded(digits: &[u8]) -> bool
     ensures { result ≡ is_padded digits.now }
 {

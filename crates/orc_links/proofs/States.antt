@@ -23,7 +23,7 @@ module _ (f : NodeState → NodeState) (g : LinkState → LinkState) (none : f a
   pub nodes_mapped : (links : List LinkState) → node_states (map g links) ≡ (λ device. f (node_states links device))
   nodes_mapped links = fun_ext (λ device. nodes_mapped_at links device)
 
--- and is seen as before
+-- links whose change isn't seen are seen as before
 pub links_mapped_at : (g : LinkState → LinkState) → ((link : LinkState) → heard_link (g link) ≡ heard_link link)
     → (links : List LinkState) (device : ℕ) → link_states (map g links) device ≡ link_states links device
 links_mapped_at g same [] device = refl

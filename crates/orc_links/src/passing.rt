@@ -53,7 +53,7 @@ pub(crate) fn restart_at(links: &mut [Link], device: u32)
     restart(&mut links[device as usize]);
 }
 
-/// The next operation of this kind on a device fails. After want of memory nothing is changed.
+/// The next operation of this kind on a device fails. If memory runs out, nothing is changed.
 pub(crate) fn list_fault_at(
     links: &mut [Link],
     device: u32,

@@ -7,8 +7,10 @@
 //! - `steps N SCRIPT`: the script has so many steps
 //! - `fault LINE RULE SCRIPT`: this line of it is at fault, counted from the first one behind the
 //!   declarations, for this rule
+ghost use Rattle.std.specs.Prelude.{◌≤◌, length};
+ghost use Rattle.orc_bundle.specs.Bundles.{IsBundle};
 
-use orc_bundle::{ScriptStep, read_bundle};
+use orc_bundle::{Bundle, ScriptStep, read_bundle};
 use orc_decls::BundleFault;
 use orc_script::read_script;
 use orc_table_programs::{Table, Undone, first_word};
@@ -21,6 +23,14 @@ pub(crate) struct Lines {
     alloc: Global,
     head: String,
     front: String,
+}
+
+// The steps of the script of a bundle of these bytes, or its fault.
+fn steps_of(alloc: Global, bytes: &[u8], bundle: Bundle) -> Result<Row<ScriptStep>, BundleFault>
+    requires bundle { IsBundle bundle }
+    requires within { bundle.rest ≤ length bytes.now }
+{
+    read_script(alloc, bytes, bundle.rest, bundle.line, &bundle.decls)
 }
 
 impl Table for Lines {
@@ -97,13 +107,7 @@ impl Lines {
         whole.push_str(lines.as_str())?;
         let bytes = whole.as_str().as_bytes();
         match read_bundle(self.alloc, bytes) {
-            Ok(bundle) => Ok(read_script(
-                self.alloc,
-                bytes,
-                bundle.rest,
-                bundle.line,
-                &bundle.decls,
-            )),
+            Ok(bundle) => Ok(steps_of(self.alloc, bytes, bundle)),
             Err(_) => Err(Undone),
         }
     }

@@ -172,7 +172,7 @@ history_lines entry (call ∷ calls) = history_call entry call ++ history_lines 
 abbrev pub history_text : List Call → List ℕ
 history_text calls = codes "history " ++ decimal (length calls) ++ codes "\n" ++ history_lines 1 calls ++ codes "end\n"
 
--- how many calls the history has behind a recovery
+-- how many calls the history has after a recovery
 abbrev pub recovered_line : ℕ → List ℕ
 recovered_line entries = codes "recovered " ++ decimal entries ++ codes "\n"
 

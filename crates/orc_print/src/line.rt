@@ -19,7 +19,7 @@ pub fn down(alloc: Global) -> Result<Vec<u8>, Memory>
     Ok(String::from_str(alloc, "down\n")?.into_bytes())
 }
 
-/// How many calls the history has behind a recovery.
+/// How many calls the history has after a recovery.
 pub fn recovered(alloc: Global, entries: u64) -> Result<Vec<u8>, Memory>
     ensures { IfOk result (λ bytes. bytes.items ≡ recovered_line entries) }
 {

@@ -32,7 +32,7 @@ pub fn meta(
     Ok(out.into_bytes())
 }
 
-// What is known of the path, behind its text.
+// What is known of the path, after its text.
 fn push_known(out: &mut String, alloc: Global, meta: Option<&Meta<'_>>) -> Result<(), Memory>
     ensures { Adds result out.old out.new (known_lines (option_copied meta.entry)) }
 {

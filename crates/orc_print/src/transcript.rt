@@ -29,7 +29,7 @@ impl Transcript {
         }
     }
 
-    /// Adds these bytes. After want of memory it is as it was.
+    /// Adds these bytes. If memory runs out, it is as it was.
     pub fn push(&mut self, bytes: &[u8]) -> Result<(), Memory>
         ensures ok { OnOk result (self.new ≡ self.old ++ bytes.now) }
         ensures err { OnErr result (self.new ≡ self.old) }

@@ -24,11 +24,11 @@ use Rattle.orc_runs.specs.Runs.{Run}
 use Rattle.orc_runs.specs.Starts.{StartsRun}
 use Rattle.orc_script.specs.Steps.{is_step}
 use Rattle.orc_script.specs.declared.step.ScriptStep.{ScriptStep}
-use Rattle.orc_world.specs.Begins.{HasBegun}
+use Rattle.orc_scene.specs.Begins.{HasBegun}
 use Rattle.orc_world.specs.Scripts.{TakesAnyLine}
-use Rattle.orc_world.specs.Stands.{IsPlaceSeenAs, IsSeenAs, decls_in, run_setting}
-use Rattle.orc_world.specs.declared.world.Place.{Place}
-use Rattle.orc_world.specs.declared.world.World.{World}
+use Rattle.orc_scene.specs.Stands.{IsPlaceSeenAs, IsSeenAs, decls_in, run_setting}
+use Rattle.orc_scene.specs.declared.scene.Place.{Place}
+use Rattle.orc_scene.specs.declared.scene.Scene.{Scene}
 use Rattle.orc_run.specs.Ends.{BeginsOver}
 use Rattle.orc_run.specs.Opening.{IsOpened, MayBeOpening}
 use Rattle.orc_run.specs.declared.opening.TheConstants.{LARGEST_JOURNAL}
@@ -56,7 +56,7 @@ module _ {D : Type 0} (disk : DiskMeaning D) where
     links = starts.links;
   }
 
-  -- so each run from there on has the headline, where reads give what was written
+  -- each run from a world's beginning on has the headline, where reads give what was written
   pub claimed : BundleRunsHaveTheHeadline disk → (decls : Decls) (limit : ℕ) (granted : Bool) (first : Seen D) → AreDecls decls
       → StartsRun (run_setting disk decls limit true) first
       → (script : List ScriptStep) (last : Seen D) (run : Run (run_setting disk decls limit granted) script first last)
@@ -66,7 +66,7 @@ module _ {D : Type 0} (disk : DiskMeaning D) where
       law decls limit granted script first last run are (starts_so decls limit granted first starts back)
 
   -- nothing was done yet
-  pub none_done : (decls : Decls) (first : Seen D) (world : World D) → IsFirst disk decls first world → HasDoneInEach disk decls first [] [] world
+  pub none_done : (decls : Decls) (first : Seen D) (world : Scene D) → IsFirst disk decls first world → HasDoneInEach disk decls first [] [] world
   none_done decls first world is granted may = record {
     lines = [];
     seen = first;
@@ -84,7 +84,7 @@ module _ {D : Type 0} (disk : DiskMeaning D) where
       nothing (x ∷ xs) later one is = cc
 
   -- a world that has begun
-  pub is_first : (decls : Decls) (from : D) (world : World D) (begun : HasBegun disk decls from LARGEST_JOURNAL world) → IsFirst disk decls begun.seen world
+  pub is_first : (decls : Decls) (from : D) (world : Scene D) (begun : HasBegun disk decls from LARGEST_JOURNAL world) → IsFirst disk decls begun.seen world
   is_first decls from world begun = record {
     starts = begun.starts;
     is = begun.is;
@@ -93,7 +93,7 @@ module _ {D : Type 0} (disk : DiskMeaning D) where
     noted = begun.noted;
   }
 
-  pub takes_any : (decls : Decls) (from : D) (world : World D) → HasBegun disk decls from LARGEST_JOURNAL world → TakesAnyLine disk world
+  pub takes_any : (decls : Decls) (from : D) (world : Scene D) → HasBegun disk decls from LARGEST_JOURNAL world → TakesAnyLine disk world
   takes_any decls from world begun = (
     decls,
     begun.seen,
@@ -101,22 +101,22 @@ module _ {D : Type 0} (disk : DiskMeaning D) where
     begun.unmended,
   )
 
-  -- it allows the lines that its declarations allow
-  pub allowed_then : (decls : Decls) (from : D) (world : World D) → HasBegun disk decls from LARGEST_JOURNAL world → (steps : List ScriptStep)
+  -- a world that began allows the lines that its declarations allow
+  pub allowed_then : (decls : Decls) (from : D) (world : Scene D) → HasBegun disk decls from LARGEST_JOURNAL world → (steps : List ScriptStep)
       → IsTrue (list_all (is_step decls) steps) → MatchOption (decls_in world.place) ⊥ (λ decls. IsTrue (list_all (is_step decls) steps))
   allowed_then decls from world begun steps lawful =
       subst (λ (p : Place D). MatchOption (decls_in p) ⊥ (λ decls. IsTrue (list_all (is_step decls) steps))) (sym begun.place)
       (subst (λ (d : Decls). IsTrue (list_all (is_step d) steps)) (sym begun.started.started.decls_are) lawful)
 
   -- what the rules see of it is its hub
-  under_hub : (decls : Decls) (from : D) (world : World D) (begun : HasBegun disk decls from LARGEST_JOURNAL world)
+  under_hub : (decls : Decls) (from : D) (world : Scene D) (begun : HasBegun disk decls from LARGEST_JOURNAL world)
       → IsWorldOf (run_setting disk decls LARGEST_JOURNAL false) begun.seen begun.hub
   under_hub decls from world begun =
       subst (λ (p : Place D). IsPlaceSeenAs (run_setting disk decls LARGEST_JOURNAL false) begun.seen p) begun.place (begun.is false).place
 
   module _ (goes_on : (first second : Course) (a b c : D) → disk.leads first a b → disk.leads second b c → disk.leads (joined first second) a c)
       (counts : (course : Course) (a b : D) → disk.leads course a b → Counted course.failed (disk.faults a) (disk.faults b)) where
-    module _ (decls : Decls) (from : D) (world : World D) (begun : HasBegun disk decls from LARGEST_JOURNAL world) where
+    module _ (decls : Decls) (from : D) (world : Scene D) (begun : HasBegun disk decls from LARGEST_JOURNAL world) where
       own : HasOpened (inside disk) decls.text LARGEST_JOURNAL (unstopped from) begun.started.journal begun.started.entries
       own = begun.started.opened
 

@@ -1,4 +1,4 @@
--- A run for which all is right, and in which nothing fails, is done, or memory is wanting for it.
+-- A run for which all is right, and in which nothing fails, is done, or memory runs out.
 use Rattle.std.proofs.Common.{◌≡◌, ◌⊎◌, inr, ⊎_elim, ℕ, zero, suc, ◌+◌, Bool, true, false, List, [], ◌∷◌, ◌++◌, length, take, Some, None, Option, Ok, Err, Result, refl, sym, ap, subst, ◌∙◌, append_assoc, arith}
 use Rattle.std.specs.Prelude.{Contains, is_some, IfSome}
 use Rattle.std.specs.List.{flat_map}
@@ -30,7 +30,7 @@ use Rattle.orc_runs.specs.Scripts.{Goes, Part, set_by}
 use Rattle.orc_script.specs.declared.step.ScriptStep.{ScriptStep}
 use Rattle.orc_words.specs.declared.words.Command.{Command}
 use Rattle.orc_words.specs.declared.words.Command.TheVariants.{Check, Run as RunIt, History, Gen}
-use Rattle.orc_world.specs.Stands.{run_setting}
+use Rattle.orc_scene.specs.Stands.{run_setting}
 use Rattle.orc_run.specs.Complete.{AreDoneWhereNothingFails, CountsFaults, FaultCounts, HasBundle, HasLegalHistory, IsDoneOrMemory, MeetsNoFault}
 use Rattle.orc_run.specs.Decided.{bundle_bytes}
 use Rattle.orc_run.specs.Ends.{BundleRun, EndsAs, EndsBy, EndsOver, EndsSummed, GivesBundleFor, Outside, SummedRun, asking_history, stop_of_end}
@@ -42,7 +42,7 @@ use Rattle.orc_run.specs.declared.stop.Stop.TheVariants as ending
 use Rattle.orc_run.proofs.FirstBytes.{bundle_is, fault_is}
 use Rattle.orc_run.proofs.Rising.{set_disk}
 
--- ---- what a file tells
+-- ---- what a file says
 
 -- the history of the first entries begins that of all
 history_more : (before entries : List Entry) (count : ℕ) → (rest : List Call) × (history_from before entries ≡ history_from before (take count entries) ++ rest)
@@ -52,7 +52,7 @@ history_more before (one ∷ entries) (suc count) =
     let more = history_more (before ++ one ∷ []) entries count in
     (more.0, ap (λ (h : List Call). commits before one ++ h) more.1 ∙ sym (append_assoc (commits before one) (history_from (before ++ one ∷ []) (take count entries)) more.0))
 
--- and is legal where that is
+-- the history of the first entries is legal where that of all is
 front_legal : (decls : Decls) (entries : List Entry) (count : ℕ) → IsLegal decls (history_of entries) → IsLegal decls (history_of (take count entries))
 front_legal decls entries count legal =
     let more = history_more [] entries count in
@@ -74,7 +74,7 @@ module _ (decls : Decls) (file : List ℕ) (history : List Call) (has : HasHisto
       (λ journal. not_foreign file decls.text has.entries at journal other)
       has.are
 
-  -- it is a journal
+  -- a file with a history is a journal
   some_journal : IsNotJournal file → ⊥
   some_journal other = ⊎_elim
       (λ none. let len : length file ≡ 0 = ap (λ (l : List ℕ). length l) none.0 in omega (arith, len, other.some))
@@ -88,7 +88,7 @@ module _ (decls : Decls) (file : List ℕ) (history : List Call) (has : HasHisto
       (λ journal. not_damaged file decls.text has.entries at journal has.ordered harmed)
       has.are
 
-  -- and legal
+  -- no Decide of a file with a legal history makes it illegal
   legal_journal : IsLegal decls history → (at : ℕ) → IsIllegal decls file at → ⊥
   legal_journal legal at wrong = ⊎_elim
       (λ none. not_empty file decls.text wrong.entries wrong.journal none.0)
@@ -98,7 +98,7 @@ module _ (decls : Decls) (file : List ℕ) (history : List Call) (has : HasHisto
       (subst (λ (h : List Call). IsLegal decls h) (sym has.decided ∙ ap history_of same) legal)))
       has.are
 
--- ---- whether the disk still tells what it holds
+-- ---- whether the disk still reports what it holds
 
 module _ {D : Type 0} (here : Setting D) where
   abbrev tells : World D → Bool
@@ -178,7 +178,7 @@ module _ {D : Type 0} (here : Setting D) where
   refused_in turns ended.NotJournal is because = because
   refused_in turns (ended.Damaged at) is because = because
 
-  -- it is one of the run
+  -- the turn of a line is one of the run
   among : (lines : List (LineDone D)) (line : LineDone D) (earlier : List (Turn D)) (turn : Turn D) → line.turns ≡ earlier ++ turn ∷ []
       → Contains (flat_map (λ (l : LineDone D). l.turns) (lines ++ line ∷ [])) turn
   among lines line earlier turn is =
@@ -232,7 +232,7 @@ module _ {D : Type 0} (here : Setting D) where
         one_refused : (a b : EndOfRun) → is_refused_journal a ≡ true → stop_of_end a ≡ stop_of_end b → is_refused_journal b ≡ true
         one_refused a b is same = sym (of_end b) ∙ ap refuses (sym same) ∙ of_end a ∙ is
 
-    -- so it didn't
+    -- a run doesn't end by a refused journal
     pub never_refused : (refused : EndOfRun) → is_refused_journal refused ≡ true → (end : Option Stop) → end ≡ option_map stop_of_end run.why
         → end ≡ Some (stop_of_end refused) → ⊥
     never_refused refused is end why same = never_why run.why refl refused is (sym same ∙ why)
@@ -258,7 +258,7 @@ module _ {D : Type 0} (meaning : DiskMeaning D) where
         (λ wrong. legal_journal bundle.decls legal.file legal.history legal.has legal.legal at wrong)
         (subst (λ (o : Option (List ℕ)). IfSome o (λ file. IsDamaged file bundle.decls.text at ⊎ IsIllegal bundle.decls file at)) legal.holds cause)
 
-    -- nor is it later
+    -- a journal with a legal history is not refused later in a run
     run_never : (why : EndOfRun) → is_refused_journal why ≡ true → (status : Result Done Stop) (run : BundleRun meaning bundle before after status)
         → run.end ≡ Some (stop_of_end why) → ⊥
     run_never why is status run same =
@@ -286,7 +286,7 @@ module _ {D : Type 0} (meaning : DiskMeaning D) where
         (λ run. run_never (ended.Damaged at) refl (Err (ending.Damaged at)) run run.wrote.0)
         ends
 
-    -- nor where it is summed up
+    -- a journal with a legal history is not refused where a run is summed up
     sum_run_never : (why : EndOfRun) → is_refused_journal why ≡ true → (status : Result Done Stop) (run : SummedRun meaning bundle before after status)
         → run.end ≡ Some (stop_of_end why) → ⊥
     sum_run_never why is status run same =
@@ -346,7 +346,7 @@ module _ {D : Type 0} (meaning : DiskMeaning D) where
             (subst (λ (b : ScriptedBundle). EndsSummed meaning b before after (Err (stop_of_end why)))
             (sym (one (Gen number devices calls) has ends.bundle (ends.made, ends.unread))) ends.ends)
 
-    -- nor is the bundle at fault
+    -- the bundle is not at fault
     no_fault : (line : ℕ) (rule : Rule) → scripted_of (bundle_bytes command has.all) ≡ Err (line, rule) → ⊥
     no_fault line rule wrong = apart (sym has.is ∙ wrong)
       where

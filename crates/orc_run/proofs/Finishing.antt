@@ -15,12 +15,12 @@ use Rattle.orc_script.specs.declared.step.ScriptStep.{ScriptStep}
 use Rattle.orc_script.specs.declared.step.ScriptStep.TheVariants as step
 use Rattle.orc_world.specs.Lines.{DoesLine, EndsInLine, IsLineCall, MayRecover}
 use Rattle.orc_world.specs.Scripts.{TakesAnyLine}
-use Rattle.orc_world.specs.Stands.{HasDisk, IsPlaceSeenAs, IsSeenAs, is_somewhere, run_setting}
-use Rattle.orc_world.specs.declared.stop.WorldStop.{WorldStop}
-use Rattle.orc_world.specs.declared.stop.WorldStop.TheVariants as stop
-use Rattle.orc_world.specs.declared.world.Place.{Place}
-use Rattle.orc_world.specs.declared.world.Place.TheVariants.{Up, Down, Ended, Moved}
-use Rattle.orc_world.specs.declared.world.World.{World}
+use Rattle.orc_scene.specs.Stands.{HasDisk, IsPlaceSeenAs, IsSeenAs, is_somewhere, run_setting}
+use Rattle.orc_scene.specs.declared.stop.WorldStop.{WorldStop}
+use Rattle.orc_scene.specs.declared.stop.WorldStop.TheVariants as stop
+use Rattle.orc_scene.specs.declared.scene.Place.{Place}
+use Rattle.orc_scene.specs.declared.scene.Place.TheVariants.{Up, Down, Ended, Moved}
+use Rattle.orc_scene.specs.declared.scene.Scene.{Scene}
 use Rattle.orc_run.specs.Ends.{LinesRun, MayBeGranted, Wrote}
 use Rattle.orc_run.specs.declared.opening.TheConstants.{LARGEST_JOURNAL}
 use Rattle.orc_run.specs.declared.stop.Stop.{Stop}
@@ -83,7 +83,7 @@ module _ {D : Type 0} where
   disk_somewhere Moved held has = absurd has
 
 module _ {D : Type 0} (disk : DiskMeaning D) where
-  module _ (line : ScriptStep) (old new : World D) (before after : List ℕ) where
+  module _ (line : ScriptStep) (old new : Scene D) (before after : List ℕ) where
     -- what a call for a line did, in the setting of a limit
     line_at : (result : Result (Unit {0}) WorldStop) → IsLineCall disk line old result new before after → (limit : ℕ) → old.limit ≡ limit
         → (decls : Decls) (granted : Bool) (seen : Seen D) → IsSeenAs (run_setting disk decls limit granted) seen old → MayRecover line granted
@@ -94,7 +94,7 @@ module _ {D : Type 0} (disk : DiskMeaning D) where
         → MatchResult result (λ value. DoesLine (run_setting disk decls n granted) line seen old new before after)
         (λ why. EndsInLine (run_setting disk decls n granted) line seen old new before after why)) same (call decls granted seen)
 
-    -- what it printed behind nothing
+    -- what a line printed after nothing
     pub line_from : (result : Result (Unit {0}) WorldStop) → IsLineCall disk line old result new before after → before ≡ [] → (text : List ℕ) → text ≡ after
         → IsLineCall disk line old result new [] text
     line_from result call none text is =
@@ -111,9 +111,9 @@ module _ {D : Type 0} (disk : DiskMeaning D) where
         on (Ok done) does = seen_somewhere (run_setting disk going.0 old.limit false) does.next new.place does.is.place
         on (Err why) ends = disk_somewhere new.place ends.last.journal.disk ends.disk
 
-  module _ (law : BundleRunsHaveTheHeadline disk) (decls : Decls) (first : Seen D) (begun : World D) (is_first : IsFirst disk decls first begun) where
+  module _ (law : BundleRunsHaveTheHeadline disk) (decls : Decls) (first : Seen D) (begun : Scene D) (is_first : IsFirst disk decls first begun) where
     -- one more line was done, whatever is granted
-    pub done_more : (done : List ScriptStep) (texts : List (List ℕ)) (line : ScriptStep) (old new : World D) (text : List ℕ)
+    pub done_more : (done : List ScriptStep) (texts : List (List ℕ)) (line : ScriptStep) (old new : Scene D) (text : List ℕ)
         → HasDoneInEach disk decls first done texts old → IsLineCall {A = Unit {0}} disk line old (Ok tt) new [] text
         → HasDoneInEach disk decls first (done ++ line ∷ []) (texts ++ text ∷ []) new
     done_more done texts line old new text each call granted may =
@@ -123,7 +123,7 @@ module _ {D : Type 0} (disk : DiskMeaning D) where
         (line_at line old new [] text (Ok tt) call LARGEST_JOURNAL so.is.limit.0 decls granted so.seen so.is (granted_last granted done line may))
 
     -- a run of lines that were done
-    pub runs_so_far : (done : List ScriptStep) (texts : List (List ℕ)) (world : World D) (last : D) → HasDoneInEach disk decls first done texts world
+    pub runs_so_far : (done : List ScriptStep) (texts : List (List ℕ)) (world : Scene D) (last : D) → HasDoneInEach disk decls first done texts world
         → HasDisk world.place last → (granted : Bool) → MayBeGranted granted done
         → LinesRun (run_setting disk decls LARGEST_JOURNAL granted) first done texts None last
     runs_so_far done texts world last each has granted may =
@@ -132,8 +132,8 @@ module _ {D : Type 0} (disk : DiskMeaning D) where
         ran_so_far here first (λ script end run. claimed disk law decls LARGEST_JOURNAL granted first so.is.decls is_first.starts script end run)
         done texts world last so (disk_there here so.seen world.place last so.is.place has)
 
-    -- and of one behind them, in which it ended
-    runs_to_end : (done : List ScriptStep) (texts : List (List ℕ)) (line : ScriptStep) (old new : World D) (text : List ℕ) (why : WorldStop) (last : D)
+    -- a run of lines and of one after them, in which it ended
+    runs_to_end : (done : List ScriptStep) (texts : List (List ℕ)) (line : ScriptStep) (old new : Scene D) (text : List ℕ) (why : WorldStop) (last : D)
         → HasDoneInEach disk decls first done texts old → IsLineCall {A = Unit {0}} disk line old (Err why) new [] text → HasDisk new.place last
         → (granted : Bool) → MayBeGranted granted (done ++ line ∷ [])
         → LinesRun (run_setting disk decls LARGEST_JOURNAL granted) first (done ++ line ∷ []) (texts ++ text ∷ []) (Some (stop_of_world why)) last
@@ -146,7 +146,7 @@ module _ {D : Type 0} (disk : DiskMeaning D) where
         done texts line old new text why last so ends (one_disk new.place ends.last.journal.disk last ends.disk has)
 
     -- all lines were done
-    pub finishes_whole : (held now : Option (List ℕ)) (steps : List ScriptStep) (i : ℕ) (texts : List (List ℕ)) (world : World D) (last : D)
+    pub finishes_whole : (held now : Option (List ℕ)) (steps : List ScriptStep) (i : ℕ) (texts : List (List ℕ)) (world : Scene D) (last : D)
         → take i steps ≡ steps → HasDoneInEach disk decls first (take i steps) texts world → HasDisk world.place last
         → Appends held now (all_of texts) → Finishes disk decls first held now steps last (Ok (record {}))
     finishes_whole held now steps i texts world last all each has took = record {
@@ -162,7 +162,7 @@ module _ {D : Type 0} (disk : DiskMeaning D) where
     }
 
     module _ (a b c : Option (List ℕ)) (steps : List ScriptStep) (i : ℕ) (line : ScriptStep) (within : i < length steps) (is : line ≡ get_or steps i line)
-        (texts : List (List ℕ)) (old : World D) (each : HasDoneInEach disk decls first (take i steps) texts old) (took : Appends a b (all_of texts)) (last : D) where
+        (texts : List (List ℕ)) (old : Scene D) (each : HasDoneInEach disk decls first (take i steps) texts old) (took : Appends a b (all_of texts)) (last : D) where
       split : steps ≡ (take i steps ++ line ∷ []) ++ drop (i + 1) steps
       split = sym (take-append-drop (i + 1) steps) ∙ ap (λ (l : List ScriptStep). l ++ drop (i + 1) steps) (taken_more steps i line within is)
 
@@ -170,7 +170,7 @@ module _ {D : Type 0} (disk : DiskMeaning D) where
       took_all text more = subst (Appends a c) (sym (all_more texts text)) (Appends-trans a b c (all_of texts) text took more)
 
       -- the text of a line was not written
-      unwritten_here : (new : World D) (text : List ℕ) (end : Option Stop)
+      unwritten_here : (new : Scene D) (text : List ℕ) (end : Option Stop)
           → ((granted : Bool) → MayBeGranted granted (take i steps ++ line ∷ [])
           → LinesRun (run_setting disk decls LARGEST_JOURNAL granted) first (take i steps ++ line ∷ []) (texts ++ text ∷ []) end last)
           → TakesFront b c text → Finishes disk decls first a c steps last (Err ending.WriteFault)
@@ -187,7 +187,7 @@ module _ {D : Type 0} (disk : DiskMeaning D) where
       }
 
       -- the run ended at a line
-      pub finishes_here : (result : Result (Unit {0}) Stop) (status : Stop) (new : World D) → WritesLine disk b c line old result new → result ≡ Err status
+      pub finishes_here : (result : Result (Unit {0}) Stop) (status : Stop) (new : Scene D) → WritesLine disk b c line old result new → result ≡ Err status
           → HasDisk new.place last → Finishes disk decls first a c steps last (Err status)
       finishes_here result status new (WritesLine.goes_on text new' call more) end has = absurd cc
       finishes_here result status new (WritesLine.ends_in text new' why call more) end has =
@@ -213,16 +213,16 @@ module _ {D : Type 0} (disk : DiskMeaning D) where
           on (Err why) call = unwritten_here new text (Some (stop_of_world why)) (runs_to_end (take i steps) texts line old new text why last each call has) front
 
 -- a line that was done and written: its text, and one more line done, whatever is granted
-pub line_more : {D : Type 0} (disk : DiskMeaning D) (b c : Option (List ℕ)) (line : ScriptStep) (old new : World D) → WritesLine disk b c line old (Ok tt) new
+pub line_more : {D : Type 0} (disk : DiskMeaning D) (b c : Option (List ℕ)) (line : ScriptStep) (old new : Scene D) → WritesLine disk b c line old (Ok tt) new
     → (text : List ℕ) × Appends b c text
-    × (BundleRunsHaveTheHeadline disk → (decls : Decls) (first : Seen D) (begun : World D) → IsFirst disk decls first begun
+    × (BundleRunsHaveTheHeadline disk → (decls : Decls) (first : Seen D) (begun : Scene D) → IsFirst disk decls first begun
     → (done : List ScriptStep) (texts : List (List ℕ)) → HasDoneInEach disk decls first done texts old
     → HasDoneInEach disk decls first (done ++ line ∷ []) (texts ++ text ∷ []) new)
 line_more {D} disk b c line old new writes = on (Ok tt) refl writes
   where
     on : (result : Result (Unit {0}) Stop) → result ≡ Ok tt → WritesLine disk b c line old result new
         → (text : List ℕ) × Appends b c text
-        × (BundleRunsHaveTheHeadline disk → (decls : Decls) (first : Seen D) (begun : World D) → IsFirst disk decls first begun
+        × (BundleRunsHaveTheHeadline disk → (decls : Decls) (first : Seen D) (begun : Scene D) → IsFirst disk decls first begun
         → (done : List ScriptStep) (texts : List (List ℕ)) → HasDoneInEach disk decls first done texts old
         → HasDoneInEach disk decls first (done ++ line ∷ []) (texts ++ text ∷ []) new)
     on result is (WritesLine.goes_on text new' call took) =

@@ -67,7 +67,7 @@ module _ {D : Type 0} (meaning : DiskMeaning D) where
         → (bundle : ScriptedBundle) × GivesBundleFor command before.left after.left bundle → EndsDecided (scripted_of (bundle_bytes command all)) status
     with_bundle command status other gives = subst (λ (r : Result ScriptedBundle (ℕ × Rule)). EndsDecided r status) (sym (bundle_is command gives.0 gives.1)) other
 
-    -- or where they may not all have been read
+    -- a status where the first bytes may not all have been read
     without : (command : Command) (status : Result Done Stop) → (status ≡ Err ending.ReadFault) ⊎ (status ≡ Err ending.Memory) → ((line : ℕ) (rule : Rule) → status ≡ Err (ending.Bundle line rule) → ⊥)
         → EndsDecided (scripted_of (bundle_bytes command all)) status
     without command status which other = on (scripted_of (bundle_bytes command all))

@@ -14,15 +14,15 @@ use Rattle.orc_runs.specs.Runs.{AreDone, IsDone, LineDone, PrintLogs, Run, logge
 use Rattle.orc_script.specs.declared.step.ScriptStep.{ScriptStep}
 use Rattle.orc_script.specs.declared.step.ScriptStep.TheVariants as step
 use Rattle.orc_world.specs.Lines.{DoesLine, EndsInLine, MayRecover}
-use Rattle.orc_world.specs.Stops.{end_of_run}
-use Rattle.orc_world.specs.declared.stop.WorldStop.{WorldStop}
-use Rattle.orc_world.specs.declared.stop.WorldStop.TheVariants as stop
-use Rattle.orc_world.specs.declared.world.World.{World}
+use Rattle.orc_scene.specs.RunEnds.{end_of_run}
+use Rattle.orc_scene.specs.declared.stop.WorldStop.{WorldStop}
+use Rattle.orc_scene.specs.declared.stop.WorldStop.TheVariants as stop
+use Rattle.orc_scene.specs.declared.scene.Scene.{Scene}
 use Rattle.orc_run.specs.Ends.{LinesRun, MayBeGranted, stop_of_end}
 use Rattle.orc_run.specs.declared.stop.Stop.{Stop}
 use Rattle.orc_run.specs.inside.Scripts.{HasDone, stop_of_world}
 
--- one more behind a list, cut in two at an element: that is the one, or stands before it
+-- one more after a list, cut in two at an element: that is the one, or stands before it
 split_last : {A : Type 0} (xs : List A) (x : A) (earlier later : List A) (y : A) → xs ++ x ∷ [] ≡ earlier ++ y ∷ later
     → ((earlier ≡ xs) × (y ≡ x)) ⊎ ((more : List A) × (xs ≡ earlier ++ y ∷ more))
 split_last [] x [] later y is = inl (refl, cc)
@@ -57,7 +57,7 @@ granted_before granted lines last may = λ is. fewer lines (may is)
     fewer (line ∷ lines) all = All-cons (λ one. one ≢ step.Recover) line lines (All-head (λ one. one ≢ step.Recover) line (lines ++ last ∷ []) all)
         (fewer lines (All-tail (λ one. one ≢ step.Recover) line (lines ++ last ∷ []) all))
 
--- and of the last one
+-- what may be granted of lines may be granted of the last one
 pub granted_last : (granted : Bool) (lines : List ScriptStep) (last : ScriptStep) → MayBeGranted granted (lines ++ last ∷ []) → MayRecover last granted
 granted_last granted lines last may = on granted last (λ is. of_last lines (may is))
   where
@@ -88,8 +88,8 @@ module _ {D : Type 0} (here : Setting D) where
       (λ inner. before earlier inner.0 line device inner.1 log)
       (split_last lines last earlier later line split)
 
-  -- a line was done behind others
-  pub one_more : (first : Seen D) (done : List ScriptStep) (texts : List (List ℕ)) (line : ScriptStep) (old new : World D) (text : List ℕ)
+  -- a line was done after others
+  pub one_more : (first : Seen D) (done : List ScriptStep) (texts : List (List ℕ)) (line : ScriptStep) (old new : Scene D) (text : List ℕ)
       (so : HasDone here first done texts old) → DoesLine here line so.seen old new [] text → HasDone here first (done ++ line ∷ []) (texts ++ text ∷ []) new
   one_more first done texts line old new text so does =
       let last : LineDone D = record { step = line; before = so.seen; turns = does.turns; behind = does.next; text = does.text } in
@@ -111,7 +111,7 @@ module _ {D : Type 0} (here : Setting D) where
   module _ (first : Seen D) (claim : (script : List ScriptStep) (last : Seen D) (run : Run here script first last)
       → IsReadBack here.disk here.decls.text here.limit here.granted first.journal.disk → Headline here script first last run) where
     -- the run that lines are, where it didn't end in them
-    pub ran_so_far : (done : List ScriptStep) (texts : List (List ℕ)) (world : World D) (disk : D) (so : HasDone here first done texts world)
+    pub ran_so_far : (done : List ScriptStep) (texts : List (List ℕ)) (world : Scene D) (disk : D) (so : HasDone here first done texts world)
         → so.seen.journal.disk ≡ disk → LinesRun here first done texts None disk
     ran_so_far done texts world disk so left =
         let run : Run here done first so.seen = record {
@@ -139,8 +139,8 @@ module _ {D : Type 0} (here : Setting D) where
           claim = claim done so.seen run;
         }
 
-    -- and where it ended in one behind them
-    pub ran_to_end : (done : List ScriptStep) (texts : List (List ℕ)) (line : ScriptStep) (old new : World D) (text : List ℕ) (why : WorldStop) (disk : D)
+    -- a run of lines and of one after them, in which it ended
+    pub ran_to_end : (done : List ScriptStep) (texts : List (List ℕ)) (line : ScriptStep) (old new : Scene D) (text : List ℕ) (why : WorldStop) (disk : D)
         (so : HasDone here first done texts old) (ends : EndsInLine here line so.seen old new [] text why)
         → ends.last.journal.disk ≡ disk → LinesRun here first (done ++ line ∷ []) (texts ++ text ∷ []) (Some (stop_of_world why)) disk
     ran_to_end done texts line old new text why disk so ends left =

@@ -21,10 +21,10 @@ use Rattle.orc_journal.specs.declared.entry.Entry.TheVariants.{Decide}
 use Rattle.orc_journal.specs.declared.fault.OpenFault.{OpenFault}
 use Rattle.orc_journal.specs.declared.fault.OpenFault.TheVariants as fault
 use Rattle.orc_bundle.specs.declared.scripted.ScriptedBundle.{ScriptedBundle}
-use Rattle.orc_world.specs.Begins.{HasNotBegun}
-use Rattle.orc_world.specs.Stops.{stop_of_opening, stop_of_start}
-use Rattle.orc_world.specs.declared.stop.WorldStop.{WorldStop}
-use Rattle.orc_world.specs.declared.stop.WorldStop.TheVariants as world_stop
+use Rattle.orc_scene.specs.Begins.{HasNotBegun}
+use Rattle.orc_scene.specs.RunEnds.{stop_of_opening, stop_of_start}
+use Rattle.orc_scene.specs.declared.stop.WorldStop.{WorldStop}
+use Rattle.orc_scene.specs.declared.stop.WorldStop.TheVariants as world_stop
 use Rattle.orc_run.specs.Ends.{EndsOver, EndsSummed, IsUnopened, Outside}
 use Rattle.orc_runs.specs.Ends.{IsIllegalAt}
 use Rattle.orc_run.specs.Opening.{IsPastFault, IsRefusedBecause, MayBeOpening, stop_of}
@@ -35,7 +35,7 @@ use Rattle.orc_run.specs.inside.Scripts.{EndsOrNeverBegins, stop_of_world}
 use Rattle.orc_run.specs.inside.Sums.{SumsOrNeverBegins}
 use Rattle.orc_run.proofs.Reasons.{refused_because, told}
 
--- the same end, whether the journal's fault or the world's is told
+-- the same end, whether the journal's fault or the world's is given
 opening_is : (cause : OpenFault) → stop_of_world (stop_of_opening cause) ≡ stop_of cause
 opening_is (fault.Foreign at) = refl
 opening_is fault.NotJournal = refl
@@ -97,7 +97,7 @@ module _ {D : Type 0} (disk : DiskMeaning D) where
 
   module _ (goes_on : (first second : Course) (a b c : D) → disk.leads first a b → disk.leads second b c → disk.leads (joined first second) a c)
       (counts : (course : Course) (a b : D) → disk.leads course a b → Counted course.failed (disk.faults a) (disk.faults b)) where
-    -- a world that didn't begin: its journal was not opened, or memory was wanting before that
+    -- a world that didn't begin: its journal was not opened, or memory ran out before that
     pub unopened_or_never : (bundle : ScriptedBundle) (left left' held : Option (List ℕ)) (from to : D) (why : WorldStop)
         → HasNotBegun disk bundle.decls from LARGEST_JOURNAL why to
         → ((why ≡ world_stop.Memory) × (to ≡ from))

@@ -1,4 +1,4 @@
--- Why a journal isn't opened, told of the disk inside the one that can be stopped.
+-- Why a journal isn't opened, said of the disk inside the one that can be stopped.
 use Rattle.std.specs.Prelude.{◌≡◌, ℕ, ◌≤◌, Bool, true, false, ◌||◌, List, IfSome}
 use Rattle.std.proofs.Common.{refl, sym, subst, ◌∙◌, arith, inl, ⊎_elim}
 use Rattle.std.proofs.lemmas.Option.{IfSome_then}

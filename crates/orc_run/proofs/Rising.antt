@@ -136,13 +136,13 @@ module _ {D : Type 0} (here : Setting D) where
           let one : stop_of_end why ≡ ending.JournalFault = cc in
           on_line line ends (subst (λ (w : EndOfRun). EndsFor here line (Some w)) (fault_end why one) because)
 
-  -- so did one of lines that were printed
+  -- where a run of printed lines ended with JournalFault, the disk's faults rose
   pub run_rose : (first : World D) (done : List ScriptStep) (texts : List (List ℕ)) (end : Option Stop) (disk : D) → LinesRun here first done texts end disk
       → end ≡ Some ending.JournalFault → Rose (here.disk.faults first.journal.disk) (here.disk.faults disk)
   run_rose first done texts end disk ran is =
       subst (λ (d : D). Rose (here.disk.faults first.journal.disk) (here.disk.faults d)) ran.disk_is (ended_rose first ran.last done ran.run end ran.why is)
 
-  -- and of a script that was summed up
+  -- where a run that was summed up ended with JournalFault, the disk's faults rose
   pub script_rose : (first : World D) (script : List ScriptStep) (summary : List ℕ) (end : Option Stop) (disk : D) → ScriptRun here first script summary end disk
       → end ≡ Some ending.JournalFault → Rose (here.disk.faults first.journal.disk) (here.disk.faults disk)
   script_rose first script summary end disk ran is =

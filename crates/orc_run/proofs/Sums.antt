@@ -27,18 +27,18 @@ use Rattle.orc_runs.specs.Laws.{BundleRunsHaveTheHeadline}
 use Rattle.orc_runs.specs.Runs.{EndsFor, LineDone, Run, turns_of}
 use Rattle.orc_script.specs.declared.step.ScriptStep.{ScriptStep}
 use Rattle.orc_text.specs.Counts.{capped}
-use Rattle.orc_world.proofs.Allowed.{links_long}
-use Rattle.orc_world.specs.Begins.{HasBegun}
-use Rattle.orc_world.specs.Codes.{hub_in}
-use Rattle.orc_world.specs.Courses.{events_in}
+use Rattle.orc_scene.proofs.Allowed.{links_long}
+use Rattle.orc_scene.specs.Begins.{HasBegun}
+use Rattle.orc_scene.specs.Effects.{hub_in}
+use Rattle.orc_scene.specs.Courses.{events_in}
 use Rattle.orc_world.specs.Scripts.{RunsInWorld, RunsScript}
-use Rattle.orc_world.specs.Stands.{HasDisk, IsPlaceSeenAs, IsSeenAs, IsUnmended, is_somewhere, run_setting}
-use Rattle.orc_world.specs.Stops.{end_of_run}
-use Rattle.orc_world.specs.declared.stop.WorldStop.{WorldStop}
-use Rattle.orc_world.specs.declared.stop.WorldStop.TheVariants as stop
-use Rattle.orc_world.specs.declared.world.Place.{Place}
-use Rattle.orc_world.specs.declared.world.Place.TheVariants.{Up, Down, Ended, Moved}
-use Rattle.orc_world.specs.declared.world.World.{World}
+use Rattle.orc_scene.specs.Stands.{HasDisk, IsPlaceSeenAs, IsSeenAs, IsNotReconciling, is_somewhere, run_setting}
+use Rattle.orc_scene.specs.RunEnds.{end_of_run}
+use Rattle.orc_scene.specs.declared.stop.WorldStop.{WorldStop}
+use Rattle.orc_scene.specs.declared.stop.WorldStop.TheVariants as stop
+use Rattle.orc_scene.specs.declared.scene.Place.{Place}
+use Rattle.orc_scene.specs.declared.scene.Place.TheVariants.{Up, Down, Ended, Moved}
+use Rattle.orc_scene.specs.declared.scene.Scene.{Scene}
 use Rattle.orc_run.specs.Ends.{EndsSummed, MayBeGranted, Outside, ScriptRun, SummedRun, WroteSummary, stop_of_end}
 use Rattle.orc_run.specs.Summaries.{RunCounts, counts_of, is_call_line, is_commit, items_on, summary_text}
 use Rattle.orc_run.specs.declared.opening.TheConstants.{LARGEST_JOURNAL}
@@ -79,7 +79,7 @@ module _ {D : Type 0} (here : Setting D) where
   entries_known last Moved is = absurd is
 
   -- what is counted in a world is what is counted of its run
-  counts_are : (first last : Seen D) (script : List ScriptStep) (run : Run here script first last) (new : World D) → IsSeenAs here last new
+  counts_are : (first last : Seen D) (script : List ScriptStep) (run : Run here script first last) (new : Scene D) → IsSeenAs here last new
       → new.events.items.items ≡ events_in (turns_of run) → counts_in script new ≡ counts_of run
   counts_are first last script run new is events =
       let committed : capped (count_by is_commit new.events.items.items) ≡ capped (count_by is_commit (events_in (turns_of run))) =
@@ -97,17 +97,17 @@ module _ {D : Type 0} (here : Setting D) where
 
 module _ {D : Type 0} (disk : DiskMeaning D) where
   -- what `run_steps` did, in the setting of a limit
-  abbrev RunsAt : List ScriptStep → World D → Result (Unit {0}) WorldStop → World D → List ℕ → List ℕ → ℕ → Type 0
+  abbrev RunsAt : List ScriptStep → Scene D → Result (Unit {0}) WorldStop → Scene D → List ℕ → List ℕ → ℕ → Type 0
   RunsAt script old result new before after limit = (decls : Decls) (granted : Bool) (seen : Seen D)
       → IsSeenAs (run_setting disk decls limit granted) seen old
       → MayBeGranted granted script
       → (last : Seen D)
       × (does : RunsInWorld (run_setting disk decls limit granted) script seen old new before after last)
       × MatchResult result
-      (λ done. (does.run.end ≡ None) × IsSeenAs (run_setting disk decls limit granted) last new × IsUnmended new.place)
+      (λ done. (does.run.end ≡ None) × IsSeenAs (run_setting disk decls limit granted) last new × IsNotReconciling new.place)
       (λ why. (does.run.why ≡ Some (end_of_run why)) × HasDisk new.place last.journal.disk)
 
-  runs_at : (script : List ScriptStep) (old : World D) (result : Result (Unit {0}) WorldStop) (new : World D) (before after : List ℕ)
+  runs_at : (script : List ScriptStep) (old : Scene D) (result : Result (Unit {0}) WorldStop) (new : Scene D) (before after : List ℕ)
       → RunsScript disk script old result new before after → (limit : ℕ) → old.limit ≡ limit → RunsAt script old result new before after limit
   runs_at script old result new before after runs limit same = subst (RunsAt script old result new before after) same runs
 
@@ -128,9 +128,9 @@ module _ {D : Type 0} (disk : DiskMeaning D) where
   no_why here None why because is = because
   no_why here (Some line) why because is = absurd cc
 
-  module _ (law : BundleRunsHaveTheHeadline disk) (decls : Decls) (from : D) (old : World D) (begun : HasBegun disk decls from LARGEST_JOURNAL old)
-      (script : List ScriptStep) (new : World D) (before after : List ℕ) (last : D) (has : HasDisk new.place last) where
-    -- it came to its end
+  module _ (law : BundleRunsHaveTheHeadline disk) (decls : Decls) (from : D) (old : Scene D) (begun : HasBegun disk decls from LARGEST_JOURNAL old)
+      (script : List ScriptStep) (new : Scene D) (before after : List ℕ) (last : D) (has : HasDisk new.place last) where
+    -- the script came to its end
     pub ran_whole : RunsScript disk script old (Ok tt) new before after → (granted : Bool) → MayBeGranted granted script
         → ScriptRun (run_setting disk decls LARGEST_JOURNAL granted) begun.seen script (summary_text (counts_in script new)) None last
     ran_whole runs granted may =
@@ -150,7 +150,7 @@ module _ {D : Type 0} (disk : DiskMeaning D) where
           claim = claimed disk law decls LARGEST_JOURNAL granted begun.seen (begun.is granted).decls begun.starts script seen does.run;
         }
 
-    -- or to a line in which it ended
+    -- the script came to a line in which it ended
     pub ran_broken : (why : WorldStop) → RunsScript disk script old (Err why) new before after → (granted : Bool) → MayBeGranted granted script
         → ScriptRun (run_setting disk decls LARGEST_JOURNAL granted) begun.seen script [] (Some (stop_of_world why)) last
     ran_broken why runs granted may =
@@ -169,9 +169,9 @@ module _ {D : Type 0} (disk : DiskMeaning D) where
           claim = claimed disk law decls LARGEST_JOURNAL granted begun.seen (begun.is granted).decls begun.starts script seen does.run;
         }
 
-  -- the disk is there behind a script
-  pub script_somewhere : (decls : Decls) (from : D) (old : World D) (begun : HasBegun disk decls from LARGEST_JOURNAL old) → (script : List ScriptStep)
-      (result : Result (Unit {0}) WorldStop) (new : World D) (before after : List ℕ) → RunsScript disk script old result new before after → is_somewhere new.place ≡ true
+  -- the disk is there after a script
+  pub script_somewhere : (decls : Decls) (from : D) (old : Scene D) (begun : HasBegun disk decls from LARGEST_JOURNAL old) → (script : List ScriptStep)
+      (result : Result (Unit {0}) WorldStop) (new : Scene D) (before after : List ℕ) → RunsScript disk script old result new before after → is_somewhere new.place ≡ true
   script_somewhere decls from old begun script result new before after runs =
       on result (runs_at script old result new before after runs LARGEST_JOURNAL begun.limit_is decls false begun.seen (begun.is false) (λ wrong. absurd (false≢true wrong)))
     where
@@ -179,7 +179,7 @@ module _ {D : Type 0} (disk : DiskMeaning D) where
           → (last : Seen D)
           × (does : RunsInWorld (run_setting disk decls LARGEST_JOURNAL false) script begun.seen old new before after last)
           × MatchResult result
-          (λ done. (does.run.end ≡ None) × IsSeenAs (run_setting disk decls LARGEST_JOURNAL false) last new × IsUnmended new.place)
+          (λ done. (does.run.end ≡ None) × IsSeenAs (run_setting disk decls LARGEST_JOURNAL false) last new × IsNotReconciling new.place)
           (λ why. (does.run.why ≡ Some (end_of_run why)) × HasDisk new.place last.journal.disk)
           → is_somewhere new.place ≡ true
       on (Ok done) all = seen_somewhere (run_setting disk decls LARGEST_JOURNAL false) all.0 new.place all.2.1.place
@@ -201,8 +201,8 @@ module _ {D : Type 0} (disk : DiskMeaning D) where
 
   module _ (goes_on : (first second : Course) (a b c : D) → disk.leads first a b → disk.leads second b c → disk.leads (joined first second) a c)
       (counts : (course : Course) (a b : D) → disk.leads course a b → Counted course.failed (disk.faults a) (disk.faults b))
-      (law : BundleRunsHaveTheHeadline disk) (decls : Decls) (from : D) (old : World D) (begun : HasBegun disk decls from LARGEST_JOURNAL old)
-      (script : List ScriptStep) (new : World D) (text text' : List ℕ) (last : D) (has : HasDisk new.place last) where
+      (law : BundleRunsHaveTheHeadline disk) (decls : Decls) (from : D) (old : Scene D) (begun : HasBegun disk decls from LARGEST_JOURNAL old)
+      (script : List ScriptStep) (new : Scene D) (text text' : List ℕ) (last : D) (has : HasDisk new.place last) where
     -- the summary was printed, or wasn't
     pub summed_whole : RunsScript disk script old (Ok tt) new text text' → (left left' a b : Option (List ℕ)) (status : Result Done Stop)
         → WroteSummary a b (summary_text (counts_in script new)) None status

@@ -16,9 +16,9 @@ use Rattle.orc_runs.specs.Laws.{BundleRunsHaveTheHeadline}
 use Rattle.orc_script.specs.declared.step.ScriptStep.{ScriptStep}
 use Rattle.orc_words.specs.declared.words.Command.{Command}
 use Rattle.orc_words.specs.declared.words.Command.TheVariants.{Check, Run, History, Gen}
-use Rattle.orc_world.specs.Begins.{HasBegun}
-use Rattle.orc_world.specs.Stands.{HasDisk, run_setting}
-use Rattle.orc_world.specs.declared.world.World.{World}
+use Rattle.orc_scene.specs.Begins.{HasBegun}
+use Rattle.orc_scene.specs.Stands.{HasDisk, run_setting}
+use Rattle.orc_scene.specs.declared.scene.Scene.{Scene}
 use Rattle.orc_run.specs.Checks.{EndsCheck}
 use Rattle.orc_run.specs.Ends.{BundleRun, EndsBy, EndsOver, EndsSummed, GivesBundle, GivesBundleFor, GivesFaultFor, Outside, WholeCheck, WholeGeneration, WholeHistory, WholeRun, asking_history}
 use Rattle.orc_run.specs.Opening.{IsRefused, MayBeOpening}
@@ -46,8 +46,8 @@ module _ {D : Type 0} (meaning : DiskMeaning D) where
 
   module _ (goes_on : (first second : Course) (a b c : D) → meaning.leads first a b → meaning.leads second b c → meaning.leads (joined first second) a c)
       (counts : (course : Course) (a b : D) → meaning.leads course a b → Counted course.failed (meaning.faults a) (meaning.faults b)) where
-    -- memory was wanting for what is printed at first
-    pub wanting_over : (decls : Decls) (from : D) (world : World D) (begun : HasBegun meaning decls from LARGEST_JOURNAL world) (steps : List ScriptStep)
+    -- memory ran out for what is printed at first
+    pub wanting_over : (decls : Decls) (from : D) (world : Scene D) (begun : HasBegun meaning decls from LARGEST_JOURNAL world) (steps : List ScriptStep)
         (left left' held : Option (List ℕ)) (last : D) → HasDisk world.place last
         → EndsOver meaning (record { decls = decls; steps = steps }) (record { left = left; held = held; disk = from }) (record { left = left'; held = held; disk = last })
         (Err ending.Memory)
@@ -61,8 +61,8 @@ module _ {D : Type 0} (meaning : DiskMeaning D) where
           same = refl;
         })
 
-    -- it could not be written
-    pub nothing_written : BundleRunsHaveTheHeadline meaning → (decls : Decls) (from : D) (world : World D) (begun : HasBegun meaning decls from LARGEST_JOURNAL world)
+    -- what is printed at first could not be written
+    pub nothing_written : BundleRunsHaveTheHeadline meaning → (decls : Decls) (from : D) (world : Scene D) (begun : HasBegun meaning decls from LARGEST_JOURNAL world)
         (steps : List ScriptStep) (left left' a b : Option (List ℕ)) (text : List ℕ) → Greets world.place text → (last : D) → HasDisk world.place last → TakesFront a b text
         → EndsOver meaning (record { decls = decls; steps = steps }) (record { left = left; held = a; disk = from }) (record { left = left'; held = b; disk = last })
         (Err ending.WriteFault)
@@ -82,8 +82,8 @@ module _ {D : Type 0} (meaning : DiskMeaning D) where
       unwritten = λ failed. took_one a b text front;
     }
 
-    -- it was written, and the lines were done
-    pub finished_over : (decls : Decls) (from : D) (world : World D) (begun : HasBegun meaning decls from LARGEST_JOURNAL world)
+    -- what is printed at first was written, and the lines were done
+    pub finished_over : (decls : Decls) (from : D) (world : Scene D) (begun : HasBegun meaning decls from LARGEST_JOURNAL world)
         (steps : List ScriptStep) (left left' a b c : Option (List ℕ)) (text : List ℕ) → Greets world.place text → Appends a b text → (last : D) (status : Result Done Stop)
         → Finishes meaning decls begun.seen b c steps last status
         → EndsOver meaning (record { decls = decls; steps = steps }) (record { left = left; held = a; disk = from }) (record { left = left'; held = c; disk = last }) status
@@ -213,7 +213,7 @@ module _ {D : Type 0} (meaning : DiskMeaning D) where
       (λ over. by_history before after status why (record { bundle = bundle; gives = gives; ends = over }))
       ends
 
-  -- where memory was wanting for the command of the words
+  -- where memory ran out for the command of the words
   pub by_words : (command : Option Command) (outside : Outside D) → GivesUpTo (LARGEST_BUNDLE + 1) outside.left outside.left
       → EndsBy meaning command outside outside (Err ending.Memory)
   by_words None outside none = refl

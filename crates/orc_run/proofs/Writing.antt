@@ -17,7 +17,7 @@ pub all_more : (texts : List (List ℕ)) (text : List ℕ) → all_of (texts ++ 
 all_more [] text = append-nil text
 all_more (first ∷ later) text = ap (λ (l : List ℕ). first ++ l) (all_more later text) ∙ sym (append_assoc first (all_of later) text)
 
--- a sink that took all so far and then a front of more took a front of all
+-- a sink that took all so far and then a prefix of more took a prefix of all
 pub begins_more : (a b c : Option (List ℕ)) (before text : List ℕ) → Appends a b before → TakesFront b c text → TakesFront a c (before ++ text)
 begins_more a b c before text taken more =
     let k = more.0 in
@@ -35,14 +35,14 @@ pub takes_nothing : (a : Option (List ℕ)) → Appends a a []
 takes_nothing None = tt
 takes_nothing (Some held) = sym (append-nil held)
 
--- the same for what a run prints behind what was printed before
+-- how a status fits what a run prints after what was printed before
 pub wrote_more : (a b c : Option (List ℕ)) (before text : List ℕ) (end : Option Stop) (status : Result Done Stop)
     → Appends a b before → Wrote b c text end status → Wrote a c (before ++ text) end status
 wrote_more a b c before text end (Ok done) taken wrote = (wrote.0, Appends-trans a b c before text taken wrote.1)
 wrote_more a b c before text end (Err ending.WriteFault) taken wrote = begins_more a b c before text taken wrote
 wrote_more a b c before text end (Err other) taken wrote = (wrote.0, Appends-trans a b c before text taken wrote.1)
 
--- what it took up to the last text, behind another one
+-- what a sink took up to the last text, after another one
 pub took_behind : (a b c : Option (List ℕ)) (first : List ℕ) (texts : List (List ℕ)) → Appends a b first → TookUpToLast texts b c
     → TookUpToLast (first ∷ texts) a c
 took_behind a b c first texts taken took = record {
@@ -54,6 +54,6 @@ took_behind a b c first texts taken took = record {
   took_last = took.took_last;
 }
 
--- nothing was written but a front of the one text
+-- nothing was written but a prefix of the one text
 pub took_one : (a b : Option (List ℕ)) (text : List ℕ) → TakesFront a b text → TookUpToLast (text ∷ []) a b
 took_one a b text front = record { before = []; last = text; parts = refl; between = a; took_before = takes_nothing a; took_last = front }

@@ -1,4 +1,4 @@
--- A run for which all is right, and in which nothing fails, is done, or memory is wanting for it.
+-- A run for which all is right, and in which nothing fails, is done, or memory runs out.
 use Rattle.std.specs.Prelude.{◌≡◌, ◌≢◌, ℕ, List, Result}
 use Rattle.std.specs.declared.option.Option.TheVariants.{Some}
 use Rattle.std.specs.declared.result.Result.TheVariants.{Ok, Err}
@@ -52,13 +52,13 @@ pub record MeetsNoFault {D : Type 0} (meaning : DiskMeaning D) (old new : FaultC
   pub disk : Rose (meaning.faults before) (meaning.faults after) → ⊥
   pub room : (len : ℕ) → status ≢ Err (ending.Full len)
 
--- all was done, or memory was wanting
+-- all was done, or memory ran out
 abbrev pub IsDoneOrMemory : Result Done Stop → Type 0
 IsDoneOrMemory (Ok done) = Unit {0}
 IsDoneOrMemory (Err end) = end ≡ ending.Memory
 
 -- Where the words name a command, the source gives a bundle, and the disk is empty or holds a journal of its declarations
--- whose history is legal, and where then nothing fails and the journal has room, all is done, or memory is wanting. So it
+-- whose history is legal, and where then nothing fails and the journal has room, all is done, or memory runs out. So it
 -- is whatever the script says: also where it stops the controller anywhere and lets it recover.
 abbrev pub AreDoneWhereNothingFails : {D : Type 0} → DiskMeaning D → Type 0
 AreDoneWhereNothingFails {D} meaning =

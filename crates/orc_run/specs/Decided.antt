@@ -27,8 +27,8 @@ abbrev pub bundle_bytes : Command → List ℕ → List ℕ
 bundle_bytes (word.Gen number devices calls) all = generated number devices calls
 bundle_bytes other all = take (LARGEST_BUNDLE + 1) all
 
--- Where a source tells which bytes it has left, the first of them decide, as many as a bundle may have and one more. So
--- they do for each command alike that reads a bundle; for one that makes it the bytes that it makes do.
+-- Where a source reports which bytes it has left, the first of them decide, as many as a bundle may have and one more.
+-- So they do for each command alike that reads a bundle; for one that makes it the bytes that it makes do.
 abbrev pub BytesDecide : {D : Type 0} → DiskMeaning D → Type 0
 BytesDecide {D} meaning = (command : Command) (before after : Outside D) (status : Result Done Stop) (all : List ℕ)
     → before.left ≡ Some all → EndsBy meaning (Some command) before after status

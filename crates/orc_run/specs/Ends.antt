@@ -25,7 +25,7 @@ use Rattle.orc_script.specs.declared.step.ScriptStep.{ScriptStep}
 use Rattle.orc_script.specs.declared.step.ScriptStep.TheVariants as step
 use Rattle.orc_words.specs.declared.words.Command.{Command}
 use Rattle.orc_words.specs.declared.words.Command.TheVariants as word
-use Rattle.orc_world.specs.Stands.{run_setting}
+use Rattle.orc_scene.specs.Stands.{run_setting}
 use Rattle.orc_run.specs.Checks.{EndsCheck}
 use Rattle.orc_run.specs.Summaries.{counts_of, summary_text}
 use Rattle.orc_run.specs.Opening.{HasHistory, IsOpened, IsRefused, IsRefusedBecause, MayBeOpening}
@@ -38,7 +38,7 @@ use Rattle.orc_run.specs.declared.stop.Stop.TheVariants as ending
 abbrev pub asking_history : ScriptedBundle → ScriptedBundle
 asking_history bundle = record bundle { steps = step.History ∷ [] }
 
--- what stands outside a run: the bytes that its source has left, those that its sink holds, each where it tells them,
+-- what stands outside a run: the bytes that its source has left, those that its sink holds, each where it reports them,
 -- and its disk
 pub record Outside (D : Type 0) : Type 0 where
   pub left : Option (List ℕ)
@@ -52,14 +52,14 @@ pub record GivesFirst (before after : Option (List ℕ)) (bytes : List ℕ) : Ty
   pub most : length bytes ≤ LARGEST_BUNDLE + 1
   pub end : length bytes ≤ LARGEST_BUNDLE → IsAtEnd after
 
--- they are this bundle, and the source was read to its end
+-- the bytes that the source gave are this bundle, and it was read to its end
 pub record GivesBundle (before after : Option (List ℕ)) (bundle : ScriptedBundle) : Type 0 where
   pub bytes : List ℕ
   pub first : GivesFirst before after bytes
   pub is : scripted_of bytes ≡ Ok bundle
   pub at_end : IsAtEnd after
 
--- or this line of them is the first one at fault, and this is the first rule that it breaks
+-- of the bytes that the source gave, this line is the first one at fault, and this is the first rule that it breaks
 pub record GivesFault (before after : Option (List ℕ)) (line : ℕ) (rule : Rule) : Type 0 where
   pub bytes : List ℕ
   pub first : GivesFirst before after bytes
@@ -72,7 +72,7 @@ GivesBundleFor (word.Gen number devices calls) before after bundle =
     (scripted_of (generated number devices calls) ≡ Ok bundle) × (after ≡ before)
 GivesBundleFor other before after bundle = GivesBundle before after bundle
 
--- or this line of them is the first one at fault
+-- of the bytes that a bundle is read of, this line is the first one at fault
 abbrev pub GivesFaultFor : Command → Option (List ℕ) → Option (List ℕ) → ℕ → Rule → Type 0
 GivesFaultFor (word.Gen number devices calls) before after line rule =
     (scripted_of (generated number devices calls) ≡ Err (line, rule)) × (after ≡ before)
@@ -89,15 +89,15 @@ stop_of_end ended.NotJournal = ending.NotJournal
 stop_of_end (ended.Damaged at) = ending.Damaged at
 
 -- How the status of a run fits what its sink took and how its script ended. Where all was done, the whole text was
--- taken. Behind a fault of the sink a front of it was, and the script may have ended anyhow (`TookUpToLast` says which
--- front). Behind another fault the script ended by that, and the whole text was taken.
+-- taken. After a fault of the sink a prefix of it was, and the script may have ended anyhow (`TookUpToLast` says which
+-- prefix). After another fault the script ended by that, and the whole text was taken.
 abbrev pub Wrote : Option (List ℕ) → Option (List ℕ) → List ℕ → Option Stop → Result Done Stop → Type 0
 Wrote before after text end (Ok done) = (end ≡ None) × Appends before after text
 Wrote before after text end (Err ending.WriteFault) = TakesFront before after text
 Wrote before after text end (Err other) = (end ≡ Some other) × Appends before after text
 
--- What a sink took of which a write failed: each text but the last that was to be written, and a front of that one. So
--- each text was written before the next line was done, and no line was done behind the failure.
+-- What a sink took of which a write failed: each text but the last that was to be written, and a prefix of that one. So
+-- each text was written before the next line was done, and no line was done after the failure.
 pub record TookUpToLast (texts : List (List ℕ)) (held now : Option (List ℕ)) : Type 0 where
   pub before : List (List ℕ)
   pub last : List ℕ
@@ -140,7 +140,7 @@ pub record ScriptRun {D : Type 0} (here : Setting D) (first : World D) (script :
       → Headline here script first last run
 
 -- How the status of such a run fits what its sink took: the summary where the script was run to its end, and else
--- nothing. Memory may be wanting for it, too.
+-- nothing. Memory may run out for it too.
 abbrev pub WroteSummary : Option (List ℕ) → Option (List ℕ) → List ℕ → Option Stop → Result Done Stop → Type 0
 WroteSummary before after summary end (Ok done) = (end ≡ None) × Appends before after summary
 WroteSummary before after summary end (Err ending.WriteFault) = (end ≡ None) × TakesFront before after summary
@@ -150,8 +150,8 @@ WroteSummary before after summary end (Err other) = (end ≡ Some other) × (aft
 module _ {D : Type 0} (meaning : DiskMeaning D) where
   -- A world began over the disk, with these devices and a journal that was opened, or begun. The entries of that, and so
   -- its history, are those of the bytes that the disk gave. Where it gave any, how many calls were recovered is printed.
-  -- (What a recovery reads is what was written where the disk tells what it holds. Over another one it goes on from what
-  -- its reads gave, and nobody says that this was written.)
+  -- (What a recovery reads is what was written where the disk reports what it holds. Over another one it goes on from
+  -- what its reads gave, and nobody says that this was written.)
   pub record BeginsOver (decls : Decls) (disk : D) (first : World D) (greeting : List ℕ) : Type 0 where
     pub starts : StartsRun (run_setting meaning decls LARGEST_JOURNAL true) first
     pub opened : IsOpened meaning decls disk first.journal.synced first.journal.disk
@@ -166,7 +166,7 @@ module _ {D : Type 0} (meaning : DiskMeaning D) where
   -- The script of a bundle was run over the disk, and the sink took what the run printed. A world began; lines were done
   -- in it, and others not; and so they were by all rules of what comes of a line, over any disk. So they were also where
   -- it is granted that reads give what was written, unless a line opened the journal again. The run has the headline
-  -- over a disk that tells what it holds, and over another one where that is granted.
+  -- over a disk that reports what it holds, and over another one where that is granted.
   pub record BundleRun (bundle : ScriptedBundle) (before after : Outside D) (status : Result Done Stop) : Type 0 where
     pub first : World D
     pub greeting : List ℕ
@@ -254,7 +254,7 @@ module _ {D : Type 0} (meaning : DiskMeaning D) where
   -- How the program ended, by the command and the status. Where the words have no command it ends with Usage, or with
   -- Memory, and nowhere else with Usage. Where the first bytes of the source are no bundle it ends with Bundle,
   -- whatever the command, or with ReadFault or Memory, and nowhere else with Bundle; for a command that makes a bundle
-  -- its bytes stand for those of the source. Behind these two the bytes may not
+  -- its bytes stand for those of the source. After ReadFault or Memory the bytes may not
   -- all have been read, and no others were.
   abbrev pub EndsBy : Option Command → Outside D → Outside D → Result Done Stop → Type 0
   EndsBy None before after (Err ending.Memory) = after ≡ before

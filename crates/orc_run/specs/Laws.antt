@@ -25,7 +25,7 @@ FileTellsOneHistory = (decls : Decls) (file : List ℕ) (learned held : List Cal
 
 -- A file with its ending gate is not written to while it is opened: whatever a crash at a moment since the first sync of
 -- that leaves is the file. So the files that crashes leave may be counted from that sync on, and not only from where the
--- journal is open; of a file that gets its gate as it is opened, the last sync of the opening is the first behind that.
+-- journal is open; of a file that gets its gate as it is opened, the last sync of the opening is the first after that.
 abbrev pub GatedFilesStay : {D : Type 0} → DiskMeaning D → Type 0
 GatedFilesStay {D} meaning = (decls : Decls) (old new : D) (entries held : List Entry)
     (opened : IsOpened meaning decls old entries new) (file : List ℕ)

@@ -35,7 +35,7 @@ stop_of fault.Memory = ending.Memory
 stop_of (fault.Full len) = ending.Full len
 stop_of (fault.Damaged at) = ending.Damaged at
 
--- why the past of these entries isn't read: a Decide makes the history illegal, or memory was wanting
+-- why the past of these entries isn't read: a Decide makes the history illegal, or memory ran out
 abbrev pub IsPastFault : Decls → List Entry → Stop → Type 0
 IsPastFault decls entries ending.Memory = Unit {0}
 IsPastFault decls entries (ending.Damaged at) =
@@ -45,14 +45,14 @@ IsPastFault decls entries end = ⊥
 
 module _ {D : Type 0} (meaning : DiskMeaning D) where
   -- The disk was opened as the journal of the declarations and these entries, which are those of the bytes that it gave
-  -- (`HasOpened` says it of the disk that stops it).
+  -- (`HasOpened` says it of the stopping disk around it).
   pub record IsOpened (decls : Decls) (old : D) (entries : List Entry) (new : D) : Type 0 where
     pub journal : OpenJournal (Stopping D)
     pub disk_is : journal.disk.inner ≡ new
     pub opened : HasOpened (inside meaning) decls.text LARGEST_JOURNAL (unstopped old) journal entries
 
-  -- It was refused: the bytes that it gave are the cause, and unless an operation failed, nothing changed (`HasRefused`
-  -- says it of the disk that stops it).
+  -- The journal was refused: the bytes that were read are the cause, and unless an operation failed, nothing changed
+  -- (`HasRefused` says it of the stopping disk around it).
   pub record IsRefusedAtOnce (decls : Decls) (old new : D) (end : Stop) : Type 0 where
     pub last : Stopping D
     pub disk_is : last.inner ≡ new
@@ -60,12 +60,12 @@ module _ {D : Type 0} (meaning : DiskMeaning D) where
     pub end_is : end ≡ stop_of fault
     pub refused : HasRefused (inside meaning) decls.text LARGEST_JOURNAL (unstopped old) last fault
 
-  -- or it was opened, and then its entries have no past
+  -- the journal was refused, or it was opened, and then its entries have no past
   abbrev pub IsRefused : Decls → D → D → Stop → Type 0
   IsRefused decls old new end = IsRefusedAtOnce decls old new end
       ⊎ ((entries : List Entry) × IsOpened decls old entries new × IsPastFault decls entries end)
 
-  -- why a journal isn't opened, by the disk before and after; want of memory is free
+  -- why a journal isn't opened, by the disk before and after; memory may run out
   abbrev pub IsRefusedBecause : Decls → D → D → Stop → Type 0
   IsRefusedBecause decls old new ending.JournalFault = Rose (meaning.faults old) (meaning.faults new)
   IsRefusedBecause decls old new ending.Memory = Unit {0}
@@ -79,7 +79,7 @@ module _ {D : Type 0} (meaning : DiskMeaning D) where
   IsRefusedBecause decls old new end = ⊥
 
   -- what a crash may leave while a journal is opened: what one before the first sync would have left, or the file, with
-  -- bytes behind it only where its ending gate was not there
+  -- bytes after it only where its ending gate was not there
   abbrev pub MayBeOpening : Decls → D → List ℕ → Type 0
   MayBeOpening decls disk file =
       meaning.may_leave disk file ⊎ IfSome (meaning.content disk) (λ opened. IsOpening decls.text opened file)

@@ -13,7 +13,7 @@ use Rattle.orc_runs.specs.Runs.{Run, turns_of}
 use Rattle.orc_script.specs.declared.step.ScriptStep.{ScriptStep}
 use Rattle.orc_script.specs.declared.step.ScriptStep.TheVariants as step
 use Rattle.orc_text.specs.Counts.{capped}
-use Rattle.orc_world.specs.Courses.{events_in}
+use Rattle.orc_scene.specs.Courses.{events_in}
 
 -- the line is a call
 abbrev pub is_call_line : ScriptStep → Bool

@@ -13,7 +13,7 @@ pub fn bytes_decide<D: Disk>()
 {}
 
 /// Where the words and the bundle are right and the journal's history is legal, and nothing fails, all
-/// is done, or memory is wanting.
+/// is done, or memory runs out.
 pub fn is_done_where_nothing_fails<D: Disk>()
     ensures { AreDoneWhereNothingFails D.disk }
 {}

@@ -13,7 +13,7 @@ pub const LARGEST_JOURNAL: u64 = 268_435_456;
 
 /// What is printed as a run begins: where the disk was not empty, how many calls were recovered.
 pub(crate) fn greeting<D: Disk>(alloc: Global, world: &World<D>) -> Result<Vec<u8>, Memory>
-    ensures { IfOk result (λ text. Greets world.now.place text.items) }
+    ensures { IfOk result (λ text. Greets world.now.scene.place text.items) }
 {
     match world.hub() {
         Some(hub) => {

@@ -9,9 +9,9 @@ ghost use Rattle.orc_run.specs.declared.stop.Stop.{Stop};
 ghost use Rattle.orc_run.specs.inside.Inputs.{IsRunStop};
 ghost use Rattle.orc_run.specs.inside.Scripts.{Finishes, GreetsAndFinishes, IsFirst, WritesLine};
 ghost use Rattle.orc_script.specs.Steps.{is_step};
-ghost use Rattle.orc_world.specs.Begins.{HasBegun};
+ghost use Rattle.orc_scene.specs.Begins.{HasBegun};
 ghost use Rattle.orc_world.specs.Scripts.{TakesAnyLine};
-ghost use Rattle.orc_world.specs.Stands.{Allows, decls_in, is_somewhere};
+ghost use Rattle.orc_scene.specs.Stands.{Allows, decls_in, is_somewhere};
 
 use crate::opening::greeting;
 use crate::stop::stop_of_world;
@@ -32,9 +32,10 @@ pub(crate) fn run_script<K: Sink, D: Disk>(
     steps: &[ScriptStep],
     sink: &mut K,
 ) -> Ended<D>
-    requires going { TakesAnyLine D.disk world }
-    requires allowed { MatchOption (decls_in world.place) ⊥ (λ decls. IsTrue (list_all (is_step decls) steps.now)) }
-    ensures ends { (decls : Decls) (from : D) → HasBegun D.disk decls from LARGEST_JOURNAL world
+    requires going { TakesAnyLine D.disk world.scene }
+    requires allowed { MatchOption (decls_in world.scene.place) ⊥
+        (λ decls. IsTrue (list_all (is_step decls) steps.now)) }
+    ensures ends { (decls : Decls) (from : D) → HasBegun D.disk decls from LARGEST_JOURNAL world.scene
         → GreetsAndFinishes D.disk decls from (K.sink.held sink.old) (K.sink.held sink.new) steps.now
         result.disk result.status }
     ensures write { IsErrOf result.status Stop.WriteFault → Rose (K.sink.faults sink.old) (K.sink.faults sink.new) }
@@ -58,9 +59,10 @@ fn run_lines<K: Sink, D: Disk>(
     steps: &[ScriptStep],
     sink: &mut K,
 ) -> Ended<D>
-    requires going { TakesAnyLine D.disk world }
-    requires allowed { MatchOption (decls_in world.place) ⊥ (λ decls. IsTrue (list_all (is_step decls) steps.now)) }
-    ensures ends { (decls : Decls) (first : Seen D) → IsFirst D.disk decls first world
+    requires going { TakesAnyLine D.disk world.scene }
+    requires allowed { MatchOption (decls_in world.scene.place) ⊥
+        (λ decls. IsTrue (list_all (is_step decls) steps.now)) }
+    ensures ends { (decls : Decls) (first : Seen D) → IsFirst D.disk decls first world.scene
         → Finishes D.disk decls first (K.sink.held sink.old) (K.sink.held sink.new) steps.now
         result.disk result.status }
     ensures later { K.sink.faults sink.old ≤ K.sink.faults sink.new }
@@ -88,12 +90,13 @@ fn run_line<K: Sink, D: Disk>(
     step: &ScriptStep,
     sink: &mut K,
 ) -> Result<(), Stop>
-    requires going { TakesAnyLine D.disk world.old }
-    requires allowed { Allows world.old step.now }
-    ensures line { WritesLine D.disk (K.sink.held sink.old) (K.sink.held sink.new) step.now world.old result world.new }
-    ensures there { is_somewhere world.new.place ≡ true }
-    ensures going { OnOk result (TakesAnyLine D.disk world.new) }
-    ensures decls { OnOk result (decls_in world.new.place ≡ decls_in world.old.place) }
+    requires going { TakesAnyLine D.disk world.old.scene }
+    requires allowed { Allows world.old.scene step.now }
+    ensures line { WritesLine D.disk (K.sink.held sink.old) (K.sink.held sink.new) step.now world.old.scene result
+        world.new.scene }
+    ensures there { is_somewhere world.new.scene.place ≡ true }
+    ensures going { OnOk result (TakesAnyLine D.disk world.new.scene) }
+    ensures decls { OnOk result (decls_in world.new.scene.place ≡ decls_in world.old.scene.place) }
     ensures later { K.sink.faults sink.old ≤ K.sink.faults sink.new }
     ensures write { IsErrOf result Stop.WriteFault → Rose (K.sink.faults sink.old) (K.sink.faults sink.new) }
     ensures causes { IfErr result IsRunStop }

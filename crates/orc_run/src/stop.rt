@@ -50,7 +50,7 @@ pub enum Stop {
     /// An operation of the disk of the journal failed.
     #[error("JournalFault")]
     JournalFault,
-    /// Memory could not be had.
+    /// Memory ran out.
     #[error("Memory")]
     Memory,
     /// The disk holds the journal of other declarations, which differ first at this offset in them.

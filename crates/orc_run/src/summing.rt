@@ -15,10 +15,10 @@ ghost use Rattle.orc_run.specs.inside.Inputs.{IsRunStop};
 ghost use Rattle.orc_run.specs.inside.Sums.{SumsFrom, SumsOrNeverBegins, counted, counts_in, items_over};
 ghost use Rattle.orc_script.specs.Steps.{is_step};
 ghost use Rattle.orc_text.specs.Counts.{capped};
-ghost use Rattle.orc_world.specs.Begins.{HasBegun};
-ghost use Rattle.orc_world.specs.Codes.{hub_in};
+ghost use Rattle.orc_scene.specs.Begins.{HasBegun};
+ghost use Rattle.orc_scene.specs.Effects.{hub_in};
 ghost use Rattle.orc_world.specs.Scripts.{TakesAnyLine};
-ghost use Rattle.orc_world.specs.Stands.{HasDisk, decls_in, is_somewhere};
+ghost use Rattle.orc_scene.specs.Stands.{HasDisk, decls_in, is_somewhere};
 
 use crate::opening::LARGEST_JOURNAL;
 use crate::stop::stop_of_world;
@@ -62,17 +62,18 @@ pub(crate) fn sum_over<K: Sink, D: Disk>(
     }
 }
 
-// Does the lines of a script in a world that has begun, and prints the summary behind them.
+// Does the lines of a script in a world that has begun, and prints the summary after them.
 fn sum_run<K: Sink, D: Disk>(
     alloc: Global,
     world: World<D>,
     steps: &[ScriptStep],
     sink: &mut K,
 ) -> Ended<D>
-    requires going { TakesAnyLine D.disk world }
-    requires allowed { MatchOption (decls_in world.place) ⊥ (λ decls. IsTrue (list_all (is_step decls) steps.now)) }
-    requires begun { (decls : Decls) × (from : D) × HasBegun D.disk decls from LARGEST_JOURNAL world }
-    ensures ends { (decls : Decls) (from : D) → HasBegun D.disk decls from LARGEST_JOURNAL world
+    requires going { TakesAnyLine D.disk world.scene }
+    requires allowed { MatchOption (decls_in world.scene.place) ⊥
+        (λ decls. IsTrue (list_all (is_step decls) steps.now)) }
+    requires begun { (decls : Decls) × (from : D) × HasBegun D.disk decls from LARGEST_JOURNAL world.scene }
+    ensures ends { (decls : Decls) (from : D) → HasBegun D.disk decls from LARGEST_JOURNAL world.scene
         → SumsFrom D.disk decls from (K.sink.held sink.old) (K.sink.held sink.new) steps.now
         result.disk result.status }
     ensures write { IsErrOf result.status Stop.WriteFault → Rose (K.sink.faults sink.old) (K.sink.faults sink.new) }
@@ -94,10 +95,10 @@ fn sum_up<K: Sink, D: Disk>(
     steps: &[ScriptStep],
     sink: &mut K,
 ) -> Ended<D>
-    requires { is_somewhere world.place ≡ true }
-    ensures disk { HasDisk world.place result.disk }
+    requires { is_somewhere world.scene.place ≡ true }
+    ensures disk { HasDisk world.scene.place result.disk }
     ensures wrote { WroteSummary (K.sink.held sink.old) (K.sink.held sink.new)
-        (summary_text (counts_in steps.now world)) None result.status }
+        (summary_text (counts_in steps.now world.scene)) None result.status }
     ensures write { IsErrOf result.status Stop.WriteFault → Rose (K.sink.faults sink.old) (K.sink.faults sink.new) }
     ensures causes { IfErr result.status IsRunStop }
 {
@@ -116,7 +117,7 @@ fn write_summary<K: Sink, D: Disk>(
     sink: &mut K,
 ) -> Result<Done, Stop>
     ensures wrote { WroteSummary (K.sink.held sink.old) (K.sink.held sink.new)
-        (summary_text (counts_in steps.now world.now)) None result }
+        (summary_text (counts_in steps.now world.now.scene)) None result }
     ensures write { IsErrOf result Stop.WriteFault → Rose (K.sink.faults sink.old) (K.sink.faults sink.new) }
     ensures causes { IfErr result IsRunStop }
 {
@@ -136,7 +137,7 @@ fn summary<D: Disk>(
     steps: &[ScriptStep],
     world: &World<D>,
 ) -> Result<Vec<u8>, Memory>
-    ensures { IfOk result (λ text. text.items ≡ summary_text (counts_in steps.now world.now)) }
+    ensures { IfOk result (λ text. text.items ≡ summary_text (counts_in steps.now world.now.scene)) }
 {
     let calls = calls_in(steps);
     let committed = commits_in(world.events());
@@ -224,7 +225,7 @@ fn is_commit(event: &Event) -> bool
 
 // How many entries the history has, where a hub is up.
 fn entries_in<D: Disk>(world: &World<D>) -> u64
-    ensures { result ≡ option_map_or (λ hub. length hub.state.history) (hub_in world.now.place) 0 }
+    ensures { result ≡ option_map_or (λ hub. length hub.state.history) (hub_in world.now.scene.place) 0 }
 {
     match world.hub() {
         Some(hub) => hub.state().history().len() as u64,

@@ -33,8 +33,8 @@ use std::alloc::Global;
 ///
 /// The words come first, then the whole source, where a bundle is read of it, then the bundle, the
 /// journal, and the steps. `Usage` and `Bundle` leave the sink and the disk as they were, and a check
-/// never touches the disk. After `WriteFault` the sink took a front of what was printed. Memory may be
-/// wanting at any place.
+/// never touches the disk. After `WriteFault` the sink took a prefix of what was printed. Memory may run
+/// out at any place.
 pub fn orchestrate<S: Source, K: Sink, D: Disk>(
     alloc: Global,
     words: &[String],

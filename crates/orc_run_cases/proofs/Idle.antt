@@ -50,7 +50,7 @@ module _ {D : Type 0} (here : Setting D) (world : World D) where
   idle_hearing device none (event.Report other kind reply count) is (inr (inr (recover, down))) = absurd cc
   idle_hearing device none other is may = absurd is
 
-  -- neither is
+  -- no operation of a device comes, and nothing is heard of one
   pub idle_operations : (device : ℕ) → ((hub : Hub) → world.hub ≡ Some hub → due_on hub device ≡ None) → (world.links device).unheard ≡ None
       → NoneOf here world (part.Operations device)
   idle_operations device none silent (event.Perform other kind reply count) is may = idle_operation device none (event.Perform other kind reply count) is may

@@ -48,7 +48,7 @@ stays_held disk P holds = record {
     on file (inl here) = subst P (sym here.1) holds
     on file (inr earlier) = absurd (none_since disk.earlier (length disk.earlier) file (omega arith) earlier)
 
--- and then what is written
+-- a disk leaves only such files also once one more is written
 pub holds_then : (old disk : SureDisk) (P : List ℕ → Type 0) (file : List ℕ) → LeavesOnly sure_disk old disk P → P file
     → LeavesOnly sure_disk old (holding file disk) P
 holds_then old disk P file leaves holds = record {
@@ -81,15 +81,15 @@ pub is_gated : (text : List ℕ) (entries : List Entry) → All IsWritable entri
 is_gated text entries writable =
     record { gate = closing_gate; rest = []; bytes = refl; closed = refl; writable = writable }
 
--- the same while one more is written: its bytes stand behind the ending gate
+-- a file while one more entry is written: its bytes stand after the ending gate
 abbrev pub file_before : List ℕ → List Entry → Entry → List ℕ → List ℕ
 file_before text entries entry file = written (journal_length text entries) (block_bytes entry) file
 
--- and after that
+-- a file once one more entry is written
 abbrev pub file_with : List ℕ → List Entry → Entry → List ℕ → List ℕ
 file_with text entries entry file = with_entry (journal_length text entries) entry file
 
--- bytes behind the ending gate leave a journal what it is
+-- bytes after the ending gate leave a journal what it is
 pub gated_behind : (text : List ℕ) (entries : List Entry) (put file : List ℕ) → IsGated file text entries
     → IsGated (written (journal_length text entries) put file) text entries
 gated_behind text entries put file g =
@@ -106,7 +106,7 @@ gated_behind text entries put file g =
       writable = g.writable;
     }
 
--- and one more entry makes it the journal of all
+-- one more entry makes a file the journal of all
 pub gated_with : (text : List ℕ) (entries : List Entry) (entry : Entry) (file : List ℕ) → IsGated file text entries → IsWritable entry
     → IsGated (file_with text entries entry file) text (entries ++ entry ∷ [])
 gated_with text entries entry file g writable =
@@ -183,7 +183,7 @@ least_more count more most = omega arith
 capped_more : (count more : ℕ) → capped (count + more) ≡ capped (capped count + more)
 capped_more count more = least_more count more (2 ^ 64 - 1)
 
--- so many and then so many more
+-- a count is capped alike in one step and in two
 one_then : (count first second : ℕ) → capped (count + (first + second)) ≡ capped (capped (count + first) + second)
 one_then count first second = ap capped (let sum : count + (first + second) ≡ (count + first) + second = omega arith in sum) ∙ capped_more (count + first) second
 
@@ -437,7 +437,7 @@ module _ (text : List ℕ) (limit : ℕ) where
 abbrev looked_at : SureDisk → SureDisk
 looked_at disk = record disk { asked = disk.asked + 1; heard = disk.heard ++ (0, take 1 disk.file) ∷ [] }
 
--- and all of it was read to the end
+-- the first byte was read, the disk was synced, and all of it was read to the end
 abbrev read_through : SureDisk → SureDisk
 read_through disk = record (looked_at disk) { heard = (looked_at disk).heard ++ (0, disk.file) ∷ (length disk.file, []) ∷ [] }
 
@@ -451,7 +451,7 @@ has_bytes [] [] ys x e = absurd cc
 has_bytes [] (y ∷ xs) ys x e = absurd cc
 has_bytes (byte ∷ file) xs ys x e = (omega arith, refl)
 
--- what is told while nothing is written
+-- what a disk reports while nothing is written
 unchanged_there : (disk : SureDisk) → Unchanged sure_disk disk (looked_at disk)
 unchanged_there disk = record {
   same = refl;

@@ -66,7 +66,7 @@ module _ (schema : SchemaTable) (start : World SureDisk) (resolve : Op) (due run
   abbrev pub mended : World SureDisk
   mended = record next_mended { journal = with_one (here schema).decls.text (entry.Settled 1) start.journal }
 
-  -- and its turns
+  -- the turns of the reconciliation
 
   abbrev begin_turn : Turn SureDisk
   begin_turn = done_turn start (event.Reconcile None) mending_begun

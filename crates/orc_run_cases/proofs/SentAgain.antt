@@ -220,7 +220,7 @@ module _ (schema : SchemaTable) (valid : broken_of schema (opening_data (r1.name
   unfolding run_again
   whole_again = refl
 
--- So the whole run goes.
+-- The whole run, in which the call is sent again.
 pub sent_again : (schema : SchemaTable) → AreDecls (one_device schema) → IsWorked (network_with schema) again_script again_text
 sent_again schema are = record {
   first = world_0 schema are.valid;

@@ -97,7 +97,7 @@ module _ (schema : SchemaTable) (valid : broken_of schema (opening_data (r1.name
   abbrev pub settled : World SureDisk
   settled = appending schema (entry.Settled t) closed next_settled
 
-  -- and its turns, from the last one on
+  -- the turns of settling, from the last one on
 
   abbrev admit_turn : Turn SureDisk
   admit_turn = done_turn start (event.Admit t None) admitted
@@ -240,7 +240,7 @@ module _ (schema : SchemaTable) (valid : broken_of schema (opening_data (r1.name
         (Goes.none part.Admissions (part.Operation 0 ∷ part.Hearing 0 ∷ part.Decisions ∷ part.Rounds ∷ []) admitted settled after_admitting
         (idle_admissions (here schema) admitted (hub_in admitted) refl can.waits) goes_admitted))
 
-    -- the run goes on behind each
+    -- the run goes on after each
 
     on_committed : Each GoesOn after_committing
     on_committed =

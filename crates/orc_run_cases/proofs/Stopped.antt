@@ -60,7 +60,7 @@ module _ (schema : SchemaTable) (valid : broken_of schema (opening_data (r1.name
   decides = DoesUnderHub.commits 0 (transaction_begun 0 (waiting_1 schema valid)) refl refl refl refl
       (ap invalid_by valid)
 
-  -- it comes, and this is the journal then
+  -- the stop comes, and this is the journal then
   module _ (journal : Journal SureDisk)
       (cut : AppendsRow sure_disk (here schema).decls.text (here schema).limit world_10.journal (entry.Decide 1 ∷ []) Stopped journal) where
     abbrev pub world_11 : World SureDisk

@@ -133,7 +133,7 @@ module _ (schema : SchemaTable) (valid : broken_of schema (opening_data (r1.name
   abbrev pub lines_before : List (LineDone SureDisk)
   lines_before = prefix_lines schema valid ++ own_lines
 
-  -- and others after them
+  -- these lines and others after them
   pub own_done : (lines : List (LineDone SureDisk)) (last : World SureDisk) → AreDone (here schema) world_18 lines last
       → AreDone (here schema) (world_9 schema valid) (own_lines ++ lines) last
   own_done lines last done =
@@ -163,7 +163,7 @@ module _ (schema : SchemaTable) (valid : broken_of schema (opening_data (r1.name
   unfolding run_before
   whole_before = refl
 
--- So it goes wherever the append of the Decide is stopped before its gate is opened.
+-- The whole run, wherever the append of the Decide is stopped before its gate is opened.
 pub given_up : (schema : SchemaTable) → AreDecls (one_device schema) → (operation bytes : ℕ)
     → 1 ≤ operation → operation ≤ 4 → nat_lt 3 (operation + min bytes 1) ≡ false
     → IsWorked (network_with schema) (given_up_script operation bytes) given_up_text

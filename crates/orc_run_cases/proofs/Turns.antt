@@ -34,7 +34,7 @@ use Rattle.orc_run_cases.proofs.Journals.{IsTidy, none_appended}
 
 -- lists
 
--- it is so of each
+-- each element is so
 abbrev pub Each : {X : Type 0} → (X → Type 0) → List X → Type 0
 Each P [] = Unit {0}
 Each P (x ∷ xs) = P x × Each P xs
@@ -166,7 +166,7 @@ module _ (schema : SchemaTable) where
   abbrev pub hearing_turn : World SureDisk → OpKind → Reply → Turn SureDisk
   hearing_turn world kind reply = done_turn world (event.Report 0 kind (mark_of reply) (world.links 0).faults) (after_hearing world reply)
 
-  -- both
+  -- a device's operation and then the hub's hearing of it
   abbrev pub reply_to : World SureDisk → Op → Reply
   reply_to world op = way_reply (world.nodes 0) op way.Done
 

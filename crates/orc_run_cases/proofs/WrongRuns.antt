@@ -90,7 +90,7 @@ decided_placed before (e ∷ entries) told t (inl same) =
     (ap (λ (b : Bool). cond b (Some (length told.history + 1)) (told.place t)) (eq-eqb t t refl)))
 decided_placed before (e ∷ entries) told t (inr later) = decided_placed (before ++ e ∷ []) entries (told_with before told e) t later
 
--- and what has a place is decided
+-- a transaction that has a place is decided
 placed_decided : (before entries : List Entry) (told : Told) (t n : ℕ) → (told_from before told entries).place t ≡ Some n → ((m : ℕ) → told.place t ≡ Some m → ⊥)
     → Among entries (entry.Decide t)
 placed_decided before [] told t n is new = absurd (new n is)

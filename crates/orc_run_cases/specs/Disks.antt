@@ -32,6 +32,6 @@ sure_disk = record {
   cut_sync = λ old new. ⊥;
 }
 
--- such a disk that holds this file from now on
+-- a sure disk that holds this file from now on
 abbrev pub holding : List ℕ → SureDisk → SureDisk
 holding file disk = record disk { file = file; earlier = disk.file ∷ disk.earlier }

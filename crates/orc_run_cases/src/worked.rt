@@ -48,7 +48,7 @@ pub fn call_is_settled()
 {}
 
 /// The controller stops before its decision is in the journal: before it writes the first byte of it,
-/// once that byte is written, or once all of it is synced behind a gate that is closed yet. The call is
+/// once that byte is written, or once all of it is synced after a gate that is closed yet. The call is
 /// given up.
 pub fn stopped_before_its_decision()
     ensures unwritten { (schema : SchemaTable) → AreDecls (one_device schema)
@@ -66,7 +66,7 @@ pub fn given_up_call_is_sent_again()
         → IsWorked (network_with schema) again_script again_text }
 {}
 
-/// It stops once the decision is synced: the call is committed, and sent again it gets that answer.
+/// The controller stops once the decision is synced: the call is committed, and sent again it gets that answer.
 pub fn stopped_after_its_decision()
     ensures { (schema : SchemaTable) → AreDecls (one_device schema)
         → IsWorked (network_with schema) committed_script committed_text }

@@ -37,7 +37,7 @@ use Rattle.orc_runs.proofs.Faulted.{listed_same, set_replies}
 use Rattle.orc_runs.proofs.InStep.{set_devices}
 use Rattle.orc_runs.proofs.Lasting.{IsKept, Survives, each_in, run_survives}
 
--- a failure that a device or its link is the cause of, or want of memory
+-- a failure that a device or its link is the cause of, or running out of memory
 abbrev pub is_of_device : RecFault → Bool
 is_of_device (fault.LinkFault device number) = true
 is_of_device (fault.Refused device tag) = true
@@ -203,7 +203,7 @@ module _ {D : Type 0} (here : Setting D)
     pub still_accepted : AcceptsFronts here.decls here.kinds (history_read last.journal)
     still_accepted = all_accepted.kept.1.2.fronts
 
-    -- and no reconciliation is refused
+    -- no reconciliation of a run is refused
     pub unrefused : (turn : Turn D) → Contains (turns_of run) turn → (device : ℕ) (tag : Tag) → turn.seen ≡ Some (event.Reconcile (Some (Err (fault.Refused device tag)))) → ⊥
     unrefused turn among device tag e =
         let is = each_in (IsKept here only_now are plans legally order AcceptedWorld accepted_steps accepted_set last) (turns_of run) turn all_accepted.each among in

@@ -120,7 +120,7 @@ module _ {D : Type 0} (here : Setting D) (are : AreDecls here.decls) (plans : Pl
       unused_apart xs all = All-weaker (λ (one : Waiting). IsUnnamed (entries_read old.journal) one.t) (λ (one : Waiting). one.t ≡ it.t → ⊥)
           (λ one none same. named_by it.t one.t (entries_read old.journal) intent none (sym same)) xs all
 
-  -- what is synced behind what was done
+  -- what is synced after what was done
   synced_done : (old new : Journal D) (row : List Entry) → AppendsRow here.disk here.decls.text here.limit old row appended.Done new → new.synced ≡ entries_read old ++ row
   synced_done old new row a =
       a.synced ∙ ap (λ (l : List Entry). l ++ a.done) (sym (uncut_read old a.before))
@@ -188,7 +188,7 @@ module _ {D : Type 0} (here : Setting D) (are : AreDecls here.decls) (plans : Pl
     split_at P [] later turn each = each.0
     split_at P (x ∷ earlier) later turn each = split_at P earlier later turn each.1
 
-    -- so it is that entry at the end, and in what a crash at each later moment leaves
+    -- a committed call is the entry of its number at the end, and in what a crash at each later moment leaves
     pub acknowledged : (earlier later : List (Turn D)) (turn : Turn D) (call : Call) (number : ℕ) → turns_of run ≡ earlier ++ turn ∷ later
         → IsAnswered turn turn.seen call (answer.Committed number)
         → IsNumberedEntry (history_read last.journal) number call

@@ -98,7 +98,7 @@ module _ {D : Type 0} (here : Setting D) (are : AreDecls here.decls) (plans : Pl
   abbrev IsToldBy : World D → Option Event → Call → Type 0
   IsToldBy world seen call = (said : Answer) × ((turn : Turn D) → turn.before ≡ world → IsAnsweredLater turn seen call said)
 
-  -- it waits, or is under way without its decision
+  -- the call waits, or is under way without its decision
   abbrev pub IsOnItsWay : World D → Call → Type 0
   IsOnItsWay world call = (hub : Hub) × (world.hub ≡ Some hub) × IsOpen hub call
 
@@ -352,7 +352,7 @@ module _ {D : Type 0} (here : Setting D) (are : AreDecls here.decls) (plans : Pl
       stays s call (inl answered) = inl answered
       stays s call (inr way) = inr (set_way s call way)
 
-  -- behind some first lines of a run
+  -- after some first lines of a run
   pub lines_served : (first last : World D) (lines : List (LineDone D)) → HistoryKept here first → DevicesKept here.decls first → AreDone here first lines last
       → AllServed (flat_map (λ line. line.turns) lines) last
   lines_served first last lines history devices done =

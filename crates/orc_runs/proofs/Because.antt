@@ -112,7 +112,7 @@ module _ {D : Type 0} (here : Setting D) (first : World D) (earlier : List (Turn
       abbrev under : Attends here.decls own.shadow (entries_read old.journal) hub old.links
       under = own.under hub up
 
-      -- it is told as the call is submitted
+      -- the answer is given as the call is submitted
       at_once : (call : Call) (front : ℕ) (said : Answer) → turn.seen ≡ Some (event.Submit call front (Some said)) → old.snapshots call.caller ≡ Some front
           → AnswersSubmission here.decls hub (history_read old.journal) call front said → history_read new.journal ≡ history_read old.journal → Because call said
       at_once call front said seen snap (AnswersSubmission.busy number open_now) same = (hub, up, open_now)
@@ -238,7 +238,7 @@ module _ {D : Type 0} (here : Setting D) (first : World D) (earlier : List (Turn
         let longer = front_history new.journal.synced (entries_read new.journal) (read_front here.disk here.decls.text here.limit new.journal) in
         subst (λ (h : List Call). IsNumberedEntry h number call) (sym longer.1) (entry_more (history_of new.journal.synced) longer.0 number call is)
 
-    -- one that comes whether a hub is up or not is told Down
+    -- a call that is answered whether a hub is up or not is answered Down
     anyway_because : (meant : Event) (next : World D) → DoesAnyway old meant next → (call : Call) (given : Answer) → IsAnswered turn (Some meant) call given → Because call given
     anyway_because meant next (DoesAnyway.ticks seconds) call given says = absurd says
     anyway_because meant next (DoesAnyway.restarts x) call given says = absurd says

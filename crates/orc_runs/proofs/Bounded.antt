@@ -95,7 +95,7 @@ module _ {D : Type 0} (here : Setting D) (are : AreDecls here.decls) (plans : Pl
   abbrev pub AtMost : World D → ℕ → Type 0
   AtMost world n = ((hub : Hub) → world.hub ≡ Some hub → n ≤ turns_left hub world.links) × (world.hub ≡ None → n ≡ 0)
 
-  -- behind an event of a round a hub is up
+  -- after an event of a round a hub is up
   round_up : (world : World D) (hub : Hub) (up : world.hub ≡ Some hub) (meant : Event) (row : List Entry) (next : World D) → DoesUnderHub here world hub meant row next → is_of_round meant ≡ true
       → (hub' : Hub) × (next.hub ≡ Some hub')
   round_up world hub up meant row next (DoesUnderHub.turns_away place it said there first idle why) h = (_, refl)
@@ -129,7 +129,7 @@ module _ {D : Type 0} (here : Setting D) (are : AreDecls here.decls) (plans : Pl
       let fewer = does_lessen here old hub own up meant row next does h behind.0 behind.1 in
       at_most_one old new hub n up (omega (arith, fewer, none))
 
-  -- one turn, and those behind it
+  -- one turn, and those after it
   steps_at_most : (old new : World D) (meant : Event) (seen : Option Event) (n : ℕ) → DevicesKept here.decls old → Steps here old meant seen new → is_of_round meant ≡ true → AtMost new n → AtMost old (suc n)
   steps_at_most old new meant seen n own (Steps.done hub row next _ up does appends is) h most =
       let behind = round_up old hub up meant row next does h in

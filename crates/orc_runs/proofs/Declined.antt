@@ -1,4 +1,4 @@
--- A device's refusal is told only where it doesn't accept the tree that would be due.
+-- A device's refusal is answered only where it doesn't accept the tree that would be due.
 use Rattle.std.proofs.Common.{[], ◌≡◌, ℕ, true, false, Option, Some, None, ◌∷◌, ◌++◌, nat_eq, refl, sym, ap, subst, ◌∙◌}
 use Rattle.std.specs.Prelude.{slice_get}
 use Rattle.std.specs.List.{list_any}

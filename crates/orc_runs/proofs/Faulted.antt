@@ -87,7 +87,7 @@ use Rattle.orc_runs.proofs.Lasting.{set_kept}
 use Rattle.orc_runs.specs.Headline.{HasFault, IsStaleBecause, WasGone, is_admission, is_mended, since_admitted, since_mended}
 use Rattle.orc_runs.proofs.Faulting.{FaultsKnown, UnderFaults, lost_stage}
 
--- a stale device is told with its cause
+-- a stale device is named with its cause
 pub record IsStaleAt (stale : List (Option Why)) (said : Answer) : Type 0 where
   pub device : ℕ
   pub cause : Why
@@ -113,7 +113,7 @@ pub data GivenUpBy (duties : List Duty) (t : ℕ) (devices : List ℕ) (said : A
   by_loss : (device count : ℕ) → list_any (nat_eq device) devices ≡ true → said ≡ answer.LinkFault device count → outcome_on duties t device ≡ Some (outcome.Lost count)
       → GivenUpBy duties t devices said
 
--- the device whose outcome is told
+-- the device whose outcome is answered
 pub record FirstOf (by : ℕ → Option Outcome → Option Answer) (duties : List Duty) (t : ℕ) (devices : List ℕ) (said : Answer) : Type 0 where
   pub device : ℕ
   pub named : list_any (nat_eq device) devices ≡ true
@@ -334,14 +334,14 @@ module _ {D : Type 0} (here : Setting D) (are : AreDecls here.decls) (plans : Pl
     (planning : Planning (over here.decls) (StandsAt here.decls) (FitAt here.decls) (ValidAt here.decls))
     (replies_steps : (old new : World D) (meant : Event) (seen : Option Event) → HistoryKept here old → DevicesKept here.decls old → RepliesKept here old → Steps here old meant seen new → RepliesKept here new)
     (first : World D) where
-  -- why a device may be stale behind these turns, and by which faults workers of a transaction were lost
+  -- why a device may be stale after these turns, and by which faults workers of a transaction were lost
   abbrev pub CameIn : List (Turn D) → ℕ → Why → Type 0
   CameIn ts = IsStaleBecause first ts
 
   abbrev pub LostIn : List (Turn D) → ℕ → ℕ → ℕ → Type 0
   LostIn ts t = HasFault (since_admitted t ts)
 
-  -- it was known before each turn
+  -- the causes and the faults were known before each turn
   abbrev pub AllKnown : List (Turn D) → Type 0
   AllKnown ts = (earlier later : List (Turn D)) (turn : Turn D) → ts ≡ earlier ++ turn ∷ later → FaultsKnown (CameIn earlier) (LostIn earlier) turn.before
 

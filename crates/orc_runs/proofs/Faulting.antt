@@ -119,7 +119,7 @@ told_not_lost stage.UnlockingRunning commit h e = cc
 told_not_lost stage.Closing commit h e = cc
 told_not_lost stage.Over commit h e = cc
 
--- one that no decision was told and that is lost waits so
+-- a worker that is lost, and that no decision reached, is at the stage Lost
 pub lost_stage : (st : Stage) (count : ℕ) → agrees st (Some (outcome.Lost count)) ≡ true → stands_undecided st (Some (outcome.Lost count)) ≡ true → st ≡ stage.Lost
 lost_stage stage.Opening count h g = absurd (false≢true h)
 lost_stage stage.LockingRunning count h g = absurd (false≢true h)
@@ -184,7 +184,7 @@ duty_fault duty.Free r f count h = absurd cc
 duty_fault (duty.Works worker) r f count h = absurd cc
 duty_fault (duty.Mends mender) r f count h = end_fault mender.stage mender.left r f count h
 
--- and a reconciliation meets one of a device only so
+-- a reconciliation meets a link's fault only where mending the device ended by it
 pub met_fault : (device x : ℕ) (o : Option Mend) (count : ℕ) → mend_fault device o ≡ Some (fault.LinkFault x count) → (device ≡ x) × (o ≡ Some (mend.LinkFault count))
 met_fault device x None count h = absurd cc
 met_fault device x (Some (mend.LinkFault c)) count h =
@@ -252,7 +252,7 @@ stale_fault (duty.Mends mender) r f before count honest h = ⊎_elim (λ old. in
 
 -- duties
 
--- behind an admission a device does what it did, or a worker begins there
+-- after an admission a device does what it did, or a worker begins there
 started_cases : (t : ℕ) (sets : List (ℕ × ChangeSet)) (duties : List Duty) (device : ℕ)
     → (duty_on (started t sets duties) device ≡ duty_on duties device) ⊎ ((set : ChangeSet) × (duty_on (started t sets duties) device ≡ duty.Works (new_worker t set)))
 started_cases t [] duties device = inl refl
@@ -342,7 +342,7 @@ gone_at stage.UnlockingRunning r f h = absurd cc
 gone_at stage.Closing r f h = absurd cc
 gone_at stage.Over r f h = absurd cc
 
--- and tells so in a report only then
+-- a report has the outcome Gone only where that was brought, or with a fault
 report_gone : (b o : Option Outcome) (f : Option ℕ) (report : Report) → report_of b o f ≡ Some report → report.outcome ≡ outcome.Gone → (b ≡ Some outcome.Gone) ⊎ ((n : ℕ) × (report.fault ≡ Some n))
 report_gone (Some brought) o f report h is = inl (ap (λ (x : Outcome). Some x) (ap (λ (r : Report). r.outcome) (same_Some _ report h) ∙ is))
 report_gone None (Some before) (Some count) report h is = inr (count, ap (λ (r : Report). r.fault) (sym (same_Some _ report h)))
@@ -424,12 +424,12 @@ UnheardFaults Came links = (device : ℕ) (op : OpKind) → (links device).unhea
 abbrev pub by_fault : (ℕ → Why → Type 0) → ℕ → ℕ → Type 0
 by_fault Came device count = Came device (why.Fault count)
 
--- and of the links
+-- causes and faults are known, of the hub's devices and of the links
 pub record FaultsKnown {D : Type 0} (Came : ℕ → Why → Type 0) (Lost : ℕ → ℕ → ℕ → Type 0) (world : World D) : Type 0 where
   pub unheard : UnheardFaults (by_fault Came) world.links
   pub under : (hub : Hub) → world.hub ≡ Some hub → UnderFaults Came Lost hub.duties hub.stale world.links
 
--- more may have come, of what the hub's devices and workers tell
+-- more may have come, of what the hub's devices and workers report
 pub more_known : {D : Type 0} (F G : ℕ → Why → Type 0) (L M : ℕ → ℕ → ℕ → Type 0) (world : World D) → ((device : ℕ) (cause : Why) → F device cause → G device cause)
     → ((hub : Hub) (device : ℕ) (worker : Worker) → world.hub ≡ Some hub → duty_on hub.duties device ≡ duty.Works worker → (x count : ℕ) → L worker.t x count → M worker.t x count)
     → FaultsKnown F L world → FaultsKnown G M world

@@ -37,7 +37,7 @@ history_from-join before (x ∷ xs) ys =
     ∙ sym (append_assoc (commits before x) (history_from (before ++ x ∷ []) xs) (history_from ((before ++ x ∷ []) ++ xs) ys))
     ∙ ap (λ (l : List Entry). (commits before x ++ history_from (before ++ x ∷ []) xs) ++ history_from l ys) (append_assoc before (x ∷ []) xs)
 
--- entries that are a front of others tell a front of their history
+-- entries that are a prefix of others give a prefix of their history
 pub front_history : (a b : List Entry) → IsFront a b → BeginsHistory (history_of a) (history_of b)
 front_history a b f = (history_from a f.0, ap history_of f.1 ∙ history_from-join [] a f.0)
 

@@ -92,7 +92,7 @@ set_devices {D = D} here (step.Fault device op at) world own = record {
         go false e = refl
 set_devices here other world own = own
 
--- and how far along the history each has come
+-- setting a link's stop or fault leaves how far along the history each device has come
 armed_shadow : {D : Type 0} (here : Setting D) (count bytes : ℕ) (world : World D) (own : DevicesKept here.decls world) (hub : Option Hub) (x : ℕ)
     → ((armed_devices here count bytes world own hub).shadow x).at ≡ (own.shadow x).at
 unfolding armed_devices
@@ -106,7 +106,7 @@ set_shadow here (step.StopAt count bytes) world own x = armed_shadow here count 
 set_shadow here (step.Fault device op at) world own x = refl
 set_shadow here other world own x = refl
 
--- what is due behind a front of a legal history
+-- what is due after a prefix of a legal history
 pub front_is_due : (decls : Decls) (history : List Call) (count device : ℕ) → IsLegal decls history → nat_lt device (length decls.names) ≡ true
     → over decls device (take count history) ≡ tree_due (state_of decls (take count history)) device
 front_is_due decls history count device legal within =
@@ -120,7 +120,7 @@ module _ {D : Type 0} (here : Setting D)
     (are : AreDecls here.decls) (plans : PlanStands) (legally : LegalStands) (order : KeepsOrder)
     (kinds : (device : ℕ) → IsOfHub (here.kinds device)) (lawful : (device : ℕ) → IsLawful (here.kinds device) (over here.decls device))
     (planning : Planning (over here.decls) (StandsAt here.decls) (FitAt here.decls) (ValidAt here.decls)) where
-  -- a device in step, behind an event
+  -- a device in step, after an event
   record IsInStep (world : World D) (device : ℕ) : Type 0 where
     pub hub : Hub
     pub up : world.hub ≡ Some hub
@@ -207,7 +207,7 @@ module _ {D : Type 0} (here : Setting D)
         → turn.seen ≡ Some (event.Reconcile (Some (Ok tt))) → (turn.behind.nodes device).running ≡ tree_due (state_of here.decls (history_read turn.behind.journal)) device
     runs_reconciled turn device among within seen = (runs_mended turn device among within seen).runs
 
-    -- and what is pending there is of an unsettled intent that names it and is synced, and it runs what is due by that
+    -- what is pending on a device is of an unsettled intent that names that and is synced, and it runs what is due
     pub runs_pend_known : (turn : Turn D) (device t : ℕ) → Contains (turns_of run) turn → ((told_by turn.behind.journal.synced).intents t ≢ None) → pending_id (turn.behind.nodes device).pending ≡ Some t
         → IsPending here.decls turn.behind.journal device t (turn.behind.nodes device)
     runs_pend_known turn device t among synced pends =

@@ -29,7 +29,7 @@ abbrev pub Each : {D : Type 0} → (Turn D → Type 0) → List (Turn D) → Typ
 Each IsSo [] = Unit {0}
 Each IsSo (turn ∷ turns) = IsSo turn × Each IsSo turns
 
--- so is that at a place
+-- the turn at a place is so
 pub each_at : {D : Type 0} (IsSo : Turn D → Type 0) (turns : List (Turn D)) (place : ℕ) (turn : Turn D) → Each IsSo turns → slice_get turns place ≡ Some turn → IsSo turn
 each_at IsSo [] place turn each is = absurd cc
 each_at IsSo (x ∷ turns) zero turn each is = subst IsSo (same_Some x turn is) each.0
@@ -56,7 +56,7 @@ module _ {D : Type 0} (here : Setting D)
   abbrev pub ToLast : Journal D → World D → Type 0
   ToLast now last = LastsLegal here only_now now last.journal
 
-  -- a turn, as a run that ends here has it: what is kept before it and behind it, and what a crash leaves from then on
+  -- a turn, as a run that ends here has it: what is kept before it and after it, and what a crash leaves from then on
   pub record IsKept (last : World D) (turn : Turn D) : Type 0 where
     pub comes : Comes here turn
     pub before : Kept turn.before
@@ -163,7 +163,7 @@ module _ {D : Type 0} (here : Setting D)
       (survives_then line.before.journal line.behind last line.turns (flat_map (λ it. it.turns) lines) one
       (lines_survive line.behind last lines one.kept are'.2))
 
-  -- what is kept before and behind each line
+  -- what is kept before and after each line
   pub record IsKeptLine (line : LineDone D) : Type 0 where
     pub before : Kept line.before
     pub does : IsDone here false line

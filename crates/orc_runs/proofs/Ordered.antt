@@ -100,7 +100,7 @@ pub record Ordered {D : Type 0} (first : List Call) (ts : List (Turn D)) (now : 
       → IsSubsequenceOf (calls_of call.caller added ++ call ∷ []) (calls_of call.caller (queued ts))
   pub callers : (hub : Hub) → now.hub ≡ Some hub → CallersApart hub
 
--- What a row, or a front of it, makes of the history: nothing, or the call of a transaction that was open.
+-- What a row, or a prefix of it, makes of the history: nothing, or the call of a transaction that was open.
 pub data RowGrows (hub : Hub) (old new : List Call) : Type 0 where
   stays_so : new ≡ old → RowGrows hub old new
   adds : (place : ℕ) (it : Transaction) → slice_get hub.active place ≡ Some it → is_preparing it.phase ≡ true → new ≡ old ++ it.call ∷ [] → RowGrows hub old new
@@ -158,7 +158,7 @@ without_in {X = X} (suc place) (y ∷ xs) zero x h = (zero, sym (ap (λ (l : Lis
 without_in {X = X} (suc place) (y ∷ xs) (suc i) x h =
     let later = without_in place xs i x (sym (ap (λ (l : List X). slice_get l (suc i)) (without_suc place y xs)) ∙ h) in (suc later.0, later.1)
 
--- who is open behind a decision was so before, and of another number
+-- who is open after a decision was so before, and of another number
 pub record WasOpen (active : List Transaction) (t place : ℕ) (it : Transaction) : Type 0 where
   pub there : slice_get active place ≡ Some it
   pub apart : nat_eq it.t t ≡ false
@@ -228,7 +228,7 @@ module _ {D : Type 0} (here : Setting D) (first : List Call) (ts : List (Turn D)
             (o.opens hub up it.call (IsOpen.open_preparing place it there preparing refl)))
         on false is = subst (λ (l : List Call). IsSubsequenceOf l (calls_of caller (queued ts))) (sym (with_other caller is)) (o.front caller)
 
-    -- and it isn't open any more
+    -- a call was added, and isn't open any more
     added_turn : ((hub' : Hub) → turn.behind.hub ≡ Some hub' → (call : Call) → IsOpen hub' call → IsOpen hub call × (it.call.caller ≡ call.caller → ⊥))
         → ((hub' : Hub) → turn.behind.hub ≡ Some hub' → CallersApart hub') → Ordered first (ts ++ turn ∷ []) turn.behind
     added_turn were apart = record {
@@ -243,7 +243,7 @@ module _ {D : Type 0} (here : Setting D) (first : List Call) (ts : List (Turn D)
       callers = apart;
     }
 
-  -- a row was appended, or a front of it, and no hub is up
+  -- a row was appended, or a prefix of it, and no hub is up
   down_turn : (hub : Hub) → turn.before.hub ≡ Some hub → turn.behind.hub ≡ None → RowGrows hub (history_read turn.before.journal) (history_read turn.behind.journal)
       → Ordered first (ts ++ turn ∷ []) turn.behind
   down_turn hub up down (RowGrows.stays_so is) =

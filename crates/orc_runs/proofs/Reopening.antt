@@ -1,4 +1,4 @@
--- No recovery is refused for what the journal's bytes are, where the disk tells these.
+-- No recovery is refused for what the journal's bytes are, where the disk reports these.
 use Rattle.std.proofs.Common.{◌≡◌, ◌⊎◌, ◌+◌, inl, inr, true, ℕ, zero, suc, Option, Some, None, List, [], ◌∷◌, ◌++◌, IsTrue, take, refl, sym, ap, subst, append_assoc, ◌∙◌}
 use Rattle.std.specs.Prelude.{IfSome}
 use Rattle.std.proofs.lemmas.Bool.{false≢true}
@@ -32,13 +32,13 @@ history_more before (one ∷ entries) (suc count) =
     let more = history_more (before ++ one ∷ []) entries count in
     (more.0, ap (λ (h : List Call). commits before one ++ h) more.1 ∙ sym (append_assoc (commits before one) (history_from (before ++ one ∷ []) (take count entries)) more.0))
 
--- and is legal where that is
+-- the history of some first entries is legal where that of all is
 front_legal : (decls : Decls) (entries : List Entry) (count : ℕ) → IsLegal decls (history_of entries) → IsLegal decls (history_of (take count entries))
 front_legal decls entries count legal =
     let more = history_more [] entries count in
     legal_front decls (history_of (take count entries)) more.0 (subst (λ (h : List Call). IsLegal decls h) more.1 legal)
 
--- what is so of the bytes that an opening read is so of those that the disk tells
+-- what is so of the bytes that an opening read is so of those that the disk reports
 told_by : {D : Type 0} (disk : DiskMeaning D) (old from new : D) (P : List ℕ → Type 0) → IsSynced disk old from new → OfHeard disk from new P → IfSome (disk.content old) P
 told_by {D} disk old from new P looked (file, heard, so) = subst (λ (o : Option (List ℕ)). IfSome o P) (same looked) (on (disk.content from) heard.told)
   where
@@ -50,7 +50,7 @@ told_by {D} disk old from new P looked (file, heard, so) = subst (λ (o : Option
     on None told = tt
     on (Some held) told = subst P told so
 
--- two things that can't be of one file aren't so of any that is told
+-- two things that can't be of one file aren't so of any that is reported
 none_told : (o : Option (List ℕ)) (P Q : List ℕ → Type 0) → IfSome o P → IfSome o Q → ((file : List ℕ) → P file → Q file → ⊥) → o ≡ None
 none_told None P Q p q apart = refl
 none_told (Some file) P Q p q apart = absurd (apart file p q)
@@ -81,7 +81,7 @@ module _ {D : Type 0} (here : Setting D) (one : HasOneVerdict) (turn : Turn D) (
   unfit_not at file gated (inr (inl illegal)) = illegal_not at file gated illegal
   unfit_not at file gated (inr (inr gone)) = no_bytes (journal_bytes here.decls.text (entries_read turn.before.journal)) gated.rest gated.gate (sym gone.0 ∙ gated.bytes)
 
-  -- a recovery that came to nothing read what the disk told, if it told anything
+  -- a recovery that came to nothing read what the disk reported, if it reported anything
   told_of : (P : List ℕ → Type 0) → (from : D) × IsSynced here.disk turn.before.journal.disk from turn.behind.journal.disk × OfHeard here.disk from turn.behind.journal.disk P
       → IfSome (here.disk.content turn.before.journal.disk) P
   told_of P (from, looked, heard) = told_by here.disk turn.before.journal.disk from turn.behind.journal.disk P looked heard

@@ -77,7 +77,7 @@ set_here [] i y x is = absurd cc
 set_here (z ∷ xs) zero y x is = same_Some y x is
 set_here (z ∷ xs) (suc i) y x is = set_here xs i y x is
 
--- the first place where a test holds, where an element of which it holds is put there, or behind all
+-- the first place where a test holds, where an element of which it holds is put there, or after all
 module _ {X : Type 0} (p : X → Bool) where
   first_set : (xs : List X) (q a : ℕ) (y : X) → p y ≡ true → position p xs ≡ Some q → position p (slice_set xs q y) ≡ Some a → q ≡ a
   first_set xs q a y holds was now = ⊎_elim (λ same. same) (λ apart. absurd (⊎_elim (λ less. below less) (λ more. above more) (ordered q a apart))) (same_place q a)
@@ -295,7 +295,7 @@ settling_not_under phase.Left h = refl
 
 -- what retires
 
--- it is as it was, and isn't over; or it has ended, and holds nothing
+-- a transaction is as it was, and isn't over; or it has ended, and holds nothing
 retires : (duties : List Duty) (it : Transaction)
     → ((retired duties it ≡ it) × ((is_told it.phase && are_over duties it.t it.plan.held.devices) ≡ false))
     ⊎ ((is_under_way (retired duties it).phase ≡ false) × (is_told (retired duties it).phase ≡ false) × (is_preparing (retired duties it).phase ≡ false) × ((retired duties it).plan.held ≡ nothing_held))
@@ -614,7 +614,7 @@ idle_serves waiting active duties duties' asked left own = record {
   empty = own.empty;
 }
 
--- and where none is active any more
+-- each call is served as well where no transaction is active any more
 pub none_serves : (waiting : List Waiting) (active : List Transaction) (duties duties' : List Duty) (asked : List Asked)
     → ((i : ℕ) (it : Transaction) → slice_get active i ≡ Some it → it.phase ≡ phase.Left) → ServesEach waiting active duties asked → ServesEach waiting [] duties' asked
 none_serves waiting active duties duties' asked left own = record {

@@ -1,4 +1,4 @@
--- Behind a `settle` no call is open.
+-- After a `settle` no call is open.
 use Rattle.std.proofs.Common.{[], append_assoc, eqb-true, ltb-true, ltb-false, lt-ltb, ◌≡◌, ◌⊎◌, inl, inr, ⊎_elim, ℕ, ◌+◌, ◌<◌, ◌≤◌, Bool, true, false, cond, ◌&&◌, ◌||◌, nat_eq, nat_lt, min, Option, Some, None, List, ◌∷◌, ◌++◌, All, Contains, map, length, get_or, is_some, refl, sym, ap, subst, ◌∙◌, arith, eq-eqb, zero, suc}
 use Rattle.std.specs.Prelude.{slice_get}
 use Rattle.std.specs.List.{flat_map, fold, list_all, list_any}
@@ -95,7 +95,7 @@ not_all p (x ∷ xs) none = on (p x) refl (not_all p xs)
         let later = rest (sym (ap (λ (b : Bool). b && list_all p xs) is) ∙ none) in
         (later.0, or_more (nat_eq later.0 x) (list_any (nat_eq later.0) xs) later.1, later.2)
 
--- it holds of each element, by its place
+-- what holds at each place holds of each element
 all_by : {X : Type 0} (P : X → Type 0) (xs : List X) → ((i : ℕ) (x : X) → slice_get xs i ≡ Some x → P x) → All P xs
 all_by P xs h = λ k d lt. h k (get_or xs k d) (slice_get-get_or xs k d lt)
 
@@ -240,7 +240,7 @@ none_is_due stage.UnlockingRunning h = absurd (false≢true h)
 none_is_due stage.Closing h = absurd (false≢true h)
 none_is_due stage.Over h = absurd (false≢true h)
 
--- and so does one that goes on and hasn't ended
+-- a stage that goes on and hasn't ended is due
 going_is_due : (st : Stage) → is_going st ≡ true → is_over st ≡ false → is_due st ≡ true
 going_is_due stage.Opening h g = absurd (false≢true h)
 going_is_due stage.LockingRunning h g = absurd (false≢true h)
@@ -262,7 +262,7 @@ going_is_due stage.Over h g = absurd (false≢true (sym g))
 
 -- what an event keeps of who is served
 
--- it holds of each element, by its place
+-- a test that holds at each place holds of each element
 all_places : {X : Type 0} (p : X → Bool) (xs : List X) → ((i : ℕ) (x : X) → slice_get xs i ≡ Some x → p x ≡ true) → list_all p xs ≡ true
 all_places p [] h = refl
 all_places p (x ∷ xs) h = both (p x) (list_all p xs) (h 0 x refl) (all_places p xs (λ i y at. h (suc i) y at))
@@ -292,7 +292,7 @@ module _ {D : Type 0} (here : Setting D) (are : AreDecls here.decls) (plans : Pl
     abbrev under : Attends here.decls devices.shadow (entries_read world.journal) hub world.links
     under = devices.under hub up
 
-    -- the hub behind it is this one
+    -- the hub after an event is this one
     is_behind : (next : World D) (hub' : Hub) → next.hub ≡ Some hub' → ServesHub hub' → ServesWorld next
     is_behind next hub' is so other e = subst ServesHub (same_Some hub' other (sym is ∙ e)) so
 
@@ -397,7 +397,7 @@ module _ {D : Type 0} (here : Setting D) (are : AreDecls here.decls) (plans : Pl
                     (way_possible (here.kinds device) (world.nodes device) (world.links device).session order.0 (listed_when (kind_of_op order.0) (world.links device).listed)) (inl refl),
               ))
 
-      -- nor is anything due in the journal
+      -- nothing is due in the journal
       none_least : (t : ℕ) → least_due hub.duties hub.active ≡ Some t → ⊥
       none_least t is = ⊎_elim (λ none. absurd cc) found (least_found hub.duties hub.active None t is)
         where
@@ -423,7 +423,7 @@ module _ {D : Type 0} (here : Setting D) (are : AreDecls here.decls) (plans : Pl
           on (Some t) e = none_least t e
           on None e = none_due hub.duties hub.active None e i it at due
 
-      -- so none is under way
+      -- no transaction is being prepared
       none_preparing : (i : ℕ) (it : Transaction) → slice_get hub.active i ≡ Some it → is_preparing it.phase ≡ true → ⊥
       none_preparing i it at preparing = on (are_heard hub.duties it.t it.plan.held.devices) refl
         where
@@ -466,7 +466,7 @@ module _ {D : Type 0} (here : Setting D) (are : AreDecls here.decls) (plans : Pl
           told_under phase.Settling h = absurd (false≢true h)
           told_under phase.Left h = absurd (false≢true h)
 
-      -- so each holds nothing
+      -- each transaction holds nothing
       all_empty : (i : ℕ) (it : Transaction) → slice_get hub.active i ≡ Some it → it.plan.held ≡ nothing_held
       all_empty i it at = own.empty i it at (not_under it.phase (none_preparing i it at) (none_told i it at))
         where
@@ -477,7 +477,7 @@ module _ {D : Type 0} (here : Setting D) (are : AreDecls here.decls) (plans : Pl
           not_under phase.Settling h g = refl
           not_under phase.Left h g = refl
 
-      -- and none waits, since the first could be looked at
+      -- no call waits, since the first could be looked at
       none_waits : (it : Waiting) → slice_get hub.waiting 0 ≡ Some it → ⊥
       none_waits it at = (still 0).0 (event.Admit it.t (Some answer.Memory)) tt
           (inl (
@@ -605,7 +605,7 @@ begins_none decls step.Recover other = (refl, (refl, tt))
 begins_none decls step.Reconcile other = absurd (false≢true (sym other))
 begins_none decls at other = tt
 
--- the first part of a row that ends so is the last, or stands in front
+-- the first part of a row that ends a reconciliation is the last, or stands before it
 pub data IsLastPart (one : Part) (parts ps : List Part) : Type 0 where
   earlier : (later : List Part) → parts ≡ later ++ part.Ending ∷ [] → IsLastPart one parts ps
   alone : one ≡ part.Ending → parts ≡ [] → IsLastPart one parts ps
@@ -762,14 +762,14 @@ module _ {D : Type 0} (here : Setting D) where
   lines_rest first last (x ∷ lines) rested done (suc place) line at =
       lines_rest x.behind last lines (line_rests x.step x.before x.turns x.behind done.1.goes (subst IsRested (sym done.0) rested)) done.2 place line at
 
-  -- and as a line begins
+  -- no reconciliation is unfinished as a line begins
   pub lines_rest_before : (first last : World D) (lines : List (LineDone D)) → IsRested first → AreDone here first lines last → (place : ℕ) (line : LineDone D) → slice_get lines place ≡ Some line → IsRested line.before
   lines_rest_before first last [] rested done place line at = absurd cc
   lines_rest_before first last (x ∷ lines) rested done zero line at = subst (λ (l : LineDone D). IsRested l.before) (same_Some x line at) (subst IsRested (sym done.0) rested)
   lines_rest_before first last (x ∷ lines) rested done (suc place) line at =
       lines_rest_before x.behind last lines (line_rests x.step x.before x.turns x.behind done.1.goes (subst IsRested (sym done.0) rested)) done.2 place line at
 
-  -- and behind them all
+  -- no reconciliation is unfinished after all lines
   pub lines_rest_last : (first last : World D) (lines : List (LineDone D)) → IsRested first → AreDone here first lines last → IsRested last
   lines_rest_last first last [] rested same = subst IsRested same rested
   lines_rest_last first last (x ∷ lines) rested done =
@@ -795,7 +795,7 @@ module _ {D : Type 0} (here : Setting D)
   both_set : (at : ScriptStep) (world : World D) → ServedWorld world → ServedWorld (set_by at world)
   both_set at world own' = (set_devices here at world own'.0, set_serves at world own'.1)
 
-  -- nothing is left behind a line `settle`, where a hub is up
+  -- nothing is left after a line `settle`, where a hub is up
   pub left_still : (line : LineDone D) → Contains run.lines line → line.step ≡ step.Settle → (hub : Hub) → line.behind.hub ≡ Some hub → (call : Call) → IsOpen hub call → ⊥
   left_still line among is hub up =
       let at = there_in run.lines line among in

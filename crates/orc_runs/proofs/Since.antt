@@ -68,13 +68,13 @@ module _ {D : Type 0} (here : Setting D) (Came : ℕ → ℕ → Type 0) (world 
   abbrev under : Attends here.decls devices.shadow (entries_read world.journal) hub world.links
   under = devices.under hub up
 
-  -- the hub behind has the same reconciliation, and the links are as they were
+  -- the hub afterwards has the same reconciliation, and the links are as they were
   alike : (next : World D) (hub' : Hub) → next.hub ≡ Some hub' → hub'.mends ≡ hub.mends → next.links ≡ world.links → MendingKnown Came next
   alike next hub' is same links other e met m =
       let o = own hub up met (sym same ∙ ap (λ (h : Hub). h.mends) (same_Some hub' other (sym is ∙ e)) ∙ m) in
       record { unheard = subst (UnheardFaults Came) (sym links) o.unheard; met_so = o.met_so }
 
-  -- it has none
+  -- the hub afterwards has no reconciliation
   ended : (next : World D) (hub' : Hub) → next.hub ≡ Some hub' → hub'.mends ≡ None → MendingKnown Came next
   ended next hub' is none other e met m =
       absurd (let no : ◌≡◌ {A = Option (Option RecFault)} None (Some met) = sym none ∙ ap (λ (h : Hub). h.mends) (same_Some hub' other (sym is ∙ e)) ∙ m in cc)

@@ -1,4 +1,4 @@
--- A `settle` is done: behind it nothing is left for a round. (Not checked yet.)
+-- A `settle` is done: after it nothing is left for a round.
 use Rattle.std.proofs.Common.{[], ◌≡◌, false, List, ◌∷◌, ◌++◌, refl, sym, ap, subst, ◌∙◌, append_assoc}
 use Rattle.std.proofs.lemmas.Bool.{false≢true}
 use Rattle.orc_rules.specs.Events.{Turn}
@@ -11,7 +11,7 @@ nil_ends : (ps : List Part) → [] ≡ ps ++ part.Rounds ∷ [] → ⊥
 nil_ends [] e = cc
 nil_ends (p ∷ ps) e = cc
 
--- the first part is of the front, or the rounds themselves are all
+-- the first part stands before the rounds, or the rounds themselves are all
 pub data Begins (one : Part) (parts ps : List Part) : Type 0 where
   in_front : (later : List Part) → ps ≡ one ∷ later → parts ≡ later ++ part.Rounds ∷ [] → Begins one parts ps
   alone : one ≡ part.Rounds → parts ≡ [] → Begins one parts ps

@@ -38,7 +38,7 @@ use Rattle.orc_runs.proofs.Lasting.{IsKept, each_in, run_survives}
 abbrev pub HasOpenIntent : List Entry → ℕ → Type 0
 HasOpenIntent entries t = (noted : Noted Call) × ((told_by entries).intents t ≡ Some noted)
 
--- what stands in front of an element of a row of one
+-- what stands before an element of a row of one
 alone : (one first : Entry) (done later : List Entry) → one ∷ [] ≡ done ++ first ∷ later → done ≡ []
 alone one first [] later is = refl
 alone one first (x ∷ done) later is = absurd (none done (let rest : ◌≡◌ {A = List Entry} [] (done ++ first ∷ later) = cc in rest))

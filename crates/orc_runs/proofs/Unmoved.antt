@@ -42,7 +42,7 @@ module _ {D : Type 0} (here : Setting D) where
   failing_said (event.Decide t said) turn call given says = sym says.1
   failing_said other turn call given says = absurd says
 
-  -- what a read gives behind a row that was appended
+  -- what a read gives after a row that was appended
   pub read_done : (old new : Journal D) (row : List Entry) → AppendsRow here.disk here.decls.text here.limit old row appended.Done new → entries_read new ≡ entries_read old ++ row
   read_done old new row a =
       uncut_read new a.ends.1 ∙ a.synced ∙ ap (λ (l : List Entry). l ++ a.done) (sym (uncut_read old a.before))

@@ -19,13 +19,13 @@ use Rattle.orc_rules.specs.declared.event.Event.TheVariants as event
 
 -- Why a run ends.
 pub data EndOfRun : Type 0 where
-  Memory : EndOfRun  -- memory was wanting
+  Memory : EndOfRun  -- memory ran out
   WriteFault : EndOfRun  -- what is printed couldn't be written
   JournalFault : EndOfRun  -- the disk of the journal failed
   Full : ℕ → EndOfRun  -- the journal, which has so many bytes, has no room
-  Foreign : ℕ → EndOfRun  -- it isn't opened: it has other declarations, which differ first at this offset
-  NotJournal : EndOfRun  -- it isn't opened: it is no journal
-  Damaged : ℕ → EndOfRun  -- it isn't opened: at this offset stands no entry that may follow
+  Foreign : ℕ → EndOfRun  -- the journal isn't opened: it has other declarations, which differ first at this offset
+  NotJournal : EndOfRun  -- the journal isn't opened: its bytes are no journal
+  Damaged : ℕ → EndOfRun  -- the journal isn't opened: at this offset stands no entry that may follow
 
 -- the journal isn't opened, for what its bytes are
 abbrev pub is_refused_journal : EndOfRun → Bool
@@ -58,7 +58,7 @@ module _ {D : Type 0} (here : Setting D) where
       × ((from : D) × IsSynced here.disk turn.before.journal.disk from turn.behind.journal.disk
       × OfHeard here.disk from turn.behind.journal.disk IsSo)
 
-  -- of the entries that the turn was to append one has no room, behind the journal of so many bytes
+  -- of the entries that the turn was to append one has no room, after the journal of so many bytes
   abbrev pub IsFullAt : Turn D → ℕ → Type 0
   IsFullAt turn len = (hub : Hub) × (row : List Entry) × (next : World D) × (turn.before.hub ≡ Some hub)
       × DoesUnderHub here turn.before hub turn.meant row next
@@ -82,7 +82,7 @@ module _ {D : Type 0} (here : Setting D) where
   IsEndedBy turn (EndOfRun.Damaged at) = CameToNothing turn (λ file. IsUnfit file at)
   IsEndedBy turn other = ⊥
 
-  -- Why a run ended with these turns of a line: memory was wanting, or what is printed couldn't be written, whatever the
+  -- Why a run ended with these turns of a line: memory ran out, or what is printed couldn't be written, whatever the
   -- turns are; or for what became of the journal in the last of them.
   abbrev pub EndedBecause : List (Turn D) → EndOfRun → Type 0
   EndedBecause turns EndOfRun.Memory = Unit {0}

@@ -128,7 +128,7 @@ IsAnsweredLater turn (Some (event.Admit t given)) call said =
 IsAnsweredLater turn (Some (event.Decide t given)) call said = (call_under turn.before t ≡ Some call) × (given ≡ said)
 IsAnsweredLater turn other call said = ⊥
 
--- this answer is given to this call, as it is submitted or later
+-- a call gets this answer, as it is submitted or later
 abbrev pub IsAnswered : {D : Type 0} → Turn D → Option Event → Call → Answer → Type 0
 IsAnswered turn (Some (event.Submit submitted front given)) call said = (submitted ≡ call) × (given ≡ Some said)
 IsAnswered turn other call said = IsAnsweredLater turn other call said
@@ -241,12 +241,12 @@ IsRefusedAs decls world other call given = ⊥
 -- Why a call got this answer, in a turn of a run from this first world on that came after these turns. A call that is
 -- committed is the entry of its number. A number that is reused has an entry of other actions. Busy names the caller's
 -- open call. Conflict is what the check of a waiting call's own plan says: it names the first entry after the call's
--- snapshot that wrote what the call read, and the least such write. OutOfSync is told of a waiting call that nothing else
--- refuses, of the first device of those that it holds that is out of sync, with the cause that the hub has for it, and
+-- snapshot that wrote what the call read, and the least such write. OutOfSync is given to a waiting call that nothing
+-- else refuses, for the first device of those that it holds that is out of sync, with the cause that the hub has, and
 -- that cause came since a reconciliation ended well last. A device of a call under way refuses with operation-failed
 -- alone, and only where it doesn't accept the tree that would be due with the call. A link fault of a device of a call
--- under way came since that was admitted, with its number. JournalFault is told only where the disk failed. Memory needs
--- no cause. And each other answer is what is looked at of the call in this turn.
+-- under way came since that was admitted, with its number. JournalFault is given only where the disk failed. Memory
+-- needs no cause. And each other answer is what is looked at of the call in this turn.
 abbrev pub AnsweredBecause : {D : Type 0} → Setting D → World D → List (Turn D) → Turn D → Call → Answer → Type 0
 AnsweredBecause here first earlier turn call (answer.Committed number) =
     IsNumberedEntry (history_read turn.behind.journal) number call
@@ -277,7 +277,7 @@ AnsweredBecause here first earlier turn call answer.Memory = Unit {0}
 AnsweredBecause here first earlier turn call given = IsRefusedAs here.decls turn.before turn.seen call given
 
 -- Why a reconciliation ended otherwise than well: a link failed since it began, by the fault of this number; the disk
--- failed in this turn; memory was wanting; or a device refused, which none does where each accepts what is due after each
+-- failed in this turn; memory ran out; or a device refused, which none does where each accepts what is due after each
 -- first calls of the history at entry.
 abbrev pub FailsToMendBecause : {D : Type 0} → Setting D → List Call → List (Turn D) → Turn D → RecFault → Type 0
 FailsToMendBecause here entry earlier turn (fault.LinkFault device number) =
@@ -362,8 +362,8 @@ pub record IsReconciled {D : Type 0} (decls : Decls) (world : World D) (device :
 -- is refused after those before it, and no caller has a number twice.)
 pub record Headline {D : Type 0} (here : Setting D) (script : List ScriptStep) (first last : World D)
     (run : Run here script first last) : Type 0 where
-  -- The journal decodes to one legal history, that which the world tells, and it begins with the one at entry: as it is
-  -- read at the end and at each moment, where the disk tells what it holds. And as a crash at any moment since the run
+  -- The journal decodes to one legal history, that of the world, and it begins with the one at entry: as it is read
+  -- at the end and at each moment, where the disk reports what it holds. And as a crash at any moment since the run
   -- began leaves it, it decodes to one that begins with the one at entry.
   pub one_history : BeginsHistory (history_read first.journal) (history_read last.journal)
       × IfSome (here.disk.content last.journal.disk)
@@ -376,13 +376,13 @@ pub record Headline {D : Type 0} (here : Setting D) (script : List ScriptStep) (
       → here.disk.left_since last.journal.disk (here.disk.moment first.journal.disk) file
       → HoldsHistoryFrom here.decls (history_read first.journal) file
   -- In each turn the history stays, or one call is added: that of the transaction that the turn decides. (Where the append
-  -- of its Decide was cut, or the disk failed in it, nobody is told, and the call may be added or not.)
+  -- of its Decide was cut, or the disk failed in it, nobody is answered, and the call may be added or not.)
   pub grows : (turn : Turn D) → Contains (turns_of run) turn
       → GrowsTo turn.before turn.meant (history_read turn.behind.journal)
   -- At no moment do the journal's bytes keep it from being opened again.
   pub opens_again : (turn : Turn D) → Contains (turns_of run) turn
       → IfSome (here.disk.content turn.behind.journal.disk) (IsOpenable here.decls)
-  -- So no recovery is refused for what the journal's bytes are, where the disk tells these.
+  -- No recovery is refused for what the journal's bytes are, where the disk reports these.
   pub reopens : (turn : Turn D) (why : EndOfRun) → Contains (turns_of run) turn → IsEndedBy here turn why
       → is_refused_journal why ≡ true → here.disk.content turn.before.journal.disk ≡ None
   -- Each call that was acknowledged is the entry of its number, in the history at the end and in the journal as it is read
@@ -396,7 +396,7 @@ pub record Headline {D : Type 0} (here : Setting D) (script : List ScriptStep) (
       × ((file : List ℕ) → here.disk.left_since last.journal.disk (here.disk.moment turn.behind.journal.disk) file
       → HoldsEntry here.decls number call file)
   -- Of each caller the entries that the run added are some of its calls, in the order in which they were submitted. (Calls
-  -- are told apart by what they say: of one that was refused, and sent again as it was, either sending counts.)
+  -- are known apart by what they say: of one that was refused, and sent again as it was, either sending counts.)
   pub in_callers_order : (caller : List ℕ) (added : List Call)
       → history_read last.journal ≡ history_read first.journal ++ added
       → IsSubsequenceOf (calls_of caller added) (calls_of caller (queued (turns_of run)))
@@ -428,7 +428,7 @@ pub record Headline {D : Type 0} (here : Setting D) (script : List ScriptStep) (
   pub reconciled : (turn : Turn D) (device : ℕ) → Contains (turns_of run) turn
       → IsDeclared here.decls device → turn.seen ≡ Some (event.Reconcile (Some (result.Ok tt)))
       → IsReconciled here.decls turn.behind device
-  -- And the journal, as it is read then, has no Intent without its Settled.
+  -- Whenever a reconciliation answers Ok, the journal, as it is read then, has no Intent without its Settled.
   pub all_settled : (turn : Turn D) (t : ℕ) → Contains (turns_of run) turn
       → turn.seen ≡ Some (event.Reconcile (Some (result.Ok tt)))
       → (told_by (entries_read turn.behind.journal)).intents t ≡ None

@@ -49,7 +49,7 @@ EachRun {D} disk IsSo =
 abbrev pub RunsHaveTheHeadline : {D : Type 0} → DiskMeaning D → Type 0
 RunsHaveTheHeadline {D} disk = EachRun disk (λ here script first last run. Headline here script first last run)
 
--- So each run has on the devices as a bundle declares them: nothing is asked of these.
+-- Each run on devices as a bundle declares them has the headline: nothing is asked of these.
 abbrev pub BundleRunsHaveTheHeadline : {D : Type 0} → DiskMeaning D → Type 0
 BundleRunsHaveTheHeadline {D} disk =
     (decls : Decls) (limit : ℕ) (granted : Bool) (script : List ScriptStep) (first last : World D)
@@ -66,8 +66,8 @@ StartsAreKept {D} disk =
     → HistoryKept (setting disk decls kinds limit granted) first × DevicesKept decls first
     × RepliesKept (setting disk decls kinds limit granted) first
 
--- So is everything that is kept of a world, of the work under its hub, and of reconciliations: as a run begins, after each
--- event, and after what a line sets. No event but the beginning of a reconciliation leaves one unfinished.
+-- Everything that is kept of a world, of the work under its hub, and of reconciliations is so: as a run begins, after
+-- each event, and after what a line sets. No event but the beginning of a reconciliation leaves one unfinished.
 pub record AreCarried {D : Type 0} (here : Setting D) (world : World D) : Type 0 where
   pub history : HistoryKept here world
   pub devices : DevicesKept here.decls world

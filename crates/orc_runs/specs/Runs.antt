@@ -37,7 +37,7 @@ EndsRun turn = (turn.seen ≡ None)
     ⊎ ((hub : Hub) × (turn.before.hub ≡ Some hub) × (turn.behind.hub ≡ None) × (turn.seen ≢ Some event.Stop))
 
 -- A line in which the run ended prints all that is said in it, up to its last turn; so also the answer JournalFault to a
--- call for which the disk failed. But where memory was wanting, or the text couldn't be written, that of the last turn may
+-- call for which the disk failed. But where memory ran out, or the text couldn't be written, that of the last turn may
 -- be missing.
 abbrev pub SaysAllTurns : {D : Type 0} → Decls → LineDone D → EndOfRun → Type 0
 SaysAllTurns decls line EndOfRun.Memory = Unit {0}
@@ -79,7 +79,7 @@ PrintLogs {D} names noted lines = (earlier later : List (LineDone D)) (line : Li
     → line.text ≡ log_text (name_of names device) (logged device (noted device) earlier)
 
 module _ {D : Type 0} (here : Setting D) where
-  -- it does what the row of its parts says, whole or up to where the run ended
+  -- the line does what the row of its parts says, whole or up to where the run ended
   pub record IsDone (ended : Bool) (line : LineDone D) : Type 0 where
     pub goes : Goes here ended (line_parts here.decls line.step) (set_by line.step line.before) line.turns line.behind
     pub prints : Prints here.decls ended line.step line.turns line.behind line.text
@@ -96,7 +96,7 @@ module _ {D : Type 0} (here : Setting D) where
   EndsIn world None last = world ≡ last
   EndsIn world (Some line) last = (line.before ≡ world) × IsDone true line × (line.behind ≡ last)
 
-  -- and why it did; and that it prints all that is said in it
+  -- why the run ended, where it did; and that the line prints all that is said in it
   abbrev pub EndsFor : Option (LineDone D) → Option EndOfRun → Type 0
   EndsFor None why = why ≡ None
   EndsFor (Some line) None = ⊥

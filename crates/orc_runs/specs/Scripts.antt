@@ -28,21 +28,21 @@ use Rattle.orc_script.specs.declared.step.ScriptStep.TheVariants as step
 -- The parts of what a line does. Each is an event of a kind, or all that come of a kind, or the rounds of `settle`.
 pub data Part : Type 0 where
   Snapshot : List ℕ → Part  -- this caller takes a snapshot
-  FirstSnapshot : List ℕ → Part  -- it takes one, where it has none
+  FirstSnapshot : List ℕ → Part  -- this caller takes a snapshot, where it has none
   Submission : Call → Part  -- the call is submitted
   Admission : Part  -- one that waits is admitted, or turned away
-  Admissions : Part  -- and then the next, until none fits
+  Admissions : Part  -- those that wait are admitted or turned away, until none fits
   Operation : ℕ → Part  -- the device does the operation due, or that is an edit which isn't sent
-  Operations : ℕ → Part  -- and then the next, each heard of by the hub, until none is due
-  Hearing : ℕ → Part  -- the hub hears of it
+  Operations : ℕ → Part  -- the device does what is due, each heard of by the hub, until none is
+  Hearing : ℕ → Part  -- the hub hears of a device's operation
   Decisions : Part  -- what is due in the journal is written, until nothing is
   Rounds : Part  -- rounds, until one has nothing to do
   Ticking : ℕ → Part  -- so many seconds pass
   Restarting : ℕ → Part  -- the device restarts
   Stopping : Part  -- the controller stops
-  Recovery : Part  -- it opens its journal again
+  Recovery : Part  -- the controller opens its journal again
   Beginning : Part  -- a reconciliation begins
-  Ending : Part  -- and ends
+  Ending : Part  -- a reconciliation ends
 
 -- each line of a script as a row of these; a line that isn't here makes nothing happen
 abbrev pub line_parts : Decls → ScriptStep → List Part
@@ -234,7 +234,7 @@ pub record PrintsAll {D : Type 0} (decls : Decls) (at : ScriptStep) (turns : Lis
   pub shows : Shows decls at turns behind after
 
 -- What a line prints. One in which the run ended shows nothing, and may lack what is said of its last turn, where memory
--- was wanting for that. (Where the run ended for the journal it lacks nothing: that is said beside the cause.)
+-- ran out for that. (Where the run ended for the journal it lacks nothing: that is said beside the cause.)
 abbrev pub Prints : {D : Type 0} → Decls → Bool → ScriptStep → List (Turn D) → World D → List ℕ → Type 0
 Prints decls false at turns behind text = PrintsAll decls at turns behind text
 Prints {D} decls true at turns behind text = (front rest : List (Turn D))

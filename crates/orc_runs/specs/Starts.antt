@@ -14,7 +14,7 @@ use Rattle.orc_rules.specs.UnderHub.{IsOfHub}
 use Rattle.orc_rules.specs.Worlds.{Link, Setting, World, declared, new_hub, over}
 use Rattle.orc_rules.specs.declared.duty.Duty.TheVariants as duty
 
--- Devices such as these declarations speak of: each tells equal trees, and the way from one tree to another, as the hub
+-- Devices such as these declarations speak of: each compares trees, and finds the way from one to another, as the hub
 -- does; it takes exactly the changes that its declared schema types; and it accepts its base.
 pub record AreDevicesOf (decls : Decls) (kinds : ℕ → DeviceKind) : Type 0 where
   pub of_hub : (device : ℕ) → IsOfHub (kinds device)
@@ -48,7 +48,7 @@ cause_at_first false = Some why.Recovered
 
 -- A run begins with a new hub over a journal that was opened. The disk gave these bytes as it was opened: they are the
 -- journal of a legal history, or there are none, and the journal was begun. Nothing of it is at stake, and no stop is
--- armed. What a recovery reads is what was written, since the disk tells what it holds, or by what is granted. Each
+-- armed. What a recovery reads is what was written, since the disk reports what it holds, or by what is granted. Each
 -- device runs its base. No device is stale where the disk was empty, and else each is, since the hub recovered.
 pub record StartsRun {D : Type 0} (here : Setting D) (world : World D) : Type 0 where
   pub holds : HoldsEntries here.disk here.decls.text here.limit world.journal

@@ -51,8 +51,8 @@ pub fn starts_are_kept<D: Disk>()
     tree_is_configuration();
 }
 
-/// It holds after each event and after what a line sets; and where nothing is left for a round, and no
-/// reconciliation is unfinished, the hub is idle.
+/// What is kept of a world holds after each event and after what a line sets; and where nothing is left
+/// for a round, and no reconciliation is unfinished, the hub is idle.
 pub fn runs_are_carried<D: Disk>()
     ensures { EachRunIsCarried D.disk }
 {

@@ -2,7 +2,7 @@
 use orc_text::Memory;
 use std::alloc::Global;
 
-/// What stands open behind a front of a text that is read up to there.
+/// What stands open after a front of a text that is read up to there.
 #[derive(Drop)]
 pub(crate) struct Extent {
     /// The byte that ends the first statement, where that has ended.
@@ -27,7 +27,7 @@ enum Mode {
 }
 
 impl Extent {
-    // In front of a text.
+    // Before a text.
     fn new(alloc: Global) -> Extent {
         Extent {
             ended: None,
@@ -130,7 +130,7 @@ impl Extent {
         }
     }
 
-    // A comment whose first byte stands in front of this place.
+    // A comment whose first byte stands before this place.
     fn enter_comment(&mut self, at: u64, mode: Mode) {
         if self.begun == Some(at.saturating_sub(1)) {
             self.begun = None;
@@ -139,7 +139,7 @@ impl Extent {
     }
 }
 
-/// What stands open behind the bytes of a text in front of a place, up to which it is read without fault.
+/// What stands open after the bytes of a text before a place, up to which it is read without fault.
 pub(crate) fn extent_of(alloc: Global, text: &[u8], end: u64) -> Result<Extent, Memory> {
     let mut extent = Extent::new(alloc);
     let mut at: u64 = 0;

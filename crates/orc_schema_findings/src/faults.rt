@@ -1,9 +1,10 @@
 //! What is said of a fault of modules, by the statement at which it is.
+use crate::profile::{has_prefix, is_in_profile, is_left_out, is_left_out_type};
 use orc_schema::SchemaFault;
 use orc_text::Text;
 use orc_yang::Stmt;
 
-/// The keyword or the name of which a fault speaks; none where memory was wanting.
+/// The keyword or the name of which a fault speaks; none where memory ran out.
 pub(crate) fn name_in(fault: &SchemaFault) -> Option<&Text> {
     match fault {
         SchemaFault::Unsupported { keyword } => Some(keyword),
@@ -25,17 +26,54 @@ pub(crate) fn is_below(fault: &SchemaFault, statement: &Stmt) -> bool {
     }
 }
 
+/// The name of what the profile leaves out, where that is the fault at this statement.
+pub(crate) fn left_out_name<'a>(fault: &'a SchemaFault, statement: &Stmt) -> Option<&'a Text> {
+    match fault {
+        SchemaFault::Unsupported { keyword } => match is_left_out(keyword.as_str()) {
+            true => Some(keyword),
+            false => None,
+        },
+        SchemaFault::Unknown { name } => {
+            match is_left_out_type(name.as_str()) && has_argument(statement, name) {
+                true => Some(name),
+                false => None,
+            }
+        }
+        _ => None,
+    }
+}
+
+/// The name with which a `type` or a `uses` refers to what nothing has, where that is the fault at this statement.
+pub(crate) fn unknown_name<'a>(fault: &'a SchemaFault, statement: &Stmt) -> Option<&'a Text> {
+    match fault {
+        SchemaFault::Unknown { name } => match has_argument(statement, name) {
+            true => Some(name),
+            false => None,
+        },
+        _ => None,
+    }
+}
+
 /// What a fault at this statement says of its keyword or name.
 pub(crate) fn statement_words(fault: &SchemaFault, statement: &Stmt) -> &'static str {
     match fault {
-        SchemaFault::Unsupported { .. } => {
-            "is a statement that may not stand where it stands in this profile of YANG."
-        }
+        SchemaFault::Unsupported { keyword } => unsupported_words(keyword.as_str()),
         SchemaFault::Unknown { name } => unknown_words(name, statement),
         SchemaFault::Duplicate { name } => duplicate_words(name, statement),
         SchemaFault::BadArgument { keyword } => argument_words(keyword.as_str()),
         SchemaFault::NoKey { .. } => "is a list without a key.",
         _ => "leads back to itself.",
+    }
+}
+
+// What is said of a statement of this keyword where it may not stand.
+fn unsupported_words(keyword: &str) -> &'static str {
+    if is_left_out(keyword) {
+        "is a statement of YANG that this profile leaves out."
+    } else if is_in_profile(keyword) {
+        "is a statement that may not stand where it stands in this profile of YANG."
+    } else {
+        "is no statement of YANG (RFC 7950)."
     }
 }
 
@@ -53,7 +91,9 @@ fn unknown_words(name: &Text, statement: &Stmt) -> &'static str {
 fn unknown_type_words(name: &Text, statement: &Stmt) -> &'static str {
     if !has_argument(statement, name) {
         "is no name of the enumeration that is restricted, or has a prefix that no module of the line has."
-    } else if has_prefix(name) {
+    } else if is_left_out_type(name.as_str()) {
+        "is a built-in type of YANG that this profile leaves out."
+    } else if has_prefix(name.as_str()) {
         "is no type that is known there: the module imports that of the prefix, and the line names both."
     } else {
         "is no type that is known there."
@@ -62,16 +102,11 @@ fn unknown_type_words(name: &Text, statement: &Stmt) -> &'static str {
 
 // The same for a `uses`.
 fn unknown_grouping_words(name: &Text) -> &'static str {
-    if has_prefix(name) {
+    if has_prefix(name.as_str()) {
         "is no grouping that is known there: the module imports that of the prefix, and the line names both."
     } else {
         "is no grouping that is known there."
     }
-}
-
-// Whether a name has a prefix.
-fn has_prefix(name: &Text) -> bool {
-    name.as_str().as_bytes().iter().any(|byte| *byte == b':')
 }
 
 // What is said of a name that is there already at this statement.

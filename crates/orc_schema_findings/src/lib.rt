@@ -4,8 +4,10 @@
 
 mod extent;
 mod faults;
+mod imports;
 mod modules;
 mod places;
+mod profile;
 mod quoted;
 mod schemas;
 mod statements;

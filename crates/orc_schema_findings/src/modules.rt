@@ -8,7 +8,7 @@ use std::alloc::Global;
 
 /// What is at fault in a text below a line `yang N` of this number, where it isn't that of one `module` with
 /// a name: the line and the byte in it, counted from 1; the statement in which the text ends; or how many
-/// statements there are (RFC 7950 section 6). Where the first statement ends in front of the fault, the N
+/// statements there are (RFC 7950 section 6). Where the first statement ends before the fault, the N
 /// is said that this one has.
 pub fn module_finding(alloc: Global, line: u64, text: &[u8]) -> Result<Text, Memory> {
     let mut out = String::new(alloc);
@@ -46,7 +46,7 @@ fn push_fault(
         Some(at) => {
             push_at(out, alloc, line, text, at, fault_words(fault))?;
             match fault {
-                // Bytes that are no UTF-8 are looked for first: what stands in front needn't be statements.
+                // Bytes that are no UTF-8 are looked for first: what stands before needn't be statements.
                 YangFault::NotUtf8 { .. } => Ok(()),
                 _ => push_length(out, alloc, line, text, at),
             }
@@ -55,7 +55,7 @@ fn push_fault(
     }
 }
 
-// Adds in which line the first statement ends, where that is in front of a place.
+// Adds in which line the first statement ends, where that is before a place.
 fn push_length(
     out: &mut String,
     alloc: Global,
@@ -110,7 +110,7 @@ fn push_open(
     }
 }
 
-// Whether memory was wanting.
+// Whether memory ran out.
 fn is_memory(fault: &YangFault) -> bool {
     match fault {
         YangFault::Memory => true,
@@ -163,7 +163,7 @@ fn head_at(text: &[u8], at: u64) -> &str {
     }
 }
 
-// The bytes in front of a block, a statement's end or the end of the line, without white space at their end.
+// The bytes before a block, a statement's end or the end of the line, without white space at their end.
 fn front_of(bytes: &[u8]) -> &[u8] {
     let mut end: usize = 0;
     for (place, byte) in bytes.iter().enumerate() {
@@ -206,7 +206,7 @@ fn fault_words(fault: &YangFault) -> &'static str {
             "in double quotes a backslash begins \\n, \\t, \\\" or \\\\.",
         YangFault::OpenString { .. } => "this string or comment has no end.",
         YangFault::Depth { .. } => "this block is the 33rd in one another.",
-        _ => "what stands here can't follow what stands in front.",
+        _ => "what stands here can't follow what stands before it.",
     }
 }
 

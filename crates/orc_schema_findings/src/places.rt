@@ -1,6 +1,6 @@
 //! Where a byte of a text stands.
 
-/// How many lines of a text stand in front of a byte, and how many bytes of its line.
+/// How many lines of a text stand before a byte, and how many bytes of its line.
 pub fn place_of(text: &[u8], at: u64) -> (u64, u64) {
     let mut lines: u64 = 0;
     let mut bytes: u64 = 0;

@@ -1,5 +1,9 @@
 //! What is at fault in modules that make no schema.
-use crate::faults::{is_below, leafref_words, name_in, statement_words};
+use crate::faults::{
+    is_below, leafref_words, left_out_name, name_in, statement_words, unknown_name,
+};
+use crate::imports::missing_module;
+use crate::profile::left_out_in;
 use crate::quoted::push_quoted;
 use crate::statements::{StatementPlace, place_in, statement_at};
 use orc_schema::{Looks, Schema, SchemaFault, node_names};
@@ -16,6 +20,8 @@ pub struct SchemaFinding {
     pub place: Option<StatementPlace>,
     /// The fault stands below that statement.
     pub below: bool,
+    /// Where it is something that the profile leaves out, what else it leaves out of that module, in words; else empty.
+    pub others: Text,
 }
 
 impl SchemaFinding {
@@ -26,6 +32,7 @@ impl SchemaFinding {
         if let Some(place) = &self.place {
             push_place(&mut out, alloc, place, self.below, line)?;
         }
+        out.push_str(self.others.as_str())?;
         Ok(Text::from_string(out))
     }
 }
@@ -43,7 +50,7 @@ pub fn schema_finding(
     }
 }
 
-// The finding of a fault of modules behind the build that stands at it.
+// The finding of a fault of modules after the build that stands at it.
 fn finding_of(
     alloc: Global,
     modules: &[Stmt],
@@ -72,9 +79,10 @@ fn statement_finding(
             let place = place_in(alloc, looks.module(), module, looks.at())?;
             let statement = statement_at(module, looks.at());
             Ok(Some(SchemaFinding {
-                message: name_message(alloc, name, statement_words(fault, statement))?,
+                message: statement_message(alloc, modules, module, statement, fault, name)?,
                 place: Some(place),
                 below: is_below(fault, statement),
+                others: others_in(alloc, module, left_out_name(fault, statement))?,
             }))
         }
         None => Ok(None),
@@ -96,10 +104,69 @@ fn leafref_finding(
                 message,
                 place: None,
                 below: false,
+                others: Text::new(alloc),
             }))
         }
         None => Ok(None),
     }
+}
+
+// What is said of a fault at a statement of a module, which speaks of this keyword or name.
+fn statement_message(
+    alloc: Global,
+    modules: &[Stmt],
+    module: &Stmt,
+    statement: &Stmt,
+    fault: &SchemaFault,
+    name: &Text,
+) -> Result<Text, Memory> {
+    match missing_in(modules, module, unknown_name(fault, statement)) {
+        Some(missing) => missing_message(alloc, name, missing),
+        None => name_message(alloc, name, statement_words(fault, statement)),
+    }
+}
+
+// The module that isn't named in the line, where a name that is known nowhere is of one.
+fn missing_in<'a>(modules: &[Stmt], module: &'a Stmt, unknown: Option<&Text>) -> Option<&'a Text> {
+    match unknown {
+        Some(name) => missing_module(modules, module, name),
+        None => None,
+    }
+}
+
+// What is said of a name of a module that the line doesn't name.
+fn missing_message(alloc: Global, name: &Text, missing: &Text) -> Result<Text, Memory> {
+    let mut out = String::new(alloc);
+    push_message(&mut out, alloc, name, "is of the imported module `")?;
+    push_quoted(&mut out, alloc, missing.as_str())?;
+    out.push_str("`, and the line doesn't name that one: name `")?;
+    push_quoted(&mut out, alloc, missing.as_str())?;
+    out.push_str("` on this line too.")?;
+    Ok(Text::from_string(out))
+}
+
+// What is said of all else that the profile leaves out of a module, where this name is one that it leaves out.
+fn others_in(alloc: Global, module: &Stmt, name: Option<&Text>) -> Result<Text, Memory> {
+    let mut out = String::new(alloc);
+    if let Some(name) = name {
+        let others = left_out_in(alloc, module, name)?;
+        push_others(&mut out, alloc, others.as_slice())?;
+    }
+    Ok(Text::from_string(out))
+}
+
+// Adds the names of what else is left out, where there are any.
+fn push_others(out: &mut String, alloc: Global, names: &[Text]) -> Result<(), Memory> {
+    let mut before = " This profile also leaves out, in this module, `";
+    for name in names {
+        out.push_str(before)?;
+        push_quoted(out, alloc, name.as_str())?;
+        before = "`, `";
+    }
+    if !names.is_empty() {
+        out.push_str("`.")?;
+    }
+    Ok(())
 }
 
 // What is said of a keyword or a name.
@@ -152,7 +219,7 @@ fn push_place(
     Ok(())
 }
 
-// What stands in front of a statement's place.
+// What stands before a statement's place.
 fn place_words(below: bool) -> &'static str {
     match below {
         true => " It stands below the statement",

@@ -63,7 +63,7 @@ fn push_path(out: &mut String, alloc: Global, statement: &Stmt, at: u64) -> Resu
     Ok(())
 }
 
-// How many of the statements of a block begin there or in front.
+// How many of the statements of a block begin there or before.
 fn begun(statement: &Stmt, at: u64) -> u64 {
     let mut count: u64 = 0;
     for sub in statement.subs.as_slice() {

@@ -18,18 +18,18 @@ module _ (s : SchemaTable) (entry : List PathStep) (text : List ℕ) where
       ≡ option_map (λ (config : Config). puts_of (rows_below entry config)) (result_ok (outcome (reading s entry d)))
   of_outcome d is = ap (option_and_then (body_in s entry)) (value_is text d is)
 
-  -- it has one, ..
+  -- a body that was read of the text
   pub body_found : (d : Data) (config : Config) (rows : List (List PathStep × Item)) → IsJson text d → result_ok (outcome (reading s entry d)) ≡ Some config
       → rows ≡ rows_below entry config → Some (puts_of rows) ≡ body_of s entry text
   body_found d config rows is gives same =
       ap (λ (rs : List (List PathStep × Item)). Some (puts_of rs)) same
       ∙ sym (of_outcome d is ∙ ap (option_map (λ (c : Config). puts_of (rows_below entry c))) gives)
 
-  -- .. or a fault, ..
+  -- a text that is no body
   pub body_at_fault : (d : Data) → IsJson text d → result_ok (outcome (reading s entry d)) ≡ None → None ≡ body_of s entry text
   body_at_fault d is gives = sym (of_outcome d is ∙ ap (option_map (λ (c : Config). puts_of (rows_below entry c))) gives)
 
-  -- .. or it is no JSON
+  -- a text that is no JSON
   pub no_body : IsNoJson text → None ≡ body_of s entry text
   no_body h = sym (ap (option_and_then (body_in s entry)) (value_is_none text h))
 

@@ -294,7 +294,7 @@ module _ (d : Decls) (s : Script) (text : List ℕ) (later : List (List ℕ)) (t
         let found = on_ok_ok (device_item_of d rest) (λ write. Ok (with_write s write)) t h in
         goes_on keyword.Write is refl (with_write s found.0) found.1.1 was_open refl refl refl
 
-    -- behind the actions so far, where an open literal is one of them
+    -- after the actions so far, where an open literal is one of them
     module _ (u : Script) (open_yet : is_resting u.part ≡ false) (steps : u.steps ≡ s.steps) (callers : u.callers ≡ s.callers) (caller : u.caller ≡ s.caller) where
       sets : (rest : List ℕ) → word ≡ keyword.Set → after_set d u rest ≡ Ok t → MakesOf s text later t
       unfolding after_set

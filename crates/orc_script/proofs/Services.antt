@@ -20,7 +20,7 @@ service_known decls lists schema path id is same model at text =
     subst (λ (s : SchemaTable). is_service_at decls.services s path ≡ true) model (subst (λ (ls : List ServiceList). is_service_at ls schema path ≡ true) same at) in
     ap (λ (o : Option (List PathStep)). option_map_or (is_service_path decls) o false) (ap path_of text ∙ path_of_text path is) ∙ there
 
--- and its body is one of that id
+-- a body of the service at a path is one of that path's id
 pub body_known : (decls : Decls) (schema : SchemaTable) (path : List PathStep) (id : List ℕ) (body : List Put) → is_path path ≡ true
     → schema ≡ decls.data_schema → is_body schema path body ≡ true → id ≡ path_text path → has_body decls id body ≡ true
 body_known decls schema path id body is model has text =

@@ -22,17 +22,17 @@ script_lawful decls at n lines (Ok steps) h allowed =
 script_lawful decls at n lines (Err fault) h allowed = tt
 
 module _ (bytes looked later : List ℕ) (rest : ℕ) (is : looked ≡ seen bytes) (slice : later ≡ drop rest looked) where
-  -- the lines that are read are those behind so many bytes of what is seen
+  -- the lines that are read are those after so many bytes of what is seen
   pub read_there : (decls : Decls) (n : ℕ) (r : Result (List ScriptStep) BundleFault) → Gives (script_steps decls no_steps rest n (lines_of later)) r
       → Gives (script_of decls bytes rest n) r
   read_there decls n r h =
       subst (λ (x : List ℕ). Gives (script_steps decls no_steps rest n (lines_of x)) r) (slice ∙ ap (drop rest) is) h
 
-  -- so many bytes are there
+  -- what is seen has so many bytes
   pub stands_there : rest ≤ length bytes → rest ≤ LARGEST_BUNDLE → rest ≤ length looked
   stands_there within small = let size = ap length is ∙ length-take (LARGEST_BUNDLE + 1) bytes in omega arith
 
-  -- and where none of them passes the limit, none of all bytes does
+  -- where the lines that are read keep the limit, all bytes do
   pub small_whole : (r : Result (List ScriptStep) BundleFault) → rest ≤ length looked → OnOk r (rest + length later ≤ LARGEST_BUNDLE) → OnOk r (length bytes ≤ LARGEST_BUNDLE)
   small_whole r within h = on_ok_more r _ _ few h where
     few : rest + length later ≤ LARGEST_BUNDLE → length bytes ≤ LARGEST_BUNDLE

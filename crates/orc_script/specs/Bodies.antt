@@ -28,7 +28,7 @@ abbrev pub body_in : SchemaTable → List PathStep → Data → Option (List Put
 body_in schema entry json =
     option_map (λ config. puts_of (rows_below entry config)) (result_ok (outcome (reading schema entry json)))
 
--- the same of a text
+-- what a JSON text says below the entry of a service, where it is a body of that
 abbrev pub body_of : SchemaTable → List PathStep → List ℕ → Option (List Put)
 body_of schema entry text = option_and_then (body_in schema entry) (json_value text)
 

@@ -1,4 +1,4 @@
--- What a line says of a device: its name, and behind it an item or a path.
+-- What a line says of a device: its name, and after it an item or a path.
 use Rattle.std.specs.Prelude.{ℕ, Bool, false, not, ◌&&◌, ◌||◌, nat_eq, List, [], ◌∷◌, length, Option, is_some, Result}
 use Rattle.std.specs.declared.option.Option.TheVariants.{None, Some}
 use Rattle.std.specs.declared.result.Result.TheVariants.{Ok, Err}
@@ -33,8 +33,8 @@ device_item_of decls text = device_item_words decls (cut_at 32 text)
 
 -- paths that can carry an item
 
--- What is stored of one: its canonical form. That is looked at once more, and can then only pass a limit, which no law
--- says yet.
+-- What is stored of a path for an item: its canonical form. It is looked at once more, and can then only pass a limit,
+-- which no law says yet.
 abbrev pub stored_base_path : SchemaTable → Option (List PathStep) → Result (List PathStep) Rule
 stored_base_path schema own =
     or_rule own rule.Value (λ path. checked ((not (is_path_under schema path), rule.Size) ∷ []) (Ok path))
@@ -43,7 +43,7 @@ stored_base_path schema own =
 abbrev pub is_no_word : List ℕ → Bool
 is_no_word text = nat_eq (length text) 0 || is_some (cut_at 32 text)
 
--- `PATH`, one that can carry an item of a device's base; a name in front of it may be too long
+-- `PATH`, one that can carry an item of a device's base; a name before it may be too long
 abbrev pub base_path_of : SchemaTable → Bool → List ℕ → Result (List PathStep) Rule
 base_path_of schema is_long word =
     checked ((is_no_word word, rule.Line) ∷ [])
@@ -70,17 +70,17 @@ device_path_of decls text = device_path_words decls (cut_at 32 text)
 abbrev pub names_node : SchemaTable → List PathStep → Bool
 names_node schema path = schema.plain || (stand schema [] path || names_list schema path)
 
--- The same of a path that keeps the limits and whose keys are in canonical form.
+-- The path is one of the schema, keeps the limits, and has its keys in canonical form.
 abbrev pub is_node_path : SchemaTable → List PathStep → Bool
 is_node_path schema path = is_path path && not (is_long_path path)
     && (schema.plain || ((stand schema [] path || names_list schema path) && are_canonical_steps schema [] path))
 
--- what is stored of one: its canonical form, looked at once more in the same way
+-- what is stored of a node's path: its canonical form, looked at once more in the same way
 abbrev pub stored_node_path : SchemaTable → Option (List PathStep) → Result (List PathStep) Rule
 stored_node_path schema own =
     or_rule own rule.Value (λ path. checked ((not (is_node_path schema path), rule.Size) ∷ []) (Ok path))
 
--- `PATH`, any one of the schema; what stands in front of it may pass a limit
+-- `PATH`, any one of the schema; what stands before it may pass a limit
 abbrev pub node_path_of : SchemaTable → Bool → List ℕ → Result (List PathStep) Rule
 node_path_of schema is_long word =
     checked ((is_no_word word, rule.Line) ∷ [])
@@ -88,7 +88,7 @@ node_path_of schema is_long word =
     checked ((not (names_node schema path), rule.Path) ∷ [])
     (stored_node_path schema (canonical_path schema path))))
 
--- `D PATH`, any one of a declared device, which is told by its number; there may be no room for a step more
+-- `D PATH`, any one of a declared device, which is known by its number; there may be no room for a step more
 abbrev pub device_node_words : Decls → Bool → Option (List ℕ × List ℕ) → Result (ℕ × List PathStep) Rule
 device_node_words decls is_full None = Err rule.Line
 device_node_words decls is_full (Some words) =

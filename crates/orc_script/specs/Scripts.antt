@@ -1,4 +1,4 @@
--- What each form of a script's line makes of the steps so far, behind declarations.
+-- What each form of a script's line makes of the steps so far, after declarations.
 use Rattle.std.specs.Prelude.{ℕ, Bool, true, false, not, ◌&&◌, ◌||◌, ◌==◌, nat_eq, nat_le, List, [], ◌∷◌, ◌++◌, drop, length, Option, is_some, Result, if◌then◌else◌, ◌+◌}
 use Rattle.std.specs.declared.option.Option.TheVariants.{None, Some}
 use Rattle.std.specs.declared.result.Result.TheVariants.{Ok, Err}
@@ -79,7 +79,7 @@ step_on_device keyword.Restart device = step.Restart device
 step_on_device keyword.Log device = step.Log device
 step_on_device _ device = step.Show device
 
--- `step D`, `restart D`, `log D` and `show D`, behind these declarations
+-- `step D`, `restart D`, `log D` and `show D`, after these declarations
 unfoldable pub after_on_device : Keyword → Decls → Script → List ℕ → Result Script Rule
 after_on_device word decls script rest =
     on_ok (step_name_of script rest) (λ name.
@@ -151,7 +151,7 @@ after_begin script rest =
     ∷ [])
     (Ok (record script { callers = with_name script.callers rest; steps = script.steps ++ step.Begin rest ∷ [] }))
 
--- What the line with this first word wants of the lines behind it: `call`, that one is `end`; any other, nothing.
+-- What the line with this first word needs of the lines after it: `call`, that one is `end`; any other, nothing.
 unfoldable pub is_followed : Keyword → List (List ℕ) → Bool
 is_followed keyword.Call later = list_any is_end later
 is_followed _ later = true
@@ -309,7 +309,7 @@ with_call script = record script {
   actions = [];
 }
 
--- `end`, behind an action at least
+-- `end`, after at least one action
 unfoldable pub after_end : Script → Result Script Rule
 after_end script = checked ((nat_eq (length script.actions) 0, rule.Line) ∷ []) (Ok (with_call script))
 
@@ -355,7 +355,7 @@ an_action keyword.Base decls script rest = after_base_put decls script rest
 an_action keyword.Unbase decls script rest = after_base_remove decls script rest
 an_action _ decls script rest = Err rule.Line
 
--- a line of a literal, or the action behind it
+-- a line of a literal, or the action after it
 unfoldable pub behind_literal : Keyword → Decls → Script → List ℕ → Result Script Rule
 behind_literal keyword.Write decls script rest = after_write decls script rest
 behind_literal word decls script rest = an_action word decls (with_literal script) rest
@@ -382,25 +382,25 @@ abbrev pub step_words : Decls → Script → Keyword → Bool → Option (List �
 step_words decls script word followed None = word_at script.part word script
 step_words decls script word followed (Some words) = words_at script.part word decls script words.1 followed
 
--- a line that is not skipped, with the lines behind it
+-- a line that is not skipped, with the lines after it
 unfoldable pub after_step : Decls → Script → List ℕ → List (List ℕ) → Result Script Rule
 after_step decls script text later =
     step_words decls script (keyword_of (first_word text)) (is_followed (keyword_of (first_word text)) later)
     (cut_at 32 text)
 
--- a line with the lines behind it; so many bytes stand in front of it
+-- a line with the lines after it; so many bytes stand before it
 unfoldable pub scripted_at : Decls → Script → ℕ → List ℕ → List (List ℕ) → Result Script Rule
 scripted_at decls script at line later =
     checked ((is_large at line, rule.Size) ∷ (not (is_utf8 (text_of line)), rule.Utf8) ∷ [])
     (if is_skipped (text_of line) then Ok script else after_step decls script (text_of line) later)
 
--- the steps in lines, behind these declarations
+-- the steps in lines, after these declarations
 abbrev pub script_steps : Decls → Script → ℕ → ℕ → List (List ℕ) → Result (List ScriptStep) (ℕ × Rule)
 script_steps decls script at number [] = Ok script.steps
 script_steps decls script at number (line ∷ later) =
     on_line (number + 1) (scripted_at decls script at line later) (λ new.
     script_steps decls new (at + length line) (number + 1) later)
 
--- the script of a bundle: the steps in the lines behind so many bytes and so many lines of what is seen of its text
+-- the script of a bundle: the steps in the lines after so many bytes and so many lines of what is seen of its text
 abbrev pub script_of : Decls → List ℕ → ℕ → ℕ → Result (List ScriptStep) (ℕ × Rule)
 script_of decls bytes rest number = script_steps decls no_steps rest number (lines_of (drop rest (seen bytes)))

@@ -1,4 +1,4 @@
--- What the steps of a script are, behind declarations.
+-- What the steps of a script are, after declarations.
 use Rattle.std.specs.Prelude.{ℕ, ◌≤◌, ◌^◌, Bool, true, ◌&&◌, not, nat_le, nat_lt, List, [], ◌∷◌, length, IsTrue}
 use Rattle.std.specs.List.{list_all}
 use Rattle.orc_decls.specs.Calls.{is_call, is_lawful_name, schema_named}
@@ -17,7 +17,7 @@ use Rattle.orc_script.specs.declared.step.ScriptStep.TheVariants as script_step
 abbrev pub is_tick : ℕ → Bool
 is_tick seconds = nat_le 1 seconds && nat_le seconds LONGEST_TICK
 
--- A step of a script behind these declarations: a device is a declared one, `json` names a device with a type, and `meta`
+-- A step of a script after these declarations: devices are declared ones, `json` names a device with a type, and `meta`
 -- a path that the device may have.
 abbrev pub is_step : Decls → ScriptStep → Bool
 is_step decls (Begin caller) = is_lawful_name caller
@@ -42,13 +42,13 @@ is_step decls (Meta device path) = nat_lt device (length decls.names)
 is_step decls ShowData = true
 is_step decls History = true
 
--- these callers, and that of a step, which `begin` and `call` name
+-- these callers, and the one that a step `begin` or `call` names
 abbrev pub callers_with : List (List ℕ) → ScriptStep → List (List ℕ)
 callers_with callers (Begin caller) = with_name callers caller
 callers_with callers (script_step.Call call) = with_name callers call.caller
 callers_with callers other = callers
 
--- these callers and those of steps, each once
+-- these callers and those that steps name, each once
 abbrev pub callers_behind : List (List ℕ) → List ScriptStep → List (List ℕ)
 callers_behind callers [] = callers
 callers_behind callers (step ∷ steps) = callers_behind (callers_with callers step) steps

@@ -301,7 +301,7 @@ impl Script {
         Ok(())
     }
 
-    // A line of more than one word of a literal, or the action behind it.
+    // A line of more than one word of a literal, or the action after it.
     #[tactic(auto, unfolding(crate::specs::Scripts::behind_literal))]
     pub(crate) fn take_behind_literal(
         &mut self,
@@ -324,7 +324,7 @@ impl Script {
         }
     }
 
-    // `end`, behind an action at least.
+    // `end`, after at least one action.
     #[tactic(auto, unfolding(crate::specs::Scripts::after_end))]
     fn take_end(&mut self, alloc: Global) -> Result<(), LineFault>
         ensures takes { Takes (after_end self.old) self.new result }

@@ -1,4 +1,4 @@
-//! What a line says of a device: its name, and behind it an item or a path.
+//! What a line says of a device: its name, and after it an item or a path.
 ghost use Rattle.std.specs.Prelude.{◌≡◌, IsTrue, IfOk};
 ghost use Rattle.orc_lines.specs.Names.{is_among, place_of};
 ghost use Rattle.orc_decls.specs.Calls.{is_base_path, is_path_under, is_write, schema_named};
@@ -108,7 +108,7 @@ fn stored_base_path(alloc: Global, schema: &Schema, path: &Path) -> Result<Path,
     Ok(own)
 }
 
-// A path that can carry an item of a device's base. A name in front of it may be too long.
+// A path that can carry an item of a device's base. A name before it may be too long.
 fn read_base_path(
     alloc: Global,
     schema: &Schema,
@@ -187,7 +187,7 @@ fn stored_node_path(alloc: Global, schema: &Schema, path: &Path) -> Result<Path,
     Ok(own)
 }
 
-// Any path of a schema. What stands in front of it may pass a limit.
+// Any path of a schema. What stands before it may pass a limit.
 fn read_node_path(
     alloc: Global,
     schema: &Schema,

@@ -47,7 +47,7 @@ fn read_lines(
     Ok(script.steps)
 }
 
-/// The script of a bundle: the steps in the lines that stand behind so many bytes and so many lines of
+/// The script of a bundle: the steps in the lines that stand after so many bytes and so many lines of
 /// its text, under its declarations, as `read_bundle` of `orc_bundle` answers them; or the first line at
 /// fault, counted from 1 at the begin of the text, and the first rule that it breaks.
 ///

@@ -40,9 +40,9 @@ pub const LONGEST_TICK: u64 = 86_400;
 pub enum Part {
     /// Steps: no call is open.
     Steps,
-    /// An action of the open call, or behind one the line that ends the call.
+    /// An action of the open call, or after one the line that ends the call.
     Call,
-    /// A write of the open call's literal, or what may stand behind an action.
+    /// A write of the open call's literal, or what may stand after an action.
     Literal,
 }
 
@@ -56,12 +56,12 @@ pub struct Script {
     pub number: u64,
     /// The actions of the open call so far, but for a literal whose writes may go on.
     pub actions: Row<Action>,
-    /// That literal.
+    /// The name of that literal.
     pub name: Text,
     pub writes: Row<DevicePut>,
 }
 
-// Whether the lines behind are as the line with this first word wants them.
+// Whether the lines after the one with this first word are as it needs them.
 #[tactic(auto, unfolding(crate::specs::Scripts::is_followed))]
 fn is_followed(word: Keyword, later: &[u8]) -> bool
     ensures { result ≡ is_followed word (lines_of later.now) }
@@ -389,7 +389,7 @@ impl Script {
         }
     }
 
-    // A line that is not skipped, with the bytes behind it.
+    // A line that is not skipped, with the bytes after it.
     #[tactic(auto, unfolding(crate::specs::Scripts::after_step))]
     fn take_text(
         &mut self,
@@ -410,7 +410,7 @@ impl Script {
         }
     }
 
-    /// A line, with the bytes behind it. So many bytes stand in front of it.
+    /// A line, with the bytes after it. So many bytes stand before it.
     #[tactic(auto, unfolding(crate::specs::Scripts::scripted_at))]
     pub(crate) fn take(
         &mut self,

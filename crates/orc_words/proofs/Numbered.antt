@@ -1,4 +1,4 @@
--- The words of `gen`, one at a time: what the parser holds behind each of its numbers.
+-- The words of `gen`, one at a time: what the parser holds after each of its numbers.
 use Rattle.std.proofs.Common.{arith, ◌≡◌, ◌∙◌, ap, ◌==◌, ℕ, false, true, List, [], ◌∷◌, ◌++◌, Option, Some, None, codes, refl, sym, append-nil, append_assoc, option_and_then, option_map, ◌^◌, ◌-◌}
 use Rattle.std.specs.Prelude.{fold, is_some}
 use Rattle.clap.proofs.OnLiterals.{clap_on_literals}
@@ -68,11 +68,11 @@ fault_step s w next word words none to =
 
 -- ---- the command `gen` by itself
 
--- it as it is built
+-- the shape of `gen` as `clap` builds it
 abbrev gen_shape : Shape
 gen_shape = built_leaf (inherited (on_top with_leaf_noted (on_top marked_built program)).top gen_interface.top)
 
--- where its walk stands behind its numbers
+-- where the walk of `gen` stands after each of its numbers
 abbrev behind_number : Text → Walk
 behind_number number = to_positional gen_shape.rules (arg_by_index gen_shape.rules 1) number (walk_from nothing_held) nothing_held
 
@@ -113,7 +113,7 @@ module _ (number devices calls : Text) (one : IsPlainWord number) (two : IsPlain
 
 -- ---- the program, at the word `gen`
 
--- the words behind a subcommand are its own
+-- the words after a subcommand are its own
 abbrev stopped_at : Text → List Text → Walk
 stopped_at name words =
     record { held = nothing_held; waiting = idle; position = 1; is_trailing = false; stopped = Some (name, words) }
@@ -149,7 +149,7 @@ from_walk a w fault = unless_refused
     (check_fault a.top (finished a.top.rules w.held) (is_some (entered a w.stopped)))))))
     (option_and_then (λ found. command_named found.0 found.1) (entered a w.stopped))
 
--- and of `gen`
+-- the command that is read once the walk has entered `gen`
 from_gen : Walk → Kinds → Option Command
 from_gen w fault = unless_refused
     (or_else (or_else fault
@@ -170,7 +170,7 @@ gen_decides : (words : List Text) → from_walk (built program) (stopped_at (cod
 unfolding from_walk from_gen defaults_fault
 gen_decides words = refl
 
--- the command of words behind `gen` that begin with three numbers, from where the walk stands behind these
+-- the command of words after `gen` that begin with three numbers, from where the walk stands after these
 numbers_decide : (number devices calls : Text) → IsPlainWord number → IsPlainWord devices → IsPlainWord calls → (words : List Text)
     → command_of (codes "gen" ∷ number ∷ devices ∷ calls ∷ words)
     ≡ from_gen (fold (walked gen_shape.rules []) (behind_calls number devices calls) words)
@@ -187,7 +187,7 @@ numbers_decide number devices calls one two three words =
     ∙ ap (λ (k : Kinds). from_gen (fold (walked gen_shape.rules []) (behind_calls number devices calls) words) k)
     (numbers_quiet number devices calls one two three words)
 
--- ---- what stands behind the numbers
+-- ---- what stands after the numbers
 
 -- the command of three numbers
 unfoldable pub made : List ℕ → List ℕ → List ℕ → Option Command

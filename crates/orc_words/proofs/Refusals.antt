@@ -14,7 +14,7 @@ pub is_simple_program : is_simple_and_free program ≡ true
 unfolding clap_on_literals
 is_simple_program = refl
 
--- an error that isn't want of memory has a cause
+-- an error other than running out of memory has a cause
 pub refused : (causes : Kinds) (error : Error) (command : Option Command) → HasKind causes error
     → (kind_of error ≡ OutOfMemory → ⊥) → unless_refused causes command ≡ None
 refused [] error command (inl memory) other = absurd (other memory)

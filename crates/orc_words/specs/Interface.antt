@@ -28,7 +28,7 @@ gen_interface =
     with_rule (with_rule (with_rule (with_rule (new_app (codes "gen")) (number_argument (codes "NUMBER")))
     (number_argument (codes "DEVICES"))) (number_argument (codes "CALLS"))) journal_option
 
--- The program by itself: its words have no program's name in front, one of its commands must stand in them, and
+-- The program by itself: its words don't begin with the program's name, one of its commands must stand in them, and
 -- without any word it answers with its help. It has `--version`; it and each command has `--help`, and none the
 -- command `help`.
 abbrev pub bare_program : App

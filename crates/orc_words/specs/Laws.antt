@@ -58,7 +58,7 @@ abbrev pub WrittenWordsAreTaken : Type 0
 WrittenWordsAreTaken = (words : List (List ℕ)) (command : Command) (file : Option (List ℕ))
     → IsWritten words command file → (command_of words ≡ Some command) × (journal_word words ≡ file)
 
--- words that have no command: none, a request for help or the version, a file for `check`, a word more, no file behind
+-- words that have no command: none, a request for help or the version, a file for `check`, a word more, no file after
 -- `--journal`, a number of `gen` too few or out of its range, or a file twice
 pub data IsFaulty : List (List ℕ) → Type 0 where
   none : IsFaulty []

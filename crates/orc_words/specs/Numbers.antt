@@ -4,12 +4,12 @@ use Rattle.std.specs.Str.{all_ascii_digits}
 use Rattle.std.specs.Str.Parse.{digits_value}
 use Rattle.std.specs.declared.option.Option.TheVariants.{None, Some}
 
--- a plus stands in front
+-- the word begins with a plus
 abbrev pub has_sign : List ℕ → Bool
 has_sign [] = false
 has_sign (first ∷ rest) = first == 43
 
--- it has more than 20 bytes
+-- the word has more than 20 bytes
 abbrev pub is_long_number : List ℕ → Bool
 is_long_number word = nat_lt 20 (length word)
 

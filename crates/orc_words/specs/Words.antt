@@ -1,4 +1,4 @@
--- The command words, which stand behind the program's name.
+-- The command words, which stand after the program's name.
 use Rattle.std.specs.Prelude.{ℕ, ◌<◌, ◌≤◌, ◌^◌, ◌-◌, Bool, List, [], ◌∷◌, ◌==◌, true, false, codes, drop, length, Option, if◌then◌else◌}
 use Rattle.std.specs.Prelude.{nat_eq, option_and_then, option_map}
 use Rattle.std.specs.declared.option.Option.TheVariants.{None, Some}
@@ -42,8 +42,8 @@ abbrev pub unless_refused : Kinds → Option Command → Option Command
 unless_refused [] command = command
 unless_refused (cause ∷ causes) command = None
 
--- The command of words: the one that the parser finds in them, where it has no cause but want of memory to refuse
--- them.
+-- The command of words: the one that the parser finds in them, where it has no cause to refuse them but that memory
+-- ran out.
 abbrev pub command_of : List (List ℕ) → Option Command
 command_of words = unless_refused (fault_of program words)
     (option_and_then (λ found. command_named found.0 found.1) (subcommand_of program words))
@@ -53,8 +53,8 @@ abbrev pub next_word : List (List ℕ) → Option (List ℕ)
 next_word [] = None
 next_word (word ∷ words) = Some word
 
--- The file that the words name: what stands behind the first of them that is `--journal` or begins with `--journal=`,
--- as the next word or behind the `=`.
+-- The file that the words name: what stands after the first of them that is `--journal` or begins with `--journal=`,
+-- as the next word or after the `=`.
 abbrev pub journal_word : List (List ℕ) → Option (List ℕ)
 journal_word [] = None
 journal_word (word ∷ words) =

@@ -1,6 +1,6 @@
 //! The command words: what the program is asked to do, and the file that holds its journal.
 //!
-//! The words are those behind the program's name. `clap` reads them, by an interface that the
+//! The words are those after the program's name. `clap` reads them, by an interface that the
 //! definitions state as a value of `clap`'s own specification.
 #![tactic(auto)]
 

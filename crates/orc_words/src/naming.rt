@@ -81,7 +81,7 @@ fn is_long_number(word: &str) -> bool
     word.len() > 20
 }
 
-// Whether a plus stands in front.
+// Whether the word begins with a plus.
 fn has_sign(word: &[u8]) -> bool
     ensures { result ≡ has_sign word.now }
 {

@@ -13,8 +13,8 @@ use clap::error::ErrorKind;
 use orc_text::Memory;
 use std::alloc::Global;
 
-/// The command of these words, which stand behind the program's name. `Usage` comes exactly where
-/// they have none, but that memory may be wanting for any words.
+/// The command of these words, which stand after the program's name. `Usage` comes exactly where
+/// they have none, but that memory may run out for any words.
 pub fn command_of(alloc: Global, words: &[String]) -> Result<Command, WordsFault>
     ensures command { IfOk result (λ command. command_of (map (λ w. string_bytes w) words.now) ≡ Some command) }
     ensures ranges { IfOk result IsInRanges }
@@ -60,7 +60,7 @@ fn fault_of(kind: ErrorKind) -> WordsFault
 const RANGES: &str =
     "error: NUMBER is below 2^64, DEVICES is 1 to 64 and CALLS 0 to 5000, each of 1 to 20 decimal digits\n";
 
-/// What a user is told of words that are refused, or that ask for help or for the version: the text
+/// What a user reads of words that are refused, or that ask for help or for the version: the text
 /// of the parser, or which numbers `gen` takes, which ends in a line feed. It is empty where the words
 /// are taken.
 pub fn usage_text(alloc: Global, words: &[String]) -> Result<String, Memory> {

@@ -29,6 +29,6 @@ pub enum Command {
 pub enum WordsFault {
     /// The words are not ones that the program takes, or ask for help or for the version.
     Usage,
-    /// Memory could not be had.
+    /// Memory ran out.
     Memory,
 }

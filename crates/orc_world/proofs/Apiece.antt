@@ -7,35 +7,31 @@ use Rattle.std.proofs.lemmas.Bool.{cases_lt, false≢true}
 use Rattle.std.proofs.lemmas.List.FromFn.{map-range_with_len_more}
 use Rattle.std.proofs.lemmas.Option.{slice_get_past}
 use Rattle.orc_decls.specs.declared.declarations.Decls.{Decls}
-use Rattle.orc_device.specs.declared.op.Op.{Op}
 use Rattle.orc_device.specs.declared.op.Op.TheVariants as op
-use Rattle.orc_device.specs.declared.kind.OpKind.{OpKind}
-use Rattle.orc_device.specs.declared.reply.Reply.{Reply}
 use Rattle.orc_journal.specs.declared.entry.Entry.{Entry}
 use Rattle.orc_links.specs.Networks.{absent_link, heard_link}
 use Rattle.orc_node.specs.LinkStates.{LinkState}
 use Rattle.orc_rules.specs.Duties.{duty_order}
-use Rattle.orc_rules.specs.Events.{DoesAnyway, DoesUnderHub, Steps, Turn, seen_failing}
+use Rattle.orc_rules.specs.Events.{DoesUnderHub, Steps, Turn, seen_failing}
 use Rattle.orc_rules.specs.Hubs.{Hub, due_on, has_met_failure, order_on}
 use Rattle.orc_rules.specs.Worlds.{Link, Setting, World as Seen, declared}
 use Rattle.orc_rules.specs.declared.duty.Duty.{Duty}
 use Rattle.orc_rules.specs.declared.event.Event.{Event}
 use Rattle.orc_rules.specs.declared.event.Event.TheVariants as event
-use Rattle.orc_runs.specs.Ends.{EndedBecause}
 use Rattle.orc_runs.specs.Scripts.{Goes, IsOf, NoneOf, Part, Part as part, said}
 use Rattle.orc_script.specs.declared.step.ScriptStep.TheVariants as step
-use Rattle.orc_world.specs.Courses.{DoesOperation, DoesParts, DoesRow, EndsAtOnce, EndsInParts, MayDoOperation, NoneOrdered, PrintsTold, told_in}
+use Rattle.orc_scene.specs.Courses.{DoesOperation, DoesParts, DoesRow, EndsInParts, MayDoOperation, NoneOrdered, PrintsTold, told_in}
 use Rattle.orc_hub.specs.Hubs.{record_of}
-use Rattle.orc_world.specs.Stands.{IsPlaceSeenAs, IsSeenAs}
-use Rattle.orc_world.specs.declared.world.Place.{Place}
-use Rattle.orc_world.specs.declared.world.Place.TheVariants.{Up, Down, Ended, Moved}
-use Rattle.orc_world.specs.Stops.{end_of_run}
-use Rattle.orc_world.specs.declared.stop.WorldStop.{WorldStop}
-use Rattle.orc_world.specs.declared.world.World.{World}
+use Rattle.orc_scene.specs.Stands.{IsPlaceSeenAs, IsSeenAs}
+use Rattle.orc_scene.specs.declared.scene.Place.{Place}
+use Rattle.orc_scene.specs.declared.scene.Place.TheVariants.{Up, Down, Ended, Moved}
+use Rattle.orc_scene.specs.declared.stop.WorldStop.{WorldStop}
+use Rattle.orc_scene.specs.declared.scene.Scene.{Scene}
 use Rattle.orc_world.proofs.Goings.{goes_then}
 use Rattle.orc_world.proofs.Joining.{ends_more, ends_then, flat_then, goes_nothing, parts_then, prints_then, through_then}
-use Rattle.orc_world.proofs.Looping.{at_last_none, through_none, through_same}
-use Rattle.orc_world.proofs.Unsaid.{all_told}
+use Rattle.orc_scene.proofs.Looping.{through_none}
+use Rattle.orc_world.proofs.Looping.{through_same}
+use Rattle.orc_scene.proofs.Apiece.{any_none, heard_none, hearing_of_device, operation_of_device, under_none}
 
 -- of no entries none is left
 pub none_left : (done rest : List Entry) (entry : Entry) (later : List Entry) → [] ≡ done ++ rest → rest ≡ entry ∷ later → ⊥
@@ -117,45 +113,14 @@ module _ {D : Type 0} (here : Setting D) where
   tells_nothing names device turn old meant seen new is (Steps.unopened _ down recovers closed same) = refl
   tells_nothing names device turn old meant seen new is (Steps.recovers _ down recovers opens same) = says_nothing names device turn meant is
 
-  -- an operation is one of the operations of its device, and so is that the hub hears of it
-  pub operation_of_device : (device : ℕ) (one : Event) → IsOf (part.Operation device) one → IsOf (part.Operations device) one
-  operation_of_device device (event.Perform other op reply count) is = is
-  operation_of_device device (event.Unsent other) is = is
-  operation_of_device device (event.Report other op reply count) is = absurd is
-  operation_of_device device (event.Begin other front) is = absurd is
-  operation_of_device device (event.Submit call front given) is = absurd is
-  operation_of_device device (event.Admit t given) is = absurd is
-  operation_of_device device (event.Decide t given) is = absurd is
-  operation_of_device device (event.Settle t) is = absurd is
-  operation_of_device device (event.Tick seconds) is = absurd is
-  operation_of_device device (event.Restart other) is = absurd is
-  operation_of_device device event.Stop is = absurd is
-  operation_of_device device event.Recover is = absurd is
-  operation_of_device device (event.Reconcile result) is = absurd is
-
-  pub hearing_of_device : (device : ℕ) (one : Event) → IsOf (part.Hearing device) one → IsOf (part.Operations device) one
-  hearing_of_device device (event.Perform other op reply count) is = absurd is
-  hearing_of_device device (event.Unsent other) is = absurd is
-  hearing_of_device device (event.Report other op reply count) is = is
-  hearing_of_device device (event.Begin other front) is = absurd is
-  hearing_of_device device (event.Submit call front given) is = absurd is
-  hearing_of_device device (event.Admit t given) is = absurd is
-  hearing_of_device device (event.Decide t given) is = absurd is
-  hearing_of_device device (event.Settle t) is = absurd is
-  hearing_of_device device (event.Tick seconds) is = absurd is
-  hearing_of_device device (event.Restart other) is = absurd is
-  hearing_of_device device event.Stop is = absurd is
-  hearing_of_device device event.Recover is = absurd is
-  hearing_of_device device (event.Reconcile result) is = absurd is
-
   -- an operation that came prints nothing
-  pub operation_prints : (seen : Seen D) (old new : World D) (before after : List ℕ) (device : ℕ) (does : DoesOperation here seen old new before after device)
+  pub operation_prints : (seen : Seen D) (old new : Scene D) (before after : List ℕ) (device : ℕ) (does : DoesOperation here seen old new before after device)
       → PrintsTold here.decls before after (does.turn ∷ does.hearing ∷ [])
   operation_prints seen old new before after device does =
       let one : said here.decls.names step.Settle does.turn does.turn.seen ≡ [] =
-      tells_nothing here.decls.names device does.turn does.turn.before does.turn.meant does.turn.seen does.turn.behind (operation_of_device device does.turn.meant does.is_of) does.comes in
+      tells_nothing here.decls.names device does.turn does.turn.before does.turn.meant does.turn.seen does.turn.behind (operation_of_device here device does.turn.meant does.is_of) does.comes in
       let two : said here.decls.names step.Settle does.hearing does.hearing.seen ≡ [] =
-      tells_nothing here.decls.names device does.hearing does.hearing.before does.hearing.meant does.hearing.seen does.hearing.behind (hearing_of_device device does.hearing.meant does.hears) does.heard in
+      tells_nothing here.decls.names device does.hearing does.hearing.before does.hearing.meant does.hearing.seen does.hearing.behind (hearing_of_device here device does.hearing.meant does.hears) does.heard in
       let none : told_in here.decls (does.turn ∷ does.hearing ∷ []) ≡ [] =
       ap (λ (l : List ℕ). l ++ (said here.decls.names step.Settle does.hearing does.hearing.seen ++ [])) one ∙ ap (λ (l : List ℕ). l ++ []) two in
       does.printed ∙ sym (append-nil before) ∙ ap (λ (l : List ℕ). before ++ l) (sym none)
@@ -164,7 +129,7 @@ module _ {D : Type 0} (here : Setting D) where
   abbrev pub NoneOn : Seen D → ℕ → Type 0
   NoneOn seen device = NoneOf here seen (part.Operation device) × NoneOf here seen (part.Hearing device)
 
-  pub operation_does : (seen : Seen D) (old new : World D) (device : ℕ) (came : Bool) → MayDoOperation here seen old new [] [] device came
+  pub operation_does : (seen : Seen D) (old new : Scene D) (device : ℕ) (came : Bool) → MayDoOperation here seen old new [] [] device came
       → DoesRow here seen old new [] [] (part.Operation device ∷ part.Hearing device ∷ []) came (NoneOn seen device)
   operation_does seen old new device came (inl (some, does)) = record {
     does = record {
@@ -190,54 +155,8 @@ module _ {D : Type 0} (here : Setting D) where
     quiet = λ none_came. (refl, (none, unheard));
   }
 
-  -- where no operation is due there, none may come
-  pub under_none : (world : Seen D) (hub : Hub) (device : ℕ) → due_on hub device ≡ None → (one : Event) (row : List Entry) (next : Seen D) → IsOf (part.Operation device) one → DoesUnderHub here world hub one row next → ⊥
-  under_none world hub device never one row next is (DoesUnderHub.performs other op happened due unheard possible way) =
-      let wrong : ◌≡◌ {A = Option Op} None (Some op) = sym never ∙ ap (λ (d : ℕ). due_on hub d) (sym is) ∙ due in cc
-  under_none world hub device never one row next is (DoesUnderHub.leaves_unsent other changes due unheard) =
-      let wrong : ◌≡◌ {A = Option Op} None (Some (op.Edit changes)) = sym never ∙ ap (λ (d : ℕ). due_on hub d) (sym is) ∙ due in cc
-  under_none world hub device never one row next is (DoesUnderHub.reports other op reply unheard) = is
-  under_none world hub device never one row next is (DoesUnderHub.begins caller) = is
-  under_none world hub device never one row next is (DoesUnderHub.answers call front said asked snap why keeps) = is
-  under_none world hub device never one row next is (DoesUnderHub.queues it front snap alike lawful_call closed apart fresh within made number slot) = is
-  under_none world hub device never one row next is (DoesUnderHub.turns_away place it said there first idle why) = is
-  under_none world hub device never one row next is (DoesUnderHub.admits place it sets there first idle passes fresh) = is
-  under_none world hub device never one row next is (DoesUnderHub.commits place it there least due prepared valid) = is
-  under_none world hub device never one row next is (DoesUnderHub.aborts place it said there least due why) = is
-  under_none world hub device never one row next is (DoesUnderHub.settles place it there least settling) = is
-  under_none world hub device never one row next is DoesUnderHub.stops = is
-  under_none world hub device never one row next is (DoesUnderHub.mends numbers idle unsettled) = is
-  under_none world hub device never one row next is (DoesUnderHub.mended numbers met busy heard unsettled) = is
-  under_none world hub device never one row next is (DoesUnderHub.finds_no_memory met busy heard) = is
-  under_none world hub device never one row next is (DoesUnderHub.fails_to_mend met failed heard) = is
-
-  -- where every reply is heard, none may be heard
-  pub heard_none : (world : Seen D) (hub : Hub) (device : ℕ) → (world.links device).unheard ≡ None → (one : Event) (row : List Entry) (next : Seen D) → IsOf (part.Hearing device) one → DoesUnderHub here world hub one row next → ⊥
-  heard_none world hub device never one row next is (DoesUnderHub.performs other op happened due unheard possible way) = is
-  heard_none world hub device never one row next is (DoesUnderHub.leaves_unsent other changes due unheard) = is
-  heard_none world hub device never one row next is (DoesUnderHub.reports other op reply unheard) =
-      let wrong : ◌≡◌ {A = Option (OpKind × Reply)} None (Some (op, reply)) = sym never ∙ ap (λ (d : ℕ). (world.links d).unheard) (sym is) ∙ unheard in cc
-  heard_none world hub device never one row next is (DoesUnderHub.begins caller) = is
-  heard_none world hub device never one row next is (DoesUnderHub.answers call front said asked snap why keeps) = is
-  heard_none world hub device never one row next is (DoesUnderHub.queues it front snap alike lawful_call closed apart fresh within made number slot) = is
-  heard_none world hub device never one row next is (DoesUnderHub.turns_away place it said there first idle why) = is
-  heard_none world hub device never one row next is (DoesUnderHub.admits place it sets there first idle passes fresh) = is
-  heard_none world hub device never one row next is (DoesUnderHub.commits place it there least due prepared valid) = is
-  heard_none world hub device never one row next is (DoesUnderHub.aborts place it said there least due why) = is
-  heard_none world hub device never one row next is (DoesUnderHub.settles place it there least settling) = is
-  heard_none world hub device never one row next is DoesUnderHub.stops = is
-  heard_none world hub device never one row next is (DoesUnderHub.mends numbers idle unsettled) = is
-  heard_none world hub device never one row next is (DoesUnderHub.mended numbers met busy heard unsettled) = is
-  heard_none world hub device never one row next is (DoesUnderHub.finds_no_memory met busy heard) = is
-  heard_none world hub device never one row next is (DoesUnderHub.fails_to_mend met failed heard) = is
-
-  pub any_none : (world : Seen D) (device : ℕ) (one : Event) (next : Seen D) → IsOf (part.Operations device) one → DoesAnyway world one next → ⊥
-  any_none world device one next is (DoesAnyway.ticks seconds) = is
-  any_none world device one next is (DoesAnyway.restarts other) = is
-  any_none world device one next is (DoesAnyway.answers_down call front down) = is
-
   -- no operation is due on a device that isn't declared
-  pub none_undeclared : (seen : Seen D) (world : World D) → IsSeenAs here seen world → (device : ℕ) → length here.decls.names ≤ device → NoneOn seen device
+  pub none_undeclared : (seen : Seen D) (world : Scene D) → IsSeenAs here seen world → (device : ℕ) → length here.decls.names ≤ device → NoneOn seen device
   none_undeclared seen world is device past = (none_due, none_unheard)
     where
       unheard_none : (o : Option LinkState) → (option_map_or heard_link o absent_link).unheard ≡ None
@@ -255,14 +174,14 @@ module _ {D : Type 0} (here : Setting D) where
           on false none = none
 
       none_due : NoneOf here seen (part.Operation device)
-      none_due one of (inl (hub, row, next, up, does)) = under_none seen hub device (no_due hub up) one row next of does
-      none_due one of (inr (inl (next, does))) = any_none seen device one next (operation_of_device device one of) does
+      none_due one of (inl (hub, row, next, up, does)) = under_none here seen hub device (no_due hub up) one row next of does
+      none_due one of (inr (inl (next, does))) = any_none here seen device one next (operation_of_device here device one of) does
       none_due one of (inr (inr (recovers, down))) = subst (λ (e : Event). IsOf (part.Operation device) e) recovers of
 
       none_unheard : NoneOf here seen (part.Hearing device)
       none_unheard one of (inl (hub, row, next, up, does)) =
-          heard_none seen hub device (ap (λ (f : ℕ → Link). (f device).unheard) is.links ∙ unheard_none (slice_get world.links.links device)) one row next of does
-      none_unheard one of (inr (inl (next, does))) = any_none seen device one next (hearing_of_device device one of) does
+          heard_none here seen hub device (ap (λ (f : ℕ → Link). (f device).unheard) is.links ∙ unheard_none (slice_get world.links.links device)) one row next of does
+      none_unheard one of (inr (inl (next, does))) = any_none here seen device one next (hearing_of_device here device one of) does
       none_unheard one of (inr (inr (recovers, down))) = subst (λ (e : Event). IsOf (part.Hearing device) e) recovers of
 
 -- the parts of the first so many devices
@@ -286,7 +205,7 @@ each_front n (suc k) = let before = each_front n k in (
   ap each_of (omega arith) ∙ each_more (n + k) ∙ ap (λ (l : List Part). l ++ part.Operation (n + k) ∷ part.Hearing (n + k) ∷ []) before.1 ∙ append_assoc (each_of n) before.0 (part.Operation (n + k) ∷ part.Hearing (n + k) ∷ []),
 )
 
-module _ {D : Type 0} (here : Setting D) (seen : Seen D) (old : World D) where
+module _ {D : Type 0} (here : Setting D) (seen : Seen D) (old : Scene D) where
   -- none may come on the first so many devices
   abbrev pub NoneBefore : ℕ → Type 0
   NoneBefore count = (device : ℕ) → device < count → NoneOn here seen device
@@ -297,7 +216,7 @@ module _ {D : Type 0} (here : Setting D) (seen : Seen D) (old : World D) where
     quiet = λ no. (refl, λ device below. absurd (omega (arith, below)));
   }
 
-  pub each_then : (count : ℕ) (middle new : World D) (came one now : Bool) (so : DoesRow here seen old middle [] [] (each_of count) came (NoneBefore count))
+  pub each_then : (count : ℕ) (middle new : Scene D) (came one now : Bool) (so : DoesRow here seen old middle [] [] (each_of count) came (NoneBefore count))
       → DoesRow here so.does.next middle new [] [] (part.Operation count ∷ part.Hearing count ∷ []) one (NoneOn here so.does.next count)
       → (now ≡ false → (came ≡ false) × (one ≡ false)) → DoesRow here seen old new [] [] (each_of (count + 1)) now (NoneBefore (count + 1))
   each_then count middle new came one now so more none = record {
@@ -329,7 +248,7 @@ module _ {D : Type 0} (here : Setting D) (seen : Seen D) (old : World D) where
           on device (inr is) last = subst (λ (d : ℕ). NoneOn here seen d) (sym is) last
 
   -- all devices were gone through
-  pub each_whole : (new : World D) (came : Bool) → IsSeenAs here seen old → DoesRow here seen old new [] [] (each_of (length here.decls.names)) came (NoneBefore (length here.decls.names))
+  pub each_whole : (new : Scene D) (came : Bool) → IsSeenAs here seen old → DoesRow here seen old new [] [] (each_of (length here.decls.names)) came (NoneBefore (length here.decls.names))
       → DoesRow here seen old new [] [] (flat_map (λ device. part.Operation device ∷ part.Hearing device ∷ []) (declared here.decls)) came (NoneOrdered here seen)
   each_whole new came is so = record {
     does = so.does;
@@ -357,20 +276,9 @@ mends_front n (suc k) = let before = mends_front n k in (
       ∙ ap (λ (l : List Part). l ++ part.Operations (n + k) ∷ []) before.1 ∙ append_assoc (map part.Operations (range_with_len 0 n)) before.0 (part.Operations (n + k) ∷ []),
 )
 
-module _ {D : Type 0} (here : Setting D) (seen : Seen D) (old : World D) where
-  -- the run ended before a part, for want of memory
-  pub once_ends : (new : World D) (before after : List ℕ) (parts : List Part) (why : WorldStop) → EndsAtOnce here seen old new before after why → EndsInParts here seen old new before after parts why
-  once_ends new before after parts why ends = record {
-    turns = [];
-    last = seen;
-    goes = Goes.broken parts seen refl;
-    because = subst (λ (w : WorldStop). EndedBecause here [] (end_of_run w)) (sym ends.memory) tt;
-    ended = record { disk = ends.disk; events = ends.events ∙ sym (append-nil old.events.items.items); at_last = at_last_none [] tt };
-    prints = all_told here.decls why before after [] (ends.printed ∙ sym (append-nil before));
-  }
-
+module _ {D : Type 0} (here : Setting D) (seen : Seen D) (old : Scene D) where
   -- the run ended with a device of a round
-  pub each_ends : (count : ℕ) (middle new : World D) (came : Bool) (why : WorldStop) (so : DoesRow here seen old middle [] [] (each_of count) came (NoneBefore here seen old count))
+  pub each_ends : (count : ℕ) (middle new : Scene D) (came : Bool) (why : WorldStop) (so : DoesRow here seen old middle [] [] (each_of count) came (NoneBefore here seen old count))
       → count < length here.decls.names → EndsInParts here so.does.next middle new [] [] (part.Operation count ∷ part.Hearing count ∷ []) why
       → EndsInParts here seen old new [] [] (flat_map (λ device. part.Operation device ∷ part.Hearing device ∷ []) (declared here.decls)) why
   each_ends count middle new came why so below ends =
@@ -386,13 +294,13 @@ module _ {D : Type 0} (here : Setting D) (seen : Seen D) (old : World D) where
   pub mends_first : IsSeenAs here seen old → DoesParts here seen old old [] [] (map part.Operations (range_with_len 0 0))
   mends_first is = record { turns = []; next = seen; goes = Goes.whole seen; through = through_none here seen old is; prints = refl }
 
-  pub mends_then : (count : ℕ) (middle new : World D) (so : DoesParts here seen old middle [] [] (map part.Operations (range_with_len 0 count)))
+  pub mends_then : (count : ℕ) (middle new : Scene D) (so : DoesParts here seen old middle [] [] (map part.Operations (range_with_len 0 count)))
       → DoesParts here so.next middle new [] [] (part.Operations count ∷ []) → DoesParts here seen old new [] [] (map part.Operations (range_with_len 0 (count + 1)))
   mends_then count middle new so more =
       subst (λ (ps : List Part). DoesParts here seen old new [] [] ps) (sym (map-range_with_len_more part.Operations 0 count count (omega arith)))
       (parts_then here seen old middle new [] [] [] (map part.Operations (range_with_len 0 count)) (part.Operations count ∷ []) so more)
 
-  pub mends_end : (count : ℕ) (middle new : World D) (why : WorldStop) (so : DoesParts here seen old middle [] [] (map part.Operations (range_with_len 0 count)))
+  pub mends_end : (count : ℕ) (middle new : Scene D) (why : WorldStop) (so : DoesParts here seen old middle [] [] (map part.Operations (range_with_len 0 count)))
       → count < length here.decls.names → EndsInParts here so.next middle new [] [] (part.Operations count ∷ []) why
       → EndsInParts here seen old new [] [] (map part.Operations (declared here.decls)) why
   mends_end count middle new why so below ends =

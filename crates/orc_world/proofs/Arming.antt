@@ -10,21 +10,21 @@ use Rattle.orc_rules.specs.Worlds.{Setting, World as Seen}
 use Rattle.orc_runs.specs.Laws.{AreCarried, RunsAreCarried}
 use Rattle.orc_runs.specs.Scripts.{set_by}
 use Rattle.orc_script.specs.declared.step.ScriptStep.TheVariants as step
-use Rattle.orc_world.specs.Codes.{armed_place}
+use Rattle.orc_scene.specs.Effects.{armed_place}
 use Rattle.orc_world.specs.Lines.{DoesLine}
-use Rattle.orc_world.specs.Stands.{IsPlaceSeenAs, IsSeenAs, IsUnmended}
-use Rattle.orc_world.specs.declared.world.Place.{Place}
-use Rattle.orc_world.specs.declared.world.Place.TheVariants.{Up, Down, Ended, Moved}
-use Rattle.orc_world.specs.declared.world.World.{World}
+use Rattle.orc_scene.specs.Stands.{IsPlaceSeenAs, IsSeenAs, IsNotReconciling}
+use Rattle.orc_scene.specs.declared.scene.Place.{Place}
+use Rattle.orc_scene.specs.declared.scene.Place.TheVariants.{Up, Down, Ended, Moved}
+use Rattle.orc_scene.specs.declared.scene.Scene.{Scene}
 use Rattle.orc_world.proofs.Looks.{quiet_line}
 
-module _ {D : Type 0} (here : Setting D) (law : RunsAreCarried here) (arms : ArmingArms here) (seen : Seen D) (old : World D) (count bytes : ℕ) (before : List ℕ)
-    (is : IsSeenAs here seen old) (unmended : IsUnmended old.place) where
+module _ {D : Type 0} (here : Setting D) (law : RunsAreCarried here) (arms : ArmingArms here) (seen : Seen D) (old : Scene D) (count bytes : ℕ) (before : List ℕ)
+    (is : IsSeenAs here seen old) (unmended : IsNotReconciling old.place) where
   -- what the line sets
   sets : (hub : Option HubState) → seen.hub ≡ hub → set_by (step.StopAt count bytes) seen ≡ option_map_or (λ (h : HubState). world_armed count bytes seen) hub seen
   sets hub at = ap (λ (o : Option HubState). option_map_or (λ (h : HubState). world_armed count bytes seen) o seen) at
 
-  line_of : (next : Seen D) (place : Place D) → set_by (step.StopAt count bytes) seen ≡ next → IsSeenAs here next (record old { place = place }) → IsUnmended place
+  line_of : (next : Seen D) (place : Place D) → set_by (step.StopAt count bytes) seen ≡ next → IsSeenAs here next (record old { place = place }) → IsNotReconciling place
       → DoesLine here (step.StopAt count bytes) seen old (record old { place = place }) before before
   line_of next place set now rests =
       quiet_line here (step.StopAt count bytes) seen next old (record old { place = place }) before before [] refl set refl now rests refl refl (λ device. refl) (λ device wrong. absurd cc) (sym (append-nil before))
@@ -48,9 +48,9 @@ module _ {D : Type 0} (here : Setting D) (law : RunsAreCarried here) (arms : Arm
         logs = is.logs;
         numbered = is.numbered;
         kept = λ back. subst (λ (w : Seen D). AreCarried here w) set (law.settings (step.StopAt count bytes) seen (is.kept back));
-      }) (subst (λ (p : Place D). IsUnmended p) up unmended)
+      }) (subst (λ (p : Place D). IsNotReconciling p) up unmended)
 
-  none_up : (place : Place D) → old.place ≡ place → seen.hub ≡ None → IsUnmended place → DoesLine here (step.StopAt count bytes) seen old (record old { place = place }) before before
+  none_up : (place : Place D) → old.place ≡ place → seen.hub ≡ None → IsNotReconciling place → DoesLine here (step.StopAt count bytes) seen old (record old { place = place }) before before
   none_up place at none rests = line_of seen place (sets None none) (record {
     decls = is.decls;
     short = is.short;

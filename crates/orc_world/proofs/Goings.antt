@@ -1,9 +1,9 @@
 -- Rows of parts, one after another.
 use Rattle.std.proofs.Common.{[], ◌≡◌, Bool, true, false, List, ◌∷◌, ◌++◌, refl, subst, append_assoc}
 use Rattle.std.proofs.lemmas.Bool.{false≢true}
-use Rattle.orc_rules.specs.Events.{Comes, Turn}
+use Rattle.orc_rules.specs.Events.{Turn}
 use Rattle.orc_rules.specs.Worlds.{Setting, World}
-use Rattle.orc_runs.specs.Scripts.{Goes, IsCalledFor, IsOf, Part, Part as part, comes_again, round}
+use Rattle.orc_runs.specs.Scripts.{Goes, Part, Part as part, round}
 
 module _ {D : Type 0} (here : Setting D) where
   -- a row, and then another one, up to its end or up to where the run ended
@@ -41,9 +41,3 @@ module _ {D : Type 0} (here : Setting D) where
       (goes_broken (round here.decls ++ part.Rounds ∷ rest) second a b turns goes))
   goes_broken first second a b turns (Goes.still rest _ _ _ still goes) =
       Goes.still (rest ++ second) a b turns still (goes_broken rest second a b turns goes)
-
-  -- a single turn of a part
-  pub goes_once : (ended : Bool) (one : Part) (turn : Turn D) → comes_again one ≡ false → IsOf one turn.meant → IsCalledFor here turn.before one
-      → Comes here turn → Goes here ended (one ∷ []) turn.before (turn ∷ []) turn.behind
-  goes_once ended one turn single is called comes =
-      Goes.once one [] turn [] turn.behind single is called comes (Goes.whole turn.behind)

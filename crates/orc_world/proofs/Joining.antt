@@ -2,7 +2,6 @@
 use Rattle.std.proofs.Common.{[], ◌≡◌, ℕ, Bool, true, false, List, ◌∷◌, ◌++◌, refl, sym, ap, subst, ◌∙◌, append_assoc}
 use Rattle.std.specs.List.{flat_map}
 use Rattle.orc_decls.specs.declared.declarations.Decls.{Decls}
-use Rattle.orc_disk.specs.Meanings.{DiskMeaning}
 use Rattle.orc_links.specs.Logs.{noted_on}
 use Rattle.orc_rules.specs.Events.{Turn}
 use Rattle.orc_rules.specs.Worlds.{Setting, World as Seen}
@@ -10,12 +9,11 @@ use Rattle.orc_runs.specs.Ends.{EndOfRun, EndedBecause}
 use Rattle.orc_runs.specs.Runs.{EndsRun, operation_of}
 use Rattle.orc_runs.specs.Scripts.{Goes, Part, said}
 use Rattle.orc_script.specs.declared.step.ScriptStep.TheVariants as step
-use Rattle.orc_world.specs.Courses.{DoesParts, EndAtLast, EndsInParts, EndsWith, GoOn, GoesThrough, InEachView, PrintsMost, PrintsTold, event_list, events_in, operations_in, told_in}
-use Rattle.orc_world.specs.Stands.{IsSeenAs, run_setting}
-use Rattle.orc_world.specs.Stops.{end_of_run}
-use Rattle.orc_world.specs.declared.stop.WorldStop.{WorldStop}
-use Rattle.orc_world.specs.declared.stop.WorldStop.TheVariants as stop
-use Rattle.orc_world.specs.declared.world.World.{World}
+use Rattle.orc_scene.specs.Courses.{DoesParts, EndAtLast, EndsInParts, EndsWith, GoOn, GoesThrough, PrintsMost, PrintsTold, event_list, events_in, operations_in, told_in}
+use Rattle.orc_scene.specs.RunEnds.{end_of_run}
+use Rattle.orc_scene.specs.declared.stop.WorldStop.{WorldStop}
+use Rattle.orc_scene.specs.declared.stop.WorldStop.TheVariants as stop
+use Rattle.orc_scene.specs.declared.scene.Scene.{Scene}
 use Rattle.orc_world.proofs.Goings.{goes_broken, goes_then}
 
 pub flat_then : {X Y : Type 0} (f : X → List Y) (xs ys : List X) → flat_map f (xs ++ ys) ≡ flat_map f xs ++ flat_map f ys
@@ -70,7 +68,7 @@ module _ {D : Type 0} (here : Setting D) where
   because_more xs ys EndOfRun.NotJournal (earlier, turn, is, by) = (xs ++ earlier, turn, ap (λ (l : List (Turn D)). xs ++ l) is ∙ sym (append_assoc xs earlier (turn ∷ [])), by)
   because_more xs ys (EndOfRun.Damaged at) (earlier, turn, is, by) = (xs ++ earlier, turn, ap (λ (l : List (Turn D)). xs ++ l) is ∙ sym (append_assoc xs earlier (turn ∷ [])), by)
 
-  pub through_then : (old middle new : World D) (xs ys : List (Turn D)) (a b : Seen D) → GoesThrough here old middle xs a → GoesThrough here middle new ys b → GoesThrough here old new (xs ++ ys) b
+  pub through_then : (old middle new : Scene D) (xs ys : List (Turn D)) (a b : Seen D) → GoesThrough here old middle xs a → GoesThrough here middle new ys b → GoesThrough here old new (xs ++ ys) b
   through_then old middle new xs ys a b f g = record {
     is = g.is;
     limit = g.limit ∙ f.limit;
@@ -80,7 +78,7 @@ module _ {D : Type 0} (here : Setting D) where
     goes_on = go_on_then xs ys f.goes_on g.goes_on;
   }
 
-  pub with_then : (old middle new : World D) (xs ys : List (Turn D)) (a last : Seen D) → GoesThrough here old middle xs a → EndsWith here middle new ys last → EndsWith here old new (xs ++ ys) last
+  pub with_then : (old middle new : Scene D) (xs ys : List (Turn D)) (a last : Seen D) → GoesThrough here old middle xs a → EndsWith here middle new ys last → EndsWith here old new (xs ++ ys) last
   with_then old middle new xs ys a last f g = record {
     disk = g.disk;
     events = g.events ∙ ap (λ es. es ++ events_in ys) f.events ∙ append_assoc old.events.items.items (events_in xs) (events_in ys) ∙ ap (λ es. old.events.items.items ++ es) (sym (events_then xs ys));
@@ -88,7 +86,7 @@ module _ {D : Type 0} (here : Setting D) where
   }
 
   -- a row of parts, and then another one
-  pub parts_then : (seen : Seen D) (old middle new : World D) (one two three : List ℕ) (first second : List Part) (f : DoesParts here seen old middle one two first)
+  pub parts_then : (seen : Seen D) (old middle new : Scene D) (one two three : List ℕ) (first second : List Part) (f : DoesParts here seen old middle one two first)
       → DoesParts here f.next middle new two three second → DoesParts here seen old new one three (first ++ second)
   parts_then seen old middle new one two three first second f g = record {
     turns = f.turns ++ g.turns;
@@ -98,13 +96,13 @@ module _ {D : Type 0} (here : Setting D) where
     prints = prints_then here.decls one two three f.turns g.turns f.prints g.prints;
   }
 
-  pub parts_turns : (seen : Seen D) (old middle new : World D) (one two three : List ℕ) (first second : List Part) (f : DoesParts here seen old middle one two first)
+  pub parts_turns : (seen : Seen D) (old middle new : Scene D) (one two three : List ℕ) (first second : List Part) (f : DoesParts here seen old middle one two first)
       (g : DoesParts here f.next middle new two three second) → (parts_then seen old middle new one two three first second f g).turns ≡ f.turns ++ g.turns
   unfolding parts_then
   parts_turns seen old middle new one two three first second f g = refl
 
-  -- and the run ended in that
-  pub ends_then : (seen : Seen D) (old middle new : World D) (one two three : List ℕ) (first second : List Part) (why : WorldStop) (f : DoesParts here seen old middle one two first)
+  -- one row was done, and the run ended in the next
+  pub ends_then : (seen : Seen D) (old middle new : Scene D) (one two three : List ℕ) (first second : List Part) (why : WorldStop) (f : DoesParts here seen old middle one two first)
       → EndsInParts here f.next middle new two three second why → EndsInParts here seen old new one three (first ++ second) why
   ends_then seen old middle new one two three first second why f g = record {
     turns = f.turns ++ g.turns;
@@ -115,8 +113,8 @@ module _ {D : Type 0} (here : Setting D) where
     prints = most_then here.decls why one two three f.turns g.turns f.prints g.prints;
   }
 
-  -- or in the first
-  pub ends_more : (seen : Seen D) (old new : World D) (one two : List ℕ) (first second : List Part) (why : WorldStop) → EndsInParts here seen old new one two first why
+  -- the run ended in the first of two rows
+  pub ends_more : (seen : Seen D) (old new : Scene D) (one two : List ℕ) (first second : List Part) (why : WorldStop) → EndsInParts here seen old new one two first why
       → EndsInParts here seen old new one two (first ++ second) why
   ends_more seen old new one two first second why f = record {
     turns = f.turns;
@@ -136,9 +134,3 @@ module _ {D : Type 0} (here : Setting D) where
   goes_nothing ended parts a b turns none (Goes.none one later _ _ _ nothing goes) = goes_nothing ended later a b turns none goes
   goes_nothing ended parts a b turns none (Goes.round_more later _ _ _ goes) = goes_nothing ended _ a b turns none goes
   goes_nothing ended parts a b turns none (Goes.still later _ _ _ still goes) = goes_nothing ended later a b turns none goes
-
--- what a call does in each view it does in this one, whose limit is that of a world before it
-pub at_limit : {D : Type 0} (disk : DiskMeaning D) (world : World D) (IsSo : Setting D → Seen D → Type 0) (limit : ℕ) (decls : Decls) (granted : Bool) (seen : Seen D)
-    → InEachView disk world IsSo → world.limit ≡ limit → IsSeenAs (run_setting disk decls limit granted) seen world → IsSo (run_setting disk decls limit granted) seen
-at_limit disk world IsSo limit decls granted seen each same =
-    subst (λ (l : ℕ). IsSeenAs (run_setting disk decls l granted) seen world → IsSo (run_setting disk decls l granted) seen) same (each decls granted seen)

@@ -1,6 +1,5 @@
 -- Loops over events and over rounds, whatever the rules see.
 use Rattle.std.proofs.Common.{[], ◌≡◌, ◌≤◌, ◌<◌, ◌+◌, inl, inr, ℕ, Bool, true, false, ◌||◌, List, ◌∷◌, length, map, refl, sym, ap, subst, ◌∙◌}
-use Rattle.std.specs.Prelude.{Result, Ok, Err}
 use Rattle.std.specs.List.{flat_map, range_with_len}
 use Rattle.std.proofs.lemmas.Bool.{false≢true}
 use Rattle.std.proofs.lemmas.List.{length-map}
@@ -13,55 +12,41 @@ use Rattle.orc_rules.specs.declared.event.Event.{Event}
 use Rattle.orc_rules.specs.declared.event.Event.TheVariants as event
 use Rattle.orc_runs.specs.Scripts.{IsOf, IsStill, NoneOf, Part, Part as part, comes_again, round}
 use Rattle.orc_runs.specs.Serving.{IsRested}
-use Rattle.orc_world.specs.Courses.{DoesOperation, DoesParts, DoesRow, DoesTurn, EndsAtOnce, EndsInParts, InEachView, MayDoOperation, MayDoTurn, MayEndTurn, NoneOrdered, PrintsMost, RowOrEnd, RowOrQuiet, SettlesRounds, StaysSame}
-use Rattle.orc_world.specs.Laws.{WorldIsCarried}
-use Rattle.orc_world.specs.Stands.{IsBetweenLines, IsSeenAs, IsSoundWorld, run_setting}
-use Rattle.orc_world.specs.declared.stop.WorldStop.{WorldStop}
-use Rattle.orc_world.specs.declared.stop.WorldStop.TheVariants as stop
-use Rattle.orc_world.specs.declared.world.World.{World}
-use Rattle.orc_world.proofs.Allowed.{links_long}
-use Rattle.orc_world.proofs.Apiece.{NoneBefore, each_ends, each_first, each_of, each_then, each_whole, hearing_of_device, mends_end, mends_first, mends_then, once_ends, operation_does, operation_of_device, operation_prints}
-use Rattle.orc_world.proofs.Joining.{at_limit}
+use Rattle.orc_scene.specs.Courses.{DoesOperation, DoesParts, DoesRow, DoesTurn, EndsAtOnce, EndsInParts, InEachView, MayDoOperation, MayDoTurn, MayEndTurn, NoneOrdered, PrintsMost, RowOrEnd, RowOrQuiet, SettlesRounds, StaysSame}
+use Rattle.orc_scene.specs.Laws.{SceneIsCarried}
+use Rattle.orc_scene.specs.Stands.{IsBetweenLines, IsSeenAs, IsSoundScene, run_setting}
+use Rattle.orc_scene.specs.declared.stop.WorldStop.{WorldStop}
+use Rattle.orc_scene.specs.declared.stop.WorldStop.TheVariants as stop
+use Rattle.orc_scene.specs.declared.scene.Scene.{Scene}
+use Rattle.orc_scene.proofs.Allowed.{links_long}
+use Rattle.orc_scene.proofs.Apiece.{hearing_of_device, once_ends, operation_of_device}
+use Rattle.orc_world.proofs.Apiece.{NoneBefore, each_ends, each_first, each_of, each_then, each_whole, mends_end, mends_first, mends_then, operation_does, operation_prints}
+use Rattle.orc_scene.proofs.Joining.{at_limit}
 use Rattle.orc_world.proofs.Looping.{Lasts, ends_between, ends_turn, lasts_first, lasts_operation, lasts_row, lasts_turn, lasts_whole}
-use Rattle.orc_world.proofs.Resting.{BeginsNone, is_beginning, not_begun, rested_there, round_none, sound_at, unmended_behind, unmended_there}
+use Rattle.orc_scene.proofs.Resting.{sound_at, unmended_there}
+use Rattle.orc_world.proofs.Resting.{BeginsNone, is_beginning, not_begun, rested_there, round_none, unmended_behind}
 use Rattle.orc_world.proofs.Rounding.{RoundsSoFar, prints_nothing, round_does, round_ends_first, round_ends_second, round_ends_third, rounds_end, rounds_first, rounds_more, rounds_still}
-use Rattle.orc_world.proofs.Seeing.{place_disk}
-
-abbrev pub went : Bool → Result Bool WorldStop
-went came = Ok came
-
-abbrev pub stopped : WorldStop → Result Bool WorldStop
-stopped why = Err why
-
-abbrev pub done : Unit {0} → Result (Unit {0}) WorldStop
-done value = Ok value
-
-abbrev pub ended : WorldStop → Result (Unit {0}) WorldStop
-ended why = Err why
+use Rattle.orc_scene.proofs.Lasted.{done, ended, stopped, wanting_at, went}
 
 -- whether a turn came is one of two
-pub turn_came : {D : Type 0} (here : Setting D) (seen : Seen D) (old new : World D) (before after : List ℕ) (one : Part) (came : Bool) → came ≡ true
+pub turn_came : {D : Type 0} (here : Setting D) (seen : Seen D) (old new : Scene D) (before after : List ℕ) (one : Part) (came : Bool) → came ≡ true
     → MayDoTurn here seen old new before after one came → DoesTurn here seen old new before after one
 turn_came here seen old new before after one came is (inl did) = did.1
 turn_came here seen old new before after one came is (inr none) = absurd (false≢true (sym none.0 ∙ is))
 
-pub none_came : {D : Type 0} (here : Setting D) (seen : Seen D) (old new : World D) (before after : List ℕ) (one : Part) (came : Bool) → came ≡ false
+pub none_came : {D : Type 0} (here : Setting D) (seen : Seen D) (old new : Scene D) (before after : List ℕ) (one : Part) (came : Bool) → came ≡ false
     → MayDoTurn here seen old new before after one came → NoneOf here seen one × StaysSame here seen old new before after
 none_came here seen old new before after one came is (inl did) = absurd (false≢true (sym is ∙ did.0))
 none_came here seen old new before after one came is (inr (not_came, none, same)) = (none, same)
 
 -- the run ended with a turn of the part, or before one
-may_end : {D : Type 0} (here : Setting D) (seen : Seen D) (old : World D) (before : List ℕ) (one : Part) (again : comes_again one ≡ true) (middle new : World D) (now after : List ℕ) (came : Bool)
+may_end : {D : Type 0} (here : Setting D) (seen : Seen D) (old : Scene D) (before : List ℕ) (one : Part) (again : comes_again one ≡ true) (middle new : Scene D) (now after : List ℕ) (came : Bool)
     (so : Lasts here seen old before one middle now came) (single : Part) → ((event : Event) → IsOf single event → IsOf one event) → (why : WorldStop)
     → MayEndTurn here so.next middle new now after single why → EndsInParts here seen old new before after (one ∷ []) why
 may_end here seen old before one again middle new now after came so single kind why (inl ends) =
     ends_turn here seen old before one again middle new now after came so single kind why ends
 may_end here seen old before one again middle new now after came so single kind why (inr ends) =
     ends_between here seen old before one again middle new now after came so why ends
-
--- memory was wanting before more came
-pub wanting_at : {D : Type 0} (here : Setting D) (seen : Seen D) (world : World D) (now : List ℕ) → IsSeenAs here seen world → EndsAtOnce here seen world world now now stop.Memory
-wanting_at here seen world now is = record { memory = refl; disk = place_disk here seen world.place is.place; events = refl; printed = refl }
 
 -- an admission is one of all that come
 pub one_of_all : (one : Event) → IsOf part.Admission one → IsOf part.Admissions one
@@ -114,21 +99,21 @@ none_on here seen device none unheard event.Recover is may = is
 none_on here seen device none unheard (event.Reconcile result) is may = is
 
 module _ {D : Type 0} (disk : DiskMeaning D) where
-  -- the rules see a world behind a row of parts
-  pub sound_parts : (old new : World D) (before after : List ℕ) (parts : Setting D → List Part) → IsSoundWorld disk old
-      → InEachView disk old (λ here seen. DoesParts here seen old new before after (parts here)) → IsSoundWorld disk new
+  -- the rules see a world after a row of parts
+  pub sound_parts : (old new : Scene D) (before after : List ℕ) (parts : Setting D → List Part) → IsSoundScene disk old
+      → InEachView disk old (λ here seen. DoesParts here seen old new before after (parts here)) → IsSoundScene disk new
   sound_parts old new before after parts sound each =
       let here : Setting D = run_setting disk sound.0 old.limit sound.1 in
       let is : IsSeenAs here sound.2 old = sound.3 in
       let does : DoesParts here sound.2 old new before after (parts here) = each sound.0 sound.1 sound.2 is in
       sound_at disk new old.limit sound.0 sound.1 does.next does.through.limit does.through.is
 
-  module _ (law : WorldIsCarried disk) where
-    -- behind a row that begins no reconciliation the world is between lines again
-    pub between_parts : (old new : World D) (before after : List ℕ) (parts : Setting D → List Part) → ((here : Setting D) → BeginsNone (parts here)) → IsBetweenLines disk old
+  module _ (law : SceneIsCarried disk) where
+    -- after a row that begins no reconciliation the world is between lines again
+    pub between_parts : (old new : Scene D) (before after : List ℕ) (parts : Setting D → List Part) → ((here : Setting D) → BeginsNone (parts here)) → IsBetweenLines disk old
         → InEachView disk old (λ here seen. DoesParts here seen old new before after (parts here)) → IsBetweenLines disk new
     between_parts old new before after parts none between each =
-        let sound : IsSoundWorld disk old = between.0 in
+        let sound : IsSoundScene disk old = between.0 in
         let here : Setting D = run_setting disk sound.0 old.limit sound.1 in
         let is : IsSeenAs here sound.2 old = sound.3 in
         let does : DoesParts here sound.2 old new before after (parts here) = each sound.0 sound.1 sound.2 is in (
@@ -136,11 +121,11 @@ module _ {D : Type 0} (disk : DiskMeaning D) where
           unmended_behind here (law sound.0 old.limit sound.1 is.decls) old new sound.2 does.next (parts here) does.turns is between.1 does.goes (none here) does.through.is,
         )
 
-    -- so it is behind a turn
-    pub between_turn : (old new : World D) (before after : List ℕ) (one : Part) → is_beginning one ≡ false → IsBetweenLines disk old
+    -- after a turn that begins no reconciliation the world is between lines again
+    pub between_turn : (old new : Scene D) (before after : List ℕ) (one : Part) → is_beginning one ≡ false → IsBetweenLines disk old
         → InEachView disk old (λ here seen. DoesTurn here seen old new before after one) → IsBetweenLines disk new
     between_turn old new before after one none between each =
-        let sound : IsSoundWorld disk old = between.0 in
+        let sound : IsSoundScene disk old = between.0 in
         let here : Setting D = run_setting disk sound.0 old.limit sound.1 in
         let is : IsSeenAs here sound.2 old = sound.3 in
         let does : DoesTurn here sound.2 old new before after one = each sound.0 sound.1 sound.2 is in (
@@ -152,18 +137,18 @@ module _ {D : Type 0} (disk : DiskMeaning D) where
         )
 
 -- Events of a part came so far, and more of them may.
-pub record LastsInEach {D : Type 0} (disk : DiskMeaning D) (one : Part) (old : World D) (before : List ℕ) (middle : World D) (now : List ℕ) (came : Bool) : Type 0 where
+pub record LastsInEach {D : Type 0} (disk : DiskMeaning D) (one : Part) (old : Scene D) (before : List ℕ) (middle : Scene D) (now : List ℕ) (came : Bool) : Type 0 where
   pub between : IsBetweenLines disk middle
   pub lasts : InEachView disk old (λ here seen. Lasts here seen old before one middle now came)
 
-module _ {D : Type 0} (disk : DiskMeaning D) (one : Part) (old : World D) (before : List ℕ) where
+module _ {D : Type 0} (disk : DiskMeaning D) (one : Part) (old : Scene D) (before : List ℕ) where
   pub none_yet : IsBetweenLines disk old → LastsInEach disk one old before old before false
   none_yet between = record {
     between = between;
     lasts = λ decls granted seen is. lasts_first (run_setting disk decls old.limit granted) seen old before one is;
   }
 
-  module _ (again : comes_again one ≡ true) (middle new : World D) (now after : List ℕ) (came : Bool)
+  module _ (again : comes_again one ≡ true) (middle new : Scene D) (now after : List ℕ) (came : Bool)
       (so : LastsInEach disk one old before middle now came) where
     -- what the next call does in the view that is left
     at_next : (IsSo : Setting D → Seen D → Type 0) (decls : Decls) (granted : Bool) (seen : Seen D) (is : IsSeenAs (run_setting disk decls old.limit granted) seen old)
@@ -172,7 +157,7 @@ module _ {D : Type 0} (disk : DiskMeaning D) (one : Part) (old : World D) (befor
         let lasts : Lasts (run_setting disk decls old.limit granted) seen old before one middle now came = so.lasts decls granted seen is in
         at_limit disk middle IsSo old.limit decls granted lasts.next each lasts.through.limit lasts.through.is
 
-    -- it went on for as long as a number can count
+    -- the row went on for as long as a number can count
     pub exhausted : RowOrQuiet disk (λ here. one ∷ []) (λ here seen. Unit {0}) old (stopped stop.Memory) middle before now
     exhausted decls granted seen is =
         let here : Setting D = run_setting disk decls old.limit granted in
@@ -180,7 +165,7 @@ module _ {D : Type 0} (disk : DiskMeaning D) (one : Part) (old : World D) (befor
         ends_between here seen old before one again middle middle now now came lasts stop.Memory (wanting_at here lasts.next middle now lasts.through.is)
 
     module _ (single : Part) (kind : (event : Event) → IsOf single event → IsOf one event) where
-      pub one_more : WorldIsCarried disk → is_beginning single ≡ false → (some : Bool) → some ≡ true
+      pub one_more : SceneIsCarried disk → is_beginning single ≡ false → (some : Bool) → some ≡ true
           → InEachView disk middle (λ here seen. MayDoTurn here seen middle new now after single some) → LastsInEach disk one old before new after true
       one_more law none some is_some each = record {
         between = between_turn disk law middle new now after single none so.between
@@ -212,24 +197,24 @@ module _ {D : Type 0} (disk : DiskMeaning D) (one : Part) (old : World D) (befor
           (at_next (λ here seen. MayEndTurn here seen middle new now after single why) decls granted seen is each)
 
 -- Operations of a device came so far, and more of them may.
-pub record OperatesInEach {D : Type 0} (disk : DiskMeaning D) (device : ℕ) (old middle : World D) : Type 0 where
-  pub sound : IsSoundWorld disk middle
+pub record OperatesInEach {D : Type 0} (disk : DiskMeaning D) (device : ℕ) (old middle : Scene D) : Type 0 where
+  pub sound : IsSoundScene disk middle
   pub within : device < length middle.links.links
   pub came : Bool
   pub lasts : InEachView disk old (λ here seen. Lasts here seen old [] (part.Operations device) middle [] came)
 
-operation_came : {D : Type 0} (here : Setting D) (seen : Seen D) (old new : World D) (device : ℕ) (came : Bool) → came ≡ true
+operation_came : {D : Type 0} (here : Setting D) (seen : Seen D) (old new : Scene D) (device : ℕ) (came : Bool) → came ≡ true
     → MayDoOperation here seen old new [] [] device came → DoesOperation here seen old new [] [] device
 operation_came here seen old new device came is (inl did) = did.1
 operation_came here seen old new device came is (inr none) = absurd (false≢true (sym none.0 ∙ is))
 
-none_performed : {D : Type 0} (here : Setting D) (seen : Seen D) (old new : World D) (device : ℕ) (came : Bool) → came ≡ false
+none_performed : {D : Type 0} (here : Setting D) (seen : Seen D) (old new : Scene D) (device : ℕ) (came : Bool) → came ≡ false
     → MayDoOperation here seen old new [] [] device came → NoneOf here seen (part.Operation device) × NoneOf here seen (part.Hearing device) × StaysSame here seen old new [] []
 none_performed here seen old new device came is (inl did) = absurd (false≢true (sym is ∙ did.0))
 none_performed here seen old new device came is (inr (not_came, none, unheard, same)) = (none, unheard, same)
 
-module _ {D : Type 0} (disk : DiskMeaning D) (device : ℕ) (old : World D) where
-  pub no_operation_yet : IsSoundWorld disk old → device < length old.links.links → OperatesInEach disk device old old
+module _ {D : Type 0} (disk : DiskMeaning D) (device : ℕ) (old : Scene D) where
+  pub no_operation_yet : IsSoundScene disk old → device < length old.links.links → OperatesInEach disk device old old
   no_operation_yet sound within = record {
     sound = sound;
     within = within;
@@ -237,7 +222,7 @@ module _ {D : Type 0} (disk : DiskMeaning D) (device : ℕ) (old : World D) wher
     lasts = λ decls granted seen is. lasts_first (run_setting disk decls old.limit granted) seen old [] (part.Operations device) is;
   }
 
-  module _ (middle new : World D) (so : OperatesInEach disk device old middle) where
+  module _ (middle new : Scene D) (so : OperatesInEach disk device old middle) where
     next_at : (IsSo : Setting D → Seen D → Type 0) (decls : Decls) (granted : Bool) (seen : Seen D) (is : IsSeenAs (run_setting disk decls old.limit granted) seen old)
         → InEachView disk middle IsSo → IsSo (run_setting disk decls old.limit granted) (so.lasts decls granted seen is).next
     next_at IsSo decls granted seen is each =
@@ -246,7 +231,7 @@ module _ {D : Type 0} (disk : DiskMeaning D) (device : ℕ) (old : World D) wher
 
     pub operation_more : (some : Bool) → some ≡ true → InEachView disk middle (λ here seen. MayDoOperation here seen middle new [] [] device some) → OperatesInEach disk device old new
     operation_more some is_some each =
-        let sound : IsSoundWorld disk middle = so.sound in
+        let sound : IsSoundScene disk middle = so.sound in
         let here : Setting D = run_setting disk sound.0 middle.limit sound.1 in
         let is : IsSeenAs here sound.2 middle = sound.3 in
         let did : DoesOperation here sound.2 middle new [] [] device = operation_came here sound.2 middle new device some is_some (each sound.0 sound.1 sound.2 is) in
@@ -287,31 +272,31 @@ module _ {D : Type 0} (disk : DiskMeaning D) (device : ℕ) (old : World D) wher
         ends_between here seen old [] (part.Operations device) refl middle middle [] [] so.came lasts stop.Memory (wanting_at here lasts.next middle [] lasts.through.is)
 
 -- rounds came so far
-pub record RoundsInEach {D : Type 0} (disk : DiskMeaning D) (old : World D) (before : List ℕ) (middle : World D) (now : List ℕ) : Type 0 where
+pub record RoundsInEach {D : Type 0} (disk : DiskMeaning D) (old : Scene D) (before : List ℕ) (middle : Scene D) (now : List ℕ) : Type 0 where
   pub between : IsBetweenLines disk middle
   pub rounds : InEachView disk old (λ here seen. RoundsSoFar here seen old before middle now)
 
-module _ {D : Type 0} (disk : DiskMeaning D) (old : World D) (before : List ℕ) where
+module _ {D : Type 0} (disk : DiskMeaning D) (old : Scene D) (before : List ℕ) where
   pub no_round_yet : IsBetweenLines disk old → RoundsInEach disk old before old before
   no_round_yet between = record {
     between = between;
     rounds = λ decls granted seen is. rounds_first (run_setting disk decls old.limit granted) seen old before is;
   }
 
-  pub settled_between : WorldIsCarried disk → (new : World D) (after : List ℕ) → IsBetweenLines disk old → SettlesRounds disk old (done tt) new before after
+  pub settled_between : SceneIsCarried disk → (new : Scene D) (after : List ℕ) → IsBetweenLines disk old → SettlesRounds disk old (done tt) new before after
       → IsBetweenLines disk new
   settled_between law new after between settles =
       between_parts disk law old new before after (λ here. part.Rounds ∷ []) (λ here. (refl, tt)) between
       (λ decls granted seen is. (settles decls granted seen is).0)
 
-  module _ (middle new : World D) (now after : List ℕ) (so : RoundsInEach disk old before middle now) where
+  module _ (middle new : Scene D) (now after : List ℕ) (so : RoundsInEach disk old before middle now) where
     round_next : (IsSo : Setting D → Seen D → Type 0) (decls : Decls) (granted : Bool) (seen : Seen D) (is : IsSeenAs (run_setting disk decls old.limit granted) seen old)
         → InEachView disk middle IsSo → IsSo (run_setting disk decls old.limit granted) (so.rounds decls granted seen is).next
     round_next IsSo decls granted seen is each =
         let rounds : RoundsSoFar (run_setting disk decls old.limit granted) seen old before middle now = so.rounds decls granted seen is in
         at_limit disk middle IsSo old.limit decls granted rounds.next each rounds.through.limit rounds.through.is
 
-    pub round_more : WorldIsCarried disk → (came : Bool)
+    pub round_more : SceneIsCarried disk → (came : Bool)
         → InEachView disk middle (λ here seen. DoesRow here seen middle new now after (round here.decls) came (IsStill here seen)) → RoundsInEach disk old before new after
     round_more law came each = record {
       between = between_parts disk law middle new now after (λ here. round here.decls) (λ here. round_none here.decls) so.between
@@ -349,7 +334,7 @@ module _ {D : Type 0} (disk : DiskMeaning D) (old : World D) (before : List ℕ)
         (once_ends here rounds.next middle middle now now (round here.decls) stop.Memory (wanting_at here rounds.next middle now rounds.through.is))
 
 -- an operation came on each of the first so many devices, or none may
-pub record EachInEach {D : Type 0} (disk : DiskMeaning D) (old middle : World D) (count : ℕ) (came : Bool) : Type 0 where
+pub record EachInEach {D : Type 0} (disk : DiskMeaning D) (old middle : Scene D) (count : ℕ) (came : Bool) : Type 0 where
   pub between : IsBetweenLines disk middle
   pub long : length middle.links.links ≡ length old.links.links
   pub each : InEachView disk old (λ here seen. DoesRow here seen old middle [] [] (each_of count) came (NoneBefore here seen old count))
@@ -369,7 +354,7 @@ none_of false false true is = absurd (false≢true (sym is))
 none_of false true t is = absurd (false≢true (sym is))
 none_of true p t is = absurd (false≢true (sym is))
 
-module _ {D : Type 0} (disk : DiskMeaning D) (old : World D) where
+module _ {D : Type 0} (disk : DiskMeaning D) (old : Scene D) where
   pub no_device_yet : IsBetweenLines disk old → EachInEach disk old old 0 false
   no_device_yet between = record {
     between = between;
@@ -377,7 +362,7 @@ module _ {D : Type 0} (disk : DiskMeaning D) (old : World D) where
     each = λ decls granted seen is. each_first (run_setting disk decls old.limit granted) seen old is;
   }
 
-  pub each_last : (new : World D) (count : ℕ) (came : Bool) → count ≡ length old.links.links → EachInEach disk old new count came
+  pub each_last : (new : Scene D) (count : ℕ) (came : Bool) → count ≡ length old.links.links → EachInEach disk old new count came
       → RowOrQuiet disk operations_of NoneOrdered old (went came) new [] []
   each_last new count came all so decls granted seen is =
       let here : Setting D = run_setting disk decls old.limit granted in
@@ -385,7 +370,7 @@ module _ {D : Type 0} (disk : DiskMeaning D) (old : World D) where
       each_whole here seen old new came is
       (subst (λ (n : ℕ). DoesRow here seen old new [] [] (each_of n) came (NoneBefore here seen old n)) whole (so.each decls granted seen is))
 
-  module _ (middle new : World D) (count : ℕ) (came : Bool) (so : EachInEach disk old middle count came) where
+  module _ (middle new : Scene D) (count : ℕ) (came : Bool) (so : EachInEach disk old middle count came) where
     each_at : (IsSo : Setting D → Seen D → Type 0) (decls : Decls) (granted : Bool) (seen : Seen D) (is : IsSeenAs (run_setting disk decls old.limit granted) seen old)
         → InEachView disk middle IsSo → IsSo (run_setting disk decls old.limit granted) (so.each decls granted seen is).does.next
     each_at IsSo decls granted seen is each =
@@ -393,13 +378,13 @@ module _ {D : Type 0} (disk : DiskMeaning D) (old : World D) where
         so.each decls granted seen is in
         at_limit disk middle IsSo old.limit decls granted row.does.next each row.does.through.limit row.does.through.is
 
-    pub each_more : WorldIsCarried disk → (some : Bool) → InEachView disk middle (λ here seen. MayDoOperation here seen middle new [] [] count some)
+    pub each_more : SceneIsCarried disk → (some : Bool) → InEachView disk middle (λ here seen. MayDoOperation here seen middle new [] [] count some)
         → EachInEach disk old new (count + 1) (came || some)
     each_more law some each =
         let row_there : (decls : Decls) (granted : Bool) (seen : Seen D) → IsSeenAs (run_setting disk decls middle.limit granted) seen middle
         → DoesParts (run_setting disk decls middle.limit granted) seen middle new [] [] (part.Operation count ∷ part.Hearing count ∷ []) =
         λ decls granted seen is. (operation_does (run_setting disk decls middle.limit granted) seen middle new count some (each decls granted seen is)).does in
-        let sound : IsSoundWorld disk middle = so.between.0 in
+        let sound : IsSoundScene disk middle = so.between.0 in
         let there : Setting D = run_setting disk sound.0 middle.limit sound.1 in
         let did : DoesParts there sound.2 middle new [] [] (part.Operation count ∷ part.Hearing count ∷ []) = row_there sound.0 sound.1 sound.2 sound.3 in
         record {
@@ -423,26 +408,26 @@ module _ {D : Type 0} (disk : DiskMeaning D) (old : World D) where
         (each_at (λ here seen. EndsAtOnce here seen middle new [] [] why) decls granted seen is each))
 
 -- all operations of the first so many devices came
-pub record MendsInEach {D : Type 0} (disk : DiskMeaning D) (old middle : World D) (count : ℕ) : Type 0 where
-  pub sound : IsSoundWorld disk middle
+pub record MendsInEach {D : Type 0} (disk : DiskMeaning D) (old middle : Scene D) (count : ℕ) : Type 0 where
+  pub sound : IsSoundScene disk middle
   pub long : length middle.links.links ≡ length old.links.links
   pub mends : InEachView disk old (λ here seen. DoesParts here seen old middle [] [] (map part.Operations (range_with_len 0 count)))
 
-module _ {D : Type 0} (disk : DiskMeaning D) (old : World D) where
-  pub none_mended : IsSoundWorld disk old → MendsInEach disk old old 0
+module _ {D : Type 0} (disk : DiskMeaning D) (old : Scene D) where
+  pub none_mended : IsSoundScene disk old → MendsInEach disk old old 0
   none_mended sound = record {
     sound = sound;
     long = refl;
     mends = λ decls granted seen is. mends_first (run_setting disk decls old.limit granted) seen old is;
   }
 
-  pub mends_last : (new : World D) (count : ℕ) → count ≡ length old.links.links → MendsInEach disk old new count
+  pub mends_last : (new : Scene D) (count : ℕ) → count ≡ length old.links.links → MendsInEach disk old new count
       → RowOrEnd disk (λ here. map part.Operations (declared here.decls)) old (done tt) new [] []
   mends_last new count all so decls granted seen is =
       let here : Setting D = run_setting disk decls old.limit granted in
       subst (λ (n : ℕ). DoesParts here seen old new [] [] (map part.Operations (range_with_len 0 n))) (all ∙ links_long here seen old is) (so.mends decls granted seen is)
 
-  module _ (middle new : World D) (count : ℕ) (so : MendsInEach disk old middle count) where
+  module _ (middle new : Scene D) (count : ℕ) (so : MendsInEach disk old middle count) where
     mends_at : (IsSo : Setting D → Seen D → Type 0) (decls : Decls) (granted : Bool) (seen : Seen D) (is : IsSeenAs (run_setting disk decls old.limit granted) seen old)
         → InEachView disk middle IsSo → IsSo (run_setting disk decls old.limit granted) (so.mends decls granted seen is).next
     mends_at IsSo decls granted seen is each =
@@ -451,7 +436,7 @@ module _ {D : Type 0} (disk : DiskMeaning D) (old : World D) where
 
     pub mends_more : RowOrEnd disk (λ here. part.Operations count ∷ []) middle (done tt) new [] [] → MendsInEach disk old new (count + 1)
     mends_more each =
-        let sound : IsSoundWorld disk middle = so.sound in
+        let sound : IsSoundScene disk middle = so.sound in
         let there : Setting D = run_setting disk sound.0 middle.limit sound.1 in
         let did : DoesParts there sound.2 middle new [] [] (part.Operations count ∷ []) = each sound.0 sound.1 sound.2 sound.3 in
         record {
@@ -473,7 +458,7 @@ module _ {D : Type 0} (disk : DiskMeaning D) (old : World D) where
         (mends_at (λ here seen. EndsInParts here seen middle new [] [] (part.Operations count ∷ []) why) decls granted seen is each)
 
 -- a row that printed nothing, whatever was printed before it
-pub parts_printing : {D : Type 0} (here : Setting D) (seen : Seen D) (old new : World D) (before : List ℕ) (parts : List Part) → DoesParts here seen old new [] [] parts
+pub parts_printing : {D : Type 0} (here : Setting D) (seen : Seen D) (old new : Scene D) (before : List ℕ) (parts : List Part) → DoesParts here seen old new [] [] parts
     → DoesParts here seen old new before before parts
 parts_printing here seen old new before parts does = record {
   turns = does.turns;
@@ -491,7 +476,7 @@ most_printing here before turns (stop.Foreign at) most = prints_nothing here bef
 most_printing here before turns stop.NotJournal most = prints_nothing here before turns most
 most_printing here before turns (stop.Damaged at) most = prints_nothing here before turns most
 
-pub ends_printing : {D : Type 0} (here : Setting D) (seen : Seen D) (old new : World D) (before : List ℕ) (parts : List Part) (why : WorldStop) → EndsInParts here seen old new [] [] parts why
+pub ends_printing : {D : Type 0} (here : Setting D) (seen : Seen D) (old new : Scene D) (before : List ℕ) (parts : List Part) (why : WorldStop) → EndsInParts here seen old new [] [] parts why
     → EndsInParts here seen old new before before parts why
 ends_printing here seen old new before parts why ends = record {
   turns = ends.turns;
@@ -503,7 +488,7 @@ ends_printing here seen old new before parts why ends = record {
 }
 
 -- a round of its three parts
-module _ {D : Type 0} (disk : DiskMeaning D) (old one two new : World D) (first second third : List ℕ) (a p t : Bool) where
+module _ {D : Type 0} (disk : DiskMeaning D) (old one two new : Scene D) (first second third : List ℕ) (a p t : Bool) where
   abbrev pub Admits : Type 0
   Admits = InEachView disk old (λ here seen. DoesRow here seen old one first second (part.Admissions ∷ []) a (NoneOf here seen part.Admission))
 
@@ -524,7 +509,7 @@ module _ {D : Type 0} (disk : DiskMeaning D) (old one two new : World D) (first 
       (none_of a p t)
 
 -- the run ended in one of them
-module _ {D : Type 0} (disk : DiskMeaning D) (old one new : World D) (first second : List ℕ) (why : WorldStop) where
+module _ {D : Type 0} (disk : DiskMeaning D) (old one new : Scene D) (first second : List ℕ) (why : WorldStop) where
   pub round_ended_first : RowOrQuiet disk (λ here. part.Admissions ∷ []) (λ here seen. NoneOf here seen part.Admission) old (stopped why) new first second
       → RowOrQuiet disk (λ here. round here.decls) IsStill old (stopped why) new first second
   round_ended_first ends decls granted seen is =
@@ -539,7 +524,7 @@ module _ {D : Type 0} (disk : DiskMeaning D) (old one new : World D) (first seco
       at_limit disk one (λ here seen. EndsInParts here seen one new [] [] (operations_of here) why) old.limit decls granted f.does.next ends f.does.through.limit f.does.through.is in
       round_ends_second here seen old one new first second why f.does (ends_printing here f.does.next one new second (operations_of here) why g)
 
-module _ {D : Type 0} (disk : DiskMeaning D) (old one two new : World D) (first second third : List ℕ) (why : WorldStop) where
+module _ {D : Type 0} (disk : DiskMeaning D) (old one two new : Scene D) (first second third : List ℕ) (why : WorldStop) where
   pub round_ended_third : (a p : Bool) → InEachView disk old (λ here seen. DoesRow here seen old one first second (part.Admissions ∷ []) a (NoneOf here seen part.Admission))
       → InEachView disk one (λ here seen. DoesRow here seen one two [] [] (operations_of here) p (NoneOrdered here seen))
       → RowOrQuiet disk (λ here. part.Decisions ∷ []) (λ here seen. NoneOf here seen part.Decisions) two (stopped why) new second third
@@ -561,14 +546,14 @@ module _ {D : Type 0} (disk : DiskMeaning D) (old one two new : World D) (first 
         prints = prints_nothing here second g.does.turns g.does.prints;
       }) h
 
--- behind a row that begins no reconciliation the world is between lines
-pub row_between : {D : Type 0} (disk : DiskMeaning D) → WorldIsCarried disk → (old new : World D) (before after : List ℕ) (parts : Setting D → List Part) (IsSo : Setting D → Seen D → Type 0) (came : Bool)
+-- after a row that begins no reconciliation the world is between lines
+pub row_between : {D : Type 0} (disk : DiskMeaning D) → SceneIsCarried disk → (old new : Scene D) (before after : List ℕ) (parts : Setting D → List Part) (IsSo : Setting D → Seen D → Type 0) (came : Bool)
     → ((here : Setting D) → BeginsNone (parts here)) → IsBetweenLines disk old → RowOrQuiet disk parts IsSo old (went came) new before after → IsBetweenLines disk new
 row_between disk law old new before after parts IsSo came none between each =
     between_parts disk law old new before after parts none between (λ decls granted seen is. (each decls granted seen is).does)
 
 -- there are few devices
-pub few_devices : {D : Type 0} (disk : DiskMeaning D) (old : World D) → IsSoundWorld disk old → length old.links.links ≤ 256
+pub few_devices : {D : Type 0} (disk : DiskMeaning D) (old : Scene D) → IsSoundScene disk old → length old.links.links ≤ 256
 few_devices disk old sound =
     let here = run_setting disk sound.0 old.limit sound.1 in
     let is : IsSeenAs here sound.2 old = sound.3 in

@@ -14,19 +14,20 @@ use Rattle.orc_rules.specs.declared.event.Event.{Event}
 use Rattle.orc_runs.specs.Scripts.{Goes, IsOf, IsStill, NoneOf, Part, Part as part, Shows, idle_words}
 use Rattle.orc_script.specs.declared.step.ScriptStep.TheVariants as step
 use Rattle.orc_text.specs.declared.memory.Memory.{Memory}
-use Rattle.orc_world.specs.Codes.{PrintsText, hub_in}
-use Rattle.orc_world.specs.Courses.{DoesParts, RowOrEnd, SettlesRounds}
+use Rattle.orc_scene.specs.Effects.{PrintsText, hub_in}
+use Rattle.orc_scene.specs.Courses.{DoesParts, RowOrEnd, SettlesRounds}
 use Rattle.orc_world.specs.Lines.{DoesLine, EndsInLine, IsLineCall}
-use Rattle.orc_world.specs.Stands.{IsPlaceSeenAs, IsSeenAs, IsUnmended, run_setting}
-use Rattle.orc_world.specs.declared.stop.WorldStop.{WorldStop}
-use Rattle.orc_world.specs.declared.world.Place.{Place}
-use Rattle.orc_world.specs.declared.world.Place.TheVariants.{Up, Down, Ended, Moved}
-use Rattle.orc_world.specs.declared.world.World.{World}
-use Rattle.orc_world.proofs.Apiece.{any_none, hearing_of_device, operation_of_device}
+use Rattle.orc_scene.specs.Stands.{IsPlaceSeenAs, IsSeenAs, IsNotReconciling, run_setting}
+use Rattle.orc_scene.specs.declared.stop.WorldStop.{WorldStop}
+use Rattle.orc_scene.specs.declared.scene.Place.{Place}
+use Rattle.orc_scene.specs.declared.scene.Place.TheVariants.{Up, Down, Ended, Moved}
+use Rattle.orc_scene.specs.declared.scene.Scene.{Scene}
+use Rattle.orc_scene.proofs.Apiece.{any_none, hearing_of_device, operation_of_device}
 use Rattle.orc_world.proofs.Joining.{goes_nothing}
-use Rattle.orc_world.proofs.Lasted.{done, ended}
+use Rattle.orc_scene.proofs.Lasted.{done, ended}
 use Rattle.orc_world.proofs.Lining.{ends_line, parts_line}
-use Rattle.orc_world.proofs.Rowing.{mends_nothing, none_up, row_ended, row_then}
+use Rattle.orc_scene.proofs.Rowing.{none_up}
+use Rattle.orc_world.proofs.Rowing.{mends_nothing, row_ended, row_then}
 use Rattle.orc_world.proofs.Showings.{said_line}
 use Rattle.orc_world.proofs.Times.{unended}
 
@@ -36,8 +37,8 @@ settle_shows decls [] world = refl
 settle_shows decls (turn ∷ turns) world = refl
 
 -- the line `settle` is rounds
-pub settle_line : {D : Type 0} (disk : DiskMeaning D) (old new : World D) (before after : List ℕ) (result : Result (Unit {0}) WorldStop)
-    → SettlesRounds disk old result new before after → OnOk result (IsUnmended new.place) → IsLineCall disk step.Settle old result new before after
+pub settle_line : {D : Type 0} (disk : DiskMeaning D) (old new : Scene D) (before after : List ℕ) (result : Result (Unit {0}) WorldStop)
+    → SettlesRounds disk old result new before after → OnOk result (IsNotReconciling new.place) → IsLineCall disk step.Settle old result new before after
 settle_line disk old new before after (Ok value) settles unmended = λ decls granted seen is may.
     (let does = settles decls granted seen is in
     parts_line (run_setting disk decls old.limit granted) step.Settle seen old new before after (part.Rounds ∷ []) refl refl (λ wrong. absurd cc) (λ device. refl)
@@ -67,8 +68,8 @@ seen_up here seen Moved is up = absurd is
 abbrev pub mending_parts : {D : Type 0} → Setting D → List Part
 mending_parts here = part.Beginning ∷ map part.Operations (declared here.decls) ++ part.Ending ∷ []
 
-pub reconcile_line : {D : Type 0} (disk : DiskMeaning D) (old middle new : World D) (before between after : List ℕ) (result : Result (Unit {0}) WorldStop) → is_some (hub_in old.place) ≡ true
-    → SettlesRounds disk old (done tt) middle before between → RowOrEnd disk mending_parts middle result new between after → OnOk result (IsUnmended new.place)
+pub reconcile_line : {D : Type 0} (disk : DiskMeaning D) (old middle new : Scene D) (before between after : List ℕ) (result : Result (Unit {0}) WorldStop) → is_some (hub_in old.place) ≡ true
+    → SettlesRounds disk old (done tt) middle before between → RowOrEnd disk mending_parts middle result new between after → OnOk result (IsNotReconciling new.place)
     → IsLineCall disk step.Reconcile old result new before after
 reconcile_line {D = D} disk old middle new before between after result up settles each unmended = λ decls granted seen is may.
     by result each unmended decls granted seen is
@@ -76,7 +77,7 @@ reconcile_line {D = D} disk old middle new before between after result up settle
     rounds : RowOrEnd disk (λ here. part.Rounds ∷ []) old (done tt) middle before between
     rounds = λ decls granted seen is. (settles decls granted seen is).0
 
-    by : (result : Result (Unit {0}) WorldStop) → RowOrEnd disk mending_parts middle result new between after → OnOk result (IsUnmended new.place)
+    by : (result : Result (Unit {0}) WorldStop) → RowOrEnd disk mending_parts middle result new between after → OnOk result (IsNotReconciling new.place)
         → (decls : Decls) (granted : Bool) (seen : Seen D) → IsSeenAs (run_setting disk decls old.limit granted) seen old
         → MatchResult result (λ value. DoesLine (run_setting disk decls old.limit granted) step.Reconcile seen old new before after)
         (λ why. EndsInLine (run_setting disk decls old.limit granted) step.Reconcile seen old new before after why)
@@ -95,7 +96,7 @@ reconcile_line {D = D} disk old middle new before between after result up settle
         (row_then disk (λ here. part.Rounds ∷ []) mending_parts old middle new before between after (ended why) rounds each decls granted seen is)
 
 -- the run ended in its rounds
-pub reconcile_ended : {D : Type 0} (disk : DiskMeaning D) (old new : World D) (before after : List ℕ) (why : WorldStop) → SettlesRounds disk old (ended why) new before after
+pub reconcile_ended : {D : Type 0} (disk : DiskMeaning D) (old new : Scene D) (before after : List ℕ) (why : WorldStop) → SettlesRounds disk old (ended why) new before after
     → IsLineCall disk step.Reconcile old (ended why) new before after
 reconcile_ended {D = D} disk old new before after why settles = λ decls granted seen is may.
     (let here : Setting D = run_setting disk decls old.limit granted in
@@ -138,8 +139,8 @@ module _ {D : Type 0} (here : Setting D) (seen : Seen D) (down : seen.hub ≡ No
   still_down : IsStill here seen
   still_down device = (none_admits, none_performs device, none_hears device, none_decides)
 
-pub reconcile_down : {D : Type 0} (disk : DiskMeaning D) (old : World D) (before after : List ℕ) (result : Result (Unit {0}) WorldStop) (text : Result (Vec ℕ) Memory)
-    → is_some (hub_in old.place) ≡ false → IsUnmended old.place → IfOk text (λ bytes. bytes.items ≡ codes "reconcile down\n") → PrintsText text before result after
+pub reconcile_down : {D : Type 0} (disk : DiskMeaning D) (old : Scene D) (before after : List ℕ) (result : Result (Unit {0}) WorldStop) (text : Result (Vec ℕ) Memory)
+    → is_some (hub_in old.place) ≡ false → IsNotReconciling old.place → IfOk text (λ bytes. bytes.items ≡ codes "reconcile down\n") → PrintsText text before result after
     → IsLineCall disk step.Reconcile old result old before after
 reconcile_down {D = D} disk old before after result text down unmended says prints = λ decls granted seen is may.
     (let here : Setting D = run_setting disk decls old.limit granted in

@@ -17,14 +17,14 @@ use Rattle.orc_runs.specs.Runs.{AreDone, IsDone, LineDone, PrintLogs, is_log, lo
 use Rattle.orc_script.specs.Steps.{is_step}
 use Rattle.orc_script.specs.declared.step.ScriptStep.{ScriptStep}
 use Rattle.orc_script.specs.declared.step.ScriptStep.TheVariants as step
-use Rattle.orc_world.specs.Courses.{event_list, events_in, operations_in}
+use Rattle.orc_scene.specs.Courses.{event_list, events_in, operations_in}
 use Rattle.orc_world.specs.Lines.{DoesLine, EndsInLine, IsLineCall, MayRecover}
 use Rattle.orc_world.specs.Scripts.{GoesOnAfter, RunsInWorld, RunsScript, TakesAnyLine}
-use Rattle.orc_world.specs.Stands.{HasDisk, IsSeenAs, decls_in, run_setting}
-use Rattle.orc_world.specs.Stops.{end_of_run}
-use Rattle.orc_world.specs.declared.stop.WorldStop.{WorldStop}
-use Rattle.orc_world.specs.declared.world.World.{World}
-use Rattle.orc_world.proofs.Allowed.{decls_there}
+use Rattle.orc_scene.specs.Stands.{HasDisk, IsSeenAs, decls_in, run_setting}
+use Rattle.orc_scene.specs.RunEnds.{end_of_run}
+use Rattle.orc_scene.specs.declared.stop.WorldStop.{WorldStop}
+use Rattle.orc_scene.specs.declared.scene.Scene.{Scene}
+use Rattle.orc_scene.proofs.Allowed.{decls_there}
 use Rattle.orc_world.proofs.Joining.{flat_then}
 
 -- any line may come where nothing is granted
@@ -32,14 +32,14 @@ may_any : (line : ScriptStep) → MayRecover line false
 may_any step.Recover = refl
 may_any line = tt
 
--- and every line but a recovery where something is
+-- any line but a recovery may come where something is granted
 may_by : (line : ScriptStep) (granted : Bool) → (granted ≡ true → line ≢ step.Recover) → MayRecover line granted
 may_by step.Recover false none = refl
 may_by step.Recover true none = absurd (none refl refl)
 may_by line granted none = tt
 
 -- after a line that was done the world takes any line
-pub goes_on_after : {D : Type 0} (disk : DiskMeaning D) (line : ScriptStep) (old new : World D) (before after : List ℕ) (result : Result (Unit {0}) WorldStop) → TakesAnyLine disk old
+pub goes_on_after : {D : Type 0} (disk : DiskMeaning D) (line : ScriptStep) (old new : Scene D) (before after : List ℕ) (result : Result (Unit {0}) WorldStop) → TakesAnyLine disk old
     → IsLineCall disk line old result new before after → GoesOnAfter disk old result new
 goes_on_after {D = D} disk line old new before after (Ok value) takes call =
     let decls : Decls = takes.0 in
@@ -89,7 +89,7 @@ module _ {D : Type 0} (here : Setting D) where
   are_then first middle (x ∷ lines) line are at done = (are.0, are.1, are_then x.behind middle lines line are.2 at done)
 
   -- lines so far
-  pub record LinesSoFar (seen : Seen D) (old : World D) (before : List ℕ) (script : List ScriptStep) (middle : World D) (now : List ℕ) : Type 0 where
+  pub record LinesSoFar (seen : Seen D) (old : Scene D) (before : List ℕ) (script : List ScriptStep) (middle : Scene D) (now : List ℕ) : Type 0 where
     pub lines : List (LineDone D)
     pub last : Seen D
     pub done : AreDone here seen lines last
@@ -101,7 +101,7 @@ module _ {D : Type 0} (here : Setting D) where
     pub noted : (device : ℕ) → noted_on middle.links.logs device ≡ logged device (noted_on old.links.logs device) lines
     pub logs : PrintLogs here.decls.names (λ device. noted_on old.links.logs device) lines
 
-  module _ (seen : Seen D) (old : World D) (before : List ℕ) where
+  module _ (seen : Seen D) (old : Scene D) (before : List ℕ) where
     pub no_line_yet : IsSeenAs here seen old → LinesSoFar seen old before [] old before
     no_line_yet is = record {
       lines = [];
@@ -120,7 +120,7 @@ module _ {D : Type 0} (here : Setting D) where
         no_line [] later line is = cc
         no_line (x ∷ earlier) later line is = cc
 
-    module _ (script : List ScriptStep) (one : ScriptStep) (middle new : World D) (now after : List ℕ) (so : LinesSoFar seen old before script middle now) where
+    module _ (script : List ScriptStep) (one : ScriptStep) (middle new : Scene D) (now after : List ℕ) (so : LinesSoFar seen old before script middle now) where
       -- the events and the texts of one line more
       events_more : (turns : List (Turn D)) (line : LineDone D) → line.turns ≡ turns → new.events.items.items ≡ middle.events.items.items ++ events_in turns
           → new.events.items.items ≡ old.events.items.items ++ events_in (flat_map (λ x. x.turns) (so.lines ++ line ∷ []))
@@ -197,7 +197,7 @@ module _ {D : Type 0} (here : Setting D) where
           )
 
     -- all lines were done
-    pub lines_whole : (script : List ScriptStep) (middle : World D) (now : List ℕ) (so : LinesSoFar seen old before script middle now)
+    pub lines_whole : (script : List ScriptStep) (middle : Scene D) (now : List ℕ) (so : LinesSoFar seen old before script middle now)
         → (last : Seen D) × (does : RunsInWorld here script seen old middle before now last) × ((does.run.end ≡ None) × IsSeenAs here last middle)
     lines_whole script middle now so = (
       so.last,
@@ -225,7 +225,7 @@ module _ {D : Type 0} (here : Setting D) where
     )
 
 -- the lines of a script that were done so far
-pub record ScriptSoFar {D : Type 0} (disk : DiskMeaning D) (whole script : List ScriptStep) (old : World D) (before : List ℕ) (middle : World D) (now : List ℕ) : Type 0 where
+pub record ScriptSoFar {D : Type 0} (disk : DiskMeaning D) (whole script : List ScriptStep) (old : Scene D) (before : List ℕ) (middle : Scene D) (now : List ℕ) : Type 0 where
   pub takes : TakesAnyLine disk middle
   pub decls : decls_in middle.place ≡ decls_in old.place
   pub lines : (decls : Decls) (granted : Bool) (seen : Seen D) → IsSeenAs (run_setting disk decls old.limit granted) seen old
@@ -245,7 +245,7 @@ list_at P (y ∷ xs) (suc i) x all is = list_at P xs i x (second_of (P y) (list_
     second_of false b h = absurd (false≢true h)
 
 -- the declarations allow each line
-pub allowed_at : {D : Type 0} (old middle : World D) (whole : List ScriptStep) (i : ℕ) (one : ScriptStep) → MatchOption (decls_in old.place) ⊥ (λ decls. IsTrue (list_all (is_step decls) whole))
+pub allowed_at : {D : Type 0} (old middle : Scene D) (whole : List ScriptStep) (i : ℕ) (one : ScriptStep) → MatchOption (decls_in old.place) ⊥ (λ decls. IsTrue (list_all (is_step decls) whole))
     → decls_in middle.place ≡ decls_in old.place → slice_get whole i ≡ Some one → MatchOption (decls_in middle.place) ⊥ (λ decls. IsTrue (is_step decls one))
 allowed_at old middle whole i one allowed same is = by (decls_in middle.place) (subst (λ (o : Option Decls). MatchOption o ⊥ (λ decls. IsTrue (list_all (is_step decls) whole))) (sym same) allowed)
   where
@@ -259,7 +259,7 @@ line_done value = Ok value
 abbrev pub line_ends : WorldStop → Result (Unit {0}) WorldStop
 line_ends why = Err why
 
-module _ {D : Type 0} (disk : DiskMeaning D) (whole : List ScriptStep) (old : World D) (before : List ℕ) where
+module _ {D : Type 0} (disk : DiskMeaning D) (whole : List ScriptStep) (old : Scene D) (before : List ℕ) where
   pub script_first : TakesAnyLine disk old → ScriptSoFar disk whole [] old before old before
   script_first takes = record {
     takes = takes;
@@ -267,7 +267,7 @@ module _ {D : Type 0} (disk : DiskMeaning D) (whole : List ScriptStep) (old : Wo
     lines = λ decls granted seen is recovers. no_line_yet (run_setting disk decls old.limit granted) seen old before is;
   }
 
-  module _ (script : List ScriptStep) (one : ScriptStep) (i : ℕ) (there : slice_get whole i ≡ Some one) (middle new : World D) (now after : List ℕ)
+  module _ (script : List ScriptStep) (one : ScriptStep) (i : ℕ) (there : slice_get whole i ≡ Some one) (middle new : Scene D) (now after : List ℕ)
       (so : ScriptSoFar disk whole script old before middle now) where
     may_come : (granted : Bool) → (granted ≡ true → All (λ line. line ≢ step.Recover) whole) → MayRecover one granted
     may_come granted none = may_by one granted (λ is. All-at (λ line. line ≢ step.Recover) whole i one (none is) there)
@@ -295,7 +295,7 @@ module _ {D : Type 0} (disk : DiskMeaning D) (whole : List ScriptStep) (old : Wo
         (subst (λ (l : ℕ). IsSeenAs (run_setting disk decls l granted) lines.last middle → EndsInLine (run_setting disk decls l granted) one lines.last middle new now after why) lines.limit
         (λ at. call decls granted lines.last at (may_come granted recovers)) lines.is)))
 
-  pub script_whole : (middle : World D) (now : List ℕ) → ScriptSoFar disk whole whole old before middle now → RunsScript disk whole old (line_done tt) middle before now
+  pub script_whole : (middle : Scene D) (now : List ℕ) → ScriptSoFar disk whole whole old before middle now → RunsScript disk whole old (line_done tt) middle before now
   script_whole middle now so = λ decls granted seen is recovers.
       (let here : Setting D = run_setting disk decls old.limit granted in
       let all = lines_whole here seen old before whole middle now (so.lines decls granted seen is recovers) in

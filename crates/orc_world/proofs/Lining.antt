@@ -10,13 +10,13 @@ use Rattle.orc_runs.specs.Runs.{SaysAllTurns, is_log}
 use Rattle.orc_runs.specs.Scripts.{Goes, Part, Prints, Shows, line_parts, said, said_in, set_by}
 use Rattle.orc_script.specs.declared.step.ScriptStep.{ScriptStep}
 use Rattle.orc_script.specs.declared.step.ScriptStep.TheVariants as step
-use Rattle.orc_world.specs.Courses.{DoesParts, EndsInParts, PrintsMost, PrintsTold, operations_in, told_in}
+use Rattle.orc_scene.specs.Courses.{DoesParts, EndsInParts, PrintsMost, PrintsTold, operations_in, told_in}
 use Rattle.orc_world.specs.Lines.{DoesLine, EndsInLine}
-use Rattle.orc_world.specs.Stands.{IsUnmended}
-use Rattle.orc_world.specs.Stops.{end_of_run}
-use Rattle.orc_world.specs.declared.stop.WorldStop.{WorldStop}
-use Rattle.orc_world.specs.declared.stop.WorldStop.TheVariants as stop
-use Rattle.orc_world.specs.declared.world.World.{World}
+use Rattle.orc_scene.specs.Stands.{IsNotReconciling}
+use Rattle.orc_scene.specs.RunEnds.{end_of_run}
+use Rattle.orc_scene.specs.declared.stop.WorldStop.{WorldStop}
+use Rattle.orc_scene.specs.declared.stop.WorldStop.TheVariants as stop
+use Rattle.orc_scene.specs.declared.scene.Scene.{Scene}
 use Rattle.orc_world.proofs.Times.{unended}
 use Rattle.orc_world.proofs.Unsaid.{says_all}
 
@@ -39,11 +39,11 @@ module _ {D : Type 0} (here : Setting D) where
       ap (λ (l : List ℕ). l ++ said_in here.decls line turns) (said_alike here.decls.names line turn turn.seen other)
       ∙ ap (λ (l : List ℕ). said here.decls.names step.Settle turn turn.seen ++ l) (told_alike line other turns)
 
-  module _ (line : ScriptStep) (seen : Seen D) (old new : World D) (before after : List ℕ) (parts : List Part) (row : line_parts here.decls line ≡ parts)
+  module _ (line : ScriptStep) (seen : Seen D) (old new : Scene D) (before after : List ℕ) (parts : List Part) (row : line_parts here.decls line ≡ parts)
       (set : set_by line seen ≡ seen) (other : line ≡ step.Recover → ⊥) where
     -- the line was done
     pub parts_line : ((device : ℕ) → is_log device line ≡ false) → (does : DoesParts here seen old new before after parts)
-        → Shows here.decls line does.turns does.next [] → IsUnmended new.place → DoesLine here line seen old new before after
+        → Shows here.decls line does.turns does.next [] → IsNotReconciling new.place → DoesLine here line seen old new before after
     parts_line no_log does shows unmended = record {
       turns = does.turns;
       next = does.next;

@@ -23,17 +23,18 @@ use Rattle.orc_script.specs.declared.step.ScriptStep.{ScriptStep}
 use Rattle.orc_script.specs.declared.step.ScriptStep.TheVariants as step
 use Rattle.orc_world.specs.Lines.{DoesLine}
 use Rattle.orc_world.specs.Shown.{ShowsDevice}
-use Rattle.orc_world.specs.Stands.{IsSeenAs, IsUnmended}
-use Rattle.orc_world.specs.declared.world.World.{World}
+use Rattle.orc_scene.specs.Stands.{IsSeenAs, IsNotReconciling}
+use Rattle.orc_scene.specs.declared.scene.Scene.{Scene}
 use Rattle.orc_world.proofs.Allowed.{allowed_there}
-use Rattle.orc_world.proofs.Seeing.{changed_mapped, link_there, place_stays, seen_same, updated_same}
+use Rattle.orc_scene.proofs.Seeing.{changed_mapped, seen_same, updated_same}
+use Rattle.orc_world.proofs.Seeing.{link_there, place_stays}
 use Rattle.orc_world.proofs.Times.{unended}
 
 module _ {D : Type 0} (here : Setting D) where
   -- A line that only sets something, or shows something.
-  pub quiet_line : (line : ScriptStep) (seen next : Seen D) (old new : World D) (before after text : List ℕ)
+  pub quiet_line : (line : ScriptStep) (seen next : Seen D) (old new : Scene D) (before after text : List ℕ)
       → line_parts here.decls line ≡ [] → set_by line seen ≡ next → Shows here.decls line [] next text → IsSeenAs here next new
-      → IsUnmended new.place → new.limit ≡ old.limit → new.events.items.items ≡ old.events.items.items
+      → IsNotReconciling new.place → new.limit ≡ old.limit → new.events.items.items ≡ old.events.items.items
       → ((device : ℕ) → noted_on new.links.logs device ≡ (if is_log device line then [] else noted_on old.links.logs device))
       → ((device : ℕ) → line ≡ step.Log device → text ≡ log_text (name_of here.decls.names device) (noted_on old.links.logs device))
       → after ≡ before ++ text → DoesLine here line seen old new before after
@@ -61,8 +62,8 @@ module _ {D : Type 0} (here : Setting D) where
       on device false = sym (append-nil (noted_on old.links.logs device))
 
   -- what a device runs is shown
-  pub show_line : (seen : Seen D) (world : World D) (device : ℕ) (before after text : List ℕ) → IsSeenAs here seen world
-      → IsUnmended world.place → ShowsDevice world device text → after ≡ before ++ text
+  pub show_line : (seen : Seen D) (world : Scene D) (device : ℕ) (before after text : List ℕ) → IsSeenAs here seen world
+      → IsNotReconciling world.place → ShowsDevice world device text → after ≡ before ++ text
       → DoesLine here (step.Show device) seen world world before after
   show_line seen world device before after text is unmended shows printed =
       quiet_line (step.Show device) seen seen world world before after text refl refl
@@ -71,8 +72,8 @@ module _ {D : Type 0} (here : Setting D) where
       is unmended refl refl (λ other. refl) (λ other wrong. absurd cc) printed
 
   -- a fault is listed
-  pub fault_line : RunsAreCarried here → (seen : Seen D) (old new : World D) (device : ℕ) (op : OpKind) (at : When) (before after : List ℕ)
-      → IsSeenAs here seen old → IsUnmended old.place → device < length old.links.links
+  pub fault_line : RunsAreCarried here → (seen : Seen D) (old new : Scene D) (device : ℕ) (op : OpKind) (at : When) (before after : List ℕ)
+      → IsSeenAs here seen old → IsNotReconciling old.place → device < length old.links.links
       → new.limit ≡ old.limit → new.place ≡ old.place → new.snapshots ≡ old.snapshots → new.events ≡ old.events
       → new.links ≡ record old.links { links = with_changed (link_listing op at) device old.links.links }
       → after ≡ before → DoesLine here (step.Fault device op at) seen old new before after
@@ -105,5 +106,5 @@ module _ {D : Type 0} (here : Setting D) where
       } in
       quiet_line line seen next old new before after [] refl refl refl
       (seen_same here next (record old { links = record old.links { links = listed } }) new limit place links snapshots now)
-      (subst (λ p. IsUnmended p) (sym place) unmended) limit (ap (λ e. e.items.items) events)
+      (subst (λ p. IsNotReconciling p) (sym place) unmended) limit (ap (λ e. e.items.items) events)
       (λ other. ap (λ (l : Links). noted_on l.logs other) links) (λ other wrong. absurd cc) (out ∙ sym (append-nil before))

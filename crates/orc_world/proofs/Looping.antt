@@ -1,41 +1,24 @@
 -- Turns of one kind, one after another, until none may come.
-use Rattle.std.proofs.Common.{[], ◌≡◌, ℕ, Bool, true, false, List, ◌∷◌, ◌++◌, refl, sym, ap, subst, ◌∙◌, append-nil, append_assoc, arith}
+use Rattle.std.proofs.Common.{[], ◌≡◌, ℕ, Bool, true, false, List, ◌∷◌, ◌++◌, refl, sym, ap, subst, ◌∙◌, append-nil, append_assoc}
 use Rattle.std.proofs.lemmas.Bool.{false≢true}
 use Rattle.orc_links.specs.Logs.{noted_on}
 use Rattle.orc_rules.specs.Events.{Comes, Turn}
 use Rattle.orc_rules.specs.Worlds.{Setting, World as Seen}
 use Rattle.orc_rules.specs.declared.event.Event.{Event}
 use Rattle.orc_runs.specs.Ends.{EndedBecause}
-use Rattle.orc_runs.specs.Runs.{EndsRun}
 use Rattle.orc_runs.specs.Scripts.{Goes, IsOf, NoneOf, Part, comes_again}
-use Rattle.orc_world.specs.Courses.{DoesOperation, DoesParts, DoesRow, DoesTurn, EndAtLast, EndsAtOnce, EndsInParts, EndsTurn, GoOn, GoesThrough, PrintsTold, StaysSame}
-use Rattle.orc_world.specs.Stands.{IsSeenAs}
-use Rattle.orc_world.specs.Stops.{end_of_run}
-use Rattle.orc_world.specs.declared.stop.WorldStop.{WorldStop}
-use Rattle.orc_world.specs.declared.world.World.{World}
+use Rattle.orc_scene.specs.Courses.{DoesOperation, DoesParts, DoesRow, DoesTurn, EndsAtOnce, EndsInParts, EndsTurn, GoesThrough, PrintsTold, StaysSame}
+use Rattle.orc_scene.specs.Stands.{IsSeenAs}
+use Rattle.orc_scene.specs.RunEnds.{end_of_run}
+use Rattle.orc_scene.specs.declared.stop.WorldStop.{WorldStop}
+use Rattle.orc_scene.specs.declared.scene.Scene.{Scene}
 use Rattle.orc_world.proofs.Joining.{because_more, goes_nothing, most_then, prints_then, through_then, with_then}
-use Rattle.orc_world.proofs.Unsaid.{all_told}
-
--- where no turn ends the run none of them does
-pub at_last_none : {D : Type 0} (turns : List (Turn D)) → GoOn turns → EndAtLast turns
-at_last_none [] on [] later turn is ends = absurd cc
-at_last_none [] on (t ∷ earlier) later turn is ends = absurd cc
-at_last_none (x ∷ turns) on [] later turn is ends = let same : x ≡ turn = cc in absurd (on.0 (subst EndsRun (sym same) ends))
-at_last_none (x ∷ turns) on (t ∷ earlier) later turn is ends = let rest : turns ≡ earlier ++ turn ∷ later = cc in at_last_none turns on.1 earlier later turn rest ends
+use Rattle.orc_scene.proofs.Unsaid.{all_told}
+use Rattle.orc_scene.proofs.Looping.{at_last_none, through_none}
 
 module _ {D : Type 0} (here : Setting D) where
-  -- nothing came yet
-  pub through_none : (seen : Seen D) (world : World D) → IsSeenAs here seen world → GoesThrough here world world [] seen
-  through_none seen world is = record {
-    is = is;
-    limit = refl;
-    events = sym (append-nil world.events.items.items);
-    logs = λ device. sym (append-nil (noted_on world.links.logs device));
-    goes_on = tt;
-  }
-
   -- where nothing changed nothing came
-  pub through_same : (seen : Seen D) (old new : World D) (before after : List ℕ) → StaysSame here seen old new before after → GoesThrough here old new [] seen
+  pub through_same : (seen : Seen D) (old new : Scene D) (before after : List ℕ) → StaysSame here seen old new before after → GoesThrough here old new [] seen
   through_same seen old new before after same = record {
     is = same.is;
     limit = same.limit;
@@ -44,9 +27,9 @@ module _ {D : Type 0} (here : Setting D) where
     goes_on = tt;
   }
 
-module _ {D : Type 0} (here : Setting D) (seen : Seen D) (old : World D) (before : List ℕ) (one : Part) where
+module _ {D : Type 0} (here : Setting D) (seen : Seen D) (old : Scene D) (before : List ℕ) (one : Part) where
   -- turns of this part came so far, and more of them may
-  pub record Lasts (middle : World D) (now : List ℕ) (came : Bool) : Type 0 where
+  pub record Lasts (middle : Scene D) (now : List ℕ) (came : Bool) : Type 0 where
     pub turns : List (Turn D)
     pub next : Seen D
     pub goes_on : (ended : Bool) (more : List (Turn D)) (last : Seen D) → Goes here ended (one ∷ []) next more last → Goes here ended (one ∷ []) seen (turns ++ more) last
@@ -64,7 +47,7 @@ module _ {D : Type 0} (here : Setting D) (seen : Seen D) (old : World D) (before
     quiet = λ none. refl;
   }
 
-  module _ (again : comes_again one ≡ true) (middle new : World D) (now after : List ℕ) (came : Bool) (so : Lasts middle now came) where
+  module _ (again : comes_again one ≡ true) (middle new : Scene D) (now after : List ℕ) (came : Bool) (so : Lasts middle now came) where
     -- a turn of it, and then others
     then_turn : (ended : Bool) (turn : Turn D) (more : List (Turn D)) (last : Seen D) → turn.before ≡ so.next → IsOf one turn.meant → Comes here turn → Goes here ended (one ∷ []) turn.behind more last
         → Goes here ended (one ∷ []) so.next (turn ∷ more) last
@@ -111,7 +94,7 @@ module _ {D : Type 0} (here : Setting D) (seen : Seen D) (old : World D) (before
       prints = most_then here.decls why before now after so.turns (ends.turn ∷ []) so.prints ends.prints;
     }
 
-    -- or before another one, for want of memory
+    -- the run ended before another turn of it, since memory ran out
     pub ends_between : (why : WorldStop) → EndsAtOnce here so.next middle new now after why → EndsInParts here seen old new before after (one ∷ []) why
     ends_between why ends = record {
       turns = so.turns;

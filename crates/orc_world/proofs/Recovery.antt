@@ -1,14 +1,9 @@
 -- A line `recover`.
-use Rattle.std.proofs.Common.{[], ◌≡◌, ◌≤◌, ◌⊎◌, inl, inr, ℕ, Bool, true, false, Option, Some, None, List, ◌∷◌, ◌++◌, length, is_some, refl, sym, ap, subst, ◌∙◌, append-nil, append_assoc, arith}
-use Rattle.std.specs.Prelude.{IfErr, IfOk, MatchOption, MatchResult, OnOk, Result, codes}
-use Rattle.std.specs.Global.{Vec}
-use Rattle.std.specs.List.{flat_map}
+use Rattle.std.proofs.Common.{[], ◌≡◌, ◌≤◌, ◌⊎◌, inl, inr, ℕ, Bool, true, false, Option, Some, None, List, ◌∷◌, ◌++◌, length, is_some, refl, sym, ap, subst, ◌∙◌, append-nil, arith}
+use Rattle.std.specs.Prelude.{MatchResult, Result}
 use Rattle.std.specs.declared.result.Result.TheVariants.{Ok, Err}
 use Rattle.std.proofs.lemmas.Bool.{false≢true}
-use Rattle.std.proofs.lemmas.Option.{none-some}
 use Rattle.orc_disk.specs.Meanings.{DiskMeaning}
-use Rattle.orc_links.specs.Logs.{noted_on}
-use Rattle.orc_links.specs.declared.links.Links.{Links}
 use Rattle.orc_print.specs.Printed.{recovered_line}
 use Rattle.orc_rules.specs.Events.{Comes, Turn}
 use Rattle.orc_rules.specs.Journals.{history_read}
@@ -16,28 +11,27 @@ use Rattle.orc_rules.specs.Worlds.{Setting, World as Seen}
 use Rattle.orc_rules.specs.declared.event.Event.{Event}
 use Rattle.orc_rules.specs.declared.event.Event.TheVariants as event
 use Rattle.orc_runs.specs.Ends.{EndedBecause}
-use Rattle.orc_runs.specs.Runs.{EndsRun, SaysAllTurns}
-use Rattle.orc_runs.specs.Scripts.{Goes, IsOf, Part, Part as part, Shows, said, said_in}
+use Rattle.orc_runs.specs.Runs.{SaysAllTurns}
+use Rattle.orc_runs.specs.Scripts.{Goes, IsOf, Part as part, Shows, said, said_in}
 use Rattle.orc_script.specs.declared.step.ScriptStep.TheVariants as step
-use Rattle.orc_world.specs.Codes.{PrintsText, hub_in}
-use Rattle.orc_world.specs.Courses.{EndAtLast, EndsUnopened, EndsWith, GoesThrough, GoesTurn, HasEvents, StopsController}
+use Rattle.orc_scene.specs.Effects.{hub_in}
+use Rattle.orc_scene.specs.Courses.{EndAtLast, EndsWith, GoesThrough, GoesTurn, HasEvents, StopsController}
 use Rattle.orc_world.specs.Lines.{DoesLine, EndsInLine}
-use Rattle.orc_world.specs.Stands.{IsPlaceSeenAs, IsSeenAs, IsSoundWorld, IsUnmended, run_setting}
-use Rattle.orc_world.specs.Stops.{end_of_run}
-use Rattle.orc_world.specs.declared.stop.WorldStop.{WorldStop}
-use Rattle.orc_world.specs.declared.stop.WorldStop.TheVariants as stop
-use Rattle.orc_world.specs.declared.world.Place.{Place}
-use Rattle.orc_world.specs.declared.world.Place.TheVariants.{Up, Down, Ended, Moved}
-use Rattle.orc_world.specs.declared.world.World.{World}
-use Rattle.orc_world.proofs.Downs.{no_stop, said_words}
-use Rattle.orc_world.proofs.Histories.{history_seen}
-use Rattle.orc_world.proofs.Joining.{at_limit, because_more, flat_then, through_then, with_then}
-use Rattle.orc_world.proofs.Looping.{at_last_none, through_none}
-use Rattle.orc_world.proofs.Resting.{sound_at}
-use Rattle.orc_world.proofs.Seeing.{place_disk, seen_same}
-use Rattle.orc_world.proofs.Stepping.{through_from}
+use Rattle.orc_scene.specs.Stands.{IsSeenAs, IsSoundScene, run_setting}
+use Rattle.orc_scene.specs.RunEnds.{end_of_run}
+use Rattle.orc_scene.specs.declared.stop.WorldStop.{WorldStop}
+use Rattle.orc_scene.specs.declared.stop.WorldStop.TheVariants as stop
+use Rattle.orc_scene.specs.declared.scene.Scene.{Scene}
+use Rattle.orc_world.proofs.Downs.{no_stop}
+use Rattle.orc_scene.proofs.Joining.{at_limit}
+use Rattle.orc_world.proofs.Joining.{because_more, flat_then, through_then, with_then}
+use Rattle.orc_scene.proofs.Looping.{at_last_none, through_none}
+use Rattle.orc_scene.proofs.Resting.{sound_at}
+use Rattle.orc_scene.proofs.Seeing.{place_disk, seen_same}
+use Rattle.orc_scene.proofs.Stepping.{through_from}
 use Rattle.orc_world.proofs.Times.{unended}
 use Rattle.orc_world.proofs.Unsaid.{says_all}
+use Rattle.orc_scene.proofs.Recovery.{ComesBack}
 
 -- a single turn is the last one
 last_of_one : {D : Type 0} (turn : Turn D) → EndAtLast (turn ∷ [])
@@ -65,72 +59,12 @@ is_meant event.Stop is = absurd is
 is_meant (event.Reconcile result) is = absurd is
 
 module _ {D : Type 0} (here : Setting D) where
-  -- what a recovery of a controller that is down comes to
-  abbrev pub ComesBack : Seen D → World D → Result (Unit {0}) WorldStop → World D → List ℕ → List ℕ → Type 0
-  ComesBack seen old result new before after = MatchResult result
-      (λ done. (went : GoesTurn here seen old new [] [] part.Recovery) × IsUnmended new.place
-      × (went.turn.seen ≡ Some event.Recover)
-      × (after ≡ before ++ recovered_line (length (history_read went.turn.behind.journal))))
-      (λ why. (EndsUnopened here seen old new why × (after ≡ before))
-      ⊎ ((why ≡ stop.Memory) × GoesTurn here seen old new [] [] part.Recovery × (after ≡ before)))
-
-  -- the hub is up again, and how many calls there are is printed, where there is memory for that
-  module _ (seen next : Seen D) (old middle new : World D) (down : seen.hub ≡ None)
-      (comes : Comes here (record { before = seen; meant = event.Recover; seen = Some event.Recover; behind = next }))
-      (is : IsSeenAs here next middle) (unmended : IsUnmended middle.place) (up : is_some (hub_in middle.place) ≡ true)
-      (limit : middle.limit ≡ old.limit) (links : middle.links ≡ old.links) (events : middle.events ≡ old.events)
-      (kept : HasEvents middle new (middle.events.items.items ++ event.Recover ∷ [])) where
-    abbrev turn_back : Turn D
-    turn_back = record { before = seen; meant = event.Recover; seen = Some event.Recover; behind = next }
-
-    back_goes_on : EndsRun turn_back → ⊥
-    back_goes_on (inl none) = none-some event.Recover (sym none)
-    back_goes_on (inr ends) = none-some ends.0 (sym down ∙ ends.1)
-
-    abbrev went_back : GoesTurn here seen old new [] [] part.Recovery
-    went_back = record {
-      turn = turn_back;
-      first = refl;
-      is_of = tt;
-      comes = comes;
-      through = record {
-        is = seen_same here next middle new kept.limit kept.place kept.links kept.snapshots is;
-        limit = kept.limit ∙ limit;
-        events = kept.events_are ∙ ap (λ e. e.items.items ++ event.Recover ∷ []) events;
-        logs = λ device. ap (λ (l : Links). noted_on l.logs device) (kept.links ∙ links) ∙ sym (append-nil (noted_on old.links.logs device));
-        goes_on = (back_goes_on, tt);
-      };
-    }
-
-    counted_calls : (count : ℕ) → MatchOption (hub_in new.place) (count ≡ 0) (λ hub. count ≡ length hub.state.history) → count ≡ length (history_read next.journal)
-    counted_calls count counts = on new.place (seen_same here next middle new kept.limit kept.place kept.links kept.snapshots is).place
-        (subst (λ (p : Place D). is_some (hub_in p) ≡ true) (sym kept.place) up) counts
-      where
-        on : (place : Place D) → IsPlaceSeenAs here next place → is_some (hub_in place) ≡ true → MatchOption (hub_in place) (count ≡ 0) (λ hub. count ≡ length hub.state.history)
-            → count ≡ length (history_read next.journal)
-        on (Up hub) own up counts = counts ∙ ap (λ h. length h) (sym (history_seen here next hub own))
-        on (Down disk decls) own up counts = absurd (false≢true up)
-        on (Ended disk) own up counts = absurd own
-        on Moved own up counts = absurd own
-
-    pub comes_back : {M : Type 0} (count : ℕ) (text : Result (Vec ℕ) M) (result : Result (Unit {0}) WorldStop) (before after : List ℕ)
-        → MatchOption (hub_in new.place) (count ≡ 0) (λ hub. count ≡ length hub.state.history) → IfOk text (λ bytes. bytes.items ≡ recovered_line count)
-        → PrintsText text before result after → ComesBack seen old result new before after
-    comes_back count text (Ok done) before after counts words prints = (
-      went_back,
-      subst (λ (p : Place D). IsUnmended p) (sym kept.place) unmended,
-      refl,
-      (said_words text (recovered_line count) before after (Ok done) words prints).0
-          ∙ ap (λ (n : ℕ). before ++ recovered_line n) (counted_calls count counts),
-    )
-    comes_back count text (Err why) before after counts words prints = inr (prints.1.0, went_back, prints.1.1)
-
   recover_shows : (turns : List (Turn D)) (world : Seen D) → Shows here.decls step.Recover turns world []
   recover_shows [] world = refl
   recover_shows (turn ∷ turns) world = refl
 
-  -- The line, behind the stop of a controller that was up, or where none was.
-  module _ (seen mid : Seen D) (old middle new : World D) (front : List (Turn D))
+  -- The line `recover`, after the stop of a controller that was up, or where none was.
+  module _ (seen mid : Seen D) (old middle new : Scene D) (front : List (Turn D))
       (goes : (ended : Bool) (more : List (Turn D)) (last : Seen D) → Goes here ended (part.Recovery ∷ []) mid more last → Goes here ended (part.Stopping ∷ part.Recovery ∷ []) seen (front ++ more) last)
       (through : GoesThrough here old middle front mid) (silent : said_in here.decls step.Recover front ≡ []) where
     recovers_once : (ended : Bool) (turn : Turn D) → turn.before ≡ mid → Comes here turn → turn.meant ≡ event.Recover → Goes here ended (part.Stopping ∷ part.Recovery ∷ []) seen (front ++ turn ∷ []) turn.behind
@@ -161,7 +95,7 @@ module _ {D : Type 0} (here : Setting D) where
           printed = out ∙ sym (append-nil before);
         }
 
-    pub recover_line : (before after : List ℕ) (result : Result (Unit {0}) WorldStop) → ComesBack mid middle result new before after
+    pub recover_line : (before after : List ℕ) (result : Result (Unit {0}) WorldStop) → ComesBack here mid middle result new before after
         → MatchResult result (λ value. DoesLine here step.Recover seen old new before after) (λ why. EndsInLine here step.Recover seen old new before after why)
     recover_line before after (Ok value) (went, unmended, is_seen, printed) =
         let turns : List (Turn D) = front ++ went.turn ∷ [] in
@@ -201,9 +135,9 @@ module _ {D : Type 0} (here : Setting D) where
         (record { disk = place_disk here went.turn.behind new.place went.through.is.place; events = went.through.events; at_last = at_last_none (went.turn ∷ []) went.through.goes_on })
         (subst (λ (w : WorldStop). SaysAllTurns here.decls (record { step = step.Recover; before = seen; turns = front ++ went.turn ∷ []; behind = went.turn.behind; text = [] }) (end_of_run w)) (sym memory) tt) out
 
-  -- behind the stop of a controller that was up
-  pub behind_stop : (seen : Seen D) (old middle gone new : World D) (same : HasEvents old middle old.events.items.items) (went : GoesTurn here seen middle gone [] [] part.Stopping) → went.turn.seen ≡ Some event.Stop
-      → (before after : List ℕ) (result : Result (Unit {0}) WorldStop) → ComesBack went.turn.behind gone result new before after
+  -- after the stop of a controller that was up
+  pub behind_stop : (seen : Seen D) (old middle gone new : Scene D) (same : HasEvents old middle old.events.items.items) (went : GoesTurn here seen middle gone [] [] part.Stopping) → went.turn.seen ≡ Some event.Stop
+      → (before after : List ℕ) (result : Result (Unit {0}) WorldStop) → ComesBack here went.turn.behind gone result new before after
       → MatchResult result (λ value. DoesLine here step.Recover seen old new before after) (λ why. EndsInLine here step.Recover seen old new before after why)
   behind_stop seen old middle gone new same went is_stop before after result comes =
       recover_line seen went.turn.behind old gone new (went.turn ∷ [])
@@ -212,9 +146,9 @@ module _ {D : Type 0} (here : Setting D) where
       (through_from here seen old middle gone same (went.turn ∷ []) went.turn.behind went.through)
       (ap (λ (o : Option Event). said here.decls.names step.Recover went.turn o ++ []) is_stop) before after result comes
 
-  -- or where none was
-  pub without_stop : (seen : Seen D) (old middle new : World D) (same : HasEvents old middle old.events.items.items) → IsSeenAs here seen old → is_some (hub_in middle.place) ≡ false
-      → (before after : List ℕ) (result : Result (Unit {0}) WorldStop) → ComesBack seen middle result new before after
+  -- a line `recover` where no controller was up
+  pub without_stop : (seen : Seen D) (old middle new : Scene D) (same : HasEvents old middle old.events.items.items) → IsSeenAs here seen old → is_some (hub_in middle.place) ≡ false
+      → (before after : List ℕ) (result : Result (Unit {0}) WorldStop) → ComesBack here seen middle result new before after
       → MatchResult result (λ value. DoesLine here step.Recover seen old new before after) (λ why. EndsInLine here step.Recover seen old new before after why)
   without_stop seen old middle new same is down before after result comes =
       let now : IsSeenAs here seen middle = seen_same here seen old middle same.limit same.place same.links same.snapshots is in
@@ -223,7 +157,7 @@ module _ {D : Type 0} (here : Setting D) where
       (through_from here seen old middle middle same [] seen (through_none here seen middle now)) refl before after result comes
 
 -- a controller that stopped is in a sound world
-pub sound_stopped : {D : Type 0} (disk : DiskMeaning D) (old middle gone : World D) → HasEvents old middle old.events.items.items → IsSoundWorld disk old → StopsController disk middle gone → IsSoundWorld disk gone
+pub sound_stopped : {D : Type 0} (disk : DiskMeaning D) (old middle gone : Scene D) → HasEvents old middle old.events.items.items → IsSoundScene disk old → StopsController disk middle gone → IsSoundScene disk gone
 sound_stopped {D} disk old middle gone same sound stops =
     let here : Setting D = run_setting disk sound.0 old.limit sound.1 in
     let now : IsSeenAs here sound.2 middle = seen_same here sound.2 old middle same.limit same.place same.links same.snapshots sound.3 in

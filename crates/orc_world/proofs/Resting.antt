@@ -3,7 +3,6 @@ use Rattle.std.proofs.Common.{[], ◌≡◌, ℕ, Bool, true, false, Option, Som
 use Rattle.std.specs.List.{flat_map}
 use Rattle.std.proofs.lemmas.Bool.{false≢true}
 use Rattle.orc_decls.specs.declared.declarations.Decls.{Decls}
-use Rattle.orc_disk.specs.Meanings.{DiskMeaning}
 use Rattle.orc_hub.specs.Hubs.{record_of}
 use Rattle.orc_rules.specs.Events.{Turn}
 use Rattle.orc_rules.specs.Hubs.{Hub}
@@ -12,10 +11,11 @@ use Rattle.orc_rules.specs.declared.event.Event.TheVariants as event
 use Rattle.orc_runs.specs.Laws.{RunsAreCarried}
 use Rattle.orc_runs.specs.Scripts.{Goes, IsOf, Part, Part as part, round}
 use Rattle.orc_runs.specs.Serving.{IsRested}
-use Rattle.orc_world.specs.Stands.{IsPlaceSeenAs, IsSeenAs, IsSoundWorld, IsUnmended, run_setting}
-use Rattle.orc_world.specs.declared.world.Place.{Place}
-use Rattle.orc_world.specs.declared.world.Place.TheVariants.{Up, Down, Ended, Moved}
-use Rattle.orc_world.specs.declared.world.World.{World}
+use Rattle.orc_scene.specs.Stands.{IsPlaceSeenAs, IsSeenAs, IsNotReconciling}
+use Rattle.orc_scene.specs.declared.scene.Place.{Place}
+use Rattle.orc_scene.specs.declared.scene.Place.TheVariants.{Up, Down, Ended, Moved}
+use Rattle.orc_scene.specs.declared.scene.Scene.{Scene}
+use Rattle.orc_scene.proofs.Resting.{unmended_there}
 
 -- the part begins a reconciliation
 abbrev pub is_beginning : Part → Bool
@@ -45,20 +45,13 @@ not_begun one h is = is
 
 module _ {D : Type 0} (here : Setting D) where
   -- what is seen rests where no reconciliation is unfinished
-  pub rested_there : (seen : Seen D) (place : Place D) → IsPlaceSeenAs here seen place → IsUnmended place → IsRested seen
+  pub rested_there : (seen : Seen D) (place : Place D) → IsPlaceSeenAs here seen place → IsNotReconciling place → IsRested seen
   rested_there seen (Up hub) is unmended = λ other up.
       (let same : ◌≡◌ {A = Option Hub} (Some (record_of hub)) (Some other) = sym is.is ∙ up in
       let one : record_of hub ≡ other = cc in ap (λ (h : Hub). h.mends) (sym one) ∙ unmended)
   rested_there seen (Down disk decls) is unmended = λ other up. absurd (let none : ◌≡◌ {A = Option Hub} None (Some other) = sym is.0 ∙ up in cc)
   rested_there seen (Ended disk) is unmended = absurd is
   rested_there seen Moved is unmended = absurd is
-
-  -- and none is where that rests
-  pub unmended_there : (seen : Seen D) (place : Place D) → IsPlaceSeenAs here seen place → IsRested seen → IsUnmended place
-  unmended_there seen (Up hub) is rested = rested (record_of hub) is.is
-  unmended_there seen (Down disk decls) is rested = tt
-  unmended_there seen (Ended disk) is rested = absurd is
-  unmended_there seen Moved is rested = absurd is
 
   module _ (law : RunsAreCarried here) where
     goes_rested : (ended : Bool) (parts : List Part) (world : Seen D) (turns : List (Turn D)) (last : Seen D) → Goes here ended parts world turns last
@@ -76,14 +69,8 @@ module _ {D : Type 0} (here : Setting D) where
         goes_rested ended (round here.decls ++ part.Rounds ∷ later) world turns last goes (none_then (round here.decls) (part.Rounds ∷ later) (round_none here.decls) none) rested
     goes_rested ended parts world turns last (Goes.still later _ _ _ still goes) none rested = goes_rested ended later world turns last goes none.1 rested
 
-    -- no reconciliation is unfinished behind such a row, where none was before it
-    pub unmended_behind : (old new : World D) (seen next : Seen D) (parts : List Part) (turns : List (Turn D)) → IsSeenAs here seen old → IsUnmended old.place
-        → Goes here false parts seen turns next → BeginsNone parts → IsSeenAs here next new → IsUnmended new.place
+    -- no reconciliation is unfinished after such a row, where none was before it
+    pub unmended_behind : (old new : Scene D) (seen next : Seen D) (parts : List Part) (turns : List (Turn D)) → IsSeenAs here seen old → IsNotReconciling old.place
+        → Goes here false parts seen turns next → BeginsNone parts → IsSeenAs here next new → IsNotReconciling new.place
     unmended_behind old new seen next parts turns is unmended goes none after =
-        unmended_there next new.place after.place (goes_rested false parts seen turns next goes none (rested_there seen old.place is.place unmended))
-
--- what the rules see of a world with this limit they see of a sound one
-pub sound_at : {D : Type 0} (disk : DiskMeaning D) (world : World D) (limit : ℕ) (decls : Decls) (granted : Bool) (seen : Seen D)
-    → world.limit ≡ limit → IsSeenAs (run_setting disk decls limit granted) seen world → IsSoundWorld disk world
-sound_at disk world limit decls granted seen same is =
-    (decls, granted, seen, subst (λ (l : ℕ). IsSeenAs (run_setting disk decls l granted) seen world) (sym same) is)
+        unmended_there here next new.place after.place (goes_rested false parts seen turns next goes none (rested_there seen old.place is.place unmended))

@@ -4,14 +4,14 @@ use Rattle.std.specs.List.{flat_map}
 use Rattle.orc_rules.specs.Events.{Turn}
 use Rattle.orc_rules.specs.Worlds.{Setting, World as Seen, declared}
 use Rattle.orc_runs.specs.Scripts.{Goes, IsStill, NoneOf, Part, Part as part, round}
-use Rattle.orc_world.specs.Courses.{DoesParts, DoesRow, EndsInParts, GoesThrough, NoneOrdered, PrintsTold, told_in}
-use Rattle.orc_world.specs.Stands.{IsSeenAs}
-use Rattle.orc_world.specs.Stops.{end_of_run}
-use Rattle.orc_world.specs.declared.stop.WorldStop.{WorldStop}
-use Rattle.orc_world.specs.declared.world.World.{World}
+use Rattle.orc_scene.specs.Courses.{DoesParts, DoesRow, EndsInParts, GoesThrough, NoneOrdered, PrintsTold, told_in}
+use Rattle.orc_scene.specs.Stands.{IsSeenAs}
+use Rattle.orc_scene.specs.RunEnds.{end_of_run}
+use Rattle.orc_scene.specs.declared.stop.WorldStop.{WorldStop}
+use Rattle.orc_scene.specs.declared.scene.Scene.{Scene}
 use Rattle.orc_world.proofs.Goings.{goes_broken, goes_then}
 use Rattle.orc_world.proofs.Joining.{because_more, ends_more, ends_then, goes_nothing, most_then, parts_then, parts_turns, prints_then, through_then, with_then}
-use Rattle.orc_world.proofs.Looping.{through_none}
+use Rattle.orc_scene.proofs.Looping.{through_none}
 
 module _ {D : Type 0} (here : Setting D) where
   -- nothing is printed by operations, whatever was printed before
@@ -19,13 +19,13 @@ module _ {D : Type 0} (here : Setting D) where
   prints_nothing before turns none = sym (append-nil before) ∙ ap (λ (l : List ℕ). before ++ l) none
 
   -- a row after which nothing came leaves the rules' view
-  pub row_quiet : (seen : Seen D) (old new : World D) (before after : List ℕ) (parts : List Part) (does : DoesParts here seen old new before after parts) → does.turns ≡ [] → GoesThrough here old new [] seen
+  pub row_quiet : (seen : Seen D) (old new : Scene D) (before after : List ℕ) (parts : List Part) (does : DoesParts here seen old new before after parts) → does.turns ≡ [] → GoesThrough here old new [] seen
   row_quiet seen old new before after parts does none =
       subst (λ (w : Seen D). GoesThrough here old new [] w) (sym (goes_nothing here false parts seen does.next does.turns none does.goes))
       (subst (λ (l : List (Turn D)). GoesThrough here old new l does.next) none does.through)
 
   -- one round: what fits is admitted, each device does the operation that is due, and what is due is decided
-  pub round_does : (seen : Seen D) (old one two new : World D) (first second third : List ℕ) (a p t came : Bool)
+  pub round_does : (seen : Seen D) (old one two new : Scene D) (first second third : List ℕ) (a p t came : Bool)
       (admits : DoesRow here seen old one first second (part.Admissions ∷ []) a (NoneOf here seen part.Admission))
       (performs : DoesRow here admits.does.next one two [] [] (flat_map (λ device. part.Operation device ∷ part.Hearing device ∷ []) (declared here.decls)) p (NoneOrdered here admits.does.next))
       → DoesRow here performs.does.next two new second third (part.Decisions ∷ []) t (NoneOf here performs.does.next part.Decisions)
@@ -70,19 +70,19 @@ module _ {D : Type 0} (here : Setting D) where
           )
 
   -- the run ended in a round
-  pub round_ends_first : (seen : Seen D) (old new : World D) (before after : List ℕ) (why : WorldStop) → EndsInParts here seen old new before after (part.Admissions ∷ []) why
+  pub round_ends_first : (seen : Seen D) (old new : Scene D) (before after : List ℕ) (why : WorldStop) → EndsInParts here seen old new before after (part.Admissions ∷ []) why
       → EndsInParts here seen old new before after (round here.decls) why
   round_ends_first seen old new before after why ends =
       ends_more here seen old new before after (part.Admissions ∷ []) (flat_map (λ device. part.Operation device ∷ part.Hearing device ∷ []) (declared here.decls) ++ part.Decisions ∷ []) why ends
 
-  pub round_ends_second : (seen : Seen D) (old one new : World D) (first second : List ℕ) (why : WorldStop) (admits : DoesParts here seen old one first second (part.Admissions ∷ []))
+  pub round_ends_second : (seen : Seen D) (old one new : Scene D) (first second : List ℕ) (why : WorldStop) (admits : DoesParts here seen old one first second (part.Admissions ∷ []))
       → EndsInParts here admits.next one new second second (flat_map (λ device. part.Operation device ∷ part.Hearing device ∷ []) (declared here.decls)) why
       → EndsInParts here seen old new first second (round here.decls) why
   round_ends_second seen old one new first second why admits ends =
       ends_then here seen old one new first second second (part.Admissions ∷ []) _ why admits
       (ends_more here admits.next one new second second (flat_map (λ device. part.Operation device ∷ part.Hearing device ∷ []) (declared here.decls)) (part.Decisions ∷ []) why ends)
 
-  pub round_ends_third : (seen : Seen D) (old one two new : World D) (first second third : List ℕ) (why : WorldStop) (admits : DoesParts here seen old one first second (part.Admissions ∷ []))
+  pub round_ends_third : (seen : Seen D) (old one two new : Scene D) (first second third : List ℕ) (why : WorldStop) (admits : DoesParts here seen old one first second (part.Admissions ∷ []))
       (performs : DoesParts here admits.next one two second second (flat_map (λ device. part.Operation device ∷ part.Hearing device ∷ []) (declared here.decls)))
       → EndsInParts here performs.next two new second third (part.Decisions ∷ []) why
       → EndsInParts here seen old new first third (round here.decls) why
@@ -91,8 +91,8 @@ module _ {D : Type 0} (here : Setting D) where
       (ends_then here admits.next one two new second second third (flat_map (λ device. part.Operation device ∷ part.Hearing device ∷ []) (declared here.decls)) (part.Decisions ∷ []) why performs ends)
 
 -- rounds so far
-module _ {D : Type 0} (here : Setting D) (seen : Seen D) (old : World D) (before : List ℕ) where
-  pub record RoundsSoFar (middle : World D) (now : List ℕ) : Type 0 where
+module _ {D : Type 0} (here : Setting D) (seen : Seen D) (old : Scene D) (before : List ℕ) where
+  pub record RoundsSoFar (middle : Scene D) (now : List ℕ) : Type 0 where
     pub turns : List (Turn D)
     pub next : Seen D
     pub goes_on : (ended : Bool) (more : List (Turn D)) (last : Seen D) → Goes here ended (part.Rounds ∷ []) next more last → Goes here ended (part.Rounds ∷ []) seen (turns ++ more) last
@@ -108,7 +108,7 @@ module _ {D : Type 0} (here : Setting D) (seen : Seen D) (old : World D) (before
     prints = sym (append-nil before);
   }
 
-  module _ (middle new : World D) (now after : List ℕ) (so : RoundsSoFar middle now) where
+  module _ (middle new : Scene D) (now after : List ℕ) (so : RoundsSoFar middle now) where
     pub rounds_more : DoesParts here so.next middle new now after (round here.decls) → RoundsSoFar new after
     rounds_more does = record {
       turns = so.turns ++ does.turns;

@@ -1,55 +1,32 @@
 -- Rows of parts in calls, one call after another.
-use Rattle.std.proofs.Common.{[], ◌≡◌, inl, inr, ℕ, Bool, true, false, Option, Some, None, List, ◌∷◌, ◌++◌, map, refl, sym, ap, subst, ◌∙◌, append-nil}
-use Rattle.std.specs.Prelude.{Result, Ok, Err, MatchOption, MatchResult, is_some}
+use Rattle.std.proofs.Common.{[], ◌≡◌, inl, inr, ℕ, Bool, false, None, List, ◌∷◌, ◌++◌, map, sym, ap, subst, ◌∙◌, append-nil}
+use Rattle.std.specs.Prelude.{Result, Ok, Err, MatchResult, is_some}
 use Rattle.std.proofs.lemmas.Bool.{false≢true}
 use Rattle.std.proofs.lemmas.Option.{none-some}
 use Rattle.orc_decls.specs.declared.declarations.Decls.{Decls}
 use Rattle.orc_disk.specs.Meanings.{DiskMeaning}
 use Rattle.orc_rules.specs.Worlds.{Setting, World as Seen, declared}
 use Rattle.orc_rules.specs.declared.event.Event.{Event}
-use Rattle.orc_runs.specs.Scripts.{Goes, IsCalledFor, IsOf, NoneOf, Part, Part as part, comes_again}
-use Rattle.orc_world.specs.Codes.{hub_in}
-use Rattle.orc_world.specs.Courses.{DoesParts, DoesTurn, EndsInParts, HasEvents, InEachView, MayEndTurn, RowOrEnd, TurnOrEnd, events_in}
-use Rattle.orc_world.specs.Stands.{IsPlaceSeenAs, IsSeenAs, IsSoundWorld, run_setting}
-use Rattle.orc_world.specs.declared.stop.WorldStop.{WorldStop}
-use Rattle.orc_world.specs.declared.stop.WorldStop.TheVariants as stop
-use Rattle.orc_world.specs.declared.world.Place.{Place}
-use Rattle.orc_world.specs.declared.world.Place.TheVariants.{Up, Down, Ended, Moved}
-use Rattle.orc_world.specs.declared.world.World.{World}
-use Rattle.orc_world.proofs.Apiece.{any_none, once_ends}
-use Rattle.orc_world.proofs.Goings.{goes_once}
-use Rattle.orc_world.proofs.Joining.{at_limit, ends_more, ends_then, parts_then}
-use Rattle.orc_world.proofs.Lasted.{done, ended, ends_printing, parts_printing, wanting_at}
-use Rattle.orc_world.proofs.Looping.{through_none}
-use Rattle.orc_world.proofs.Resting.{sound_at}
-use Rattle.orc_world.proofs.Seeing.{seen_same}
-use Rattle.orc_world.proofs.Stepping.{ends_roomless, through_from}
+use Rattle.orc_runs.specs.Scripts.{Goes, IsOf, NoneOf, Part, Part as part, comes_again}
+use Rattle.orc_scene.specs.Effects.{hub_in}
+use Rattle.orc_scene.specs.Courses.{DoesParts, DoesTurn, EndsInParts, HasEvents, InEachView, RowOrEnd, TurnOrEnd, events_in}
+use Rattle.orc_scene.specs.Stands.{IsSeenAs, IsSoundScene, run_setting}
+use Rattle.orc_scene.specs.declared.stop.WorldStop.{WorldStop}
+use Rattle.orc_scene.specs.declared.stop.WorldStop.TheVariants as stop
+use Rattle.orc_scene.specs.declared.scene.Scene.{Scene}
+use Rattle.orc_scene.proofs.Apiece.{any_none, once_ends}
+use Rattle.orc_scene.proofs.Joining.{at_limit}
+use Rattle.orc_world.proofs.Joining.{ends_more, ends_then, parts_then}
+use Rattle.orc_scene.proofs.Lasted.{done, ended, wanting_at}
+use Rattle.orc_world.proofs.Lasted.{ends_printing, parts_printing}
+use Rattle.orc_scene.proofs.Looping.{through_none}
+use Rattle.orc_scene.proofs.Resting.{sound_at}
+use Rattle.orc_scene.proofs.Seeing.{seen_same}
+use Rattle.orc_scene.proofs.Stepping.{ends_roomless, through_from}
+use Rattle.orc_scene.proofs.Rowing.{none_up, turn_ends, turn_parts}
 
-module _ {D : Type 0} (here : Setting D) (seen : Seen D) (old middle new : World D) (before after : List ℕ) where
-  -- one turn is a row
-  pub turn_parts : (one : Part) → comes_again one ≡ false → DoesTurn here seen old new before after one → DoesParts here seen old new before after (one ∷ [])
-  turn_parts one single does = record {
-    turns = does.turn ∷ [];
-    next = does.turn.behind;
-    goes = subst (λ (world : Seen D). Goes here false (one ∷ []) world (does.turn ∷ []) does.turn.behind) does.first
-        (goes_once here false one does.turn single does.is_of (subst (λ (world : Seen D). IsCalledFor here world one) (sym does.first) does.called) does.comes);
-    through = does.through;
-    prints = does.prints;
-  }
-
-  pub turn_ends : (one : Part) → comes_again one ≡ false → (why : WorldStop) → MayEndTurn here seen old new before after one why → EndsInParts here seen old new before after (one ∷ []) why
-  turn_ends one single why (inl ends) = record {
-    turns = ends.turn ∷ [];
-    last = ends.turn.behind;
-    goes = subst (λ (world : Seen D). Goes here true (one ∷ []) world (ends.turn ∷ []) ends.turn.behind) ends.first
-        (goes_once here true one ends.turn single ends.is_of (subst (λ (world : Seen D). IsCalledFor here world one) (sym ends.first) ends.called) ends.comes);
-    because = ends.because;
-    ended = ends.ended;
-    prints = ends.prints;
-  }
-  turn_ends one single why (inr ends) = once_ends here seen old new before after (one ∷ []) why ends
-
-  -- what came behind room that was made came in the whole
+module _ {D : Type 0} (here : Setting D) (seen : Seen D) (old middle new : Scene D) (before after : List ℕ) where
+  -- what came after room was made came in the whole
   module _ (same : HasEvents old middle old.events.items.items) (parts : List Part) where
     pub parts_from : DoesParts here seen middle new before after parts → DoesParts here seen old new before after parts
     parts_from does = record {
@@ -76,15 +53,15 @@ module _ {D : Type 0} (here : Setting D) (seen : Seen D) (old middle new : World
 
 module _ {D : Type 0} (disk : DiskMeaning D) where
   -- a call for one turn
-  pub turn_row : (one : Part) → comes_again one ≡ false → (old new : World D) (before after : List ℕ) (result : Result (Unit {0}) WorldStop) → TurnOrEnd disk one old result new before after
+  pub turn_row : (one : Part) → comes_again one ≡ false → (old new : Scene D) (before after : List ℕ) (result : Result (Unit {0}) WorldStop) → TurnOrEnd disk one old result new before after
       → RowOrEnd disk (λ here. one ∷ []) old result new before after
   turn_row one single old new before after (Ok value) each = λ decls granted seen is.
       turn_parts (run_setting disk decls old.limit granted) seen old old new before after one single (each decls granted seen is)
   turn_row one single old new before after (Err why) each = λ decls granted seen is.
       turn_ends (run_setting disk decls old.limit granted) seen old old new before after one single why (each decls granted seen is)
 
-  -- a call behind room that was made
-  pub room_row : (parts : Setting D → List Part) (old middle new : World D) (before after : List ℕ) (result : Result (Unit {0}) WorldStop) → HasEvents old middle old.events.items.items
+  -- a call after room was made
+  pub room_row : (parts : Setting D → List Part) (old middle new : Scene D) (before after : List ℕ) (result : Result (Unit {0}) WorldStop) → HasEvents old middle old.events.items.items
       → RowOrEnd disk parts middle result new before after → RowOrEnd disk parts old result new before after
   room_row parts old middle new before after result same each = λ decls granted seen is.
       by result decls granted seen is (λ IsSo seen_each. at_limit disk middle IsSo old.limit decls granted seen seen_each same.limit
@@ -103,7 +80,7 @@ module _ {D : Type 0} (disk : DiskMeaning D) where
           (there (λ here seen. EndsInParts here seen middle new before after (parts here) why) each)
 
   -- a call that printed nothing, whatever was printed before
-  pub printing_row : (parts : Setting D → List Part) (old new : World D) (before : List ℕ) (result : Result (Unit {0}) WorldStop) → RowOrEnd disk parts old result new [] []
+  pub printing_row : (parts : Setting D → List Part) (old new : Scene D) (before : List ℕ) (result : Result (Unit {0}) WorldStop) → RowOrEnd disk parts old result new [] []
       → RowOrEnd disk parts old result new before before
   printing_row parts old new before (Ok value) each = λ decls granted seen is.
       parts_printing (run_setting disk decls old.limit granted) seen old new before (parts (run_setting disk decls old.limit granted)) (each decls granted seen is)
@@ -111,7 +88,7 @@ module _ {D : Type 0} (disk : DiskMeaning D) where
       ends_printing (run_setting disk decls old.limit granted) seen old new before (parts (run_setting disk decls old.limit granted)) why (each decls granted seen is)
 
   -- a row, and then another one
-  pub row_then : (first second : Setting D → List Part) (old middle new : World D) (one two three : List ℕ) (result : Result (Unit {0}) WorldStop)
+  pub row_then : (first second : Setting D → List Part) (old middle new : Scene D) (one two three : List ℕ) (result : Result (Unit {0}) WorldStop)
       → RowOrEnd disk first old (done tt) middle one two → RowOrEnd disk second middle result new two three
       → RowOrEnd disk (λ here. first here ++ second here) old result new one three
   row_then first second old middle new one two three (Ok value) begins each = λ decls granted seen is.
@@ -125,40 +102,31 @@ module _ {D : Type 0} (disk : DiskMeaning D) where
       ends_then here seen old middle new one two three (first here) (second here) why f
       (at_limit disk middle (λ here seen. EndsInParts here seen middle new two three (second here) why) old.limit decls granted f.next each f.through.limit f.through.is))
 
-  -- or the run ended in the first
-  pub row_ended : (first second : Setting D → List Part) (old new : World D) (one two : List ℕ) (why : WorldStop) → RowOrEnd disk first old (ended why) new one two
+  -- the run ended in the first of two rows
+  pub row_ended : (first second : Setting D → List Part) (old new : Scene D) (one two : List ℕ) (why : WorldStop) → RowOrEnd disk first old (ended why) new one two
       → RowOrEnd disk (λ here. first here ++ second here) old (ended why) new one two
   row_ended first second old new one two why each = λ decls granted seen is.
       ends_more (run_setting disk decls old.limit granted) seen old new one two (first (run_setting disk decls old.limit granted)) (second (run_setting disk decls old.limit granted)) why
       (each decls granted seen is)
 
-  -- or before it, for want of memory
-  pub row_wanting : (parts : Setting D → List Part) (old : World D) (before : List ℕ) → RowOrEnd disk parts old (ended stop.Memory) old before before
+  -- the run ended before a row, since memory ran out
+  pub row_wanting : (parts : Setting D → List Part) (old : Scene D) (before : List ℕ) → RowOrEnd disk parts old (ended stop.Memory) old before before
   row_wanting parts old before = λ decls granted seen is.
       once_ends (run_setting disk decls old.limit granted) seen old old before before (parts (run_setting disk decls old.limit granted)) stop.Memory
       (wanting_at (run_setting disk decls old.limit granted) seen old before is)
 
-  pub row_roomless : (parts : Setting D → List Part) (old middle : World D) (before : List ℕ) (why : WorldStop) → why ≡ stop.Memory → HasEvents old middle old.events.items.items
+  pub row_roomless : (parts : Setting D → List Part) (old middle : Scene D) (before : List ℕ) (why : WorldStop) → why ≡ stop.Memory → HasEvents old middle old.events.items.items
       → RowOrEnd disk parts old (ended why) middle before before
   row_roomless parts old middle before why memory same = λ decls granted seen is.
       once_ends (run_setting disk decls old.limit granted) seen old middle before before (parts (run_setting disk decls old.limit granted)) why
       (ends_roomless (run_setting disk decls old.limit granted) seen old middle middle same why before memory is)
 
   -- a turn leaves a world that the rules see
-  pub sound_turn : (one : Part) (old new : World D) (before after : List ℕ) → IsSoundWorld disk old → TurnOrEnd disk one old (done tt) new before after → IsSoundWorld disk new
+  pub sound_turn : (one : Part) (old new : Scene D) (before after : List ℕ) → IsSoundScene disk old → TurnOrEnd disk one old (done tt) new before after → IsSoundScene disk new
   sound_turn one old new before after sound each =
       let here : Setting D = run_setting disk sound.0 old.limit sound.1 in
       let does : DoesTurn here sound.2 old new before after one = each sound.0 sound.1 sound.2 sound.3 in
       sound_at disk new old.limit sound.0 sound.1 does.turn.behind does.through.limit does.through.is
-
--- where no hub is up
-
--- none is seen
-pub none_up : {D : Type 0} (here : Setting D) (seen : Seen D) (place : Place D) → IsPlaceSeenAs here seen place → is_some (hub_in place) ≡ false → seen.hub ≡ None
-none_up here seen (Up hub) is down = absurd (false≢true (sym down))
-none_up here seen (Down disk decls) is down = is.0
-none_up here seen (Ended disk) is down = absurd is
-none_up here seen Moved is down = absurd is
 
 module _ {D : Type 0} (here : Setting D) (seen : Seen D) (down : seen.hub ≡ None) where
   -- no operation may come
@@ -171,12 +139,12 @@ module _ {D : Type 0} (here : Setting D) (seen : Seen D) (down : seen.hub ≡ No
   each_nothing [] = Goes.none part.Ending [] seen seen [] (λ hub met up begun. none-some hub (sym down ∙ up)) (Goes.whole seen)
   each_nothing (device ∷ devices) = Goes.none (part.Operations device) (map part.Operations devices ++ part.Ending ∷ []) seen seen [] (none_operates device) (each_nothing devices)
 
-  -- nor does a reconciliation begin
+  -- no reconciliation begins where no hub is up
   pub mends_nothing : (devices : List ℕ) → Goes here false (part.Beginning ∷ map part.Operations devices ++ part.Ending ∷ []) seen [] seen
   mends_nothing devices = Goes.none part.Beginning (map part.Operations devices ++ part.Ending ∷ []) seen seen [] (λ hub up. none-some hub (sym down ∙ up)) (each_nothing devices)
 
 -- a reconciliation of each device, where no hub is up
-pub mends_down : {D : Type 0} (disk : DiskMeaning D) (old : World D) (before : List ℕ) → is_some (hub_in old.place) ≡ false
+pub mends_down : {D : Type 0} (disk : DiskMeaning D) (old : Scene D) (before : List ℕ) → is_some (hub_in old.place) ≡ false
     → RowOrEnd disk (λ here. part.Beginning ∷ map part.Operations (declared here.decls) ++ part.Ending ∷ []) old (done tt) old before before
 mends_down {D = D} disk old before down = λ decls granted seen is.
     (let here : Setting D = run_setting disk decls old.limit granted in
@@ -187,8 +155,3 @@ mends_down {D = D} disk old before down = λ decls granted seen is.
       through = through_none here seen old is;
       prints = sym (append-nil before);
     })
-
--- something is there where this is so of it
-pub some_there : {X : Type 0} (P : X → Type 0) (o : Option X) → MatchOption o ⊥ P → is_some o ≡ true
-some_there P None none = absurd none
-some_there P (Some x) is = refl

@@ -31,16 +31,16 @@ use Rattle.orc_rules.specs.Worlds.{Setting, World as Seen}
 use Rattle.orc_runs.specs.Scripts.{ShowsMeta, if_up, schema_on, set_by}
 use Rattle.orc_script.specs.declared.step.ScriptStep.{ScriptStep}
 use Rattle.orc_script.specs.declared.step.ScriptStep.TheVariants as step
-use Rattle.orc_world.specs.Codes.{PrintsText, hub_in}
+use Rattle.orc_scene.specs.Effects.{PrintsText, hub_in}
 use Rattle.orc_world.specs.Lines.{DoesLine, EndsInLine}
 use Rattle.orc_world.specs.Shown.{ShowsJsonOf, ShowsLogOf, ShowsMetaOf}
-use Rattle.orc_world.specs.Stands.{IsPlaceSeenAs, IsSeenAs, IsSoundWorld, IsUnmended, decls_in, run_setting}
-use Rattle.orc_world.specs.declared.stop.WorldStop.{WorldStop}
-use Rattle.orc_world.specs.declared.world.Place.{Place}
-use Rattle.orc_world.specs.declared.world.Place.TheVariants.{Up, Down, Ended, Moved}
-use Rattle.orc_world.specs.declared.world.World.{World}
+use Rattle.orc_scene.specs.Stands.{IsPlaceSeenAs, IsSeenAs, IsSoundScene, IsNotReconciling, decls_in, run_setting}
+use Rattle.orc_scene.specs.declared.stop.WorldStop.{WorldStop}
+use Rattle.orc_scene.specs.declared.scene.Place.{Place}
+use Rattle.orc_scene.specs.declared.scene.Place.TheVariants.{Up, Down, Ended, Moved}
+use Rattle.orc_scene.specs.declared.scene.Scene.{Scene}
 use Rattle.orc_world.proofs.Allowed.{allowed_there}
-use Rattle.orc_world.proofs.Histories.{history_seen}
+use Rattle.orc_scene.proofs.Histories.{history_seen}
 use Rattle.orc_world.proofs.Looks.{quiet_line}
 use Rattle.orc_world.proofs.Times.{ends_at_once}
 
@@ -96,7 +96,7 @@ allowed_first None P Q h = h
 allowed_first (Some d) P Q h = first_so (P d) (Q d) h
 
 -- a device that the declarations have has a log
-pub log_within : {D : Type 0} (disk : DiskMeaning D) (world : World D) (device : ℕ) → IsSoundWorld disk world
+pub log_within : {D : Type 0} (disk : DiskMeaning D) (world : Scene D) (device : ℕ) → IsSoundScene disk world
     → MatchOption (decls_in world.place) ⊥ (λ decls. nat_lt device (length decls.names) ≡ true) → device < length world.links.logs
 log_within {D = D} disk world device sound allowed =
     let here : Setting D = run_setting disk sound.0 world.limit sound.1 in
@@ -118,8 +118,8 @@ ShowsKnown hub device path text = (meta : Option Meta) × IsMeta hub.state.datas
     × (text ≡ meta_group (name_of hub.decls.names device) path meta)
 
 module _ {D : Type 0} (here : Setting D) where
-  -- a text is said in a line in which nothing comes, or memory was wanting for it
-  pub said_line : {M : Type 0} (line : ScriptStep) (seen : Seen D) (world : World D) (before after : List ℕ) (text : Result (Vec ℕ) M)
+  -- a text is said in a line in which nothing comes, or memory ran out for it
+  pub said_line : {M : Type 0} (line : ScriptStep) (seen : Seen D) (world : Scene D) (before after : List ℕ) (text : Result (Vec ℕ) M)
       (result : Result (Unit {0}) WorldStop) (Shown : List ℕ → Type 0)
       → IfOk text (λ bytes. Shown bytes.items) → PrintsText text before result after → IsSeenAs here seen world
       → (set_by line seen).journal.disk ≡ seen.journal.disk
@@ -136,8 +136,8 @@ module _ {D : Type 0} (here : Setting D) where
       (record { alloc = refl; limit = refl; place = refl; links = refl; snapshots = refl; events_are = refl }) prints.1.1 disk
 
   -- what is said of the trees that the devices run is said of those that the rules see
-  pub json_line : (seen : Seen D) (world : World D) (device : ℕ) (before after text : List ℕ) → IsSeenAs here seen world
-      → IsUnmended world.place → ShowsJsonOf world device text → after ≡ before ++ text
+  pub json_line : (seen : Seen D) (world : Scene D) (device : ℕ) (before after text : List ℕ) → IsSeenAs here seen world
+      → IsNotReconciling world.place → ShowsJsonOf world device text → after ≡ before ++ text
       → DoesLine here (step.Json device) seen world world before after
   json_line seen world device before after text is unmended shows printed =
       quiet_line here (step.Json device) seen seen world world before after text refl refl
@@ -161,8 +161,8 @@ module _ {D : Type 0} (here : Setting D) where
   shown_there seen (Ended disk) Of Shown text is of shows = absurd is
   shown_there seen Moved Of Shown text is of shows = absurd is
 
-  pub meta_line : (seen : Seen D) (world : World D) (device : ℕ) (path : List PathStep) (before after text : List ℕ) → IsSeenAs here seen world
-      → IsUnmended world.place → ShowsMetaOf world device path text → after ≡ before ++ text
+  pub meta_line : (seen : Seen D) (world : Scene D) (device : ℕ) (path : List PathStep) (before after text : List ℕ) → IsSeenAs here seen world
+      → IsNotReconciling world.place → ShowsMetaOf world device path text → after ≡ before ++ text
       → DoesLine here (step.Meta device path) seen world world before after
   meta_line seen world device path before after text is unmended shows printed =
       quiet_line here (step.Meta device path) seen seen world world before after text refl refl
@@ -175,7 +175,7 @@ module _ {D : Type 0} (here : Setting D) where
       )) shows)
       is unmended refl refl (λ other. refl) (λ other wrong. absurd cc) printed
 
-  pub data_line : (seen : Seen D) (world : World D) (before after text : List ℕ) → IsSeenAs here seen world → IsUnmended world.place
+  pub data_line : (seen : Seen D) (world : Scene D) (before after text : List ℕ) → IsSeenAs here seen world → IsNotReconciling world.place
       → MatchOption (hub_in world.place) (text ≡ codes "down\n") (λ hub. text ≡ data_text hub.state.datastore.data) → after ≡ before ++ text
       → DoesLine here step.ShowData seen world world before after
   data_line seen world before after text is unmended shows printed =
@@ -185,7 +185,7 @@ module _ {D : Type 0} (here : Setting D) where
       (λ hub there of. of ∙ ap (λ (s : Datastore). data_text s.data) (state_there seen hub there)) shows)
       is unmended refl refl (λ other. refl) (λ other wrong. absurd cc) printed
 
-  pub history_line : (seen : Seen D) (world : World D) (before after text : List ℕ) → IsSeenAs here seen world → IsUnmended world.place
+  pub history_line : (seen : Seen D) (world : Scene D) (before after text : List ℕ) → IsSeenAs here seen world → IsNotReconciling world.place
       → MatchOption (hub_in world.place) (text ≡ codes "down\n") (λ hub. text ≡ history_text hub.state.history) → after ≡ before ++ text
       → DoesLine here step.History seen world world before after
   history_line seen world before after text is unmended shows printed =
@@ -196,11 +196,11 @@ module _ {D : Type 0} (here : Setting D) where
       is unmended refl refl (λ other. refl) (λ other wrong. absurd cc) printed
 
   -- the log of a device, which begins anew
-  pub log_line : (seen : Seen D) (old new : World D) (device : ℕ) (before after text : List ℕ) → IsSeenAs here seen old → IsUnmended old.place
+  pub log_line : (seen : Seen D) (old new : Scene D) (device : ℕ) (before after text : List ℕ) → IsSeenAs here seen old → IsNotReconciling old.place
       → ShowsLogOf old device text → new ≡ record old { links = record old.links { logs = cleared_log device old.links.logs } } → after ≡ before ++ text
       → DoesLine here (step.Log device) seen old new before after
   log_line seen old new device before after text is unmended shows made printed =
-      let cleared : World D = record old { links = record old.links { logs = cleared_log device old.links.logs } } in
+      let cleared : Scene D = record old { links = record old.links { logs = cleared_log device old.links.logs } } in
       let said : text ≡ log_text (name_of here.decls.names device) (noted_on old.links.logs device) =
       allowed_there here seen old.place (λ decls. text ≡ log_text (name_of decls.names device) (noted_on old.links.logs device)) is.place shows in
       let now : IsSeenAs here seen cleared = record {
@@ -217,7 +217,7 @@ module _ {D : Type 0} (here : Setting D) where
         numbered = is.numbered;
         kept = is.kept;
       } in
-      subst (λ (w : World D). DoesLine here (step.Log device) seen old w before after) (sym made)
+      subst (λ (w : Scene D). DoesLine here (step.Log device) seen old w before after) (sym made)
       (quiet_line here (step.Log device) seen seen old cleared before after text refl refl tt now unmended refl refl
       (λ other. noted_cleared old.links.logs device other)
       (λ other same. said ∙ ap (λ (d : ℕ). log_text (name_of here.decls.names d) (noted_on old.links.logs d)) (let one : device ≡ other = cc in one)) printed)

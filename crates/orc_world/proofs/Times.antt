@@ -1,57 +1,42 @@
 -- Time and restarts.
-use Rattle.std.proofs.Common.{[], ◌≡◌, ℕ, Bool, true, false, Option, Some, None, List, ◌∷◌, ◌++◌, ◌<◌, ◌⊎◌, inl, inr, map, refl, sym, ap, subst, ◌∙◌, append-nil, ◌≤◌, arith}
+use Rattle.std.proofs.Common.{[], ◌≡◌, ℕ, Bool, true, Option, Some, List, ◌∷◌, ◌++◌, ◌<◌, ◌⊎◌, map, refl, sym, ap, subst, ◌∙◌, append-nil, ◌≤◌, arith}
 use Rattle.std.specs.Prelude.{slice_get, length}
-use Rattle.std.specs.List.{flat_map}
 use Rattle.std.specs.Option.{option_map_or}
-use Rattle.orc_check.specs.declared.acceptance.Accept.{Accept}
 use Rattle.orc_disk.specs.Meanings.{DiskMeaning}
 use Rattle.orc_decls.specs.declared.declarations.Decls.{Decls}
-use Rattle.orc_device.specs.Nodes.{NodeState, dropped, restarted, ticked}
+use Rattle.orc_device.specs.Nodes.{NodeState, restarted, ticked}
 use Rattle.orc_links.specs.Logs.{noted_on}
-use Rattle.orc_links.specs.Networks.{absent_link, absent_node, heard_link, link_listing, link_restarted, link_states, link_ticked, node_states}
+use Rattle.orc_links.specs.Networks.{absent_link, absent_node, heard_link, link_restarted, link_states, link_ticked, node_states}
 use Rattle.orc_links.specs.declared.links.Links.{Links}
 use Rattle.orc_links.proofs.States.{links_changed, links_mapped, nodes_changed, nodes_ticked}
 use Rattle.orc_node.specs.LinkStates.{LinkState}
 use Rattle.orc_rules.specs.Cells.{updated_at}
 use Rattle.orc_rules.specs.Events.{Comes, DoesAnyway, Steps, Turn}
-use Rattle.orc_rules.specs.Hubs.{Hub, with_changed}
-use Rattle.orc_rules.specs.Worlds.{Link, Setting, World as Seen}
+use Rattle.orc_rules.specs.Hubs.{with_changed}
+use Rattle.orc_rules.specs.Worlds.{Setting, World as Seen}
 use Rattle.orc_rules.specs.declared.event.Event.{Event}
 use Rattle.orc_rules.specs.declared.event.Event.TheVariants as event
 use Rattle.orc_runs.specs.Ends.{EndedBecause}
-use Rattle.orc_runs.specs.Runs.{EndsRun, IsDone, operation_of}
-use Rattle.orc_runs.specs.Scripts.{Goes, Part as part, PrintsAll, line_parts, set_by}
+use Rattle.orc_runs.specs.Runs.{EndsRun}
+use Rattle.orc_runs.specs.Scripts.{Goes, Part as part, line_parts, set_by}
 use Rattle.orc_script.specs.declared.step.ScriptStep.{ScriptStep}
 use Rattle.orc_script.specs.declared.step.ScriptStep.TheVariants as step
-use Rattle.orc_world.specs.Courses.{GoOn, GoesThrough, HasEvents, events_in}
-use Rattle.orc_world.specs.Laws.{WorldIsCarried}
+use Rattle.orc_scene.specs.Courses.{GoOn, HasEvents}
+use Rattle.orc_scene.specs.Laws.{SceneIsCarried}
 use Rattle.orc_world.specs.Lines.{DoesLine, EndsInLine}
-use Rattle.orc_world.specs.Stands.{HasDisk, IsCarried, IsPlaceSeenAs, IsSeenAs, IsUnmended, run_setting}
-use Rattle.orc_world.specs.Stops.{end_of_run}
-use Rattle.orc_world.specs.declared.stop.WorldStop.{WorldStop}
-use Rattle.orc_world.specs.declared.stop.WorldStop.TheVariants as stop
-use Rattle.orc_world.specs.declared.world.World.{World}
-use Rattle.orc_world.proofs.Carrying.{carried_on}
-use Rattle.orc_world.proofs.Seeing.{changed_mapped, link_there, place_disk, seen_nodes, seen_same, set_mapped, updated_same}
+use Rattle.orc_scene.specs.Stands.{HasDisk, IsCarried, IsSeenAs, IsNotReconciling, run_setting}
+use Rattle.orc_scene.specs.RunEnds.{end_of_run}
+use Rattle.orc_scene.specs.declared.stop.WorldStop.{WorldStop}
+use Rattle.orc_scene.specs.declared.stop.WorldStop.TheVariants as stop
+use Rattle.orc_scene.specs.declared.scene.Scene.{Scene}
+use Rattle.orc_scene.proofs.Carrying.{carried_on}
+use Rattle.orc_scene.proofs.Seeing.{changed_mapped, place_disk, seen_same, updated_same}
+use Rattle.orc_world.proofs.Seeing.{link_there, seen_nodes}
 use Rattle.orc_world.proofs.Unsaid.{says_all}
-
-some_not_none : {A B : Type 0} (x : A) → Some x ≡ None → B
-some_not_none x e = absurd cc
-
-pub accepts_mapped : (g : LinkState → LinkState) → ((link : LinkState) → (g link).node.accept ≡ link.node.accept) → (links : List LinkState)
-    → map (λ link. link.node.accept) (map g links) ≡ map (λ link. link.node.accept) links
-accepts_mapped g same [] = refl
-accepts_mapped g same (link ∷ links) =
-    ap (λ (a : Accept). a ∷ map (λ link. link.node.accept) (map g links)) (same link)
-    ∙ ap (λ (all : List Accept). link.node.accept ∷ all) (accepts_mapped g same links)
+use Rattle.orc_scene.proofs.Times.{accepts_mapped, goes_on_same}
 
 module _ {D : Type 0} (here : Setting D) where
-  -- a turn that is seen, and leaves the hub as it is, doesn't end the run
-  pub goes_on_same : (turn : Turn D) (one : Event) → turn.seen ≡ Some one → turn.behind.hub ≡ turn.before.hub → EndsRun turn → ⊥
-  goes_on_same turn one is same (inl none) = some_not_none one (sym is ∙ none)
-  goes_on_same turn one is same (inr ends) = some_not_none ends.0 (sym ends.1 ∙ sym same ∙ ends.2)
-
-  -- nor do turns that go on
+  -- turns that go on don't end the run
   pub unended : {ended : Bool} (turns : List (Turn D)) → GoOn turns → (earlier later : List (Turn D)) (turn : Turn D)
       → turns ≡ earlier ++ turn ∷ later → EndsRun turn → (ended ≡ true) × (later ≡ [])
   unended [] on [] later turn is ends = absurd cc
@@ -59,8 +44,8 @@ module _ {D : Type 0} (here : Setting D) where
   unended (first ∷ turns) on [] later turn is ends = let same : first ≡ turn = cc in absurd (on.0 (subst EndsRun (sym same) ends))
   unended (first ∷ turns) on (t ∷ earlier) later turn is ends = let rest : turns ≡ earlier ++ turn ∷ later = cc in unended turns on.1 earlier later turn rest ends
 
-  -- The run ended in a line for want of memory, before anything came.
-  pub ends_at_once : (line : ScriptStep) (seen : Seen D) (old new : World D) (before after : List ℕ) (why : WorldStop)
+  -- The run ended in a line since memory ran out, before anything came.
+  pub ends_at_once : (line : ScriptStep) (seen : Seen D) (old new : Scene D) (before after : List ℕ) (why : WorldStop)
       → why ≡ stop.Memory → IsSeenAs here seen old → HasEvents old new old.events.items.items → after ≡ before
       → (set_by line seen).journal.disk ≡ seen.journal.disk → EndsInLine here line seen old new before after why
   ends_at_once line seen old new before after why memory is same out disk = record {
@@ -81,10 +66,10 @@ module _ {D : Type 0} (here : Setting D) where
   }
 
 -- a line `tick`
-pub tick_line : {D : Type 0} (disk : DiskMeaning D) (decls : Decls) (limit : ℕ) (granted : Bool) → WorldIsCarried disk → (seen : Seen D) (old middle new : World D)
+pub tick_line : {D : Type 0} (disk : DiskMeaning D) (decls : Decls) (limit : ℕ) (granted : Bool) → SceneIsCarried disk → (seen : Seen D) (old middle new : Scene D)
     (links : Links) (seconds : ℕ) (before after : List ℕ)
     → let here : Setting D = run_setting disk decls limit granted in
-    IsSeenAs here seen old → IsUnmended old.place
+    IsSeenAs here seen old → IsNotReconciling old.place
     → HasEvents old middle old.events.items.items
     → links ≡ record middle.links { links = map (link_ticked seconds) middle.links.links }
     → HasEvents (record middle { links = links }) new
@@ -113,7 +98,7 @@ tick_line {D} disk decls limit granted law seen old middle new links seconds bef
           (ap {B = ℕ → NodeState} (λ (f : ℕ → NodeState) (d : ℕ). ticked (f d) seconds) middle_is.nodes ∙ sym (nodes_ticked seconds middle.links.links))
           (links_mapped (link_ticked seconds) (λ link. refl) middle.links.links)
           (accepts_mapped (link_ticked seconds) (λ link. refl) middle.links.links) kept);
-      unmended = subst (λ p. IsUnmended p) (sym (made.place ∙ same.place)) unmended;
+      unmended = subst (λ p. IsNotReconciling p) (sym (made.place ∙ same.place)) unmended;
       limit = made.limit ∙ same.limit;
       events = made.events_are ∙ ap (λ (es : List Event). es ++ event.Tick seconds ∷ []) same.events_are;
       logs = λ device. ap (λ (l : Links). noted_on l.logs device) (made.links ∙ links_are) ∙ ap (λ (l : Links). noted_on l.logs device) same.links ∙ sym (append-nil (noted_on old.links.logs device));
@@ -122,10 +107,10 @@ tick_line {D} disk decls limit granted law seen old middle new links seconds bef
     }
 
 -- a line `restart`
-pub restart_line : {D : Type 0} (disk : DiskMeaning D) (decls : Decls) (limit : ℕ) (granted : Bool) → WorldIsCarried disk → (seen : Seen D) (old middle new : World D)
+pub restart_line : {D : Type 0} (disk : DiskMeaning D) (decls : Decls) (limit : ℕ) (granted : Bool) → SceneIsCarried disk → (seen : Seen D) (old middle new : Scene D)
     (links : Links) (device : ℕ) (before after : List ℕ)
     → let here : Setting D = run_setting disk decls limit granted in
-    IsSeenAs here seen old → IsUnmended old.place
+    IsSeenAs here seen old → IsNotReconciling old.place
     → HasEvents old middle old.events.items.items
     → device < length middle.links.links
     → links ≡ record middle.links { links = with_changed link_restarted device middle.links.links }
@@ -164,7 +149,7 @@ restart_line {D} disk decls limit granted law seen old middle new links device b
           (links_changed link_restarted device found.0 middle.links.links found.1
           ∙ updated_same (link_states middle.links.links) device (heard_link found.0) heard_there)
           (changed_mapped (λ (link : LinkState). link.node.accept) link_restarted middle.links.links device found.0 found.1 refl) kept);
-      unmended = subst (λ p. IsUnmended p) (sym (made.place ∙ same.place)) unmended;
+      unmended = subst (λ p. IsNotReconciling p) (sym (made.place ∙ same.place)) unmended;
       limit = made.limit ∙ same.limit;
       events = made.events_are ∙ ap (λ (es : List Event). es ++ event.Restart device ∷ []) same.events_are;
       logs = λ other. ap (λ (l : Links). noted_on l.logs other) (made.links ∙ links_are) ∙ ap (λ (l : Links). noted_on l.logs other) same.links ∙ sym (append-nil (noted_on old.links.logs other));

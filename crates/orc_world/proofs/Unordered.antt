@@ -36,14 +36,14 @@ use Rattle.orc_runs.specs.Scripts.{Goes, IsOf, NoneOf, Part, Part as part, comes
 use Rattle.orc_worker.specs.Workers.{is_due, order_at}
 use Rattle.orc_worker.specs.declared.stage.Stage.{Stage}
 use Rattle.orc_worker.specs.declared.stage.Stage.TheVariants as working
-use Rattle.orc_world.specs.Codes.{hub_in}
-use Rattle.orc_world.specs.Courses.{DoesParts, MendsDevices, RowOrEnd}
-use Rattle.orc_world.specs.Stands.{IsPlaceSeenAs, IsSoundWorld, run_setting}
-use Rattle.orc_world.specs.declared.world.Place.{Place}
-use Rattle.orc_world.specs.declared.world.Place.TheVariants.{Up, Down, Ended, Moved}
-use Rattle.orc_world.specs.declared.world.World.{World}
+use Rattle.orc_scene.specs.Effects.{hub_in}
+use Rattle.orc_scene.specs.Courses.{DoesParts, MendsDevices, RowOrEnd}
+use Rattle.orc_scene.specs.Stands.{IsPlaceSeenAs, IsSoundScene, run_setting}
+use Rattle.orc_scene.specs.declared.scene.Place.{Place}
+use Rattle.orc_scene.specs.declared.scene.Place.TheVariants.{Up, Down, Ended, Moved}
+use Rattle.orc_scene.specs.declared.scene.Scene.{Scene}
 use Rattle.orc_world.proofs.Apiece.{appends_nothing, none_left, sized_there}
-use Rattle.orc_world.proofs.Lasted.{done}
+use Rattle.orc_scene.proofs.Lasted.{done}
 
 -- what is to happen to an operation may
 way_possible : (kind : DeviceKind) (node : NodeState) (session : ℕ) (op : Op) (listed : Option When)
@@ -243,7 +243,7 @@ module _ {D : Type 0} (here : Setting D) where
       by unmet other (inl less) = so.none unmet other less
       by unmet other (inr is) = subst (λ (d : ℕ). order_on hub d ≡ None) (sym is) (none_there world hub device up none unmet)
 
-  -- behind all operations of a row of devices
+  -- after all operations of a row of devices
   record EndsBelow (below : ℕ) (last : Seen D) : Type 0 where
     pub hub : Hub
     pub up : last.hub ≡ Some hub
@@ -292,8 +292,8 @@ none_busy hub below sized none = all_so (λ one. not (is_busy one)) hub.duties (
     let idle : duty_order one ≡ None = sym (ap (λ (o : Option Duty). option_map_or duty_order o None) is) ∙ none place less in
     ap not (busy_none one idle)))
 
--- behind the operations of all devices nothing is due on any, unless a failure was met
-pub devices_mended : {D : Type 0} (disk : DiskMeaning D) (old new : World D) → IsSoundWorld disk old → MatchOption (hub_in old.place) ⊥ (λ hub. is_some hub.mends ≡ true)
+-- after the operations of all devices nothing is due on any, unless a failure was met
+pub devices_mended : {D : Type 0} (disk : DiskMeaning D) (old new : Scene D) → IsSoundScene disk old → MatchOption (hub_in old.place) ⊥ (λ hub. is_some hub.mends ≡ true)
     → RowOrEnd disk (λ here. map part.Operations (declared here.decls)) old (done tt) new [] [] → MatchOption (hub_in new.place) ⊥ MendsDevices
 devices_mended {D = D} disk old new sound begun each =
     let here : Setting D = run_setting disk sound.0 old.limit sound.1 in

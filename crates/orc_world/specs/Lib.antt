@@ -1,11 +1,3 @@
-pub mod Stops
-pub mod Snapshots
-pub mod Stands
-pub mod Courses
 pub mod Lines
-pub mod Laws
-pub mod Codes
-pub mod Openings
-pub mod Begins
 pub mod Shown
 pub mod Scripts

@@ -11,13 +11,13 @@ use Rattle.orc_print.specs.Logs.{log_text}
 use Rattle.orc_runs.specs.Ends.{EndedBecause}
 use Rattle.orc_script.specs.declared.step.ScriptStep.{ScriptStep}
 use Rattle.orc_script.specs.declared.step.ScriptStep.TheVariants as step
-use Rattle.orc_world.specs.Courses.{events_in, operations_in}
-use Rattle.orc_world.specs.Stops.{end_of_run}
-use Rattle.orc_world.specs.Stands.{HasDisk, IsSeenAs, IsUnmended, run_setting}
-use Rattle.orc_world.specs.declared.stop.WorldStop.{WorldStop}
-use Rattle.orc_world.specs.declared.world.World.{World}
+use Rattle.orc_scene.specs.Courses.{events_in, operations_in}
+use Rattle.orc_scene.specs.RunEnds.{end_of_run}
+use Rattle.orc_scene.specs.Stands.{HasDisk, IsSeenAs, IsNotReconciling, run_setting}
+use Rattle.orc_scene.specs.declared.stop.WorldStop.{WorldStop}
+use Rattle.orc_scene.specs.declared.scene.Scene.{Scene}
 
-module _ {D : Type 0} (here : Setting D) (line : ScriptStep) (seen : Seen D) (old new : World D)
+module _ {D : Type 0} (here : Setting D) (line : ScriptStep) (seen : Seen D) (old new : Scene D)
     (before after : List ℕ) where
   -- The line was done.
   pub record DoesLine : Type 0 where
@@ -26,7 +26,7 @@ module _ {D : Type 0} (here : Setting D) (line : ScriptStep) (seen : Seen D) (ol
     pub text : List ℕ
     pub done : IsDone here false (record { step = line; before = seen; turns = turns; behind = next; text = text })
     pub is : IsSeenAs here next new
-    pub unmended : IsUnmended new.place
+    pub unmended : IsNotReconciling new.place
     pub limit : new.limit ≡ old.limit
     pub events : new.events.items.items ≡ old.events.items.items ++ events_in turns
     pub logs : (device : ℕ) → noted_on new.links.logs device
@@ -49,14 +49,14 @@ module _ {D : Type 0} (here : Setting D) (line : ScriptStep) (seen : Seen D) (ol
     pub events : new.events.items.items ≡ old.events.items.items ++ events_in turns
     pub printed : after ≡ before ++ text
 
--- Over a disk that doesn't tell what it holds a recovery reads what it reads: that this was written is granted for no
--- line that opens the journal again, and of such a view nothing is said.
+-- Over a disk that doesn't report what it holds a recovery reads what it reads: that this was written is granted for no
+-- line that opens the journal again, and nothing is promised of a view that grants it.
 abbrev pub MayRecover : ScriptStep → Bool → Type 0
 MayRecover step.Recover granted = granted ≡ false
 MayRecover other granted = Unit {0}
 
 -- A call of the world did the line, or the run ended in it.
-abbrev pub IsLineCall : {D A : Type 0} → DiskMeaning D → ScriptStep → World D → Result A WorldStop → World D → List ℕ
+abbrev pub IsLineCall : {D A : Type 0} → DiskMeaning D → ScriptStep → Scene D → Result A WorldStop → Scene D → List ℕ
     → List ℕ → Type 0
 IsLineCall {D} disk line old result new before after =
     (decls : Decls) (granted : Bool) (seen : Seen D) → IsSeenAs (run_setting disk decls old.limit granted) seen old

@@ -7,25 +7,25 @@ use Rattle.orc_rules.specs.Worlds.{Setting, World as Seen}
 use Rattle.orc_runs.specs.Runs.{Run, text_in, turns_of}
 use Rattle.orc_script.specs.declared.step.ScriptStep.{ScriptStep}
 use Rattle.orc_script.specs.declared.step.ScriptStep.TheVariants as step
-use Rattle.orc_world.specs.Courses.{events_in}
-use Rattle.orc_world.specs.Stands.{HasDisk, IsSeenAs, IsUnmended, decls_in, run_setting}
-use Rattle.orc_world.specs.Stops.{end_of_run}
-use Rattle.orc_world.specs.declared.stop.WorldStop.{WorldStop}
-use Rattle.orc_world.specs.declared.world.World.{World}
+use Rattle.orc_scene.specs.Courses.{events_in}
+use Rattle.orc_scene.specs.Stands.{HasDisk, IsSeenAs, IsNotReconciling, decls_in, run_setting}
+use Rattle.orc_scene.specs.RunEnds.{end_of_run}
+use Rattle.orc_scene.specs.declared.stop.WorldStop.{WorldStop}
+use Rattle.orc_scene.specs.declared.scene.Scene.{Scene}
 
 -- The rules see the world, with nothing granted of what reads give, and it is between two lines: so any line may come.
-abbrev pub TakesAnyLine : {D : Type 0} → DiskMeaning D → World D → Type 0
+abbrev pub TakesAnyLine : {D : Type 0} → DiskMeaning D → Scene D → Type 0
 TakesAnyLine {D} disk world = (decls : Decls) × (seen : Seen D)
-    × IsSeenAs (run_setting disk decls world.limit false) seen world × IsUnmended world.place
+    × IsSeenAs (run_setting disk decls world.limit false) seen world × IsNotReconciling world.place
 
--- It does so after a line that was done, under the same declarations.
-abbrev pub GoesOnAfter : {D A : Type 0} → DiskMeaning D → World D → Result A WorldStop → World D → Type 0
+-- The world takes any line after one that was done, under the same declarations.
+abbrev pub GoesOnAfter : {D A : Type 0} → DiskMeaning D → Scene D → Result A WorldStop → Scene D → Type 0
 GoesOnAfter disk old result new =
     MatchResult result (λ value. TakesAnyLine disk new × (decls_in new.place ≡ decls_in old.place)) (λ why. Unit {0})
 
--- The script was run whole, or up to where the run ended, behind the operations noted so far; its events are kept, and
+-- The script was run whole, or up to where the run ended, after the operations noted so far; its events are kept, and
 -- all that it said is printed.
-pub record RunsInWorld {D : Type 0} (here : Setting D) (script : List ScriptStep) (seen : Seen D) (old new : World D)
+pub record RunsInWorld {D : Type 0} (here : Setting D) (script : List ScriptStep) (seen : Seen D) (old new : Scene D)
     (before after : List ℕ) (last : Seen D) : Type 0 where
   pub run : Run here script seen last
   pub noted : (device : ℕ) → run.noted device ≡ noted_on old.links.logs device
@@ -33,7 +33,7 @@ pub record RunsInWorld {D : Type 0} (here : Setting D) (script : List ScriptStep
   pub printed : after ≡ before ++ text_in run
 
 -- What `run_steps` does. Where no recovery is in the script it may be granted that a journal reads what was written.
-abbrev pub RunsScript : {D : Type 0} → DiskMeaning D → List ScriptStep → World D → Result (Unit {0}) WorldStop → World D
+abbrev pub RunsScript : {D : Type 0} → DiskMeaning D → List ScriptStep → Scene D → Result (Unit {0}) WorldStop → Scene D
     → List ℕ → List ℕ → Type 0
 RunsScript {D} disk script old result new before after = (decls : Decls) (granted : Bool) (seen : Seen D)
     → IsSeenAs (run_setting disk decls old.limit granted) seen old
@@ -42,5 +42,5 @@ RunsScript {D} disk script old result new before after = (decls : Decls) (grante
     × (does : RunsInWorld (run_setting disk decls old.limit granted) script seen old new before after last)
     × MatchResult result
     (λ done. (does.run.end ≡ None) × IsSeenAs (run_setting disk decls old.limit granted) last new
-    × IsUnmended new.place)
+    × IsNotReconciling new.place)
     (λ why. (does.run.why ≡ Some (end_of_run why)) × HasDisk new.place last.journal.disk)

@@ -2,28 +2,28 @@
 ghost use Rattle.std.specs.Prelude.{IsTrue, MatchOption};
 ghost use Rattle.std.specs.List.{list_all};
 ghost use Rattle.orc_script.specs.Steps.{is_step};
-ghost use Rattle.orc_script.specs.declared.step.ScriptStep.TheVariants as step;
 ghost use Rattle.orc_world.specs.Lines.{IsLineCall};
 ghost use Rattle.orc_world.specs.Scripts.{GoesOnAfter, RunsScript, TakesAnyLine};
-ghost use Rattle.orc_world.specs.Stands.{Allows, IsBetweenLines, decls_in};
+ghost use Rattle.orc_scene.specs.Stands.{Allows, IsBetweenLines, decls_in};
+ghost use Rattle.orc_script.specs.declared.step.ScriptStep.TheVariants as step;
 
-use crate::stop::WorldStop;
 use crate::world::World;
 use orc_call::Call;
 use orc_disk::Disk;
 use orc_print::Transcript;
+use orc_scene::WorldStop;
 use orc_script::ScriptStep;
 use orc_text::Memory;
 
 impl<D: Disk> World<D> {
     /// Does the lines of a script, in order, up to the end, or up to a line in which the run ends. The world takes any
-    /// line behind the last one, under the same declarations.
+    /// line after the last one, under the same declarations.
     pub fn run_steps(&mut self, steps: &[ScriptStep], out: &mut Transcript) -> Result<(), WorldStop>
-        requires sound { TakesAnyLine D.disk self.old }
-        requires allowed { MatchOption (decls_in self.old.place) ⊥
+        requires sound { TakesAnyLine D.disk self.old.scene }
+        requires allowed { MatchOption (decls_in self.old.scene.place) ⊥
             (λ decls. IsTrue (list_all (is_step decls) steps.now)) }
-        ensures script { RunsScript D.disk steps.now self.old result self.new out.old out.new }
-        ensures after { GoesOnAfter D.disk self.old result self.new }
+        ensures script { RunsScript D.disk steps.now self.old.scene result self.new.scene out.old out.new }
+        ensures after { GoesOnAfter D.disk self.old.scene result self.new.scene }
     {
         for step in steps {
             match self.run_step(step, out) {
@@ -36,19 +36,19 @@ impl<D: Disk> World<D> {
 
     /// Does a line of a script. The world takes any line after it, under the same declarations.
     pub fn run_step(&mut self, step: &ScriptStep, out: &mut Transcript) -> Result<(), WorldStop>
-        requires sound { TakesAnyLine D.disk self.old }
-        requires allowed { Allows self.old step.now }
-        ensures line { IsLineCall D.disk step.now self.old result self.new out.old out.new }
-        ensures after { GoesOnAfter D.disk self.old result self.new }
+        requires sound { TakesAnyLine D.disk self.old.scene }
+        requires allowed { Allows self.old.scene step.now }
+        ensures line { IsLineCall D.disk step.now self.old.scene result self.new.scene out.old out.new }
+        ensures after { GoesOnAfter D.disk self.old.scene result self.new.scene }
     {
         self.do_line(step, out)
     }
 
     // Does it.
     fn do_line(&mut self, step: &ScriptStep, out: &mut Transcript) -> Result<(), WorldStop>
-        requires sound { IsBetweenLines D.disk self.old }
-        requires allowed { Allows self.old step.now }
-        ensures { IsLineCall D.disk step.now self.old result self.new out.old out.new }
+        requires sound { IsBetweenLines D.disk self.old.scene }
+        requires allowed { Allows self.old.scene step.now }
+        ensures { IsLineCall D.disk step.now self.old.scene result self.new.scene out.old out.new }
     {
         match step {
             ScriptStep::Begin(caller) => self.begin(caller, out),
@@ -75,11 +75,11 @@ impl<D: Disk> World<D> {
 
     // Does the line of a call, of which it makes a copy.
     fn call_copy(&mut self, call: &Call, out: &mut Transcript) -> Result<(), WorldStop>
-        requires sound { IsBetweenLines D.disk self.old }
-        requires allowed { Allows self.old (step.Call call.now) }
-        ensures { IsLineCall D.disk (step.Call call.now) self.old result self.new out.old out.new }
+        requires sound { IsBetweenLines D.disk self.old.scene }
+        requires allowed { Allows self.old.scene (step.Call call.now) }
+        ensures { IsLineCall D.disk (step.Call call.now) self.old.scene result self.new.scene out.old out.new }
     {
-        match call.copy(self.alloc) {
+        match call.copy(self.scene.alloc) {
             Ok(call) => self.call(call, out),
             Err(Memory) => Err(WorldStop::Memory),
         }

@@ -1,164 +1,73 @@
 //! The world, and what one who looks at it sees.
-ghost use Rattle.std.specs.Prelude.{◌≡◌, true, is_some, MatchOption, Some};
+ghost use Rattle.std.specs.Prelude.{◌≡◌, ◌<◌, ◌^◌, IfErr, IfOk, length, map, true};
 ghost use Rattle.std.specs.Option.{option_map};
-ghost use Rattle.orc_world.specs.Codes.{hub_in, place_without};
-ghost use Rattle.orc_world.specs.Stands.{HasDisk, IsClosed, decls_in, is_somewhere};
-ghost use Rattle.orc_world.specs.declared.world.Place.TheVariants.{Down};
+ghost use Rattle.orc_decls.specs.Declarations.{AreDecls, accept_of};
+ghost use Rattle.orc_scene.specs.Begins.{HasBegun, HasNotBegun};
+ghost use Rattle.orc_scene.specs.Effects.{hub_in};
+ghost use Rattle.orc_scene.specs.Stands.{HasDisk, is_somewhere};
 
-use crate::events::Events;
-use crate::snapshots::Snapshots;
-use orc_decls::Decls;
+use orc_declarations::Bundle;
 use orc_disk::{Disk, StopDisk};
 use orc_hub::Hub;
-use orc_links::Links;
 use orc_node::Link;
 use orc_rules::Event;
-use orc_text::Text;
+use orc_scene::{Scene, WorldStop};
 use std::alloc::Global;
 
-/// Where the journal's disk is.
-pub enum Place<D: Disk> {
-    /// A hub is up over it.
-    Up(Hub<StopDisk<D>>),
-    /// No hub is up.
-    Down(D, Decls),
-    /// The run ended, since the journal could not be opened again.
-    Ended(D),
-    /// Nowhere: so it is inside a call alone.
-    Moved,
-}
-
-// Written out, so that a hub is let go by its own crate.
-impl<D: Disk> Drop for Place<D> {
-    fn drop(self) {
-        match self {
-            Place::Up(hub) => {
-                let (disk, decls) = hub.into_parts();
-                drop(disk);
-                drop(decls);
-            }
-            Place::Down(disk, decls) => {
-                drop(disk);
-                drop(decls);
-            }
-            Place::Ended(disk) => drop(disk),
-            Place::Moved => {}
-        }
-    }
-}
-
-impl<D: Disk> Place<D> {
-    // The disk of the journal, which is there.
-    fn into_disk(self) -> D
-        requires { is_somewhere self ≡ true }
-        ensures { HasDisk self result }
-    {
-        match self {
-            Place::Up(hub) => hub.into_parts().0.into_inner(),
-            Place::Down(disk, _) => disk,
-            Place::Ended(disk) => disk,
-            Place::Moved => unreachable!(),
-        }
-    }
-
-    // The place without its hub.
-    pub(crate) fn without_hub(self) -> Place<D>
-        ensures { result ≡ place_without self }
-    {
-        match self {
-            Place::Up(hub) => place_of(hub),
-            Place::Down(disk, decls) => Place::Down(disk, decls),
-            Place::Ended(disk) => Place::Ended(disk),
-            Place::Moved => Place::Moved,
-        }
-    }
-
-    // The disk and the declarations, where no hub is up, and the run goes on.
-    pub(crate) fn into_closed(self) -> (D, Decls)
-        requires { IsClosed self }
-        ensures { self ≡ Down result.0 result.1 }
-    {
-        match self {
-            Place::Up(_) => unreachable!(),
-            Place::Down(disk, decls) => (disk, decls),
-            Place::Ended(_) => unreachable!(),
-            Place::Moved => unreachable!(),
-        }
-    }
-}
-
-// The place of a hub that is let go: its disk, without the one that stops it, and the declarations.
-fn place_of<D: Disk>(hub: Hub<StopDisk<D>>) -> Place<D>
-    ensures { result ≡ Down hub.log.journal.disk.inner hub.decls }
-{
-    let (disk, decls) = hub.into_parts();
-    Place::Down(disk.into_inner(), decls)
-}
-
-/// The world of a run.
+/// The world of a run: its scene, on which each line of a script is done.
 #[derive(Drop)]
 pub struct World<D: Disk> {
-    pub alloc: Global,
-    /// The most bytes of the journal.
-    pub limit: u64,
-    pub place: Place<D>,
-    pub links: Links,
-    pub snapshots: Snapshots,
-    pub events: Events,
+    pub scene: Scene<D>,
 }
 
 impl<D: Disk> World<D> {
+    /// The world of a bundle over a disk: each device runs its base, and the journal, whose length is
+    /// limited so, is opened, or begun. A refusal hands the disk back.
+    pub fn open(
+        alloc: Global,
+        bundle: Bundle,
+        disk: D,
+        limit: u64,
+    ) -> Result<World<D>, (WorldStop, D)>
+        requires decls { AreDecls bundle.decls }
+        requires accepts { bundle.accepts ≡ map (accept_of bundle.decls.schemas) bundle.decls.devices }
+        requires short { length bundle.decls.text < 2 ^ 32 }
+        requires limit { limit < 2 ^ 32 }
+        ensures begun { IfOk result (λ world. HasBegun D.disk bundle.decls disk limit world.scene) }
+        ensures refused { IfErr result (λ refused. HasNotBegun D.disk bundle.decls disk limit refused.0 refused.1) }
+    {
+        match Scene::open(alloc, bundle, disk, limit) {
+            Ok(scene) => Ok(World { scene }),
+            Err(refused) => Err(refused),
+        }
+    }
+
     /// The hub, where one is up.
     pub fn hub(&self) -> Option<&Hub<StopDisk<D>>>
-        ensures { option_map (λ hub. hub.now) result ≡ hub_in self.now.place }
+        ensures { option_map (λ hub. hub.now) result ≡ hub_in self.now.scene.place }
     {
-        match &self.place {
-            Place::Up(hub) => Some(hub),
-            _ => None,
-        }
+        self.scene.hub()
     }
 
     /// The links to the devices, in the order of their numbers.
     pub fn links(&self) -> &[Link]
-        ensures { result.now ≡ self.now.links.links }
+        ensures { result.now ≡ self.now.scene.links.links }
     {
-        self.links.as_slice()
+        self.scene.links()
     }
 
     /// All events that came.
     pub fn events(&self) -> &[Event]
-        ensures { result.now ≡ self.now.events.items.items }
+        ensures { result.now ≡ self.now.scene.events.items.items }
     {
-        self.events.as_slice()
+        self.scene.events()
     }
 
     /// The disk of the journal.
     pub fn into_disk(self) -> D
-        requires { is_somewhere self.place ≡ true }
-        ensures { HasDisk self.place result }
+        requires { is_somewhere self.scene.place ≡ true }
+        ensures { HasDisk self.scene.place result }
     {
-        let World { place, .. } = self;
-        place.into_disk()
-    }
-
-    // The declarations.
-    pub(crate) fn decls(&self) -> &Decls
-        requires { is_some (decls_in self.now.place) ≡ true }
-        ensures { decls_in self.now.place ≡ Some result.now }
-    {
-        match &self.place {
-            Place::Up(hub) => hub.decls(),
-            Place::Down(_, decls) => decls,
-            Place::Ended(_) => unreachable!(),
-            Place::Moved => unreachable!(),
-        }
-    }
-
-    // The names of the devices.
-    pub(crate) fn names(&self) -> &[Text]
-        requires { is_some (decls_in self.now.place) ≡ true }
-        ensures { MatchOption (decls_in self.now.place) ⊥ (λ decls. result.now ≡ decls.names) }
-    {
-        self.decls().names()
+        self.scene.into_disk()
     }
 }

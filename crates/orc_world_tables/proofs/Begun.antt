@@ -6,14 +6,14 @@ use Rattle.orc_decls.specs.declared.declarations.Decls.{Decls}
 use Rattle.orc_disk.specs.Meanings.{DiskMeaning}
 use Rattle.orc_script.specs.Steps.{IsScript, is_step}
 use Rattle.orc_script.specs.declared.step.ScriptStep.{ScriptStep}
-use Rattle.orc_world.specs.Begins.{HasBegun}
+use Rattle.orc_scene.specs.Begins.{HasBegun}
 use Rattle.orc_world.specs.Scripts.{TakesAnyLine}
-use Rattle.orc_world.specs.Stands.{IsSeenAs, decls_in, run_setting}
-use Rattle.orc_world.specs.declared.world.Place.{Place}
-use Rattle.orc_world.specs.declared.world.World.{World}
+use Rattle.orc_scene.specs.Stands.{IsSeenAs, decls_in, run_setting}
+use Rattle.orc_scene.specs.declared.scene.Place.{Place}
+use Rattle.orc_scene.specs.declared.scene.Scene.{Scene}
 
 -- any line may come
-pub any_comes : {D : Type 0} {disk : DiskMeaning D} {decls : Decls} {from : D} {limit : ℕ} {world : World D} → HasBegun disk decls from limit world → TakesAnyLine disk world
+pub any_comes : {D : Type 0} {disk : DiskMeaning D} {decls : Decls} {from : D} {limit : ℕ} {world : Scene D} → HasBegun disk decls from limit world → TakesAnyLine disk world
 any_comes {disk = disk} {decls = decls} {world = world} begun = (
   decls,
   begun.seen,
@@ -21,8 +21,8 @@ any_comes {disk = disk} {decls = decls} {world = world} begun = (
   begun.unmended,
 )
 
--- and its declarations allow those of the script
-pub script_allowed : {D : Type 0} {disk : DiskMeaning D} {decls : Decls} {from : D} {limit : ℕ} {world : World D} → HasBegun disk decls from limit world → (steps given : List ScriptStep)
+-- the declarations of a world that began allow the steps of the script
+pub script_allowed : {D : Type 0} {disk : DiskMeaning D} {decls : Decls} {from : D} {limit : ℕ} {world : Scene D} → HasBegun disk decls from limit world → (steps given : List ScriptStep)
     → IsScript decls steps → given ≡ steps → MatchOption (decls_in world.place) ⊥ (λ decls. IsTrue (list_all (is_step decls) given))
 script_allowed {D = D} {decls = decls} begun steps given lawful same =
     subst (λ (p : Place D). MatchOption (decls_in p) ⊥ (λ decls. IsTrue (list_all (is_step decls) given))) (sym begun.place)

@@ -3,7 +3,7 @@ use Rattle.std.specs.Prelude.{◌≡◌, ◌<◌, ℕ, List, ◌∷◌, length}
 use Rattle.std.specs.Str.{IsUtf8}
 use Rattle.orc_lines.specs.Words.{words_of}
 
--- `word` stands in front of the first space, and `rest`, which is text, behind it
+-- `word` stands before the first space, and `rest`, which is text, after it
 pub record CutsWord (text word rest : List ℕ) : Type 0 where
   pub words : words_of text ≡ word ∷ words_of rest
   pub shorter : length rest < length text

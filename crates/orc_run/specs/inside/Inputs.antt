@@ -1,4 +1,4 @@
--- What a source gave, and why a run may end before its bundle is read, and behind that.
+-- What a source gave, and why a run may end before its bundle is read, and after that.
 use Rattle.std.specs.Prelude.{◌<◌, ◌^◌, ℕ, IsTrue, None, Option, Some, length}
 use Rattle.std.specs.List.{list_all}
 use Rattle.orc_bundle.specs.Bundles.{IsBundle}
@@ -10,7 +10,7 @@ use Rattle.orc_run.specs.declared.reading.Input.{Input}
 use Rattle.orc_run.specs.declared.stop.Stop.{Stop}
 use Rattle.orc_run.specs.declared.stop.Stop.TheVariants as ending
 
--- the bundle with its script, without what each device accepts, which the declarations tell
+-- the bundle with its script, without what each device accepts, which the declarations say
 abbrev pub scripted : Input → ScriptedBundle
 scripted input = record { decls = input.bundle.decls; steps = input.steps }
 

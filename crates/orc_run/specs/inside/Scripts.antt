@@ -13,13 +13,13 @@ use Rattle.orc_rules.specs.Worlds.{Setting, World as Seen}
 use Rattle.orc_runs.specs.Runs.{AreDone, LineDone, PrintLogs, logged}
 use Rattle.orc_runs.specs.Starts.{StartsRun}
 use Rattle.orc_script.specs.declared.step.ScriptStep.{ScriptStep}
-use Rattle.orc_world.specs.Codes.{hub_in}
+use Rattle.orc_scene.specs.Effects.{hub_in}
 use Rattle.orc_world.specs.Lines.{IsLineCall}
-use Rattle.orc_world.specs.Stands.{IsSeenAs, IsUnmended, run_setting}
-use Rattle.orc_world.specs.declared.stop.WorldStop.{WorldStop}
-use Rattle.orc_world.specs.declared.stop.WorldStop.TheVariants as stop
-use Rattle.orc_world.specs.declared.world.Place.{Place}
-use Rattle.orc_world.specs.declared.world.World.{World}
+use Rattle.orc_scene.specs.Stands.{IsSeenAs, IsNotReconciling, run_setting}
+use Rattle.orc_scene.specs.declared.stop.WorldStop.{WorldStop}
+use Rattle.orc_scene.specs.declared.stop.WorldStop.TheVariants as stop
+use Rattle.orc_scene.specs.declared.scene.Place.{Place}
+use Rattle.orc_scene.specs.declared.scene.Scene.{Scene}
 use Rattle.orc_run.specs.Ends.{EndsOver, LinesRun, MayBeGranted, Outside, TookUpToLast, Wrote}
 use Rattle.orc_run.specs.declared.opening.TheConstants.{LARGEST_JOURNAL}
 use Rattle.orc_run.specs.declared.stop.Done.{Done}
@@ -42,24 +42,24 @@ Greets place text = MatchOption (hub_in place) (text ≡ []) (λ hub.
 
 module _ {D : Type 0} (disk : DiskMeaning D) where
   -- A line was done, or the run ended in it, and what it printed was written; or that write failed.
-  pub data WritesLine (held held' : Option (List ℕ)) (line : ScriptStep) (old : World D) : Result (Unit {0}) Stop
-      → World D → Type 0 where
-    goes_on : (text : List ℕ) (new : World D)
+  pub data WritesLine (held held' : Option (List ℕ)) (line : ScriptStep) (old : Scene D) : Result (Unit {0}) Stop
+      → Scene D → Type 0 where
+    goes_on : (text : List ℕ) (new : Scene D)
         → IsLineCall {A = Unit {0}} disk line old (Ok tt) new [] text → Appends held held' text
         → WritesLine held held' line old (Ok tt) new
-    ends_in : (text : List ℕ) (new : World D) (why : WorldStop)
+    ends_in : (text : List ℕ) (new : Scene D) (why : WorldStop)
         → IsLineCall {A = Unit {0}} disk line old (Err why) new [] text → Appends held held' text
         → WritesLine held held' line old (Err (stop_of_world why)) new
-    unwritten : (text : List ℕ) (new : World D) (result : Result (Unit {0}) WorldStop)
+    unwritten : (text : List ℕ) (new : Scene D) (result : Result (Unit {0}) WorldStop)
         → IsLineCall disk line old result new [] text → TakesFront held held' text
         → WritesLine held held' line old (Err ending.WriteFault) new
 
   -- the rules see a world as it begins, and no operation is noted yet
-  pub record IsFirst (decls : Decls) (first : Seen D) (world : World D) : Type 0 where
+  pub record IsFirst (decls : Decls) (first : Seen D) (world : Scene D) : Type 0 where
     pub starts : StartsRun (run_setting disk decls LARGEST_JOURNAL true) first
     pub is : (granted : Bool) → IsSeenAs (run_setting disk decls LARGEST_JOURNAL granted) first world
     pub limit_is : world.limit ≡ LARGEST_JOURNAL
-    pub unmended : IsUnmended world.place
+    pub unmended : IsNotReconciling world.place
     pub noted : (device : ℕ) → noted_on world.links.logs device ≡ []
 
   -- The lines of a script were done from the first world on, up to its end, or up to one in which the run ended, or whose
@@ -77,35 +77,35 @@ module _ {D : Type 0} (disk : DiskMeaning D) where
     pub whole : is_ok status ≡ true → rest ≡ []
     pub unwritten : status ≡ Err ending.WriteFault → TookUpToLast texts held held'
 
-  -- What was printed as a run begins was written, and the script was run; or memory was wanting for that text.
+  -- What was printed as a run begins was written, and the script was run; or memory ran out for that text.
   abbrev pub GreetsAndFinishes : Decls → D → Option (List ℕ) → Option (List ℕ) → List ScriptStep → D → Result Done Stop
       → Type 0
   GreetsAndFinishes decls from held held' steps last status = (left left' : Option (List ℕ))
       → EndsOver disk (record { decls = decls; steps = steps }) (record { left = left; held = held; disk = from })
       (record { left = left'; held = held'; disk = last }) status
 
-  -- the run of a bundle ended so; or memory was wanting before its journal was looked at
+  -- the run of a bundle ended so; or memory ran out before its journal was looked at
   abbrev pub EndsOrNeverBegins : ScriptedBundle → Outside D → Outside D → Result Done Stop → Type 0
   EndsOrNeverBegins bundle before after status =
       ((status ≡ Err ending.Memory) × (after.held ≡ before.held) × (after.disk ≡ before.disk))
       ⊎ EndsOver disk bundle before after status
 
--- Lines were done from a world on, and this is what the rules see behind them, what they printed, and what is noted of
+-- Lines were done from a world on, and this is what the rules see after them, what they printed, and what is noted of
 -- operations since each log was printed.
 pub record HasDone {D : Type 0} (here : Setting D) (first : Seen D) (done : List ScriptStep) (texts : List (List ℕ))
-    (world : World D) : Type 0 where
+    (world : Scene D) : Type 0 where
   pub lines : List (LineDone D)
   pub seen : Seen D
   pub are : AreDone here first lines seen
   pub steps_are : map (λ line. line.step) lines ≡ done
   pub texts_are : map (λ line. line.text) lines ≡ texts
   pub is : IsSeenAs here seen world
-  pub unmended : IsUnmended world.place
+  pub unmended : IsNotReconciling world.place
   pub noted : (device : ℕ) → noted_on world.links.logs device ≡ logged device [] lines
   pub logs : PrintLogs here.decls.names (λ device. []) lines
 
--- so it is whatever is granted
-abbrev pub HasDoneInEach : {D : Type 0} → DiskMeaning D → Decls → Seen D → List ScriptStep → List (List ℕ) → World D
+-- lines were done from a world on, whatever is granted
+abbrev pub HasDoneInEach : {D : Type 0} → DiskMeaning D → Decls → Seen D → List ScriptStep → List (List ℕ) → Scene D
     → Type 0
 HasDoneInEach disk decls first lines texts world = (granted : Bool) → MayBeGranted granted lines
     → HasDone (run_setting disk decls LARGEST_JOURNAL granted) first lines texts world

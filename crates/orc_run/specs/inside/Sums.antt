@@ -9,8 +9,8 @@ use Rattle.orc_disk.specs.Meanings.{DiskMeaning}
 use Rattle.orc_node.specs.LinkStates.{LinkState}
 use Rattle.orc_script.specs.declared.step.ScriptStep.{ScriptStep}
 use Rattle.orc_text.specs.Counts.{capped}
-use Rattle.orc_world.specs.Codes.{hub_in}
-use Rattle.orc_world.specs.declared.world.World.{World}
+use Rattle.orc_scene.specs.Effects.{hub_in}
+use Rattle.orc_scene.specs.declared.scene.Scene.{Scene}
 use Rattle.orc_run.specs.Ends.{EndsSummed, Outside}
 use Rattle.orc_run.specs.Summaries.{RunCounts, is_call_line, is_commit}
 use Rattle.orc_run.specs.declared.stop.Done.{Done}
@@ -27,7 +27,7 @@ counted calls committed entries items =
     record { calls = calls; committed = committed; entries = entries; items = items }
 
 -- the same as of a run
-abbrev pub counts_in : {D : Type 0} → List ScriptStep → World D → RunCounts
+abbrev pub counts_in : {D : Type 0} → List ScriptStep → Scene D → RunCounts
 counts_in steps world = record {
   calls = capped (count_by is_call_line steps);
   committed = capped (count_by is_commit world.events.items.items);
@@ -36,7 +36,7 @@ counts_in steps world = record {
 }
 
 module _ {D : Type 0} (disk : DiskMeaning D) where
-  -- the run of a bundle that was made ended so; or memory was wanting before its journal was looked at
+  -- the run of a bundle that was made ended so; or memory ran out before its journal was looked at
   abbrev pub SumsOrNeverBegins : ScriptedBundle → Outside D → Outside D → Result Done Stop → Type 0
   SumsOrNeverBegins bundle before after status =
       ((status ≡ Err ending.Memory) × (after.held ≡ before.held) × (after.disk ≡ before.disk))

@@ -5,7 +5,7 @@ use Rattle.orc_lines.specs.Lawful.{AreDeclared}
 use Rattle.orc_lines.specs.declared.lines.TheConstants.{LARGEST_BUNDLE}
 use Rattle.orc_declarations.proofs.read.read_declared.Given as goal
 
--- the lines behind decide
+-- what is still to be read decides the answer
 abbrev pub invariant-lines : goal.invariant-lines
 invariant-lines l =
     (declarations_of l.initial.declared 0 0 (lines_of l.bytes) ≡ declarations_of l.declared l.at l.number (lines_of l.rest))

@@ -17,11 +17,11 @@ calls_more : (number devices calls n : ℕ) → generated_calls number devices c
     ++ generated_call devices calls (behind_calls number n) (n + 1) ++ settle_line (n + 1)
 calls_more number devices calls n = simp unary_clauses refl
 
--- the state behind one more
+-- the state after one call more
 behind_more : (number n : ℕ) → behind_calls number (n + 1) ≡ behind_call (behind_calls number n)
 behind_more number n = simp unary_clauses refl
 
--- the call and what is behind it are added to what stood
+-- the call and what comes after it are added to what stood
 pub loop-call-preserved : goal.loop-call-preserved
 loop-call-preserved c =
     let is = c.loop-call.invariant in

@@ -18,14 +18,14 @@ loop-step-init g c = record {
   later = omega arith;
   texts = [];
   took = takes_nothing (g.K.Sink.sink.held c.args.sink.now);
-  each = λ decls first is. none_done g.D.Disk.disk decls first c.args.world is;
+  each = λ decls first is. none_done g.D.Disk.disk decls first c.args.world.scene is;
 }
 
 pub loop-step-preserved : goal.loop-step-preserved
 loop-step-preserved g c =
     let so = c.loop-step.invariant in
     let held = g.K.Sink.sink.held in
-    let more = line_more g.D.Disk.disk (held c.loop-step.sink) (held c.run_line.new.sink) c.step-item.result c.loop-step.world c.run_line.new.world c.in-Ok.ensures.line in
+    let more = line_more g.D.Disk.disk (held c.loop-step.sink) (held c.run_line.new.sink) c.step-item.result c.loop-step.world.scene c.run_line.new.world.scene c.in-Ok.ensures.line in
     record {
       going = c.in-Ok.ensures.going;
       same = c.in-Ok.ensures.decls ∙ so.same;
@@ -34,9 +34,9 @@ loop-step-preserved g c =
       took = subst (Appends (held c.args.sink.now) (held c.run_line.new.sink)) (sym (all_more so.texts more.0))
           (Appends-trans _ _ _ (all_of so.texts) more.0 so.took more.1);
       each = λ decls first is.
-          subst (λ (l : List ScriptStep). HasDoneInEach g.D.Disk.disk decls first l (so.texts ++ more.0 ∷ []) c.run_line.new.world)
+          subst (λ (l : List ScriptStep). HasDoneInEach g.D.Disk.disk decls first l (so.texts ++ more.0 ∷ []) c.run_line.new.world.scene)
           (sym (taken_more c.args.steps.now c.loop-step.step-index c.step-item.result c.loop-step-test.true c.step-item.is))
-          (more.2 c.bundle_runs_have_the_headline.ensures decls first c.args.world is (take c.loop-step.step-index c.args.steps.now) so.texts (so.each decls first is));
+          (more.2 c.bundle_runs_have_the_headline.ensures decls first c.args.world.scene is (take c.loop-step.step-index c.args.steps.now) so.texts (so.each decls first is));
     }
 
 pub returns-in-Err-clause-ends : goal.returns-in-Err-clause-ends
@@ -44,14 +44,14 @@ returns-in-Err-clause-ends g c decls first is =
     let so = c.loop-step.invariant in
     let held = g.K.Sink.sink.held in
     subst (λ (e : Ended g.row.D.Denot). Finishes g.D.Disk.disk decls first (held c.args.sink.now) (held c.run_line.new.sink) c.args.steps.now e.disk e.status) (sym c.at.ensures)
-    (finishes_here g.D.Disk.disk c.bundle_runs_have_the_headline.ensures decls first c.args.world is
+    (finishes_here g.D.Disk.disk c.bundle_runs_have_the_headline.ensures decls first c.args.world.scene is
     (held c.args.sink.now) (held c.loop-step.sink) (held c.run_line.new.sink) c.args.steps.now c.loop-step.step-index c.step-item.result c.loop-step-test.true c.step-item.is
-    so.texts c.loop-step.world (so.each decls first is) so.took c.into_disk.result (Err c.in-Err.stop) c.in-Err.stop c.run_line.new.world c.in-Err.ensures.line refl c.into_disk.ensures)
+    so.texts c.loop-step.world.scene (so.each decls first is) so.took c.into_disk.result (Err c.in-Err.stop) c.in-Err.stop c.run_line.new.world.scene c.in-Err.ensures.line refl c.into_disk.ensures)
 
 pub returns-clause-ends : goal.returns-clause-ends
 returns-clause-ends g c decls first is =
     let so = c.loop-step.invariant in
     let held = g.K.Sink.sink.held in
-    finishes_whole g.D.Disk.disk c.bundle_runs_have_the_headline.ensures decls first c.args.world is (held c.args.sink.now) (held c.loop-step.sink) c.args.steps.now
-    c.loop-step.step-index so.texts c.loop-step.world c.into_disk-2.result (take_all c.loop-step.step-index c.args.steps.now (omega (arith, c.loop-step-test.false)))
+    finishes_whole g.D.Disk.disk c.bundle_runs_have_the_headline.ensures decls first c.args.world.scene is (held c.args.sink.now) (held c.loop-step.sink) c.args.steps.now
+    c.loop-step.step-index so.texts c.loop-step.world.scene c.into_disk-2.result (take_all c.loop-step.step-index c.args.steps.now (omega (arith, c.loop-step-test.false)))
     (so.each decls first is) c.into_disk-2.ensures so.took

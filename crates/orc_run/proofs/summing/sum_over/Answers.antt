@@ -11,10 +11,10 @@ use Rattle.orc_run.proofs.Sums.{summed_rose}
 use Rattle.orc_run.proofs.summing.sum_over.Goals as goal
 
 pub sum_run-requires-clause-going : goal.sum_run-requires-clause-going
-sum_run-requires-clause-going g c = takes_any g.D.Disk.disk c.args.bundle.decls c.args.disk c.in-Ok.world c.in-Ok.ensures.begun
+sum_run-requires-clause-going g c = takes_any g.D.Disk.disk c.args.bundle.decls c.args.disk c.in-Ok.world.scene c.in-Ok.ensures.begun
 
 pub sum_run-requires-clause-allowed : goal.sum_run-requires-clause-allowed
-sum_run-requires-clause-allowed g c = allowed_then g.D.Disk.disk c.args.bundle.decls c.args.disk c.in-Ok.world c.in-Ok.ensures.begun c.args.steps.now c.requires.allowed
+sum_run-requires-clause-allowed g c = allowed_then g.D.Disk.disk c.args.bundle.decls c.args.disk c.in-Ok.world.scene c.in-Ok.ensures.begun c.args.steps.now c.requires.allowed
 
 pub sum_run-requires-clause-begun : goal.sum_run-requires-clause-begun
 sum_run-requires-clause-begun g c = (c.args.bundle.decls, c.args.disk, c.in-Ok.ensures.begun)

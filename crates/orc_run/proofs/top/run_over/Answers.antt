@@ -11,10 +11,10 @@ use Rattle.orc_run.proofs.Tops.{over_rose}
 use Rattle.orc_run.proofs.top.run_over.Goals as goal
 
 pub run_script-requires-clause-going : goal.run_script-requires-clause-going
-run_script-requires-clause-going g c = takes_any g.D.Disk.disk c.args.bundle.decls c.args.disk c.in-Ok.world c.in-Ok.ensures.begun
+run_script-requires-clause-going g c = takes_any g.D.Disk.disk c.args.bundle.decls c.args.disk c.in-Ok.world.scene c.in-Ok.ensures.begun
 
 pub run_script-requires-clause-allowed : goal.run_script-requires-clause-allowed
-run_script-requires-clause-allowed g c = allowed_then g.D.Disk.disk c.args.bundle.decls c.args.disk c.in-Ok.world c.in-Ok.ensures.begun c.args.steps.now c.requires.allowed
+run_script-requires-clause-allowed g c = allowed_then g.D.Disk.disk c.args.bundle.decls c.args.disk c.in-Ok.world.scene c.in-Ok.ensures.begun c.args.steps.now c.requires.allowed
 
 pub returns-in-Ok-clause-ends : goal.returns-in-Ok-clause-ends
 returns-in-Ok-clause-ends g c before after = inr (c.run_script.ensures.ends c.args.bundle.decls c.args.disk c.in-Ok.ensures.begun before after)

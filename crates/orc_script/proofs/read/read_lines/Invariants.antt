@@ -5,7 +5,7 @@ use Rattle.orc_script.specs.inside.Lawful.{AreSteps}
 use Rattle.orc_lines.specs.declared.lines.TheConstants.{LARGEST_BUNDLE}
 use Rattle.orc_script.proofs.read.read_lines.Given as goal
 
--- the lines behind decide
+-- what is still to be read decides the answer
 abbrev pub invariant-lines : goal.invariant-lines
 invariant-lines l =
     (script_steps l.decls no_steps l.fn.at l.fn.number (lines_of l.bytes) ≡ script_steps l.decls l.script l.at l.number (lines_of l.rest))

@@ -25,7 +25,7 @@ returns-in-Err-Illegal-clause-refused g c =
     told.1 ∙ ap (λ (l : List Entry). length (history_of (take place l)) + 1) c.deref.ensures.value in
     let at : c.offset-at.result ≡ start + length (flat_map gated (take place entries)) + 1 =
     offset_there start c.offset-at.result c.deref-in-Err-Illegal.result.now entries _ place c.offset-at.ensures c.deref-in-Err-Illegal.ensures.value c.in-Err-Illegal.place-is in (
-      c.into_disk.ensures,
+      c.disk_of.ensures,
       (
         place,
         subst (λ (l : List Entry). IsIllegalDecide c.args.decls l place) c.deref.ensures.value told.0,

@@ -4,4 +4,4 @@ use Rattle.orc_world.proofs.world.World.admit_all.Given as goal
 
 -- admissions came so far
 abbrev pub invariant-admissions : goal.invariant-admissions
-invariant-admissions g l = LastsInEach g.D.Disk.disk part.Admissions l.fn.self l.fn.out l.self l.out l.came
+invariant-admissions g l = LastsInEach g.D.Disk.disk part.Admissions l.fn.self.scene l.fn.out l.self.scene l.out l.came

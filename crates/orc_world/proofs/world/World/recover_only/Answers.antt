@@ -1,15 +1,16 @@
 use Rattle.std.proofs.Common.{◌≡◌, false, is_some, refl, sym, subst, arith}
 use Rattle.orc_script.specs.declared.step.ScriptStep.TheVariants as step
-use Rattle.orc_world.specs.Codes.{hub_in}
-use Rattle.orc_world.specs.Stands.{run_setting}
-use Rattle.orc_world.proofs.Joining.{at_limit}
-use Rattle.orc_world.proofs.Recovery.{ComesBack, without_stop}
-use Rattle.orc_world.proofs.Stepping.{seen_in, sound_in}
+use Rattle.orc_scene.specs.Effects.{hub_in}
+use Rattle.orc_scene.specs.Stands.{run_setting}
+use Rattle.orc_scene.proofs.Joining.{at_limit}
+use Rattle.orc_scene.proofs.Recovery.{ComesBack}
+use Rattle.orc_world.proofs.Recovery.{without_stop}
+use Rattle.orc_scene.proofs.Stepping.{seen_in, sound_in}
 use Rattle.orc_world.proofs.Times.{ends_at_once}
 use Rattle.orc_world.proofs.world.World.recover_only.Goals as goal
 
 pub recover_down-requires-clause-sound : goal.recover_down-requires-clause-sound
-recover_down-requires-clause-sound g c = sound_in g.D.Disk.disk c.args.self.now c.make_room.new.self c.in-Ok.ensures.same c.requires.sound.0
+recover_down-requires-clause-sound g c = sound_in g.D.Disk.disk c.args.self.now.scene c.make_room.new.self c.in-Ok.ensures.same c.requires.sound.0
 
 pub recover_down-requires-clause-down : goal.recover_down-requires-clause-down
 recover_down-requires-clause-down g c = subst (λ p. is_some (hub_in p) ≡ false) (sym c.in-Ok.ensures.same.place) c.requires.down
@@ -19,7 +20,7 @@ recover_down-requires-clause-room g c = omega (arith, c.in-Ok.ensures.room)
 
 pub returns-in-Ok : goal.returns-in-Ok
 returns-in-Ok g c = λ decls granted seen is may.
-    let old = c.args.self.now in
+    let old = c.args.self.now.scene in
     let middle = c.make_room.new.self in
     let new = c.recover_down.new.self in
     let here = run_setting g.D.Disk.disk decls old.limit granted in
@@ -30,5 +31,5 @@ returns-in-Ok g c = λ decls granted seen is may.
 
 pub returns-in-Err : goal.returns-in-Err
 returns-in-Err g c = λ decls granted seen is may.
-    ends_at_once (run_setting g.D.Disk.disk decls c.args.self.now.limit granted) step.Recover seen c.args.self.now
+    ends_at_once (run_setting g.D.Disk.disk decls c.args.self.now.scene.limit granted) step.Recover seen c.args.self.now.scene
     c.make_room.new.self c.args.out.now c.args.out.now c.in-Err.stop c.in-Err.ensures.stop is c.in-Err.ensures.same refl refl

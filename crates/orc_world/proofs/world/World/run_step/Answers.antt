@@ -7,4 +7,4 @@ do_line-requires-clause-sound g c = ((c.requires.sound.0, false, c.requires.soun
 
 pub returns-clause-after : goal.returns-clause-after
 returns-clause-after g c =
-    goes_on_after g.D.Disk.disk c.args.step.now c.args.self.now c.do_line.new.self c.args.out.now c.do_line.new.out c.do_line.result c.requires.sound c.do_line.ensures
+    goes_on_after g.D.Disk.disk c.args.step.now c.args.self.now.scene c.do_line.new.self.scene c.args.out.now c.do_line.new.out c.do_line.result c.requires.sound c.do_line.ensures

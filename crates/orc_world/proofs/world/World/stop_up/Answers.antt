@@ -2,12 +2,13 @@ use Rattle.std.proofs.Common.{[], ◌≡◌, true, is_some, codes, refl, sym, su
 use Rattle.orc_rules.specs.declared.event.Event.TheVariants as event
 use Rattle.orc_runs.specs.Scripts.{Part as part}
 use Rattle.orc_script.specs.declared.step.ScriptStep.TheVariants as step
-use Rattle.orc_world.specs.Codes.{hub_in}
-use Rattle.orc_world.specs.Courses.{GoesTurn}
-use Rattle.orc_world.specs.Stands.{run_setting}
-use Rattle.orc_world.proofs.Downs.{said_words, stop_line}
-use Rattle.orc_world.proofs.Joining.{at_limit}
-use Rattle.orc_world.proofs.Stepping.{seen_in}
+use Rattle.orc_scene.specs.Effects.{hub_in}
+use Rattle.orc_scene.specs.Courses.{GoesTurn}
+use Rattle.orc_scene.specs.Stands.{run_setting}
+use Rattle.orc_scene.proofs.Downs.{said_words}
+use Rattle.orc_world.proofs.Downs.{stop_line}
+use Rattle.orc_scene.proofs.Joining.{at_limit}
+use Rattle.orc_scene.proofs.Stepping.{seen_in}
 use Rattle.orc_world.proofs.Times.{ends_at_once}
 use Rattle.orc_world.proofs.world.World.stop_up.Goals as goal
 
@@ -19,7 +20,7 @@ stop_hub-requires-clause-room g c = omega (arith, c.in-Ok.ensures.room)
 
 pub returns-in-Ok : goal.returns-in-Ok
 returns-in-Ok g c = λ decls granted seen is may.
-    let old = c.args.self.now in
+    let old = c.args.self.now.scene in
     let middle = c.make_room.new.self in
     let gone = c.stop_hub.new.self in
     let here = run_setting g.D.Disk.disk decls old.limit granted in
@@ -30,5 +31,5 @@ returns-in-Ok g c = λ decls granted seen is may.
 
 pub returns-in-Err : goal.returns-in-Err
 returns-in-Err g c = λ decls granted seen is may.
-    ends_at_once (run_setting g.D.Disk.disk decls c.args.self.now.limit granted) step.Stop seen c.args.self.now
+    ends_at_once (run_setting g.D.Disk.disk decls c.args.self.now.scene.limit granted) step.Stop seen c.args.self.now.scene
     c.make_room.new.self c.args.out.now c.args.out.now c.in-Err.stop c.in-Err.ensures.stop is c.in-Err.ensures.same refl refl

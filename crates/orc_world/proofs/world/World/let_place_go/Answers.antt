@@ -1,6 +1,0 @@
-use Rattle.std.proofs.Common.{ap, ◌∙◌}
-use Rattle.orc_world.specs.Codes.{place_without}
-use Rattle.orc_world.proofs.world.World.let_place_go.Goals as goal
-
-pub returns : goal.returns
-returns g c = ap (λ p. record c.args.self.now { place = p }) (c.replace.ensures.after ∙ c.without_hub.ensures ∙ ap (λ p. place_without p) c.replace-place.ensures.value)
