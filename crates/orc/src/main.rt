@@ -7,13 +7,13 @@ mod gates;
 mod sentences;
 
 use crate::file::{is_on_disk, journal_file, probe, remove};
-use crate::gates::bytes_after_end;
+use crate::gates::{Before, bytes_after_end, entries_before};
 use crate::sentences::sentence;
 use orc_disk::{Disk, FileDisk, MemDisk};
 use orc_explain::explanation;
 use orc_findings::{finding, repeated_findings};
 use orc_io::{KeptSource, Source, StdSink, StdSource};
-use orc_run::{Done, Stop, orchestrate, status};
+use orc_run::{Done, Ended, Stop, orchestrate, status};
 use orc_text::{Memory, Text};
 use orc_words::{Command, WordsFault, command_of, journal_word, usage_text};
 use std::alloc::Global;
@@ -32,6 +32,9 @@ const FILE_STATUS: u8 = 14;
 const OUT_OF_STEP: &str =
     "The journal wasn't empty, and devices began at their declared bases: each is \
                            out of step with its history until a line `reconcile`.";
+
+// What `history` does over the part of a damaged journal before the damage, whose calls may not make a history.
+const OF_A_COPY: &str = "prints these calls, or names an earlier byte.";
 
 // What is said of bytes after a journal.
 const NOT_COUNTED: &str = "They don't count, and the next entry is written over them.";
@@ -53,9 +56,9 @@ fn main(rt: HostRuntime) -> ExitCode {
     }
 }
 
-// Does what the words ask for over the journal in the file of this name, which only `run` and `gen` make. It says where the
-// journal begins there: over a misspelt name nothing is known of earlier calls, and each is done anew. A file that was
-// made and in which no journal began is taken away.
+// Does what the words ask for over the journal in the file of this name, which only `run` and `gen` make. It says where
+// the journal begins there: over a misspelt name nothing is known of earlier calls, and each is done anew. A file that
+// was made and in which no journal began is taken away.
 fn run_over_file(rt: &HostRuntime, words: &[String], command: &Command, name: &str) -> ExitCode {
     let makes = matches!(command, Command::Run | Command::Gen { .. });
     let journal = match journal_file(rt, name, makes) {
@@ -68,12 +71,13 @@ fn run_over_file(rt: &HostRuntime, words: &[String], command: &Command, name: &s
     if makes && journal.is_empty {
         let _ = eprintln!(rt; "The journal in \"{name}\" is new: its history is empty.");
     }
+    let mut disk = FileDisk::over(journal.file);
     let notes = Notes {
-        recovers: matches!(command, Command::Run) && !journal.is_empty,
-        after_end: bytes_after_end(&journal.file).unwrap_or(0),
+        recovers: makes && !journal.is_empty,
+        after_end: bytes_after_end(&mut disk).unwrap_or(0),
         name: Some(name),
     };
-    let (status, mut disk) = run(rt, words, command, &notes, FileDisk::over(journal.file));
+    let (status, mut disk) = run(rt, words, command, &notes, disk);
     if journal.is_made && matches!(disk.len(), Ok(0)) {
         remove(rt, name);
     }
@@ -91,7 +95,7 @@ fn run_in_memory(rt: &HostRuntime, words: &[String], command: &Command) -> ExitC
 // What is known of a journal before a run.
 #[derive(Drop)]
 struct Notes<'a> {
-    // whether a script is to be run over one that isn't empty
+    // whether a script, read or made, is to be run over one that isn't empty
     recovers: bool,
     // how many bytes stand after its ending gate
     after_end: u64,
@@ -110,8 +114,8 @@ impl<'a> Notes<'a> {
     }
 }
 
-// Does what the words ask for over the journal of a disk, which is handed back, and says on standard error what is to be
-// known of the run. A fault of the bundle is explained, unless memory ran out for keeping the bundle's bytes.
+// Does what the words ask for over the journal of a disk, which is handed back, and says on standard error what is to
+// be known of the run. A fault of the bundle is explained, unless memory ran out for keeping the bundle's bytes.
 fn run<D: Disk>(
     rt: &HostRuntime,
     words: &[String],
@@ -121,34 +125,38 @@ fn run<D: Disk>(
 ) -> (ExitCode, D) {
     let mut source = KeptSource::new(rt.alloc(), StdSource::new(rt.reader()));
     let mut sink = StdSink::new(io::writer(rt));
-    let ended = orchestrate(rt.alloc(), words, &mut source, &mut sink, disk);
-    if is_opened(&ended.status) {
-        tell_notes(rt, notes);
+    let Ended {
+        mut disk,
+        status: ended,
+    } = orchestrate(rt.alloc(), words, &mut source, &mut sink, disk);
+    if is_opened(&ended) {
+        report_notes(rt, notes);
     }
     if reads_bundle(command) && source.is_all() {
-        tell_repeated(rt, &ended.status, source.kept());
+        report_repeated(rt, &ended, source.kept());
     }
-    let status = match &ended.status {
-        Ok(_) => ExitCode::from(status(&ended.status)),
+    let status = match &ended {
+        Ok(_) => ExitCode::from(status(&ended)),
         Err(Stop::Bundle { line, rule }) => {
             let _ = eprintln!(rt; "orc: Bundle {line} {rule}");
             if source.is_all() {
                 explain(rt, explanation(rt.alloc(), source.kept(), *line, *rule));
                 name(rt, finding(rt.alloc(), source.kept(), *line, *rule));
             }
-            ExitCode::from(status(&ended.status))
+            ExitCode::from(status(&ended))
         }
         Err(stop) => {
             let status = ends(rt, words, stop);
             match stop {
-                Stop::Foreign { at } if reads_bundle(command) => tell_line(rt, &source, *at),
-                Stop::JournalFault => tell_cause(rt, notes.name),
+                Stop::Foreign { at } if reads_bundle(command) => report_line(rt, &source, *at),
+                Stop::JournalFault => report_cause(rt, notes.name),
+                Stop::Damaged { at } => report_damage(rt, notes.name, &mut disk, *at),
                 _ => {}
             }
             status
         }
     };
-    (status, ended.disk)
+    (status, disk)
 }
 
 // Whether the command reads a bundle, and doesn't make one.
@@ -159,7 +167,7 @@ fn reads_bundle(command: &Command) -> bool {
     }
 }
 
-// Whether the journal was opened, as far as the end of the run tells that.
+// Whether the journal was opened, as far as the end of the run shows that.
 fn is_opened(ended: &Result<Done, Stop>) -> bool {
     match ended {
         Ok(Done) => true,
@@ -171,7 +179,7 @@ fn is_opened(ended: &Result<Done, Stop>) -> bool {
 
 // Writes what is to be known of a journal that was opened: that devices begin at their bases where it wasn't empty, and
 // how many bytes of its file don't count.
-fn tell_notes<R: Eprint>(rt: &R, notes: &Notes<'_>) {
+fn report_notes<R: Eprint>(rt: &R, notes: &Notes<'_>) {
     if notes.recovers {
         let _ = eprintln!(rt; "{OUT_OF_STEP}");
     }
@@ -184,7 +192,7 @@ fn tell_notes<R: Eprint>(rt: &R, notes: &Notes<'_>) {
 }
 
 // Writes which members stand twice in the JSON texts of a bundle, where it is one.
-fn tell_repeated<R: Eprint + AllocGlobal>(rt: &R, ended: &Result<Done, Stop>, bundle: &[u8]) {
+fn report_repeated<R: Eprint + AllocGlobal>(rt: &R, ended: &Result<Done, Stop>, bundle: &[u8]) {
     if let Err(Stop::Bundle { .. }) = ended {
         return;
     }
@@ -195,8 +203,8 @@ fn tell_repeated<R: Eprint + AllocGlobal>(rt: &R, ended: &Result<Done, Stop>, bu
     }
 }
 
-// Writes what else is wrong where a journal in the file of a name failed: whether another file can be written beside it.
-fn tell_cause<R: Eprint + Files<File = File> + AllocGlobal>(rt: &R, name: Option<&str>) {
+// Writes whether another file could be written beside a journal in the file of a name that failed, and if not, why.
+fn report_cause<R: Eprint + Files<File = File> + AllocGlobal>(rt: &R, name: Option<&str>) {
     let Some(name) = name else {
         return;
     };
@@ -204,13 +212,34 @@ fn tell_cause<R: Eprint + Files<File = File> + AllocGlobal>(rt: &R, name: Option
         return;
     }
     let _ = match probe(rt, name) {
-        Ok(()) => eprintln!(rt; "A small file could be written beside it just now."),
-        Err(error) => eprintln!(rt; "No other file could be written beside it either: {error}."),
+        Ok(()) => eprintln!(rt;
+            "Another file, \"{name}.probe\", could be written beside it just now, and is gone again."
+        ),
+        Err(error) => eprintln!(rt;
+            "Another file, \"{name}.probe\", couldn't be written beside it just now: {error}."
+        ),
     };
 }
 
+// Writes what stands before the damage, at this byte, of a journal in the file of a name, and how to see it.
+fn report_damage<R: Eprint, D: Disk>(rt: &R, name: Option<&str>, disk: &mut D, at: u64) {
+    if name.is_none() {
+        return;
+    }
+    if let Ok(Some(before)) = entries_before(disk, at) {
+        let Before { entries, calls } = before;
+        let cut = at.saturating_sub(1);
+        let _ = eprint!(rt;
+            "Entries before that byte: {entries}; calls that they commit: {calls}. "
+        );
+        let _ = eprintln!(rt;
+            "`history` over a copy of the first {cut} bytes (`head -c {cut} FILE > COPY`) {OF_A_COPY}"
+        );
+    }
+}
+
 // Writes in which line of the bundle the declarations differ from a journal's, unless memory ran out for its bytes.
-fn tell_line<R: Eprint, S: Source>(rt: &R, source: &KeptSource<S>, at: u64) {
+fn report_line<R: Eprint, S: Source>(rt: &R, source: &KeptSource<S>, at: u64) {
     if source.is_all() {
         let line = line_at(source.kept(), at);
         let _ = eprintln!(rt; "Line {line} of the bundle is the first that differs.");
@@ -238,7 +267,7 @@ fn explain<R: Eprint>(rt: &R, words: Result<Text, Memory>) {
     }
 }
 
-// Writes what in particular is at fault, where that can be told.
+// Writes what in particular is at fault, where something is found.
 fn name<R: Eprint>(rt: &R, found: Result<Option<Text>, Memory>) {
     if let Ok(Some(words)) = found {
         let _ = eprintln!(rt; "{}", words.as_str());

@@ -103,7 +103,7 @@ module _ {D : Type 0} (disk : DiskMeaning D)
       pub idle : old.disk.bytes ≡ 0 → failed ≡ false
       pub left : failed ≡ false → AtStop
 
-    -- behind this state the armed operation came: it was not done, or it reached the disk inside
+    -- the armed operation came after this state: it was not done, or it reached the disk inside
     until_by : (P : Type 0) (before : D) → disk.leads (row (old.disk.op - 1) false) old.disk.inner before
         → (old.disk.bytes ≡ 0 → new.disk.inner ≡ before) → (0 < old.disk.bytes → Reached disk P before new.disk.inner)
         → ((old.disk.bytes ≡ 0) × (new.disk.inner ≡ before) ⊎ (0 < old.disk.bytes) × P → AtStop) → Until
@@ -271,7 +271,7 @@ module _ {D : Type 0} (disk : DiskMeaning D)
             leaves = either entries;
           }
 
-      -- behind so many operations the armed one is not the next
+      -- after so many operations the armed one is not the next
       unarmed : (n : ℕ) (mid : Stopping D) → Led disk (row n false) old.disk mid → mid.stopped ≡ false → (old.disk.op ≡ 0) ⊎ (n + 1 < old.disk.op) → mid.op ≡ 1 → ⊥
       unarmed n mid led running later armed =
           let at = (led.passes is.running running).0 in

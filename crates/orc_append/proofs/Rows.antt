@@ -25,7 +25,7 @@ one_of decls entries entry file is = ⊎_elim
     (λ after. record { front = entry ∷ []; rest = []; parts = refl; gated = after })
     is
 
--- and so behind others
+-- and so it has after other appends
 more_of : (decls : List ℕ) (entries added : List Entry) (entry : Entry) (file : List ℕ) → HasSomeOf decls entries added file → HasSomeOf decls entries (added ++ entry ∷ []) file
 more_of decls entries added entry file some = record {
   front = some.front;
@@ -107,7 +107,8 @@ module _ {D : Type 0} (disk : DiskMeaning D)
         any_moment = images_behind disk decls a b c added entry each is.leaves;
       }
 
-  -- The next append was stopped: the operation that was armed at the start comes behind the whole row, among the next four.
+  -- The next append was stopped: the operation that was armed at the start comes after the whole row, among the next
+  -- four.
   pub armed_behind : StopsAppend disk decls b entry c → (a.armed ≡ ops_to_append * length added + b.armed) × (a.bytes ≡ b.bytes)
   armed_behind stops = (⊎_elim (λ none. absurd (omega (arith, none, each.nearer.armed, stops.one))) (λ later. omega (arith, later, each.nearer.armed)) each.nearer.later, sym each.nearer.bytes)
 

@@ -19,7 +19,7 @@ written_nothing None at bytes block none = refl
 written_nothing (Some file) at bytes block none =
     ap Some (nothing_there at file ∙ ap (λ (n : ℕ). written at (take n block) file) (sym none))
 
--- of four operations those behind one and behind three others are the syncs
+-- of four operations those after one and after three others are the syncs
 last_of_four : (n : ℕ) → n < 4 → (n ≡ 0 → ⊥) → (n ≡ 1 → ⊥) → (n ≡ 2 → ⊥) → n ≡ 3
 last_of_four n few none one two = grind (arith, few, none, one, two)
 

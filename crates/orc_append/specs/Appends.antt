@@ -20,23 +20,6 @@ use Rattle.orc_append.specs.declared.outcome.Appended.TheVariants.{Done, Stopped
 abbrev pub ops_to_append : ℕ
 ops_to_append = 4
 
--- the entries that are known behind an append that came to this outcome
-abbrev pub known_behind : Appended → List Entry → Entry → List Entry
-known_behind Done entries entry = entries ++ entry ∷ []
-known_behind Stopped entries entry = entries
-known_behind Failed entries entry = entries
-known_behind (Full len) entries entry = entries
-known_behind Memory entries entry = entries
-
--- whether the journal is fresh behind an append that came to this outcome: the disk was empty as it was opened, and no
--- append was done since; one that failed may have put its entry all the same
-abbrev pub fresh_behind : Appended → Bool → Bool
-fresh_behind Done fresh = false
-fresh_behind Stopped fresh = fresh
-fresh_behind Failed fresh = fresh
-fresh_behind (Full len) fresh = fresh
-fresh_behind Memory fresh = fresh
-
 -- so many writes and syncs were done: an armed stop is by so many nearer, and was none of them
 pub record ComesNearer {D : Type 0} (operations : ℕ) (old new : JournalView D) : Type 0 where
   pub later : (old.armed ≡ 0) ⊎ (operations < old.armed)
@@ -44,7 +27,7 @@ pub record ComesNearer {D : Type 0} (operations : ℕ) (old new : JournalView D)
   pub bytes : new.bytes ≡ old.bytes
 
 -- A file is what an append leaves that was stopped at this operation, which still put so many bytes: the entries
--- before, where the operation came before the opening of the gate, and those and the new one where it came behind.
+-- before, where the operation came before the opening of the gate, and those and the new one where it came after.
 -- Where it was that write, the gate is opened exactly where a byte was put, unless the disk inside failed it.
 pub record IsStoppedAt (operation bytes : ℕ) (failed : Bool) (decls : List ℕ) (entries : List Entry) (entry : Entry)
     (file : List ℕ) : Type 0 where
@@ -73,7 +56,7 @@ module _ {D : Type 0} (disk : DiskMeaning D) where
 
   module _ (decls : List ℕ) where
     -- A crash at any moment since the append began leaves the entries before, or those and the new one. So does a read
-    -- now, where the disk tells what it holds, and a crash now.
+    -- now, where the disk reports what it holds, and a crash now.
     pub record LeavesOldOrNew (old : JournalView D) (entry : Entry) (new : JournalView D) : Type 0 where
       pub any_moment : LeavesOnly disk old.disk new.disk (IsBeforeOrAfter decls old.entries entry)
       pub crash : (file : List ℕ) → disk.may_leave new.disk file → IsBeforeOrAfter decls old.entries entry file
@@ -119,8 +102,8 @@ module _ {D : Type 0} (disk : DiskMeaning D) where
           → LeavesAsRead (disk.content new.disk) (disk.may_leave new.disk)
       pub leaves : LeavesOldOrNew old entry new
 
-    -- So many of the four were done, fewer than all, and the next one failed. No armed stop came. What was put is told
-    -- as a journal on the disk itself tells it.
+    -- So many of the four were done, fewer than all, and the next one failed. No armed stop came. What was put is
+    -- stated as for a journal on the disk itself.
     pub record FailsAppend (old : JournalView D) (entry : Entry) (new : JournalView D) : Type 0 where
       pub known : new.entries ≡ old.entries
       pub limit : new.limit ≡ old.limit
@@ -140,7 +123,7 @@ module _ {D : Type 0} (disk : DiskMeaning D) where
       pub no_room : old.limit < length_with decls old entry
       pub same : new ≡ old
 
-    -- What an append does, by its outcome. Want of memory comes for an intent alone, and changes nothing.
+    -- What an append does, by its outcome. Memory runs out for an intent alone, and that changes nothing.
     abbrev pub Appends : JournalView D → Entry → Appended → JournalView D → Type 0
     Appends old entry Done new = IsAppendedTo old entry new
     Appends old entry Stopped new = StopsAppend old entry new

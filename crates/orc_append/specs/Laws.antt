@@ -22,8 +22,8 @@ pub record StopsWhereArmed {D : Type 0} (disk : DiskMeaning D) : Type 0 where
 
 -- Appends that are done in turn add up: what holds of a row of them holds of it with one more. Where the next one is
 -- stopped, the armed operation is counted from the start of the row, and so are the operations of the disk; where it
--- fails, no armed stop came in all of them. Whatever it came to, images have the entries before the row and a front of
--- those that it was to append.
+-- fails, no armed stop came in all of them. Whatever it came to, images have the entries before the row and a prefix
+-- of those that it was to append.
 pub record AddUp {D : Type 0} (disk : DiskMeaning D) : Type 0 where
   pub one : (decls : List ℕ) (a b : JournalView D) (entry : Entry)
       → Appends disk decls a entry Done b → AppendsEach disk decls a (entry ∷ []) b

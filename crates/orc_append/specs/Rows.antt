@@ -8,7 +8,7 @@ use Rattle.orc_journal.specs.declared.entry.Entry.{Entry}
 use Rattle.orc_append.specs.Views.{JournalView}
 use Rattle.orc_append.specs.Appends.{ops_to_append, ComesNearer, Did}
 
--- a file is a journal, with its ending gate, of the entries before and a front of those that were added
+-- a file is a journal, with its ending gate, of the entries before and a prefix of those that were added
 pub record HasSomeOf (decls : List ℕ) (entries added : List Entry) (file : List ℕ) : Type 0 where
   pub front : List Entry
   pub rest : List Entry
@@ -16,8 +16,8 @@ pub record HasSomeOf (decls : List ℕ) (entries added : List Entry) (file : Lis
   pub gated : IsGated file decls (entries ++ front)
 
 -- Each of these entries was appended, in order, each by four operations, and no armed stop came. A crash at any moment
--- left the entries before and a front of those. All of them fit. A read gives them now, where the disk tells what it
--- holds, and a crash leaves what a read gives.
+-- left the entries before and a prefix of those. All of them fit. A read gives them now, where the disk reports what
+-- it holds, and a crash leaves what a read gives.
 pub record AppendsEach {D : Type 0} (disk : DiskMeaning D) (decls : List ℕ) (old : JournalView D) (added : List Entry)
     (new : JournalView D) : Type 0 where
   pub known : new.entries ≡ old.entries ++ added

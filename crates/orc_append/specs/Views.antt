@@ -1,4 +1,4 @@
--- What can be told of a journal on a disk that an armed operation stops.
+-- What can be said of a journal on a disk that an armed operation stops.
 use Rattle.std.specs.Prelude.{◌≡◌, ℕ, ◌+◌, false, List, length}
 use Rattle.orc_disk.specs.Meanings.{DiskMeaning}
 use Rattle.orc_disk.specs.Stops.{Stopping, inside}
@@ -17,7 +17,7 @@ pub record JournalView (D : Type 0) : Type 0 where
   pub bytes : ℕ
   pub limit : ℕ
 
--- what can be told of this open journal, where these are the entries that are known
+-- what can be said of this open journal, where these are the entries that are known
 abbrev pub journal_view : {D : Type 0} → OpenJournal (Stopping D) → List Entry → JournalView D
 journal_view journal entries = record {
   disk = journal.disk.inner;
@@ -32,10 +32,6 @@ pub record IsOpen {D : Type 0} (disk : DiskMeaning D) (journal : OpenJournal (St
     (entries : List Entry) : Type 0 where
   pub holds : Holds (inside disk) journal decls entries
   pub running : journal.disk.stopped ≡ false
-
--- it is one of some declarations and entries
-abbrev pub CanAppend : {D : Type 0} → DiskMeaning D → OpenJournal (Stopping D) → Type 0
-CanAppend disk journal = (decls : List ℕ) × (entries : List Entry) × IsOpen disk journal decls entries
 
 -- the length that the journal of these declarations has with one more entry and its gate
 abbrev pub length_with : {D : Type 0} → List ℕ → JournalView D → Entry → ℕ

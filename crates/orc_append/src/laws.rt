@@ -10,7 +10,7 @@ pub fn stops_where_armed<D: Disk>()
 {}
 
 /// Appends that are done in turn, as the intent, the decision and the end of one call, add up to a
-/// row, and so does the stop or the fault of the one behind them.
+/// row, and so does the stop or the fault of the one after them.
 pub fn add_up<D: Disk>()
     ensures { AddUp D.disk }
 {}

@@ -75,7 +75,7 @@ fn path_message(alloc: Global, path: &Path, words: &str) -> Result<Text, Memory>
     Ok(Text::from_string(format!(in alloc; "At {path}: {words}")?))
 }
 
-// What a rule of JSON wants.
+// What a rule of JSON asks for.
 fn rule_words(rule: u8) -> &'static str {
     match rule {
         MEMBER => {

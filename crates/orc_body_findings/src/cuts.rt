@@ -13,7 +13,7 @@ pub(crate) fn rest_of(text: &[u8], at: usize) -> &str {
     text_of(text.get(at..).unwrap_or(&[]))
 }
 
-/// Adds what is said of a text whose front begins one of this kind, which the rest can't go on.
+/// Adds what is said of a text whose prefix begins one of this kind, which the rest can't continue.
 pub(crate) fn push_cut(
     out: &mut String,
     alloc: Global,

@@ -37,7 +37,7 @@ pub(crate) fn push_expression_fault(
     }
 }
 
-/// The same of the text of a condition.
+/// Adds what is at fault in the text of a condition that is looked at from a node, and says whether anything is.
 pub(crate) fn push_condition_fault(
     out: &mut String,
     alloc: Global,
@@ -53,7 +53,7 @@ pub(crate) fn push_condition_fault(
     }
 }
 
-/// The same of the strings of a JSON value, the first one that is at fault.
+/// Adds what is at fault in the first string of a JSON value that is at fault, and says whether any is.
 pub(crate) fn push_value_fault(
     out: &mut String,
     alloc: Global,
@@ -84,7 +84,7 @@ pub(crate) fn push_value_fault(
     }
 }
 
-// The same of a string with expressions in braces.
+// Adds what is at fault in a string with expressions in braces, and says whether anything is.
 fn push_string_fault(
     out: &mut String,
     alloc: Global,

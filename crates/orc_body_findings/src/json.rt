@@ -59,7 +59,7 @@ pub(crate) fn push_strange_member(
     }
 }
 
-// The same of a JSON value.
+// Adds the name of the one member of a JSON value whose name is no identifier, and says whether there is one.
 fn push_only(out: &mut String, alloc: Global, value: &Value) -> Result<bool, Memory> {
     if count_strange(value) != 1 {
         return Ok(false);

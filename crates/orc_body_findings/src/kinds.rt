@@ -4,7 +4,7 @@ use orc_text::{Memory, Text};
 use orc_value::Kind;
 use std::alloc::Global;
 
-// So many ranges or names of a type are told.
+// So many ranges or names of a type are listed.
 const TOLD: usize = 10;
 
 /// Adds what a text isn't that is no value of this type (RFC 7950 section 9).
@@ -89,7 +89,7 @@ fn push_names(out: &mut String, alloc: Global, names: &[Text]) -> Result<(), Mem
     Ok(())
 }
 
-// Adds what stands before the next one, and says whether it is told.
+// Adds what stands before the next one, and says whether that is listed.
 fn goes_on(out: &mut String, told: usize) -> Result<bool, Memory> {
     if told == TOLD {
         out.push_str(", ..")?;

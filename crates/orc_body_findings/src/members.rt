@@ -24,8 +24,8 @@ pub(crate) fn push_block_fault(
     }
 }
 
-// The same in an array of blocks, or in those inside a block, which are done at this node, where so many are left to come
-// to.
+// Adds what is at fault in the block that is so many further on in an array of blocks, or among those inside a block,
+// which are done at this node, and says whether that was found.
 fn push_in_blocks(
     out: &mut String,
     alloc: Global,
@@ -63,7 +63,7 @@ fn push_in_blocks(
     }
 }
 
-// The same in this block.
+// Adds what is at fault in this block, and says whether that was found.
 fn push_in_block(
     out: &mut String,
     alloc: Global,
@@ -85,7 +85,7 @@ fn push_in_block(
     }
 }
 
-// The same in what a block says at its node.
+// Adds what is at fault in what a block says at its node, and says whether that was found.
 fn push_at_node(
     out: &mut String,
     alloc: Global,

@@ -8,7 +8,7 @@ use orc_services::{ServiceList, is_listed};
 use orc_text::{Memory, Text};
 use std::alloc::Global;
 
-/// What a line wants of its path.
+/// What a line needs of its path.
 #[derive(Clone, Copy, PartialEq, Eq)]
 pub enum PathForm {
     /// That of an entry: nothing stands after it.
@@ -28,7 +28,7 @@ pub enum PathForm {
 }
 
 /// What is at fault in a text that is to be the path of a line under this schema: that it is no path, the
-/// first step that the schema doesn't have so, or that the line wants another. Of the data these are the
+/// first step that the schema doesn't have so, or that the line needs another. Of the data these are the
 /// lists that have a template; a device has none.
 pub fn path_finding(
     alloc: Global,
@@ -83,7 +83,7 @@ fn of_path(
     under_schema(alloc, schema, steps, form)
 }
 
-// Whether a line of this form wants the path of a list.
+// Whether a line of this form needs the path of a list.
 fn wants_list(form: PathForm) -> bool {
     form == PathForm::List || form == PathForm::Template
 }
@@ -180,23 +180,37 @@ fn under_schema(
     form: PathForm,
 ) -> Result<Option<Text>, Memory> {
     for (at, step) in steps.iter().enumerate() {
-        let way = &steps[..at];
         let is_last = at.saturating_add(1) == steps.len();
-        let Some(node) = schema.node_below(way, step.node.as_str()) else {
-            return Ok(Some(step_message(alloc, way, step, "isn't in the schema.")?));
-        };
-        if !has_its_keys(node, step.keys.len(), is_last, form) {
-            return Ok(Some(keys_message(alloc, way, step, node)?));
-        }
-        if form == PathForm::Template && !is_last && is_list(node) {
-            let words = "is a list: that of a template is reached through containers alone.";
-            return Ok(Some(step_message(alloc, way, step, words)?));
+        if let Some(said) = at_step(alloc, schema, &steps[..at], step, is_last, form)? {
+            return Ok(Some(said));
         }
     }
     match schema.node(steps) {
         Some(node) => message_of(alloc, steps, end_words(node, form)),
         None => Ok(None),
     }
+}
+
+// What is at fault in a step after those of a way.
+fn at_step(
+    alloc: Global,
+    schema: &Schema,
+    way: &[Step],
+    step: &Step,
+    is_last: bool,
+    form: PathForm,
+) -> Result<Option<Text>, Memory> {
+    let Some(node) = schema.node_below(way, step.node.as_str()) else {
+        return Ok(Some(step_message(alloc, way, step, "isn't in the schema.")?));
+    };
+    if !has_its_keys(node, step.keys.len(), is_last, form) {
+        return Ok(Some(keys_message(alloc, way, step, node)?));
+    }
+    if form == PathForm::Template && !is_last && is_list(node) {
+        let words = "is a list: that of a template is reached through containers alone.";
+        return Ok(Some(step_message(alloc, way, step, words)?));
+    }
+    Ok(None)
 }
 
 // Whether a step of a node may have so many keys.
@@ -229,13 +243,28 @@ fn is_list(node: &Node) -> bool {
 
 // What is said of a step that has another number of keys than its node.
 fn keys_message(alloc: Global, way: &[Step], step: &Step, node: &Node) -> Result<Text, Memory> {
-    let mut out = String::from_str(alloc, "Texts in brackets after ")?;
-    push_step(&mut out, alloc, way, step)?;
-    let count = step.keys.len() as u64;
-    out.push_str(format!(in alloc; ": {count}. It is ")?.as_str())?;
-    push_wanted(&mut out, alloc, node)?;
-    out.push_str(".")?;
+    let mut out = String::new(alloc);
+    push_keys(&mut out, alloc, way, step, node)?;
     Ok(Text::from_string(out))
+}
+
+// Adds how many keys a step has, and which its node has. The text is only lent here, so that no exit
+// lets it go.
+fn push_keys(
+    out: &mut String,
+    alloc: Global,
+    way: &[Step],
+    step: &Step,
+    node: &Node,
+) -> Result<(), Memory> {
+    out.push_str("Texts in brackets after ")?;
+    push_step(out, alloc, way, step)?;
+    out.push_str(": ")?;
+    out.push_str(step.keys.len().to_string(alloc)?.as_str())?;
+    out.push_str(". It is ")?;
+    push_wanted(out, alloc, node)?;
+    out.push_str(".")?;
+    Ok(())
 }
 
 // Adds which keys a step of a node has.
@@ -255,7 +284,7 @@ fn push_wanted(out: &mut String, alloc: Global, node: &Node) -> Result<(), Memor
     Ok(())
 }
 
-// What is said of a node where the line wants another.
+// What is said of a node where the line needs another.
 fn end_words(node: &Node, form: PathForm) -> Option<&'static str> {
     match form {
         PathForm::Entry => unvalued_words(node),

@@ -25,7 +25,7 @@ pub fn value_finding(
     }
 }
 
-// The same of a path.
+// What is at fault in the value after this path, and in the keys of the path.
 fn of_value(
     alloc: Global,
     schema: &Schema,

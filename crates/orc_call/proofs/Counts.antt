@@ -12,7 +12,7 @@ use Rattle.orc_call.specs.Puts.{put_bytes, device_put_bytes}
 use Rattle.orc_call.specs.Encoding.{puts_fields, device_put_fields, action_fields, body_fields, literal_fields, call_bytes}
 use Rattle.orc_call.proofs.Written.{spelled_puts, spelled_device_puts, spelled_actions}
 
--- three parts, one behind another
+-- three parts, one after another
 length_three : (a b c : List ℕ) → length (a ++ (b ++ c)) ≡ length a + length b + length c
 length_three a b c = omega (arith, length-append a (b ++ c), length-append b c)
 

@@ -143,7 +143,7 @@ counted_puts_determined = sequel_determined _ _ _ _ counted_puts_sequel item_cou
 abbrev body_of : List ℕ → List Put → List ℕ × List Put
 body_of service xs = (service, xs)
 
--- a service, and its puts behind their number
+-- a service, and its puts after their number
 pub body_sequel : Sequel (one a_text) (λ _. counted_puts) body body_of
 body_sequel = record {
   parts = λ z _. (z.0, z.1, refl, tt, tt);
@@ -176,7 +176,7 @@ counted_writes_determined = sequel_determined _ _ _ _ counted_writes_sequel item
 abbrev literal_of : List ℕ → List DevicePut → List ℕ × List DevicePut
 literal_of name xs = (name, xs)
 
--- a name, and the writes behind their number
+-- a name, and the writes after their number
 pub literal_sequel : Sequel (one a_text) (λ _. counted_writes) literal literal_of
 literal_sequel = record {
   parts = λ z _. (z.0, z.1, refl, tt, tt);
@@ -192,7 +192,7 @@ last_is : (before : Option (List PathStep)) (xs : List Put) → last_path before
 last_is before [] = refl
 last_is before (x ∷ xs) = last_is (Some x.path) xs
 
--- one more put behind those read
+-- one more put after those read
 pub puts_more : (i : ℕ) (bytes : List ℕ) (xs : List Put) (x : Put) (r t : List ℕ) (before : Option (List PathStep)) → before ≡ last_path None xs → IsWhole (puts None i) bytes xs r → IsWhole (any (put_fields before)) r x t → IsWhole (puts None (i + 1)) bytes (xs ++ x ∷ []) t
 puts_more i bytes xs x r t before is w v =
     listed_more put_fields put_behind puts_fields (λ _. refl) (λ _ _ _. refl) some_put None i bytes xs x r t w (subst (λ b. IsWhole (any (put_fields b)) r x t) (is ∙ last_is None xs) v)

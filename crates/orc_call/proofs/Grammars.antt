@@ -1,4 +1,4 @@
--- Reading one value behind another.
+-- Reading one value after another.
 use Rattle.std.proofs.Common.{◌≡◌, ℕ, zero, suc, ◌<◌, ◌≤◌, List, ◌++◌, length, Result, Err, Bor, refl, sym, ap, subst, ◌∙◌, arith}
 use Rattle.std.proofs.lemmas.List.{append-nil}
 use Rattle.orc_call.specs.Fields.{Field, field_bytes, IsLawful}
@@ -30,7 +30,7 @@ handed_on g bytes r stuck is h =
     let p = err_from_is_err_and r is in
     rw (p.1, p.2) h
 
--- want of memory that is handed on
+-- memory that ran out, which is handed on
 pub memory_on : {Y P : Type 0} (r : Result Y Stuck) (stuck : Stuck) → IsErrAnd r (λ y. y ≡ stuck) → (stuck ≡ Memory → P) → r ≡ Err Memory → P
 memory_on r stuck is h memory =
     let p = err_from_is_err_and r is in

@@ -1,4 +1,4 @@
--- Values that are read one behind another, so many of them.
+-- Values that are read one after another, so many of them.
 use Rattle.std.proofs.Common.{◌≡◌, ℕ, zero, suc, ◌+◌, ◌<◌, List, [], ◌∷◌, ◌++◌, length, take, replicate, refl, sym, ap, subst, ◌∙◌, append_assoc, arith}
 use Rattle.std.proofs.lemmas.List.{append-nil, length-replicate, length_push}
 use Rattle.std.proofs.lemmas.List.Concat.{flat_map-append}
@@ -19,7 +19,7 @@ module _ {S X : Type 0} (F : S → X → List Field) (next : S → X → S) (G :
   abbrev pub listed : S → ℕ → Grammar (List X)
   listed s n = record { has = λ xs. length xs ≡ n; fields = G s }
 
-  -- what stands before the value behind these
+  -- what stands before the value after these
   abbrev pub after : S → List X → S
   after s [] = s
   after s (x ∷ xs) = after (next s x) xs
@@ -59,7 +59,7 @@ module _ {S X : Type 0} (F : S → X → List Field) (next : S → X → S) (G :
   pub listed_none : (s : S) (bytes : List ℕ) → IsWhole (listed s 0) bytes [] bytes
   listed_none s bytes = record { has = refl; lawful = subst AreLawful (sym (nil s)) tt; parts = ap (λ fs. spelled fs ++ bytes) (sym (nil s)) }
 
-  -- one more value behind those read
+  -- one more value after those read
   pub listed_more : (s : S) (i : ℕ) (bytes : List ℕ) (xs : List X) (x : X) (r t : List ℕ) → IsWhole (listed s i) bytes xs r → IsWhole (any (F (after s xs))) r x t → IsWhole (listed s (i + 1)) bytes (xs ++ x ∷ []) t
   listed_more s i bytes xs x r t w v = record {
     has = length_push xs x ∙ ap (λ n. n + 1) w.has;

@@ -1,4 +1,4 @@
--- A value that is read as a first part and a second one behind it.
+-- A value that is read as a first part and a second one after it.
 use Rattle.std.proofs.Common.{◌≡◌, ℕ, ◌+◌, ◌-◌, ◌<◌, ◌≤◌, List, [], ◌∷◌, ◌++◌, length, take, refl, sym, ap, subst, ◌∙◌, append_assoc, arith, inl, inr}
 use Rattle.std.proofs.Math.Seq.{take-append-add, take-length}
 use Rattle.std.proofs.lemmas.Bool.{cases_lt}
@@ -9,12 +9,12 @@ use Rattle.orc_call.specs.declared.fields.Stuck.{Stuck}
 use Rattle.orc_call.specs.declared.fields.Stuck.TheVariants.{Bad, Memory}
 use Rattle.orc_call.specs.inside.Reading.{Grammar, BeginsWith, IsWhole, IsStuck, ReadFails}
 
--- where a value stands whole, no front of another one goes further, and no other one stands whole
+-- where a value stands whole, no prefix of another one goes further, and no other one stands whole
 pub record Determined {X : Type 0} (g : Grammar X) : Type 0 where
   pub ends : (bytes : List ℕ) (x y : X) (r s : List ℕ) (n : ℕ) → IsWhole g bytes x r → BeginsWith g bytes y n s → length r ≤ length s
   pub same : (bytes : List ℕ) (x y : X) (r s : List ℕ) → IsWhole g bytes x r → IsWhole g bytes y s → x ≡ y
 
--- the values of C are made of a value of A and one of B, whose fields stand behind those of A
+-- the values of C are made of a value of A and one of B, whose fields stand after those of A
 pub record Sequel {X Y Z : Type 0} (A : Grammar X) (B : X → Grammar Y) (C : Grammar Z) (make : X → Y → Z) : Type 0 where
   pub parts : (z : Z) → C.has z → (x : X) × (y : Y) × (make x y ≡ z) × A.has x × (B x).has y
   pub has : (x : X) (y : Y) → A.has x → (B x).has y → C.has (make x y)
@@ -32,7 +32,7 @@ lawful_parts (f ∷ fs) gs h = let rest = lawful_parts fs gs h.1 in ((h.0, rest.
 spelled-append : (fs gs : List Field) (rest : List ℕ) → spelled (fs ++ gs) ++ rest ≡ spelled fs ++ (spelled gs ++ rest)
 spelled-append fs gs rest = ap (λ t. t ++ rest) (flat_map-append field_bytes fs gs) ∙ append_assoc (spelled fs) (spelled gs) rest
 
--- all fields of a value are a front of it
+-- where a value stands whole, the bytes begin with all its fields
 pub whole_begins : {X : Type 0} (g : Grammar X) (bytes : List ℕ) (x : X) (rest : List ℕ) → IsWhole g bytes x rest → BeginsWith g bytes x (length (g.fields x)) rest
 whole_begins g bytes x rest w = record {
   has = w.has;
@@ -45,7 +45,7 @@ pub same_rest : {X : Type 0} (g : Grammar X) (bytes : List ℕ) (x : X) (r s : L
 same_rest g bytes x r s w v = append_cancel_left (spelled (g.fields x)) r s (sym w.parts ∙ v.parts)
 
 module _ {X Y Z : Type 0} (A : Grammar X) (B : X → Grammar Y) (C : Grammar Z) (make : X → Y → Z) (q : Sequel A B C make) where
-  -- a front that ends within the first part
+  -- a prefix that ends within the first part
   first_front : (bytes : List ℕ) (x : X) (y : Y) (n : ℕ) (s : List ℕ) → A.has x → (B x).has y → n ≤ length (A.fields x) → BeginsWith C bytes (make x y) n s → BeginsWith A bytes x n s
   first_front bytes x y n s has has-y le b =
       let e : take n (C.fields (make x y)) ≡ take n (A.fields x) = ap (take n) (q.fields x y has-y) ∙ take-append-le n (A.fields x) ((B x).fields y) le in
@@ -62,7 +62,7 @@ module _ {X Y Z : Type 0} (A : Grammar X) (B : X → Grammar Y) (C : Grammar Z) 
         record { has = has-y; lawful = both.1; parts = refl },
       )
 
-  -- the first part, and a front of the second
+  -- the first part, and a prefix of the second
   joined : (bytes : List ℕ) (x : X) (y : Y) (n : ℕ) (r s : List ℕ) → IsWhole A bytes x r → BeginsWith (B x) r y n s → BeginsWith C bytes (make x y) (length (A.fields x) + n) s
   joined bytes x y n r s w b =
       let fs = take n ((B x).fields y) in
@@ -119,7 +119,7 @@ module _ {X Y Z : Type 0} (A : Grammar X) (B : X → Grammar Y) (C : Grammar Z) 
           let p = q.parts z front.has in
           subst (λ v. (left ≤ length rest) × (count < length (C.fields v))) p.2 (at_made p.0 p.1 count rest p.3 p.4 (subst (λ v. BeginsWith C bytes v count rest) (sym p.2) front))
 
-  -- where the second part can't be read behind the first, the whole can't
+  -- where the second part can't be read after the first, the whole can't
   pub later_stuck : Determined A → (bytes : List ℕ) (x : X) (r : List ℕ) (left : ℕ) → IsWhole A bytes x r → IsStuck (B x) r left → IsStuck C bytes left
   later_stuck d bytes x r left w h =
       let b = h.begins in

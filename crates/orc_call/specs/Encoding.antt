@@ -10,7 +10,7 @@ use Rattle.orc_call.specs.declared.call.Action.TheVariants.{Create, Modify, Rede
 use Rattle.orc_call.specs.declared.call.Call.{Call}
 use Rattle.orc_call.specs.Fields.{Field, a_text, a_number, a_count_of_actions, a_count_of_items, a_kind, a_path, an_item, spelled, AreLawful}
 
--- a path, behind the one before it where there is one, and its item
+-- a path, after the one before it where there is one, and its item
 abbrev pub put_fields : Option (List PathStep) → Put → List Field
 put_fields before put = a_path before put.path ∷ an_item put.path put.item ∷ []
 
@@ -43,7 +43,7 @@ action_kind (BasePut put) = 7
 action_kind (BaseRemove device path) = 8
 action_kind (Literal name writes) = 9
 
--- what stands behind that byte
+-- what stands after that byte
 abbrev pub content_fields : Action → List Field
 content_fields (Create service puts) = body_fields service puts
 content_fields (Modify service puts) = body_fields service puts

@@ -1,4 +1,4 @@
--- What an encoding is made of: fields, one behind another, each with its bytes and its lawful values.
+-- What an encoding is made of: fields, one after another, each with its bytes and its lawful values.
 use Rattle.std.specs.Prelude.{◌≡◌, ℕ, ◌<◌, ◌≤◌, ◌^◌, List, [], ◌∷◌, ◌++◌, length, IsTrue, IsUtf8, Option, IfSome}
 use Rattle.std.specs.declared.cmp.Ordering.TheVariants.{Less}
 use Rattle.std.specs.Int.{w16, w32, w64, to_be_bytes}
@@ -11,7 +11,7 @@ use Rattle.orc_path.specs.declared.item.Item.{Item}
 use Rattle.orc_path.specs.declared.item.Item.TheVariants.{Entry, Leaf}
 use Rattle.orc_call.specs.declared.call.TheConstants.{MOST_ACTIONS}
 
--- a value where it stands: a path may stand behind another one in a list in path order, and an item belongs to a path
+-- a value where it stands: a path may stand after another one in a list in path order, and an item belongs to a path
 pub data Field : Type 0 where
   a_text : List ℕ → Field
   a_number : ℕ → Field
@@ -40,7 +40,7 @@ field_bytes (a_kind byte) = byte ∷ []
 field_bytes (a_path before path) = text_bytes (path_text path)
 field_bytes (an_item path item) = item_bytes item
 
--- one behind another
+-- the bytes of fields, one after another
 abbrev pub spelled : List Field → List ℕ
 spelled fields = flat_map field_bytes fields
 
@@ -62,7 +62,7 @@ abbrev pub IsItem : Item → Type 0
 IsItem Entry = Unit {0}
 IsItem (Leaf text) = IsText text
 
--- a path behind the one before it, where there is one
+-- a path that follows the one before it, where there is one
 abbrev pub IsPathAfter : Option (List PathStep) → List PathStep → Type 0
 IsPathAfter before path =
     IsTrue (is_path path) × IsText (path_text path) × IfSome before (λ earlier. path_cmp earlier path ≡ Less)

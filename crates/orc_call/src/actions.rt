@@ -1,4 +1,4 @@
-//! Reading actions from the front of the bytes.
+//! Reading actions from the start of the bytes.
 ghost use Rattle.std.specs.Prelude.{◌≤◌};
 ghost use Rattle.orc_call.specs.Encoding.{action_fields};
 ghost use Rattle.orc_call.specs.inside.Reading.{ReadsFront, any, many, content};
@@ -9,7 +9,7 @@ use crate::parts::{body_at, device_path_at, device_put_at, literal_at, put_at};
 use orc_text::Row;
 use std::alloc::Global;
 
-// What stands behind the byte of an action's kind.
+// What stands after the byte of an action's kind.
 fn content_at(alloc: Global, kind: u8, bytes: &[u8]) -> Result<(Action, &[u8]), Stuck>
     requires least { 1 ≤ kind }
     requires greatest { kind ≤ 9 }

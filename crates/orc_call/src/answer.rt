@@ -8,7 +8,7 @@ use std::alloc::Global;
 
 /// The answer to a call. A device is given by its number in order of declaration, a rule by its
 /// place in its list, counted from 1.
-#[derive(PartialEq, Eq, Drop)]
+#[derive(PartialEq, Eq)]
 pub enum Answer {
     /// The call is this entry of the history.
     Committed(u64),
@@ -40,6 +40,29 @@ pub enum Answer {
     Memory,
     /// The caller has an open call of this number.
     Busy(u64),
+}
+
+// Written out, so that a crate above lets an answer go by one call, and not by one for each kind.
+impl Drop for Answer {
+    fn drop(self) {
+        match self {
+            Answer::Committed(_) => {}
+            Answer::Exists(_) => {}
+            Answer::Missing(_) => {}
+            Answer::Invalid(_, _) => {}
+            Answer::Expand(_, _, _) => {}
+            Answer::Clash(_, _, _) => {}
+            Answer::Conflict(_, _) => {}
+            Answer::OutOfSync(_, _) => {}
+            Answer::Refused(_, _) => {}
+            Answer::LinkFault(_, _) => {}
+            Answer::Reused(_) => {}
+            Answer::Down => {}
+            Answer::JournalFault => {}
+            Answer::Memory => {}
+            Answer::Busy(_) => {}
+        }
+    }
 }
 
 impl Answer {

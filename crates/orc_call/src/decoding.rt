@@ -33,8 +33,8 @@ fn call_at(alloc: Global, bytes: &[u8]) -> Result<(Call, &[u8]), Stuck>
 ///
 /// `Bad { at }` comes exactly where no encoding begins the bytes; `at` is then the offset of the
 /// first field that isn't there whole or has no lawful value. A field is a text, a number, a
-/// count, the byte of an action's kind, a path, or an item with its text. Want of memory comes only
-/// where the caller's text stands whole at the front.
+/// count, the byte of an action's kind, a path, or an item with its text. Memory runs out only where
+/// the caller's text stands whole at the start.
 pub fn decode(alloc: Global, bytes: &[u8]) -> Result<(Call, usize), CodecFault>
     ensures found { IfOk result (λ read. HasEncoding bytes.now read.0 read.1) }
     // What is encoded is decoded again, whatever follows, unless memory runs out.

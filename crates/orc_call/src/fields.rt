@@ -1,4 +1,4 @@
-//! Reading one field from the front of the bytes.
+//! Reading one field from the start of the bytes.
 ghost use Rattle.std.specs.Prelude.{◌≡◌, ◌↔◌, IsTrue, IfSome, length, IfOk, OnErr, IsErrOf, MatchOption};
 ghost use Rattle.std.specs.Option.{option_copied};
 ghost use Rattle.orc_path.specs.Order.{path_cmp};
@@ -32,7 +32,7 @@ impl From<Memory> for Stuck {
     }
 }
 
-// The field at the front of these bytes is bad.
+// The field at the start of these bytes is bad.
 fn bad(bytes: &[u8]) -> Stuck
     ensures { result ≡ Stuck.Bad (length bytes.now) }
 {
@@ -94,7 +94,7 @@ pub(crate) fn kind_at(bytes: &[u8]) -> Result<(u8, &[u8]), Stuck>
     Ok((bytes[0], &bytes[1..]))
 }
 
-// The text at the front.
+// The text at the start.
 fn str_at(bytes: &[u8]) -> Option<(&str, &[u8])>
     ensures { MatchOption result (HasNoText bytes.now) (λ read. HasText bytes.now read.0.now read.1.now) }
 {
@@ -134,7 +134,7 @@ pub(crate) fn follows(before: Option<&Path>, path: &Path) -> bool
     }
 }
 
-/// A path, behind the one before it where there is one.
+/// A path, after the one before it where there is one.
 pub(crate) fn path_at<'a>(
     alloc: Global,
     before: Option<&Path>,
@@ -161,7 +161,7 @@ pub(crate) fn path_at<'a>(
     }
 }
 
-// The item at the front, whatever path it belongs to.
+// The item at the start, whatever path it belongs to.
 fn any_item_at(alloc: Global, bytes: &[u8]) -> Result<Option<(Item, &[u8])>, Memory>
     ensures found { IfOk result
         (λ found. MatchOption found (HasNoItem bytes.now) (λ read. HasItem bytes.now read.0 read.1.now)) }

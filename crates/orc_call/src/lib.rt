@@ -1,6 +1,6 @@
 //! Calls, their answers, and the one encoding of each call on disk.
 //!
-//! A call is spelled as a row of fields, one behind another; `encode` writes them and `decode`
+//! A call is spelled as a row of fields, one after another; `encode` writes them and `decode`
 //! reads them back, whatever follows. The answers to calls and to reconciliations stand here too,
 //! for all crates above.
 #![tactic(auto)]

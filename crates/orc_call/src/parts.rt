@@ -1,4 +1,4 @@
-//! Reading the parts of an action from the front of the bytes.
+//! Reading the parts of an action from the start of the bytes.
 ghost use Rattle.std.specs.Prelude.{◌≡◌};
 ghost use Rattle.std.specs.declared.option.Option.TheVariants.{None};
 ghost use Rattle.std.specs.Option.{option_copied};
@@ -11,7 +11,7 @@ use orc_path::Path;
 use orc_text::{Row, Text};
 use std::alloc::Global;
 
-/// A path, behind the one before it where there is one, and its item.
+/// A path, after the one before it where there is one, and its item.
 pub(crate) fn put_at<'a>(
     alloc: Global,
     before: Option<&Path>,

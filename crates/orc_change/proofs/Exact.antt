@@ -181,7 +181,7 @@ AreHeld-part m [] [] fs are = tt
 AreHeld-part m [] (d ∷ ds) fs are = (are.0, AreHeld-part m [] ds fs are.1)
 AreHeld-part m (e ∷ es) ds fs are = AreHeld-part m es ds fs are.1
 
--- The changes of rows one behind another
+-- The changes of rows one after another
 
 pub removals-append : (to : Config) (es ds : List (List PathStep × Item)) → removals (es ++ ds) to ≡ removals es to ++ removals ds to
 removals-append to [] ds = refl

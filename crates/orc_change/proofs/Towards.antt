@@ -141,7 +141,7 @@ drop_each_mentioned n ways (Remove p ∷ cs) t m q none (inr later) = drop_each_
 drop_each_mentioned n ways (Put p item ∷ cs) t m q none (inl here) = absurd (none-some item (sym none ∙ ap n here ∙ t.0))
 drop_each_mentioned n ways (Put p item ∷ cs) t m q none (inr later) = drop_each_mentioned n ways cs t.1 m q none later
 
--- where a path is right already or a change is of it, it is right behind the changes
+-- where a path is right already or a change is of it, it is right once the changes are done
 pub applied_towards : (n : Items) → HasWays n → (cs : List Change) → Towards n cs → (m : Config) (q : List PathStep)
     → (get m q ≡ n q) ⊎ Mentions q cs → get (applied cs m) q ≡ n q
 applied_towards n ways cs t m q (inl right) = put_each_right n ways cs t (drop_each cs m) q (drop_each_right n ways cs t m q right)

@@ -29,7 +29,7 @@ pub fn between(alloc: Global, from: &Tree, to: &Tree) -> Result<ChangeSet, Memor
     Ok(ChangeSet { changes })
 }
 
-/// The changes that take a set back: applied behind it to a copy of `before` they give `before`. It
+/// The changes that take a set back: applied after it to a copy of `before` they give `before`. It
 /// costs a copy of the tree with the set applied, and what `between` costs of the two.
 pub fn reverse(alloc: Global, set: &ChangeSet, before: &Tree) -> Result<ChangeSet, Memory>
     requires fits { IsTrue (list_all change_fits set.now.changes) }
@@ -59,8 +59,8 @@ fn push_removals(
     Ok(())
 }
 
-// The same of the pages of one chapter, the first of which is likely to stand in the tree at a
-// place. It gives the place of the page behind them.
+// Adds a removal of each path of the pages of one chapter at which a tree has no item. The first page
+// is likely to stand in the tree at a place. It gives the place of the page after them.
 fn push_removals_of(
     alloc: Global,
     changes: &mut Row<Change>,
@@ -96,8 +96,8 @@ fn push_puts(
     Ok(())
 }
 
-// The same of the pages of one chapter, the first of which is likely to stand in the tree at a
-// place. It gives the place of the page behind them.
+// Adds a put of each item of the pages of one chapter that a tree hasn't at its path. The first page
+// is likely to stand in the tree at a place. It gives the place of the page after them.
 fn push_puts_of(
     alloc: Global,
     changes: &mut Row<Change>,
@@ -156,7 +156,7 @@ fn push_absent(
     push_each_absent(alloc, changes, rows, to)
 }
 
-// The same, with a search for each row.
+// Adds a removal of each row's path at which the tree has no item, with a search for each row.
 fn push_each_absent(
     alloc: Global,
     changes: &mut Row<Change>,
@@ -190,7 +190,7 @@ fn push_new(
     push_each_new(alloc, changes, rows, from)
 }
 
-// The same, with a search for each row.
+// Adds a put of each row whose item the tree hasn't at its path, with a search for each row.
 fn push_each_new(
     alloc: Global,
     changes: &mut Row<Change>,

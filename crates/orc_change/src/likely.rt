@@ -37,7 +37,7 @@ impl Place {
     }
 }
 
-// Whether the first of some rows comes behind a path.
+// Whether the first of some rows comes after a path.
 fn starts_behind(rows: &[(Path, Item)], path: &Path) -> bool {
     match rows.first() {
         Some(row) => path.cmp(&row.0).is_lt(),
@@ -45,7 +45,7 @@ fn starts_behind(rows: &[(Path, Item)], path: &Path) -> bool {
     }
 }
 
-// Whether the first row of pages comes behind a path.
+// Whether the first row of pages comes after a path.
 fn first_behind(pages: &[Arc<Page>], path: &Path) -> bool {
     match pages.first() {
         Some(page) => starts_behind(page.rows.as_slice(), path),
@@ -68,7 +68,7 @@ fn starts_with(chapters: &[Arc<Chapter>], at: Place, path: &Path) -> bool {
     }
 }
 
-// The last chapter that doesn't begin behind a path. It halves the chapters with each comparison.
+// The last chapter that doesn't begin after a path. It halves the chapters with each comparison.
 fn find_chapter(chapters: &[Arc<Chapter>], path: &Path) -> usize {
     let mut low = 0;
     let mut high = chapters.len();
@@ -83,7 +83,7 @@ fn find_chapter(chapters: &[Arc<Chapter>], path: &Path) -> usize {
     low
 }
 
-// The last page that doesn't begin behind a path. It halves the pages with each comparison.
+// The last page that doesn't begin after a path. It halves the pages with each comparison.
 fn find_page(pages: &[Arc<Page>], path: &Path) -> usize {
     let mut low = 0;
     let mut high = pages.len();
@@ -99,7 +99,7 @@ fn find_page(pages: &[Arc<Page>], path: &Path) -> usize {
 }
 
 // Where a page that begins with the path stands, if one does. The first place is tried first, and
-// the chapter behind it.
+// then the chapter after it.
 fn find_place(chapters: &[Arc<Chapter>], at: Place, path: &Path) -> Place {
     if starts_with(chapters, at, path) {
         return at;

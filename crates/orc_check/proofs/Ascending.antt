@@ -70,7 +70,7 @@ between (step ∷ place) (x ∷ xs) (y ∷ ys) up less h = on (same_text step.no
         let same : step.node ≡ y = (bytes_decides step.node y).0 e in
         by (slice_cmp nat_cmp x step.node) refl up (ap (λ (n : List ℕ). ordering_then (slice_cmp nat_cmp x n) (names_cmp xs ys)) same ∙ less) h go
 
--- ---- the lines in front
+-- ---- the lines before
 
 less_all : (names : Names) (lines : List SchemaLine) → AllByRecursion (λ y. names_cmp names y ≡ Less) (map (λ l. l.names) lines) → (i : ℕ) (d : SchemaLine) → i < length lines
     → names_cmp names (get_or lines i d).names ≡ Less
@@ -78,7 +78,7 @@ less_all names [] all i d l = absurd (omega arith)
 less_all names (x ∷ lines) all zero d l = all.0
 less_all names (x ∷ lines) all (suc i) d l = less_all names lines all.1 i d (omega arith)
 
--- where a line is before a place, so are those in front of it
+-- where a line is before a place, so are those before it
 pub none_up_to : (place : List PathStep) (lines : List SchemaLine) → Ascends lines → (i : ℕ) (d : SchemaLine) → i < length lines → is_before place (get_or lines i d) ≡ true
     → list_any (leads_on place) (take (i + 1) lines) ≡ false
 none_up_to place [] s i d l h = absurd (omega arith)
@@ -91,7 +91,7 @@ none_up_to place (x ∷ lines) s (suc i) d l h =
     ∙ or_from (leads_on place x) (list_any (leads_on place) (take (i + 1) lines)) (not_before place x.names (ap is_lt before))
     (none_up_to place lines (sorted_tail names_cmp x.names (map (λ l. l.names) lines) s) i d further h)
 
--- ---- the lines behind
+-- ---- the lines after
 
 none_after : (place : List PathStep) (x : SchemaLine) (lines : List SchemaLine) → AllByRecursion (λ y. names_cmp x.names y ≡ Less) (map (λ l. l.names) lines)
     → is_before place x ≡ false → leads_on place x ≡ false → list_any (leads_on place) lines ≡ false

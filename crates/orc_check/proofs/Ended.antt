@@ -57,7 +57,7 @@ drop_front zero xs x l = refl
 drop_front (suc n) [] x l = absurd (omega arith)
 drop_front (suc n) (y ∷ xs) x l = drop_front n xs x (omega arith)
 
--- what is said of the steps behind the first ones
+-- what is said of the steps after the first ones
 pub each_behind : (test : Names → PathStep → Bool) (above : Names) (front back : List PathStep) → each_step test above (front ++ back) ≡ true
     → each_step test (above ++ path_names front) back ≡ true
 each_behind test above [] back h = ap (λ ns. each_step test ns back) (append-nil above) ∙ h

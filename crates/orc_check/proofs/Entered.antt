@@ -73,7 +73,7 @@ enters_is (l ∷ m ∷ list) (s ∷ p) = ap (λ b. step_eq l s && b) (enters_is 
 
 -- ---- rows past a list
 
--- a list's path goes on as from its front by its last name
+-- to go on from a list's path is to go on from its steps but the last, by its last name
 goes_on_is : (front : List PathStep) (last : PathStep) (p : List PathStep) → goes_on (front ++ last ∷ []) p ≡ is_under front last.node p
 goes_on_is [] last [] = refl
 goes_on_is [] last (t ∷ ts) = refl

@@ -1,4 +1,4 @@
--- The names behind those of a place, and the nodes that are reached by them.
+-- The names after those of a place, and the nodes that are reached by them.
 use Rattle.std.proofs.Common.{◌≡◌, ℕ, ◌+◌, ◌<◌, ◌≤◌, Bool, true, false, ◌&&◌, List, [], ◌∷◌, ◌++◌, length, take, drop, get_or, refl, sym, ap, ◌∙◌, arith}
 use Rattle.std.specs.Prelude.{Some, None, option_and_then, if◌then◌else◌}
 use Rattle.std.specs.Cmp.Lexicographic.{bytes_decides}
@@ -59,7 +59,7 @@ is_behind (step ∷ steps) (name ∷ names) later h = on (same_text step.node na
         }
 
 module _ (s : SchemaTable) (place : List PathStep) (names : Names) where
-  -- the test on all names, cut behind the place's
+  -- the test on all names, cut after the place's
   pub down_behind : (later : Names) (down : Bool) → Some later ≡ behind place names → down ≡ goes_down s (take (length place) names) (drop (length place) names)
       → (if down then Some later else None) ≡ reached_names s place names
   down_behind later down e h =

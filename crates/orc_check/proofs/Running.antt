@@ -86,7 +86,7 @@ module _ (q : List PathStep) (cs : Chapters) (i : ℕ) (c : Arc Chapter Global) 
       ∙ ap (below_all path_cmp q) (runs_rows (drop (suc n) (chapter_pages c)) (drop (suc i) cs))
       ∙ below_both q (rows_of (drop (suc n) (chapter_pages c))) (chapters_rows (drop (suc i) cs)) page.behind for.behind
 
--- the runs from a page of a chapter on, as they are lent: the rest of the pages, and the chapters behind
+-- the runs from a page of a chapter on, as they are lent: the rest of the pages, and the chapters after it
 abbrev pub lent_runs : Pages → ℕ → Chapters → ℕ → List Rows
 lent_runs pages n cs i = map page_rows (take (length pages - n) (drop n pages) ++ pages_of (take (length cs - (i + 1)) (drop (i + 1) cs)))
 

@@ -87,7 +87,7 @@ module _ (s : SchemaTable) (c : Config) where
       ∙ ap (λ (o : Option Breach). fold lesser_breach o (flat_map (row_breaches s c) rows)) (row_keeps a row (behind a.path row.0 parts.0))
       ∙ rows_keep a rows parts.1
 
-  -- a row that breaks anything settles the least of it and of the rows behind it
+  -- a row that breaks anything settles the least of it and of the rows after it
   pub settled : (row : List PathStep × Item) (rows : Rows) (best : Option Breach) → is_sorted path_cmp (row ∷ rows) ≡ true
       → best ≡ fold lesser_breach None (row_breaches s c row) → is_some best ≡ true
       → best ≡ fold lesser_breach None (flat_map (row_breaches s c) (row ∷ rows))

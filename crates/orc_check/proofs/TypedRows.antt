@@ -114,7 +114,7 @@ last_step s above (step ∷ next ∷ later) h =
     subst (λ (ns : List (List ℕ)). are_canonical_keys (kinds_at s ns) (last_keys (next ∷ later)) ≡ true)
     (append_assoc above (step.node ∷ []) (path_names (next ∷ later))) (last_step s names (next ∷ later) rest)
 
--- a front of a path that ends in keys is on its way
+-- a prefix of a path that ends in keys is on its way
 is_way : (front : Path) (step next : PathStep) (later path : Path) → path ≡ front ++ step ∷ next ∷ later → has_keys step ≡ true → IsWay (front ++ step ∷ []) path
 is_way front step next later path e keyed =
     let cut : path ≡ (front ++ step ∷ []) ++ next ∷ later = e ∙ sym (append_assoc front (step ∷ []) (next ∷ later)) in

@@ -19,12 +19,12 @@ none_kept f (row ∷ rows) h = on (f row) h (none_kept f rows)
     on true h rest = absurd (false≢true (sym h))
     on false h rest = rest h
 
--- none of the rows in front of a path stands at or below it
+-- none of the rows before a path stands at or below it
 pub kept_above : (path : List PathStep) (rows : Rows) → above_all path rows ≡ true → filter (λ row. is_prefix path row.0) rows ≡ []
 kept_above path rows h =
     none_kept (λ row. is_prefix path row.0) rows (none_above (λ (row : List PathStep × Item). is_prefix path row.0) path (λ row e. e) rows h)
 
--- none of those behind all that do does
+-- no row after all those at or below a path stands there
 pub kept_past : (path : List PathStep) (rows more : Rows) → begins_past path rows ≡ true → is_sorted path_cmp (rows ++ more) ≡ true
     → filter (λ row. is_prefix path row.0) (rows ++ more) ≡ []
 kept_past path rows more past sorted =

@@ -1,4 +1,4 @@
--- A breach that was found, as it is lent: a place, the names of steps without keys behind it, and a rule.
+-- A breach that was found, as it is lent: a place, the names of steps without keys after it, and a rule.
 use Rattle.std.specs.Prelude.{List, [], ◌++◌, Option, Some, None, option_map}
 use denote.Ref.{Bor}
 use Rattle.orc_path.specs.Steps.{PathStep}

@@ -31,7 +31,7 @@ pub record TypesAreKept (schema : SchemaTable) (config : Config) : Type 0 where
   pub valid : broken_of schema config ≡ None → All (KeepsTypes schema config) (entries config)
 
 -- That is so of each configuration under a schema of modules. A row shows the keys of its last step alone; the keys in
--- front are those of entries on the way, which are rows of their own.
+-- the steps before it are those of entries on the way, which are rows of their own.
 abbrev pub ValidIsTyped : Type 0
 ValidIsTyped =
     (schema : SchemaTable) (config : Config) → schema.plain ≡ false → IsConfig config → TypesAreKept schema config

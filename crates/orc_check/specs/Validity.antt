@@ -91,7 +91,7 @@ is_place schema row = is_in_schema schema row.0 row.1 && is_list (node_at schema
 abbrev pub places : SchemaTable → Config → List (List PathStep)
 places schema config = [] ∷ map (λ row. row.0) (filter (is_place schema) (entries config))
 
--- the names behind those of a place, where they begin with these
+-- the names after those of a place, where they begin with these
 abbrev pub behind : List PathStep → List (List ℕ) → Option (List (List ℕ))
 behind [] names = Some names
 behind (step ∷ steps) [] = None

@@ -15,13 +15,23 @@ use std::alloc::Global;
 
 /// What a device accepts: configurations that are valid under its schema, where none of the lists of
 /// `max` has more entries than its number, and no leaf of `forbid` has its text.
-#[derive(Drop)]
 pub struct Accept {
     pub schema: Schema,
     /// The path of a list or a leaf-list, with no keys in its last step. Any other path has no
     /// entries.
     pub max: Row<(Path, u64)>,
     pub forbid: Row<(Path, Text)>,
+}
+
+// Written out, so that a crate above lets it go by one call.
+impl Drop for Accept {
+    fn drop(self) {
+        let Accept {
+            schema: _,
+            max: _,
+            forbid: _,
+        } = self;
+    }
 }
 
 // Whether the list has at most so many entries.

@@ -42,7 +42,7 @@ impl<'a> Best<'a> {
         Best { found: None }
     }
 
-    /// Ok where nothing was found, and else the breach; or want of memory for its path.
+    /// Ok where nothing was found, and else the breach; or that memory for its path ran out.
     pub fn answer(&self, alloc: Global) -> Result<(), CheckFault>
         ensures { AnswersBreach self.now result }
     {
@@ -95,7 +95,7 @@ impl<'a> Best<'a> {
         }
     }
 
-    /// The same at a node that is reached from the root.
+    /// The lesser of it and of what is missing, or too many, at a node that is reached from the root.
     pub fn keep_top_line(self, schema: &Schema, tree: &Tree, line: &'a SchemaLine) -> Best<'a>
         ensures { result ≡ fold lesser_breach self.entry (line_breaches schema.now tree.now [] line.now) }
     {

@@ -61,7 +61,7 @@ fn enters_below(names: &[Text], path: &[Step]) -> bool
     }
 }
 
-// Whether a path enters the list at these steps with names behind them.
+// Whether a path enters the list at these steps with names after them.
 fn enters(steps: &[Step], names: &[Text], path: &[Step]) -> bool
     ensures { result ≡ enters (steps.now ++ plain_steps names.now) path.now }
 {
@@ -90,7 +90,7 @@ fn is_entry(steps: &[Step], names: &[Text], path: &[Step]) -> bool
     enters(steps, names, path)
 }
 
-// Whether a path goes on from the front of the list at these names by a step of its last name.
+// Whether a path goes on from the steps above the list at these names by a step of its last name.
 fn goes_on_below(names: &[Text], path: &[Step]) -> bool
     ensures { result ≡ goes_on (plain_steps names.now) path.now }
 {
@@ -106,8 +106,8 @@ fn goes_on_below(names: &[Text], path: &[Step]) -> bool
     }
 }
 
-// Whether a path goes on from the front of the list at these steps with names behind them by a step of
-// its last name.
+// Whether a path goes on from the steps above the list at these steps with names after them by a step
+// of its last name.
 fn goes_on(steps: &[Step], names: &[Text], path: &[Step]) -> bool
     ensures { result ≡ goes_on (steps.now ++ plain_steps names.now) path.now }
 {
@@ -129,7 +129,7 @@ fn goes_on(steps: &[Step], names: &[Text], path: &[Step]) -> bool
     }
 }
 
-// Whether the first of the rows stands behind the list and all that is below it.
+// Whether the first of the rows stands after the list and all that is below it.
 fn starts_past(rows: &[(Path, Item)], steps: &[Step], names: &[Text]) -> bool
     ensures { result ≡ is_past (steps.now ++ plain_steps names.now) rows.now }
 {
@@ -178,7 +178,7 @@ fn has_more_among(runs: Runs<'_>, steps: &[Step], names: &[Text], number: u64) -
     false
 }
 
-/// Whether the list at these steps with names behind them has more entries than the number. It takes
+/// Whether the list at these steps with names after them has more entries than the number. It takes
 /// no memory, and looks at the rows at and below these entries.
 pub(crate) fn has_more<'a>(tree: &Tree, steps: &'a [Step], names: &'a [Text], number: u64) -> bool
     ensures { result ≡ nat_lt number (entry_count tree.now (steps.now ++ plain_steps names.now)) }

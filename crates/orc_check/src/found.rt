@@ -12,7 +12,7 @@ use orc_text::{Memory, Row, Text};
 use std::alloc::Global;
 use std::cmp::Ordering;
 
-/// A rule that is broken below a place (none is the root), at the names behind its path.
+/// A rule that is broken below a place (none is the root), at the names after its path.
 #[derive(Drop)]
 pub(crate) struct Found<'a> {
     pub(crate) place: Option<&'a Path>,
@@ -77,7 +77,7 @@ pub(crate) fn keep_if<'a>(
     }
 }
 
-/// The same for a breach at a path.
+/// The lesser of the best breach so far and of this one at a path, where it is one.
 pub(crate) fn keep_at<'a>(
     best: Option<Found<'a>>,
     broken: bool,
@@ -99,7 +99,7 @@ fn name_of(alloc: Global, text: &Text) -> Result<Name, Memory>
     }
 }
 
-// Whether the name may stand behind the path: with its module at the top, and without below.
+// Whether the name may stand after the path: with its module at the top, and without it below.
 fn fits_behind(path: &Path, name: &Name) -> bool
     ensures { IsTrue result → IsTrue (is_name_behind path.now name.now) }
 {

@@ -1,5 +1,5 @@
 //! Where the instances of leafrefs' targets stand, by their texts: listed once, and searched by halves. It
-//! is for speed alone, so no contract tells of it: where a search leads is looked at in the tree before it
+//! is for speed alone, so no contract speaks of it: where a search leads is looked at in the tree before it
 //! counts.
 ghost use Rattle.std.specs.Prelude.{◌≡◌, ◌≤◌, length};
 
@@ -161,7 +161,7 @@ fn push_entry<'a>(
     }
 }
 
-// The same of a row.
+// What a row holds: an entry with what is missing below it, or the value of a leaf.
 fn push_row<'a>(
     all: &mut Vec<Instance<'a>>,
     schema: &'a Schema,
@@ -195,7 +195,7 @@ pub(crate) fn instances<'a>(
     Ok(all)
 }
 
-// Whether an instance stands in front of those of the target that have the text and stand under the
+// Whether an instance stands before those of the target that have the text and stand under the
 // same entries as the path.
 fn is_before(own: &Instance<'_>, target: &Target, text: &Text, path: &[Step]) -> bool {
     match order_values(own, text, target.names.as_slice()) {

@@ -43,14 +43,14 @@ fn leads_on(line: &SchemaLine, steps: &[Step]) -> bool
     behind(steps, line.names.as_slice()).is_some()
 }
 
-/// Whether a line stands behind all that lead on from a place.
+/// Whether a line stands after all that lead on from a place.
 pub(crate) fn is_past(line: &SchemaLine, steps: &[Step]) -> bool
     ensures { result ≡ (not (is_before steps.now line.now) && not (leads_on steps.now line.now)) }
 {
     !is_before(line, steps) && !leads_on(line, steps)
 }
 
-/// A line in front of which none leads on from the place, found by halving.
+/// A line before which none leads on from the place, found by halving.
 pub(crate) fn first_line(lines: &[SchemaLine], steps: &[Step]) -> usize
     requires { Ascends lines.now }
     ensures within { result ≤ length lines.now }

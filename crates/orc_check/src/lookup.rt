@@ -56,7 +56,7 @@ pub(crate) fn row_at<'a>(tree: &'a Tree, spot: &Spot<'_>) -> Option<&'a (Path, I
     }
 }
 
-/// Whether nothing stands at the path of steps with names behind them. It takes no memory.
+/// Whether nothing stands at the path of steps with names after them. It takes no memory.
 pub(crate) fn is_absent<'a>(tree: &Tree, steps: &'a [Step], names: &'a [Text]) -> bool
     ensures { result ≡ is_none (get tree.now (steps.now ++ plain_steps names.now)) }
 {

@@ -1,4 +1,4 @@
-//! The order of paths that are lent in two parts: steps, and behind them the names of steps without
+//! The order of paths that are lent in two parts: steps, and after them the names of steps without
 //! keys. It takes no memory.
 ghost use Rattle.std.specs.Prelude.{◌≡◌, ◌++◌, [], nat_eq};
 ghost use Rattle.std.specs.Cmp.Lexicographic.{pointwise, slice_cmp};
@@ -50,7 +50,7 @@ fn order_names(names: &[Text], others: &[Text]) -> Ordering
     }
 }
 
-// Steps with names behind them, and names.
+// The order of steps with names after them, and of names.
 fn order_plain(steps: &[Step], names: &[Text], others: &[Text]) -> Ordering
     ensures { result ≡ path_cmp (steps.now ++ plain_steps names.now) (plain_steps others.now) }
 {
@@ -74,7 +74,7 @@ pub(crate) fn order_steps(step: &Step, other: &Step) -> Ordering
     step.cmp(other)
 }
 
-/// Steps with names behind them, and others.
+/// The order of steps with names after them, and of others with theirs.
 pub(crate) fn order(
     steps: &[Step],
     names: &[Text],
@@ -96,7 +96,7 @@ pub(crate) fn order(
     }
 }
 
-/// Steps with names behind them, and other steps.
+/// The order of steps with names after them, and of other steps.
 pub(crate) fn order_to(steps: &[Step], names: &[Text], others: &[Step]) -> Ordering
     ensures { result ≡ path_cmp (steps.now ++ plain_steps names.now) others.now }
 {

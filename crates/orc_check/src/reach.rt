@@ -33,7 +33,7 @@ pub fn is_place(schema: &Schema, row: &(Path, Item)) -> bool
     is_in_schema(schema, &row.0, &row.1) && is_list(schema.node(row.0.steps.as_slice()))
 }
 
-/// The names behind those of the steps, where they begin with these.
+/// The names after those of the steps, where they begin with these.
 pub(crate) fn behind<'a>(steps: &[Step], names: &'a [Text]) -> Option<&'a [Text]>
     ensures { option_map (λ later. later.now) result ≡ behind steps.now names.now }
 {
@@ -52,7 +52,7 @@ pub(crate) fn behind<'a>(steps: &[Step], names: &'a [Text]) -> Option<&'a [Text]
     }
 }
 
-/// Whether each of the names behind the first ones but the last is that of a container, and there is
+/// Whether each of the names after the first ones but the last is that of a container, and there is
 /// one.
 pub(crate) fn goes_down(schema: &Schema, names: &[Text], above: usize) -> bool
     requires { above ≤ length names.now }
@@ -67,7 +67,7 @@ pub(crate) fn goes_down(schema: &Schema, names: &[Text], above: usize) -> bool
     is_container(schema.node_of_names(&names[..above + 1])) && goes_down(schema, names, above + 1)
 }
 
-/// The names behind a place's, where the node of the names is reached from there.
+/// The names after a place's, where the node of the names is reached from there.
 pub(crate) fn reached<'a>(schema: &Schema, steps: &[Step], names: &'a [Text]) -> Option<&'a [Text]>
     ensures { option_map (λ later. later.now) result ≡ reached_names schema.now steps.now names.now }
 {

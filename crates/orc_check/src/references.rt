@@ -57,7 +57,7 @@ fn are_names(steps: &[Step], names: &[Text]) -> bool
     }
 }
 
-// Whether the names of steps, with one behind them, are these.
+// Whether the names of steps, with one after them, are these.
 fn are_names_with(steps: &[Step], last: &Text, names: &[Text]) -> bool
     ensures { result ≡ same_names (path_names steps.now ++ last.now ∷ []) names.now }
 {
@@ -413,7 +413,8 @@ fn has_unlisted(schema: &Schema, tree: &Tree, target: &Target, text: &Text, path
             && is_lacked(schema, tree, target, path)
 }
 
-// The same: where the index leads to one, that is all that is looked at.
+// Whether the target has an instance with the text, seen from the path. Where the index leads to one,
+// that is all that is looked at.
 fn has_instance_among(
     schema: &Schema,
     tree: &Tree,
@@ -430,8 +431,8 @@ fn has_instance_among(
     has_unlisted(schema, tree, target, text, path)
 }
 
-// The same of a target that isn't the one key of a list: where it stands once below the entries that
-// it shares, it is found by a search.
+// Whether a target that isn't the one key of a list has an instance with the text, seen from the path:
+// where it stands once below the entries that it shares, it is found by a search.
 fn has_instance_behind(
     schema: &Schema,
     tree: &Tree,
@@ -448,8 +449,8 @@ fn has_instance_behind(
     }
 }
 
-// The same: where the target is the one key of a list, its entry is named by the text and found by a
-// search.
+// Whether the target has an instance with the text, seen from the path. Where it is the one key of a
+// list, its entry is named by the text and found by a search.
 fn has_instance(
     schema: &Schema,
     tree: &Tree,

@@ -16,7 +16,7 @@ use std::marker::Model;
 use std::sync::Arc;
 
 /// Rows in path order in runs, each run the rows of a page: the pages of a chapter that are left, and
-/// behind them other chapters.
+/// after them other chapters.
 #[derive(Drop)]
 pub(crate) struct Runs<'a> {
     pages: &'a [Arc<Page>],
@@ -55,7 +55,7 @@ impl<'a> Iterator for Runs<'a> {
     }
 }
 
-// Whether the first of some rows comes behind the path.
+// Whether the first of some rows comes after the path.
 fn starts_behind(rows: &[(Path, Item)], spot: &Spot<'_>) -> bool
     ensures { result ≡ starts_behind (spot_path spot.now) rows.now }
 {
@@ -86,7 +86,7 @@ fn page_for(pages: &[Arc<Page>], spot: &Spot<'_>) -> usize
     low
 }
 
-// Whether the first row of pages comes behind the path.
+// Whether the first row of pages comes after the path.
 fn first_behind(pages: &[Arc<Page>], spot: &Spot<'_>) -> bool
     requires { AreSized pages.now }
     ensures { result ≡ starts_behind (spot_path spot.now) (rows_of pages.now) }

@@ -37,7 +37,7 @@ fn order_paths(steps: &[Step], path: &[Step]) -> Ordering
     steps.cmp(path)
 }
 
-/// Whether the first of the rows stands behind all that begin with the steps.
+/// Whether the first of the rows stands after all that begin with the steps.
 pub(crate) fn begins_past(rows: &[(Path, Item)], steps: &[Step]) -> bool
     ensures { result ≡ begins_past steps.now rows.now }
 {

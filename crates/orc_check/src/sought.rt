@@ -1,5 +1,5 @@
 //! The targets of leafrefs whose instances no search among the rows finds, in the order of their names.
-//! It is for speed alone, so no contract tells of it.
+//! It is for speed alone, so no contract speaks of it.
 ghost use Rattle.std.specs.Prelude.{◌≡◌, ◌≤◌, length};
 
 use crate::keys::{own_key, single};
@@ -62,7 +62,7 @@ pub(crate) fn sought<'a>(alloc: Global, schema: &'a Schema) -> Result<Vec<&'a Ta
     Ok(each)
 }
 
-// Names, and those of steps with others behind them.
+// The order of names, and of those of steps with others after them.
 fn order_names(names: &[Text], steps: &[Step], behind: &[Text]) -> Ordering {
     match steps {
         [] => names.cmp(behind),
@@ -77,7 +77,7 @@ fn order_names(names: &[Text], steps: &[Step], behind: &[Text]) -> Ordering {
     }
 }
 
-/// The place of the first target whose names aren't less than those of the steps with others behind
+/// The place of the first target whose names aren't less than those of the steps with others after
 /// them, found by halving.
 pub(crate) fn first_sought(targets: &[&Target], steps: &[Step], behind: &[Text]) -> usize
     ensures { result ≤ length targets.now }
@@ -95,7 +95,7 @@ pub(crate) fn first_sought(targets: &[&Target], steps: &[Step], behind: &[Text])
     low
 }
 
-/// The names of a target that are those of the steps with others behind them.
+/// The names of a target that are those of the steps with others after them.
 pub(crate) fn names_of<'a>(
     targets: &[&'a Target],
     steps: &[Step],

@@ -17,7 +17,7 @@ pub(crate) struct Keyed<'a> {
     pub(crate) key: &'a Text,
 }
 
-/// A path: steps, behind them steps of these names without keys, and behind these an entry or none.
+/// A path: steps, after them steps of these names without keys, and after these an entry or none.
 #[derive(Drop)]
 pub(crate) struct Spot<'a> {
     pub(crate) steps: &'a [Step],
@@ -90,7 +90,7 @@ fn order_plain_step(name: &Text, step: &Step) -> Ordering
     }
 }
 
-// Names with an entry behind them, and steps.
+// The order of names with an entry after them, and of steps.
 fn order_entry_below(names: &[Text], entry: &Keyed<'_>, others: &[Step]) -> Ordering
     ensures { result ≡ path_cmp (plain_steps names.now ++ keyed_step entry.now ∷ []) others.now }
 {
@@ -107,7 +107,7 @@ fn order_entry_below(names: &[Text], entry: &Keyed<'_>, others: &[Step]) -> Orde
     }
 }
 
-// Steps with names and an entry behind them, and steps.
+// The order of steps with names and an entry after them, and of steps.
 fn order_entry_at(steps: &[Step], names: &[Text], entry: &Keyed<'_>, others: &[Step]) -> Ordering
     ensures { result ≡ path_cmp (steps.now ++ (plain_steps names.now ++ keyed_step entry.now ∷ [])) others.now }
 {

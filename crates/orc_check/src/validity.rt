@@ -34,7 +34,7 @@ fn first_breach<'a>(schema: &'a Schema, tree: &'a Tree, index: &[Instance<'_>]) 
 /// Ok exactly where the configuration is valid under the schema, and else its least breach: the least
 /// path in path order, and the first rule that is broken there. Under a plain schema each one is
 /// valid. It takes memory for a list of the instances to which leafrefs may lead, so that each leafref
-/// costs a search or two, and for the path that it tells.
+/// costs a search or two, and for the path that it reports.
 pub fn valid(alloc: Global, schema: &Schema, tree: &Tree) -> Result<(), CheckFault>
     ensures { AnswersBreach (broken_of schema.now tree.now) result }
 {

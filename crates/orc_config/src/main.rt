@@ -1,6 +1,6 @@
 //! Reads a configuration as JSON under YANG modules, checks it, and writes it again.
 //!
-//! The words are two files: YANG modules, one behind the other, and the JSON text (RFC 7951). What is
+//! The words are two files: YANG modules, one after the other, and the JSON text (RFC 7951). What is
 //! printed is the configuration's JSON, without white space, or the first fault.
 #![tactic(auto)]
 

@@ -1,4 +1,4 @@
--- What lives behind actions, and what no clash says of it.
+-- What lives after actions, and what no clash says of it.
 use Rattle.std.proofs.Common.{◌≡◌, ℕ, Bool, true, false, cond, not, ◌||◌, List, [], ◌∷◌, ◌⊎◌, inl, inr, map, All, None, Some, refl, sym, ap, subst, ◌∙◌, arith}
 use Rattle.std.specs.declared.option.Option.{Option}
 use Rattle.std.specs.declared.cmp.Ordering.{Ordering}
@@ -131,7 +131,7 @@ in_filter p (y ∷ ys) x c h = on (in_filter p ys x) (p y) refl (in_cases y x ys
     on rest false is (inl one) = absurd (true_not_false (sym h ∙ sym (ap p one) ∙ is))
     on rest false is (inr later) = rest later h
 
--- what lives behind actions: it lived before and none names it, or one of them makes it
+-- what lives after actions: it lived before and none names it, or one of them makes it
 
 -- the service is an expansion on these devices
 abbrev pub IsMade : List (List ℕ) → Service → Type 0

@@ -112,7 +112,7 @@ no_clash_of live d store s unique for c = on (unequal_of live d s) refl
         ∙ tree_has least.rival.id at.0 clash.other (own_writes live d least.rival at.0 unique clash.living ∙ clash.holds)
         )))
 
--- the services that a call makes live behind it
+-- the services that a call makes live after it
 made_living : (devices : List (List ℕ)) (live : List Service) (actions : List Action) (s : Service) → name_each_once actions ≡ true
     → Contains (flat_map (new_services devices) actions) s → Contains (live_after devices actions live) s
 made_living devices live actions s once c =
@@ -231,7 +231,7 @@ made_moves devices live d (Delete own ∷ actions) s c = on (find (has_id own) l
     on (Some x) rest = or_right (is_same_text own s.id) _ rest
 made_moves devices live d (other ∷ actions) s c = made_moves devices live d actions s c
 
--- a mover in front of others brings what it brings
+-- a mover before others brings what it brings
 distinct_later : (m : Move) (ms : List Move) → are_distinct (m ∷ ms) ≡ true → (is_moved ms m.service ≡ false) × (are_distinct ms ≡ true)
 distinct_later m ms h = on (is_moved ms m.service) refl h
   where
@@ -412,7 +412,7 @@ clashes_at devices live d actions writes path other once unique same clash =
         ∙ ap (are_unequal (Some k.item)) (sym (same r.id p) ∙ own_writes behind d r p unique k.living ∙ k.holds)
         ∙ apart_unequal k.item k.other k.unequal
 
-    -- nobody that is made has one at a lesser path, and none of those in front at this one
+    -- nobody that is made has one at a lesser path, and none of the earlier ones has one at this path
     not_before : (x : Service) (at : At) → Contains (flat_map (new_services devices) actions) x → unequal_of behind d x ≡ Some at
         → path_cmp at.0 path ≡ Less → ⊥
     not_before x at c is lt =

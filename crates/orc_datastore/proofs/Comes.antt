@@ -77,7 +77,7 @@ module _ (decls : Decls) (call : Call) (lawful : IsTrue (is_call decls call)) (s
   pub come_keys : All (λ action. IsTrue (service_key action)) acts
   come_keys = made_keys (serving_on decls (data_after call.actions state.data)) call.actions acts comes (call_keys decls call lawful)
 
-  -- the state behind them
+  -- the state after them
   pub come_after : (next : Config) → IsDataAfter decls state call (Ok next) → changed_by decls.names acts next state ≡ after decls state call
   come_after next behind =
       ap (λ (c : Config). changed_by decls.names acts c state) behind.0

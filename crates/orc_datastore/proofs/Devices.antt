@@ -1,4 +1,4 @@
--- A device behind a call: what is asked of its store, and what that comes to.
+-- A device after a call: what is asked of its store, and what that comes to.
 use Rattle.std.proofs.Common.{◌≡◌, ℕ, zero, suc, ◌+◌, ◌<◌, ◌≤◌, ◌==◌, Bool, true, false, cond, ◌||◌, List, [], ◌∷◌, ◌++◌, inl, inr, length, None, Some, slice_get, refl, sym, ap, subst, ◌∙◌, arith}
 use Rattle.std.specs.declared.option.Option.{Option}
 use Rattle.std.specs.declared.result.Result.{Result}
@@ -67,7 +67,7 @@ came-behind devices live d actions store name moves edits (Ok (Err answer)) ms e
     ∙ ap (λ (a : Answer). Some a) (sym came.2)
 came-behind devices live d actions store name moves edits (Err fault) ms es ns open_to for came = came
 
--- a store behind a call meets no clash
+-- a store after a call meets no clash
 pub behind-clear : (devices : List (List ℕ)) (live : List Service) (actions : List Action) (d : ℕ) (store new : Store) → IsOpenTo live actions
     → IsBehind devices live actions d store.base new → clash_on devices live actions d ≡ None
 behind-clear devices live actions d store new open_to behind =

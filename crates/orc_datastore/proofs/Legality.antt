@@ -14,7 +14,7 @@ pub fold_from-append : (decls : Decls) (s : Datastore) (xs ys : List Call) → f
 fold_from-append decls s [] ys = refl
 fold_from-append decls s (x ∷ xs) ys = fold_from-append decls (after decls s x) xs ys
 
--- the state behind a history, one call more
+-- the state after a history with one call more
 pub fold_from-push : (decls : Decls) (state : Datastore) (calls : List Call) (call : Call)
     → fold_from decls state (calls ++ call ∷ []) ≡ after decls (fold_from decls state calls) call
 fold_from-push decls state calls call = fold_from-append decls state calls (call ∷ [])
@@ -74,7 +74,7 @@ pub unrefused_front : (decls : Decls) (s : Datastore) (a b : List Call) → IsUn
 unrefused_front decls s [] b h = tt
 unrefused_front decls s (call ∷ a) b h = (h.0, unrefused_front decls (after decls s call) a b h.1)
 
--- a fact of each element is one of each element of a front
+-- a fact of each element is one of each element of a prefix
 pub All-front : {X : Type 0} (P : X → Type 0) (a b : List X) → All P (a ++ b) → All P a
 All-front P a b h = subst (All P) (take-append_seam a b) (All-take P (length a) (a ++ b) h)
 
@@ -82,7 +82,7 @@ distinct_front : (a b : List Call) → AreDistinct (a ++ b) → AreDistinct a
 distinct_front [] b h = tt
 distinct_front (call ∷ a) b h = (All-front (λ entry. IsSame entry call → ⊥) a b h.0, distinct_front a b h.1)
 
--- a front of a legal history is legal
+-- a prefix of a legal history is legal
 pub legal_front : (decls : Decls) (a b : List Call) → IsLegal decls (a ++ b) → IsLegal decls a
 legal_front decls a b legal = record {
   lawful = All-front (λ call. IsTrue (is_call decls call)) a b legal.lawful;

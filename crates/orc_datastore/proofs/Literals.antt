@@ -102,7 +102,7 @@ none_on name (n ∷ names) (t ∷ trees) h =
     ∙ ap (λ (l : List Put). l ++ puts_on name (writes_of names trees)) (other_rows n name (entries t) (other_way name n h.0))
     ∙ none_on name names trees h.1
 
--- none of these devices has a write in front
+-- none of these devices has a write before
 abbrev AreBare : List DevicePut → List (List ℕ) → Type 0
 AreBare front names = AllByRecursion (λ name. puts_on name front ≡ []) names
 

@@ -89,7 +89,7 @@ marks_none test marks none = record {
   each = λ d lt. sym (ap (λ t. is_marked marks d || t) (none d lt) ∙ or-false (is_marked marks d));
 }
 
--- two tests, one behind the other
+-- two tests, one after the other
 pub marks_both : (one two : ℕ → Bool) (marks marks' marks'' : List Bool) → AddsMarks one marks marks' → AddsMarks two marks' marks''
     → AddsMarks (λ d. one d || two d) marks marks''
 marks_both one two marks marks' marks'' a b = record {

@@ -82,7 +82,7 @@ later_unnamed devices None actions h =
     made = flat_map (new_services devices) actions
 later_unnamed devices (Some own) actions h = all_made_others devices own actions (not_true (is_named_by actions own) h)
 
--- the living services behind actions
+-- the living services after actions
 
 -- those of the services that none of the actions names
 abbrev pub unnamed : List Action → List Service → List Service

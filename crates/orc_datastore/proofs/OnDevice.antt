@@ -193,7 +193,7 @@ unmoved_writes (m ∷ ms) writes id p h =
     ap (λ t. cond t (put_at m.new p) (writes_after ms writes id p)) (or_first (is_same_text m.service id) (is_moved ms id) h)
     ∙ unmoved_writes ms writes id p (or_second (is_same_text m.service id) (is_moved ms id) h)
 
--- what services write behind a call is what the moves say
+-- what services have written after a call is what the moves say
 pub written-behind : (devices : List (List ℕ)) (before : List Service) (d : ℕ) (id : List ℕ) (p : List PathStep)
     (writes : List ℕ → List PathStep → Option Item) (actions : List Action) (live : List Service)
     → name_each_once actions ≡ true → writes id p ≡ written before d id p → writes id p ≡ written live d id p
@@ -241,7 +241,7 @@ written-behind devices before d id p writes (Delete own ∷ actions) live once f
         ∙ sym (ap (λ t. cond t None rest) is)
     on false is later = later (other_way own id is) ∙ sym (ap (λ t. cond t None rest) is)
 
-    -- one that doesn't live has nothing before or behind
+    -- one that doesn't live has nothing before or after
     away : (t : Bool) → is_same_text own id ≡ t → find (has_id own) before ≡ None
         → (names action id ≡ false → written (live_after devices actions (live_step devices live action)) d id p ≡ rest)
         → written (live_after devices (action ∷ actions) live) d id p ≡ rest

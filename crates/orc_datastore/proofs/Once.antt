@@ -1,4 +1,4 @@
--- No two living services have one name behind actions either.
+-- No two living services have one name after actions either.
 use Rattle.std.proofs.Common.{◌≡◌, ℕ, Bool, true, false, cond, not, List, [], ◌∷◌, ◌++◌, map, refl, sym, subst, append-nil}
 use Rattle.std.specs.List.{filter, AllByRecursion, IsDistinct}
 use Rattle.orc_call.specs.declared.call.Action.{Action}

@@ -127,7 +127,7 @@ pub placed_within : (slots : List (Option Service)) (places : List ℕ → Optio
     → places id ≡ Some place → place < length slots
 placed_within slots places is id place at = at_within slots id place (is.there id place at)
 
--- a service more behind the others
+-- one more service after the others
 
 at_cases : (slots : List (Option Service)) (s : Service) (id : List ℕ) (i : ℕ) → is_at (slots ++ Some s ∷ []) id i ≡ true
     → (is_at slots id i ≡ true) ⊎ ((i ≡ length slots) × (has_id id s ≡ true))

@@ -1,4 +1,4 @@
--- The stores in their places, and the living services, behind a call.
+-- The stores in their places, and the living services, after a call.
 use Rattle.std.proofs.Common.{◌≡◌, ℕ, zero, suc, ◌+◌, ◌<◌, Bool, true, false, cond, not, ◌&&◌, ◌||◌, List, [], ◌∷◌, ◌++◌, ◌⊎◌, inl, inr, map, length, All, None, Some, get_or, slice_get, slice_set, refl, sym, ap, subst, ◌∙◌, arith}
 use Rattle.std.specs.declared.option.Option.{Option}
 use Rattle.std.specs.Option.{option_or}
@@ -313,7 +313,7 @@ left-unnamed devices live (Literal own ws ∷ actions) = left_first devices live
 left-unnamed devices live (Delete own ∷ actions) = left_first devices live own (Delete own) actions (λ id. refl) (left-unnamed devices (others live own) actions)
 left-unnamed devices live (other ∷ actions) = left-unnamed devices live actions
 
--- the living services behind expanded actions are those that none of them names, and those that are made
+-- the living services after expanded actions are those that none of them names, and those that are made
 pub live-behind : (devices : List (List ℕ)) (live new : List Service) (actions : List Action) (ids : List (List ℕ)) (services : List Service)
     → name_each_once actions ≡ true → ids ≡ map turn_id (flat_map (turns_of devices) actions)
     → services ≡ flat_map comers (flat_map (turns_of devices) actions) → new ≡ left_by live ids ++ services → new ≡ live_after devices actions live
@@ -334,7 +334,7 @@ comers-fresh devices live actions ids services once is made =
     (sym (ap (left_by live) is ∙ left-unnamed devices live actions))
     (away_fresh devices rest actions once (away actions rest actions (λ id h. named_gone actions live id h))))
 
--- the state behind expanded actions
+-- the state after expanded actions
 pub after-is : (names : List (List ℕ)) (acts : List Action) (s : Datastore) (config : Config) (bases : List Config) (live : List Service)
     → bases ≡ bases_after names acts s.bases → live ≡ live_after names acts s.live
     → record { «data» = config; bases = bases; live = live } ≡ changed_by names acts config s

@@ -31,7 +31,7 @@ use Rattle.orc_datastore.proofs.Agreement.{first_in, later_in}
 
 -- what an action changes lies inside one of its targets
 
--- a front of a path below another is below it too, or on its way
+-- a prefix of a path below another is below it too, or on its way
 prefix_take : (entry path : List PathStep) (n : ℕ) → is_prefix entry path ≡ true → length entry ≤ n → is_prefix entry (take n path) ≡ true
 prefix_take [] path n h le = refl
 prefix_take (own ∷ entry) [] n h le = absurd (false≢true h)
@@ -203,7 +203,7 @@ changes_are_targets decls actions config path h differs = on (behind_changes dec
     on (inl one) = one
     on (inr same) = absurd (differs same)
 
--- so the data behind a lawful call differ inside its targets
+-- so the data after a lawful call differ inside its targets
 pub differs_inside : (decls : Decls) (actions : List Action) (config : Config) → All (λ action. IsTrue (is_action decls action)) actions
     → DiffersInside (call_targets actions) config (data_after actions config)
 differs_inside decls actions config lawful = λ path differs.

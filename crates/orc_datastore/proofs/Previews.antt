@@ -32,7 +32,7 @@ use Rattle.orc_datastore.proofs.OnDevice.{device-stays, moves_in}
 use Rattle.orc_datastore.proofs.Placing.{based, clash-none, clash-some, clear-more, laid_same, named_apart, tree-kept}
 use Rattle.orc_datastore.proofs.Ranges.{filter-more_no, filter-more_yes}
 
--- the base of a device behind actions
+-- the base of a device after actions
 base_is : (names : List (List ℕ)) (acts : List Action) (bases : List Config) (d : ℕ) → d < length names → length bases ≡ length names
     → config_of (bases_after names acts bases) d ≡ fold (base_step (name_of names d)) (config_of bases d) acts
 base_is [] acts bases d lt count = absurd (omega (arith, lt))
@@ -61,7 +61,7 @@ module _ (law : StoreIsOverlay) (s : Datastore) (names : List (List ℕ)) (acts 
   base_at : config_of s.bases d ≡ store.base
   base_at = ap (λ (z : Datastore). config_of z.bases d) (sym c.view) ∙ based stores d store at
 
-  -- and behind them
+  -- and after them
   tree_behind : (new : Store) → IsBehind names live acts d store.base new → new.tree ≡ tree_due (on_devices names acts s) d
   tree_behind new behind =
       let after = live_after names acts live in

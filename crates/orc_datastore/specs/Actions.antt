@@ -46,7 +46,7 @@ abbrev pub leave_service : Option (List PathStep) → Config → Config
 leave_service None config = config
 leave_service (Some path) config = drop_item config path
 
--- The data behind an action. Creating a service adds its entry and its body, modifying it replaces all below its entry
+-- The data after an action. Creating a service adds its entry and its body, modifying it replaces all below its entry
 -- by the body, and deleting it removes the entry and all below; its id is the entry's path text, and that of a literal
 -- service is no path's. Setting an item adds the entries on its way; removing a path that ends in keys removes that
 -- entry and all below it, and removing another one that leaf.
@@ -58,17 +58,17 @@ data_step config (Set put) = put_item config put.path put.item
 data_step config (Unset path) = drop_item config path
 data_step config other = config
 
--- the data behind actions, which are done in their order
+-- the data after actions, which are done in their order
 abbrev pub data_after : List Action → Config → Config
 data_after actions config = fold data_step config actions
 
--- the base of the device of this name behind an action
+-- the base of the device of this name after an action
 abbrev pub base_step : List ℕ → Config → Action → Config
 base_step name base (BasePut put) = if is_same_text put.device name then put_item base put.path put.item else base
 base_step name base (BaseRemove device path) = if is_same_text device name then drop_item base path else base
 base_step name base other = base
 
--- the bases of the devices of these names behind actions, which are done in their order
+-- the bases of the devices of these names after actions, which are done in their order
 abbrev pub bases_after : List (List ℕ) → List Action → List Config → List Config
 bases_after names actions [] = []
 bases_after [] actions (base ∷ bases) = base ∷ bases
@@ -80,11 +80,11 @@ abbrev pub new_services : List (List ℕ) → Action → List Service
 new_services devices (Literal id writes) = record { id = id; parts = expansion devices writes } ∷ []
 new_services devices other = []
 
--- the living services behind an action: the one that it names goes, and the one that it makes comes
+-- the living services after an action: the one that it names goes, and the one that it makes comes
 abbrev pub live_step : List (List ℕ) → List Service → Action → List Service
 live_step devices live action = filter (λ service. not (names action service.id)) live ++ new_services devices action
 
--- the living services behind actions
+-- the living services after actions
 abbrev pub live_after : List (List ℕ) → List Action → List Service → List Service
 live_after devices actions live = fold (live_step devices) live actions
 

@@ -43,7 +43,7 @@ unequal_among live device (row ∷ rows) =
     option_map_or (λ id. Some (row.0, id)) (least (map (λ service. service.id) (rivals live device row)))
     (unequal_among live device rows)
 
--- the same for the items of a living service and those of the other ones
+-- the least path at which one of a living service's items and one of another's differ, and the least such service
 abbrev pub unequal_of : List Service → ℕ → Service → Option (List PathStep × List ℕ)
 unequal_of live device service = unequal_among (others live service.id) device (entries (part service device))
 

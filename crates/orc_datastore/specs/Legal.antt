@@ -1,4 +1,4 @@
--- Which histories are legal, and what a call gets behind one.
+-- Which histories are legal, and what a call gets after one.
 use Rattle.std.specs.Prelude.{◌≡◌, ℕ, ◌+◌, List, [], ◌∷◌, All, IsTrue, slice_get, Option}
 use Rattle.std.specs.declared.option.Option.TheVariants.{None, Some}
 use Rattle.orc_call.specs.declared.call.Call.{Call}
@@ -30,15 +30,15 @@ pub record IsLegal (decls : Decls) (history : List Call) : Type 0 where
   pub unrefused : IsUnrefused decls (opening decls) history
   pub distinct : AreDistinct history
 
--- the state behind a history
+-- the state after a history
 abbrev pub state_of : Decls → List Call → Datastore
 state_of decls history = fold_from decls (opening decls) history
 
--- why a call is refused behind a history, if it is
+-- why a call is refused after a history, if it is
 abbrev pub refusal_of : Decls → List Call → Call → Option Answer
 refusal_of decls history call = refusal decls (state_of decls history) call
 
--- The answer that a call gets behind a history without a change. A call whose caller and number the history has: its
+-- The answer that a call gets after a history without a change. A call whose caller and number the history has: its
 -- entry again where the actions are equal, else that the number is taken. A new call: its refusal.
 pub data AnswersAtOnce (decls : Decls) (history : List Call) (call : Call) : Answer → Type 0 where
   again : (index : ℕ) → slice_get history index ≡ Some call → AnswersAtOnce decls history call (Committed (index + 1))

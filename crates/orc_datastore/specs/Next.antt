@@ -34,7 +34,7 @@ first_service_fault is_alive [] = None
 first_service_fault is_alive (action ∷ actions) =
     option_or (service_fault is_alive action) (first_service_fault is_alive actions)
 
--- the same of a call; each action is looked at in the state before the call
+-- the fault of an action of a call, and the first one of a call; each is looked at in the state before the call
 abbrev pub existence_of : List Service → Action → Option Answer
 existence_of live action = service_fault (lives live) action
 
@@ -53,7 +53,7 @@ serving_on decls config = record {
   view = record { items = config; shapes = shape_at decls.data_schema };
 }
 
--- What the actions of a call come to on a state, with the data behind all of them: each that creates, modifies or
+-- What the actions of a call come to on a state, with the data after all of them: each that creates, modifies or
 -- redeploys a service of a list is that of a literal one with the items of its expansion. Or the answer is the first
 -- that can't be expanded.
 abbrev pub expanded_call : Decls → Datastore → Call → Result (List Action) Answer
@@ -68,12 +68,12 @@ abbrev pub expanded_to : Result (List Action) Answer → List Action
 expanded_to (Ok actions) = actions
 expanded_to (Err answer) = []
 
--- the clash of the services that a call names with the other ones that live behind it
+-- the clash of the services that a call names with the other ones that live after it
 abbrev pub clash : List (List ℕ) → List Service → List Action → Option Answer
 clash devices live actions =
     let behind = live_after devices actions live in clash_from behind (touched actions behind) 0 devices
 
--- Why a call is refused, if it is: the first action at fault, else what is broken in the data behind all its actions,
+-- Why a call is refused, if it is: the first action at fault, else what is broken in the data after all its actions,
 -- else the first service that can't be expanded on it, else a clash.
 abbrev pub refusal_by : Decls → Datastore → Call → Result (List Action) Answer → Option Answer
 refusal_by decls state call actions = option_or (existence state.live call.actions) (option_or
@@ -84,7 +84,7 @@ refusal_by decls state call actions = option_or (existence state.live call.actio
 abbrev pub refusal : Decls → Datastore → Call → Option Answer
 refusal decls state call = refusal_by decls state call (expanded_call decls state call)
 
--- the state behind a call that is not refused, by what its actions come to
+-- the state after a call that is not refused, by what its actions come to
 abbrev pub after_by : Decls → Datastore → Call → List Action → Datastore
 after_by decls state call actions = record state {
   «data» = data_after call.actions state.data;

@@ -86,13 +86,13 @@ expansions_of s (Modify id body) = (id, written_parts (expansion_of s id)) ∷ [
 expansions_of s (Redeploy id) = (id, written_parts (expansion_of s id)) ∷ []
 expansions_of s other = []
 
--- those of a call on a state, on the data behind all its actions
+-- those of a call on a state, on the data after all its actions
 abbrev pub call_expansions : Decls → Datastore → Call → List (List ℕ × Expansion)
 call_expansions decls state call =
     flat_map (expansions_of (serving_on decls (data_after call.actions state.data))) call.actions
 
 -- Why a call can't be planned on a state, if it can't: the first action at fault, else what is broken in the data
--- behind all its actions, else the first service that can't be expanded on it.
+-- after all its actions, else the first service that can't be expanded on it.
 abbrev pub plan_refusal : Decls → Datastore → Call → Option Answer
 plan_refusal decls state call = option_or (existence state.live call.actions) (option_or
     (invalid decls.data_schema (data_after call.actions state.data))

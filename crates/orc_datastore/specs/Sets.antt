@@ -14,7 +14,7 @@ use Rattle.orc_datastore.specs.States.{Datastore, tree_due}
 use Rattle.orc_datastore.specs.Touched.{touched_among, touched_devices}
 use Rattle.orc_decls.specs.declared.declarations.Decls.{Decls}
 
--- the bases and the living services behind expanded actions, over the data as they are
+-- the bases and the living services after expanded actions, over the data as they are
 abbrev pub on_devices : List (List ℕ) → List Action → Datastore → Datastore
 on_devices names actions state = record state {
   bases = bases_after names actions state.bases;

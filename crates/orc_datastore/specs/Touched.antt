@@ -1,4 +1,4 @@
--- The devices that a call touches: those on which a service that it names writes, behind it or before it, and those
+-- The devices that a call touches: those on which a service that it names writes, before or after it, and those
 -- whose base it edits.
 use Rattle.std.specs.Prelude.{ℕ, Bool, false, ◌&&◌, ◌||◌, ◌==◌, not, List, length}
 use Rattle.std.specs.FinMap.{len}

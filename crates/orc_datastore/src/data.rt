@@ -109,7 +109,7 @@ fn any_on_data(actions: &[Action]) -> bool
     actions.iter().any(|action| is_on_data(action))
 }
 
-/// The data behind actions, done in their order.
+/// The data after actions, done in their order.
 pub(crate) fn data_after(alloc: Global, data: &Tree, actions: &[Action]) -> Result<Tree, Memory>
     requires { FitActions actions.now }
     ensures { IfOk result (λ tree. tree ≡ data_after actions.now «data».now) }
@@ -121,7 +121,7 @@ pub(crate) fn data_after(alloc: Global, data: &Tree, actions: &[Action]) -> Resu
     Ok(tree)
 }
 
-/// The data behind actions, or why they are refused before their services are expanded: the first
+/// The data after actions, or why they are refused before their services are expanded: the first
 /// action that creates a service that lives or names one that doesn't, else what is broken in the data.
 pub(crate) fn data_behind(
     alloc: Global,
@@ -147,8 +147,8 @@ pub(crate) fn data_behind(
     }
 }
 
-// What is broken in the data behind actions, if anything is. Literal services, redeploys and edits of
-// bases leave the data, which was valid: behind these alone it isn't looked at again. Else it is looked
+// What is broken in the data after actions, if anything is. Literal services, redeploys and edits of
+// bases leave the data, which was valid: after these alone it isn't looked at again. Else it is looked
 // at where the actions may have changed it.
 fn invalid_behind(
     alloc: Global,

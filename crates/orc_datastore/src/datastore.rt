@@ -34,13 +34,24 @@ use std::mem;
 
 /// The data; the store of each device, which has its base and its tree; and the living services, once
 /// with what they write and once as a snapshot knows them.
-#[derive(Drop)]
 pub struct Datastore {
     pub(crate) data: Tree,
     pub(crate) stores: Row<Refs>,
     pub(crate) live: Living,
-    // What lives on which devices, as `live` tells it too, in pages that a snapshot shares.
+    // What lives on which devices, as `live` says too, in pages that a snapshot shares.
     pub(crate) known: Tree,
+}
+
+// Written out, so that a crate above lets it go by one call, and proves nothing of stores and services.
+impl Drop for Datastore {
+    fn drop(self) {
+        let Datastore {
+            data: _,
+            stores: _,
+            live: _,
+            known: _,
+        } = self;
+    }
 }
 
 impl Model for Datastore {
@@ -121,7 +132,7 @@ impl Datastore {
         })
     }
 
-    // The data behind a call, or why it is refused before services are looked at.
+    // The data after a call, or why it is refused before services are looked at.
     pub(crate) fn data_behind(
         &self,
         alloc: Global,

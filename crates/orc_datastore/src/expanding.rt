@@ -13,7 +13,7 @@ use orc_text::{Memory, Row};
 use orc_tree::Tree;
 use std::alloc::Global;
 
-/// What actions come to, where these are the data behind all of them; or the first that can't be
+/// What actions come to, where these are the data after all of them; or the first that can't be
 /// expanded. What the expansions read is added.
 pub(crate) fn expanded_reading(
     alloc: Global,

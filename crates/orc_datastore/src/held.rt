@@ -78,7 +78,7 @@ fn touched_known(
     marked(alloc, marks.as_slice())
 }
 
-// The reads that are handed in, and behind them one of each of these services.
+// The reads that are handed in, and after them one of each of these services.
 fn with_services(alloc: Global, reads: ReadSet, services: &[Text]) -> Result<ReadSet, Memory>
     ensures { IfOk result (λ all. all.reads ≡ reads.reads ++ map read.Service services.now) }
 {

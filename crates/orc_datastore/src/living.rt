@@ -72,8 +72,8 @@ impl Living {
         let _ = &self.slots;
     }
 
-    /// Takes the services of these names away, where there are any, and puts others behind those that
-    /// are left. After want of memory all is as it was. It looks at no other service.
+    /// Takes the services of these names away, where there are any, and puts others after those that
+    /// are left. Where memory runs out all stays as it was. It looks at no other service.
     pub(crate) fn exchange(
         &mut self,
         alloc: Global,
@@ -136,7 +136,7 @@ fn note_name(alloc: Global, places: &mut BTreeMap<Text, usize>, id: &Text) -> Re
     }
 }
 
-// The same for each of these services.
+// Makes room for a place under the name of each of these services. What is noted stays.
 fn note_names(
     alloc: Global,
     places: &mut BTreeMap<Text, usize>,
@@ -181,7 +181,7 @@ fn take_out(slots: &mut Vec<Option<Service>>, places: &BTreeMap<Text, usize>, id
     }
 }
 
-// The same of each of these names.
+// Takes the services of these names out of their slots, where there are any.
 fn take_all(slots: &mut Vec<Option<Service>>, places: &BTreeMap<Text, usize>, ids: &[Text])
     requires { AreNoted slots.old.items places.now }
     ensures noted { AreNoted slots.new.items places.now }
@@ -193,7 +193,7 @@ fn take_all(slots: &mut Vec<Option<Service>>, places: &BTreeMap<Text, usize>, id
     }
 }
 
-// Puts a service into a slot behind the others, where there is room for one and for its name.
+// Puts a service into a slot after the others, where there is room for one and for its name.
 fn put_in(slots: &mut Vec<Option<Service>>, places: &mut BTreeMap<Text, usize>, service: Service)
     requires noted { AreNoted slots.old.items places.old }
     requires fresh { lives (filled slots.old.items) service.id ≡ false }
@@ -233,7 +233,7 @@ fn note_place(places: &mut BTreeMap<Text, usize>, id: &Text, place: usize)
     }
 }
 
-// Puts services into slots behind the others, in their order, where there is room for them and for
+// Puts services into slots after the others, in their order, where there is room for them and for
 // their names.
 fn put_all(
     slots: &mut Vec<Option<Service>>,

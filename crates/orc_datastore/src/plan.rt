@@ -18,11 +18,35 @@ use std::alloc::Global;
 /// The plan of a call: the front of the snapshot that it was made on; what the call holds; and, for each
 /// service of a list that it creates, modifies or redeploys, in the order of the actions, what its
 /// expansion writes on each device. What a literal service writes stands in the call itself.
-#[derive(Drop)]
 pub struct Plan {
     pub front: u64,
     pub held: Held,
     pub expansions: Row<(Text, Expansion)>,
+}
+
+// Written out, so that a crate above lets a plan go by one call.
+impl Drop for Plan {
+    fn drop(self) {
+        let Plan {
+            front: _,
+            held: _,
+            expansions: _,
+        } = self;
+    }
+}
+
+impl Plan {
+    /// What the call holds, without what its services write.
+    pub fn into_held(self) -> Held
+        ensures { result ≡ self.held }
+    {
+        let Plan {
+            front: _,
+            held,
+            expansions: _,
+        } = self;
+        held
+    }
 }
 
 // What a literal service writes, by the devices' numbers.
@@ -89,7 +113,7 @@ fn all_expansions(
     Ok(expansions)
 }
 
-/// The plan of actions with the data behind them, as a snapshot knows the living services, or the first
+/// The plan of actions with the data after them, as a snapshot knows the living services, or the first
 /// service that can't be expanded.
 pub(crate) fn planned_known(
     alloc: Global,

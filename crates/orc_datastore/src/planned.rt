@@ -15,8 +15,8 @@ use orc_tree::{ChangeSet, Tree};
 use std::alloc::Global;
 
 impl Datastore {
-    /// The data behind a call, or why it is refused before its services are looked at: the first action at
-    /// fault, else what is broken in the data behind all of them.
+    /// The data after a call, or why it is refused before its services are looked at: the first action at
+    /// fault, else what is broken in the data after all of them.
     pub fn data_after(
         &self,
         alloc: Global,
@@ -50,8 +50,8 @@ impl Datastore {
         sets_among(alloc, decls, self, actions)
     }
 
-    /// Does a call that comes to these actions and meets no clash, with the data behind it. After want of
-    /// memory the state is as it was.
+    /// Does a call that comes to these actions and meets no clash, with the data after it. Where memory
+    /// runs out the state stays as it was.
     pub fn perform(
         &mut self,
         alloc: Global,

@@ -24,11 +24,21 @@ use std::marker::Model;
 
 /// The front, the data, and what lives on which devices. Its trees share their pages with the state's
 /// until that changes them.
-#[derive(Drop)]
 pub struct Snapshot {
     pub(crate) front: u64,
     pub(crate) data: Tree,
     pub(crate) known: Tree,
+}
+
+// Written out, so that a crate above lets a snapshot go by one call.
+impl Drop for Snapshot {
+    fn drop(self) {
+        let Snapshot {
+            front: _,
+            data: _,
+            known: _,
+        } = self;
+    }
 }
 
 impl Model for Snapshot {
@@ -55,7 +65,7 @@ impl Snapshot {
     }
 
     /// The plan of a call on the state that the snapshot is of, or why there is none: the first action
-    /// at fault, else what is broken in the data behind all of them, else the first service that can't
+    /// at fault, else what is broken in the data after all of them, else the first service that can't
     /// be expanded. It asks that the snapshot is one of a state of these declarations, and looks at
     /// nothing else than the snapshot.
     pub fn plan(

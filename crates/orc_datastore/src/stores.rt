@@ -1,4 +1,4 @@
-//! The stores of the devices behind a call: where it touches a device, what its moves and edits make
+//! The stores of the devices after a call: where it touches a device, what its moves and edits make
 //! of a copy of that device's store, which then takes the store's place.
 ghost use Rattle.std.specs.Prelude.{◌≡◌, ℕ, ◌<◌, ◌≤◌, ◌^◌, ◌==◌, false, IfErr, IfOk, IsTrue, OnOk, length};
 ghost use Rattle.std.specs.List.{flat_map, list_all, list_any};
@@ -66,7 +66,7 @@ fn moved(
     }
 }
 
-// The store of a device behind actions, or the clash that they meet there.
+// The store of a device after actions, or the clash that they meet there.
 fn store_behind(
     alloc: Global,
     decls: &Decls,
@@ -88,7 +88,7 @@ fn store_behind(
     moved(alloc, store, moves.as_slice(), edits.as_slice(), device)
 }
 
-// The store of a device behind actions where they touch it, or the clash that they meet there; none of
+// The store of a device after actions where they touch it, or the clash that they meet there; none of
 // another device, whose store stays and is not looked at.
 fn change_of(
     alloc: Global,
@@ -118,7 +118,7 @@ fn change_of(
     }
 }
 
-/// The stores behind actions of the devices that are touched, by the numbers of the devices; or the
+/// The stores after actions of the devices that are touched, by the numbers of the devices; or the
 /// clash on the least device that has one.
 pub(crate) fn stores_behind(
     alloc: Global,

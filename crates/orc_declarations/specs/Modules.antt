@@ -33,14 +33,23 @@ has_long_part word (Some parts) = is_long_identifier parts.0 || is_long_identifi
 abbrev pub is_long_word : List ℕ → Bool
 is_long_word word = has_long_part word (cut_at 58 word)
 
+-- the keywords of operations, identities, features, extensions and bits
+unfoldable pub other_words : List (List ℕ)
+other_words =
+    codes "rpc" ∷ codes "action" ∷ codes "notification" ∷ codes "identity" ∷ codes "base" ∷ codes "feature"
+    ∷ codes "extension" ∷ codes "argument" ∷ codes "bit" ∷ []
+
+-- the keywords of statements that make nodes or name a type, and those above
+unfoldable pub node_words : List (List ℕ)
+node_words =
+    codes "container" ∷ codes "list" ∷ codes "leaf" ∷ codes "leaf-list" ∷ codes "type" ∷ codes "choice" ∷ codes "case"
+    ∷ codes "anydata" ∷ codes "anyxml" ∷ other_words
+
 -- the statements whose argument is a name, an identifier with or without a prefix (RFC 7950)
 unfoldable pub takes_name : List ℕ → Bool
 takes_name keyword = list_any (is_text keyword) (
-    codes "module" ∷ codes "import" ∷ codes "prefix" ∷ codes "typedef" ∷ codes "grouping" ∷ codes "container"
-    ∷ codes "list" ∷ codes "leaf" ∷ codes "leaf-list" ∷ codes "uses" ∷ codes "type" ∷ codes "choice" ∷ codes "case"
-    ∷ codes "anydata" ∷ codes "anyxml" ∷ codes "submodule" ∷ codes "include" ∷ codes "belongs-to" ∷ codes "rpc"
-    ∷ codes "action" ∷ codes "notification" ∷ codes "identity" ∷ codes "base" ∷ codes "feature" ∷ codes "extension"
-    ∷ codes "argument" ∷ codes "bit" ∷ [])
+    codes "module" ∷ codes "import" ∷ codes "prefix" ∷ codes "submodule" ∷ codes "include" ∷ codes "belongs-to"
+    ∷ codes "typedef" ∷ codes "grouping" ∷ codes "uses" ∷ node_words)
 
 -- the keyword, or the name that the argument is, has a part past the limit
 abbrev pub is_long_head : List ℕ → Option (List ℕ) → Bool

@@ -76,15 +76,7 @@ fn decls_of(alloc: Global, text: &[u8], declared: Declared) -> Result<Decls, Mem
 {
     let table = table_of(alloc, &declared)?;
     let text = Row::of_copies(alloc, text)?;
-    Ok(Decls::of_parts(
-        text,
-        declared.names,
-        declared.devices,
-        table,
-        declared.data_schema,
-        declared.data,
-        declared.services,
-    ))
+    Ok(declared.into_decls(text, table))
 }
 
 // What a device accepts. It shares the schema.

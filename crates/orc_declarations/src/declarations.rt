@@ -104,6 +104,8 @@ pub fn nothing_declared(alloc: Global) -> Result<Declared, Memory>
     ensures nothing { IfOk result (λ declared. declared ≡ nothing_declared) }
     ensures lawful { IfOk result AreDeclared }
 {
+    // Made before the rest, so that little is let go where memory runs out.
+    let data_schema = built_in_schema(alloc)?;
     let mut schemas = Row::new(alloc);
     schemas.push(Schema::plain(alloc))?;
     Ok(Declared {
@@ -116,7 +118,7 @@ pub fn nothing_declared(alloc: Global) -> Result<Declared, Memory>
         schemas,
         names: Names::new(alloc),
         devices: Row::new(alloc),
-        data_schema: built_in_schema(alloc)?,
+        data_schema,
         data: Row::new(alloc),
         templates: SortedNames::new(alloc),
         services: Row::new(alloc),

@@ -2,7 +2,8 @@
 ghost use Rattle.std.specs.Prelude.{◌≡◌};
 ghost use Rattle.std.specs.List.{list_any};
 ghost use Rattle.std.specs.Option.{option_copied};
-ghost use Rattle.orc_declarations.specs.Modules.{is_long_identifier, is_long_word, takes_name, is_long_head, has_long_name, module_name, module_of_statement, module_of};
+ghost use Rattle.orc_lines.specs.Words.{is_text};
+ghost use Rattle.orc_declarations.specs.Modules.{is_long_identifier, is_long_word, takes_name, node_words, other_words, is_long_head, has_long_name, module_name, module_of_statement, module_of};
 ghost use Rattle.orc_lines.specs.Rules.{of_option};
 ghost use Rattle.orc_declarations.specs.inside.Singles.{single};
 ghost use Rattle.orc_lines.specs.Answers.{ReadsLine};
@@ -39,24 +40,60 @@ fn is_long_word(word: &str) -> bool
     }
 }
 
-// Whether the argument of such a statement is a name.
+// Whether the argument of such a statement is a name. It hands on from table to table, since one
+// `match` on all these words takes long to prove.
 #[tactic(auto, unfolding(crate::specs::Modules::takes_name))]
 fn takes_name(keyword: &str) -> bool
     ensures { result ≡ takes_name keyword.now }
 {
     match keyword {
-        "module" | "import" | "prefix" | "typedef" | "grouping" | "container" => true,
-        "list"
+        "module"
+        | "import"
+        | "prefix"
+        | "submodule"
+        | "include"
+        | "belongs-to"
+        | "typedef"
+        | "grouping"
+        | "uses" => true,
+        _ => names_node(keyword),
+    }
+}
+
+// The same of the statements that make nodes, and of those below.
+#[tactic(auto, unfolding(crate::specs::Modules::node_words))]
+fn names_node(keyword: &str) -> bool
+    ensures { result ≡ list_any (is_text keyword.now) node_words }
+{
+    match keyword {
+        "container"
+        | "list"
         | "leaf"
         | "leaf-list"
-        | "uses"
         | "type"
         | "choice"
         | "case"
         | "anydata"
         | "anyxml" => true,
-        "submodule" | "include" | "belongs-to" | "rpc" | "action" | "notification" => true,
-        "identity" | "base" | "feature" | "extension" | "argument" | "bit" => true,
+        _ => names_other(keyword),
+    }
+}
+
+// The same of the others.
+#[tactic(auto, unfolding(crate::specs::Modules::other_words))]
+fn names_other(keyword: &str) -> bool
+    ensures { result ≡ list_any (is_text keyword.now) other_words }
+{
+    match keyword {
+        "rpc"
+        | "action"
+        | "notification"
+        | "identity"
+        | "base"
+        | "feature"
+        | "extension"
+        | "argument"
+        | "bit" => true,
         _ => false,
     }
 }

@@ -28,7 +28,7 @@ use Rattle.orc_decls.specs.Openings.{fits_puts}
 use Rattle.orc_decls.specs.Openings.{put_all}
 use Rattle.orc_decls.specs.inside.Orders.{is_at, KeepsOrder}
 
--- what stands at a path behind the putting of an item there or below it
+-- what stands at a path after an item is put there or below it
 abbrev set_at : (here way : Bool) → Item → Option Item → Option Item
 set_at here way item old = cond here (Some item) (cond way (Some Entry) old)
 
@@ -232,7 +232,7 @@ filter-referred p (x ∷ xs) = ap (λ zs. cond (p x.now) (x.now ∷ zs) zs) (fil
     on true = refl
     on false = refl
 
--- the same of references
+-- a stable sort of references by the paths keeps the order of those at one path
 pub sorted-keeps_referred : (xs ys : List (Bor Put)) → IsStableBy (λ one other. is_before one.now other.now) xs ys → KeepsOrder (referred xs) (referred ys)
 sorted-keeps_referred xs ys stable q =
     let here : Bor Put = record { ref_ptr = (0, 0); now = record { path = q; item = Entry } } in

@@ -11,6 +11,6 @@ is_among names name = list_any (is_same_text name) names
 abbrev pub place_of : List (List ℕ) → List ℕ → Option ℕ
 place_of names name = position (is_same_text name) names
 
--- the names, and this one behind them where it is new
+-- the names, and this one after them where it is new
 abbrev pub with_name : List (List ℕ) → List ℕ → List (List ℕ)
 with_name names name = if is_among names name then names else names ++ name ∷ []

@@ -8,15 +8,15 @@ use Rattle.orc_call.specs.declared.call.Action.TheVariants.{Create, Modify, Rede
 use Rattle.orc_call.specs.declared.call.DevicePut.{DevicePut}
 use Rattle.orc_call.specs.declared.call.Put.{Put}
 
--- the line of a write behind a word: the device's name, the item and where it stands
+-- the line of a write after a word: the device's name, the item and where it stands
 abbrev pub write_line : List ℕ → DevicePut → List ℕ
 write_line word write = word ++ write.device ++ codes " " ++ item_text write.path write.item ++ codes "\n"
 
--- the line of an item of a service's body behind a word
+-- the line of an item of a service's body after a word
 abbrev pub body_line : List ℕ → Put → List ℕ
 body_line word put = word ++ item_text put.path put.item ++ codes "\n"
 
--- The lines of an action, where each item that it brings stands behind this word: those of a service's body, in path
+-- The lines of an action, where each item that it brings stands after this word: those of a service's body, in path
 -- order, and the writes of a literal one. The body's JSON text isn't said.
 abbrev pub action_lines : List ℕ → Action → List ℕ
 action_lines word (Create id body) = codes "create " ++ id ++ codes "\n" ++ flat_map (body_line word) body

@@ -19,7 +19,6 @@ pub const MOST_DEVICES: usize = 256;
 /// A declared device: its name, the place of its schema among those declared, and, each in the order
 /// of its lines, the items of its base, the lists that may have so many entries at most, and the
 /// leaves that may not have a text.
-#[derive(Drop)]
 pub struct Device {
     pub name: Text,
     pub schema: u32,
@@ -28,8 +27,20 @@ pub struct Device {
     pub forbid: Row<(Path, Text)>,
 }
 
+// Written out, as that of `Decls`.
+impl Drop for Device {
+    fn drop(self) {
+        let Device {
+            name: _,
+            schema: _,
+            base: _,
+            max: _,
+            forbid: _,
+        } = self;
+    }
+}
+
 /// The declarations, all in the order of the bundle's lines.
-#[derive(Drop)]
 pub struct Decls {
     text: Row<u8>,
     names: Names,
@@ -39,6 +50,22 @@ pub struct Decls {
     data_schema: Schema,
     data: Row<Put>,
     services: Row<ServiceList>,
+}
+
+// Written out, so that a crate above lets declarations go by one call, and doesn't prove at each exit
+// that each field goes.
+impl Drop for Decls {
+    fn drop(self) {
+        let Decls {
+            text: _,
+            names: _,
+            devices: _,
+            table: _,
+            data_schema: _,
+            data: _,
+            services: _,
+        } = self;
+    }
 }
 
 impl Model for Decls {

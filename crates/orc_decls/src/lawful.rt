@@ -21,8 +21,8 @@ use std::alloc::Global;
 /// The most writes of a literal service.
 pub const MOST_WRITES: usize = 16_777_216;
 
-/// Whether a call block under these declarations can give the call. It wants memory for the path of a
-/// service alone.
+/// Whether a call block under these declarations can give the call. It takes memory only for the path
+/// of a service.
 pub fn is_call(alloc: Global, decls: &Decls, call: &Call) -> Result<bool, Memory>
     ensures { IfOk result (λ lawful. lawful ≡ is_call decls.now call.now) }
 {

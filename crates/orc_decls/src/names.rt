@@ -11,9 +11,15 @@ use std::alloc::Global;
 use std::marker::Model;
 
 /// Names, of which no two are equal, numbered from 0 in the order in which they came.
-#[derive(Drop)]
 pub struct Names {
     names: IndexSet<Text>,
+}
+
+// Written out, so that a crate above lets names go by one call.
+impl Drop for Names {
+    fn drop(self) {
+        let Names { names: _ } = self;
+    }
 }
 
 impl Model for Names {
@@ -64,7 +70,7 @@ impl Names {
         self.names.contains(name)
     }
 
-    /// Adds a name behind the others where it is new. After want of memory they are as they were.
+    /// Adds a name after the others where it is new. Where memory runs out they stay as they were.
     pub fn add(&mut self, name: Text) -> Result<(), Memory>
         ensures ok { OnOk result (self.new ≡ with_name self.old name) }
         ensures err { OnErr result (self.new ≡ self.old) }

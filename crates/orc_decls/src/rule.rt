@@ -11,7 +11,7 @@ pub enum Rule {
     Utf8,
     /// The first line that is not skipped is not `orc 1`, or there is none.
     Header,
-    /// The line has no form that may stand there, or what its form needs behind it is missing.
+    /// The line has no form that may stand there, or what its form needs after it is missing.
     Line,
     /// A path is not in the grammar, not in its schema, or one that the line may not name.
     Path,

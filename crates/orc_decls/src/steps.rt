@@ -8,7 +8,7 @@ use orc_path::{Name, Path, Step};
 use orc_text::{Memory, Row, Text};
 use std::alloc::Global;
 
-// The name of a node. Each text that is asked for is one, so that memory alone may be wanting.
+// The name of a node. Each text that is asked for is one, so it fails only where memory runs out.
 fn name_of(alloc: Global, text: &str) -> Result<Name, Memory>
     ensures { IfOk result (λ name. name ≡ text.now) }
 {

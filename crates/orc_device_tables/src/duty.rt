@@ -82,7 +82,7 @@ impl Duty {
         Ok(report.as_str() == wanted)
     }
 
-    /// Tells the decision.
+    /// Gives the worker the decision.
     pub(crate) fn go(&mut self, word: &str) -> Result<bool, Undone> {
         let commit = is_commit(word)?;
         match self {
@@ -126,7 +126,7 @@ fn worker_took(
     Ok(shown)
 }
 
-// The same of a reconciliation.
+// Takes a reply to the operation due for a reconciliation.
 fn mender_took(
     alloc: Global,
     mender: &mut Mender,
@@ -141,7 +141,7 @@ fn mender_took(
     Ok(shown)
 }
 
-// Tells a worker that waits for it the decision.
+// Gives a worker the decision that it waits for.
 fn told(worker: &mut Worker, commit: bool) -> Result<bool, Undone> {
     if !worker.is_waiting() {
         return Err(Undone);

@@ -13,7 +13,8 @@
 //! - `running ITEMS`: this is what it runs
 //! - `as N OP > REPLY`: what a session asks for, and is answered
 //! - `fail OP before`, `fail OP after`: the next operation of this kind fails on the link
-//! - `link OP > REPLY`, `faults N`: the same of the link's session; how often it failed
+//! - `link OP > REPLY`, `faults N`: what the link's session asks for, and is answered; how often the
+//!   link failed
 //! - `worker T CHANGES`, `mender T commit, T abort > ITEMS`: the work of a transaction, or of a
 //!   reconciliation with these transactions and this tree due
 //! - `due OP`, `due none`: the operation that is due for it

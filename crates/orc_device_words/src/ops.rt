@@ -51,7 +51,7 @@ pub fn kind_of(name: &str) -> Result<OpKind, Undone> {
     }
 }
 
-// The same of the other names.
+// The kind of operations of one of the other names.
 fn later_kind(name: &str) -> Result<OpKind, Undone> {
     match name {
         "Confirm" => Ok(OpKind::Confirm),

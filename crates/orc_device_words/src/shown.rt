@@ -9,13 +9,13 @@ use orc_tree::{Change, ChangeSet, Tree};
 use orc_worker::{Outcome, Report};
 use std::alloc::Global;
 
-// Adds a text and a number behind it.
+// Adds a text and a number after it.
 fn push_numbered(alloc: Global, out: &mut String, name: &str, number: u64) -> Result<(), Undone> {
     out.push_str(format!(in alloc; "{name} {number}")?.as_str())?;
     Ok(())
 }
 
-// Adds what stands in front of an item or a change.
+// Adds what stands before an item or a change.
 fn push_bar(out: &mut String, first: bool) -> Result<(), Undone> {
     match first {
         true => out.push_str(" ")?,

@@ -97,7 +97,7 @@ pub fn tag_word(tag: Tag) -> &'static str {
     }
 }
 
-/// The parts in front of ` > ` and behind it.
+/// The parts before ` > ` and after it.
 pub fn parted(line: &str) -> Result<(&str, &str), Undone> {
     match line.split_once(" > ") {
         Some(parts) => Ok(parts),

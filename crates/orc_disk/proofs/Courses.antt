@@ -1,4 +1,4 @@
--- Rows of operations of a disk, one behind the other.
+-- Rows of operations of a disk, one after the other.
 use Rattle.std.specs.Prelude.{◌≡◌, ℕ, ◌+◌, ◌<◌, ◌≤◌, Bool, true, false, ◌||◌, List, [], ◌++◌, Result, Ok, Err, OnOk, is_err}
 use Rattle.std.proofs.Common.{arith, refl}
 use Rattle.orc_disk.specs.Rows.{Course, joined, row}
@@ -26,7 +26,7 @@ module _ {D : Type 0} (disk : DiskMeaning D)
   one_more-Ok (Ok x) m n a b c first second = row-trans m n false false a b c first second
   one_more-Ok (Err e) m n a b c first second = tt
 
-  -- operations that went well, and then some behind which one failed
+  -- operations that went well, and then some after which one failed
   pub FailsBehind-later : (m n : ℕ) (a b c : D) → disk.leads (row m false) a b → FailsBehind disk n b c → FailsBehind disk (m + n) a c
   FailsBehind-later m n a b c first second = (second.0, row-trans m n false false a b second.0 first second.1, second.2)
 
@@ -59,7 +59,8 @@ FailsAmong-weaker disk m n a b P Q le more fails = record {
   known = more fails.done fails.fewer fails.known;
 }
 
--- where a disk that ran was stopped by an operation that failed, the armed operation is that one: the next behind those that were done
+-- where a disk that ran was stopped by an operation that failed, the armed operation is that one: the next after those
+-- that were done
 pub stopped_behind : {D : Type 0} (disk : DiskMeaning D) (done : ℕ) (a b : Stopping D) → FailsBehind (inside disk) done a b
     → a.stopped ≡ false → b.stopped ≡ true → (a.op ≡ done + 1) × (b.op ≡ 0)
 stopped_behind disk done a b fails running stopped =

@@ -20,7 +20,7 @@ changes_of-more older (Write at len ∷ stored) change store =
     ∙ ap (λ (l : List ℕ). change_of change l ∷ changes_of (Some (at, take len store) ∷ older) stored (drop len store)) (drop-drop (written_count stored) len store)
 changes_of-more older (Sync ∷ stored) change store = changes_of-more (None ∷ older) stored change store
 
--- bytes behind those of the stored change nothing
+-- bytes after those of the stored change nothing
 pub changes_of-append : (older : List FileChange) (stored : List Change) (store more : List ℕ) → written_count stored ≤ length store
     → changes_of older stored (store ++ more) ≡ changes_of older stored store
 changes_of-append older [] store more le = refl
@@ -112,7 +112,7 @@ changes_of-take stored i d store from lt is =
     ap (λ (l : List Change). changes_of [] l store) ((take_at_read stored i d lt).1) ∙ changes_of-more [] (take i stored) (get_or stored i d) store
     ∙ ap (λ (l : List ℕ). change_of (get_or stored i d) l ∷ changes_of [] (take i stored) store) (ap (λ (n : ℕ). drop n store) (sym is) ∙ sym (take_rest store from))
 
--- the bytes of a change stand behind those of the stored before it
+-- the bytes of a change stand after those of the stored before it
 pub written_count-fits : (stored : List Change) (i : ℕ) (d : Change) (store : List ℕ) (from : ℕ) → i < length stored → from ≡ written_count (take i stored)
     → written_count stored ≡ length store → from + written_count (get_or stored i d ∷ []) ≤ length store
 written_count-fits stored i d store from lt is all = omega (arith, is, all, written_count-more stored i d lt, written_count-take stored (i + 1))

@@ -17,10 +17,10 @@ pub put_tears : {T E : Type 0} (r : Result T E) (at n from m : ℕ) (old mid new
     → Torn at n old mid → at ≤ from → from + m ≤ at + n → OnOk r (Torn at n old new)
 put_tears r at n from m old mid new tears tore after before = on_ok_weaker r (λ t. Torn-trans at n old mid new tore (Torn-within at n from m mid new after before t)) tears
 
--- more bytes behind the end, after what tore no more than a range
+-- more bytes after the end, once a range at most was torn
 pub append_tore : {T E : Type 0} (r : Result T E) (at n : ℕ) (old mid new more : List ℕ) → Torn at n old mid → OnOk r (new ≡ mid ++ more) → OnOk r (Torn at n old new)
 append_tore r at n old mid new more tore = on_ok_weaker r (λ e. Torn-trans at n old mid new tore (subst (Torn at n mid) (sym e) (Torn-append at n mid more)))
 
--- a front ends where it may
+-- a prefix ends where it may
 pub take_within : {A : Type 0} (n : ℕ) (xs : List A) (from end : ℕ) → from + n ≤ end → from + length (take n xs) ≤ end
 take_within n xs from end le = grind (arith, le, length-take n xs)

@@ -10,7 +10,7 @@ LeavesNoMore-synced old now used is c left =
     let image = subst (λ (h : History). IsImage h.start h.changes c) is left in
     subst (IsImage old.start old.changes) (sym image.2) (IsImage-content old.start old.changes)
 
--- the same where the history before is known by another name
+-- no more may be left after a sync, where the history before it is known by another name
 pub LeavesNoMore-sync : (old seen now : History) (used : ℕ) → seen ≡ old → now ≡ changed seen None used → LeavesNoMore (IsImage old.start old.changes) (IsImage now.start now.changes)
 LeavesNoMore-sync old seen now used same is =
     subst (λ (h : History). LeavesNoMore (IsImage h.start h.changes) (IsImage now.start now.changes)) same (LeavesNoMore-synced seen now used is)

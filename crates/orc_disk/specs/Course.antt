@@ -10,7 +10,7 @@ pub record Counted (failed : Bool) (before now : ℕ) : Type 0 where
   pub later : before ≤ now
   pub rose : failed ≡ true → Rose before now
 
--- the counts of faults, and of writes and syncs, before a row of operations and behind it, and what reads gave so far
+-- the counts of faults, and of writes and syncs, before a row of operations and after it, and what reads gave so far
 pub record Tallied (course : Course) (faults faults_now ops ops_now : ℕ) (heard heard_now : List (ℕ × List ℕ))
     : Type 0 where
   pub faulted : Counted course.failed faults faults_now
@@ -41,7 +41,7 @@ module _ {D : Type 0} (disk : DiskMeaning D) where
   abbrev pub FailsBehind : ℕ → D → D → Type 0
   FailsBehind done old new = (last : D) × disk.leads (row done false) old last × disk.leads (row 1 true) last new
 
-  -- Of a row of so many writes and syncs some were done, fewer than all; then an operation failed, and none came behind
+  -- Of a row of so many writes and syncs some were done, fewer than all; then an operation failed, and none came after
   -- it. P says what is known where so many were done.
   pub record FailsAmong (operations : ℕ) (old new : D) (P : ℕ → Type 0) : Type 0 where
     pub done : ℕ

@@ -1,10 +1,10 @@
--- What a disk tells of itself.
+-- What a disk reports about itself.
 use Rattle.std.specs.Prelude.{ℕ, List, Option}
 use Rattle.orc_disk.specs.Rows.{Course}
 
--- The words in which a disk tells of itself. Operations are its four kinds of calls.
+-- The words in which a disk reports about itself. Operations are its four kinds of calls.
 pub record DiskMeaning (D : Type 0) : Type 1 where
-  -- what a read gives, where the disk tells it
+  -- what a read gives, where the disk reports it
   pub content : D → Option (List ℕ)
   -- the images that a crash now may leave
   pub may_leave : D → List ℕ → Type 0

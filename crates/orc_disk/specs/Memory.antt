@@ -1,4 +1,4 @@
--- What contracts see of a disk in memory, and what it tells of itself.
+-- What contracts see of a disk in memory, and what it reports about itself.
 use Rattle.std.specs.Prelude.{◌≡◌, ℕ, ◌+◌, List, ◌++◌, length, Some, None}
 use Rattle.orc_text.specs.Counts.{capped}
 use Rattle.orc_io.specs.Counts.{next_count}
@@ -28,7 +28,7 @@ disk_content disk = content_of disk.history.start disk.history.changes
 abbrev pub memory_ops : MemoryDisk → ℕ
 memory_ops disk = capped (disk.writes + disk.syncs)
 
--- It tells all. A write that fails puts nothing.
+-- It reports all. A write that fails puts nothing.
 abbrev pub memory_disk : DiskMeaning MemoryDisk
 memory_disk = record {
   content = λ disk. Some (disk_content disk);
@@ -60,20 +60,20 @@ write_came disk = record disk { writes = next_count disk.writes }
 abbrev pub sync_came : MemoryDisk → MemoryDisk
 sync_came disk = record disk { syncs = next_count disk.syncs }
 
--- the same where that operation failed
+-- the disk after an operation failed
 abbrev pub op_failed : MemoryDisk → MemoryDisk
 op_failed disk = record disk { faults = next_count disk.faults }
 
--- the same where it was a read, which gave these bytes
+-- the disk after a read was done, which gave these bytes
 abbrev pub read_done : MemoryDisk → List (ℕ × List ℕ) → MemoryDisk
 read_done disk gave = record disk { heard = disk.heard ++ gave }
 
--- the same where it was a write, which was done
+-- the disk after a write was done
 abbrev pub write_done : MemoryDisk → ℕ → List ℕ → MemoryDisk
 write_done disk at bytes = record disk {
   history = changed disk.history (Some (at, bytes)) (length bytes + CHANGE_ROOM);
 }
 
--- the same where it was a sync, which was done
+-- the disk after a sync was done
 abbrev pub sync_done : MemoryDisk → MemoryDisk
 sync_done disk = record disk { history = changed disk.history None CHANGE_ROOM }

@@ -5,7 +5,7 @@ use Rattle.orc_disk.specs.Meanings.{DiskMeaning}
 
 module _ {D : Type 0} (disk : DiskMeaning D) where
   -- What one operation adds to the images of earlier moments: a crash since such a moment may have left what it may
-  -- have left before the operation, or what a crash may leave behind it.
+  -- have left before the operation, or what a crash may leave after it.
   pub record Elapses (old new : D) : Type 0 where
     pub later : disk.moment old ≤ disk.moment new
     pub nothing_else : (since : ℕ) (file : List ℕ) → since ≤ disk.moment old
@@ -24,7 +24,7 @@ module _ {D : Type 0} (disk : DiskMeaning D) where
     pub later : disk.moment old ≤ disk.moment new
     pub each : (file : List ℕ) → disk.left_since new (disk.moment old) file → P file
     -- For rows that began before this one: a crash since an earlier moment leaves what it might have left before, or a
-    -- file that has P. So rows can be put behind one another.
+    -- file that has P. So rows can be put one after another.
     pub earlier_rows : (since : ℕ) (file : List ℕ) → since ≤ disk.moment old
         → disk.left_since new since file → disk.left_since old since file ⊎ P file
 

@@ -1,4 +1,4 @@
--- What a real file tells of itself.
+-- What a real file reports about itself.
 use Rattle.std.specs.Prelude.{ℕ, List, ◌++◌, None}
 use Rattle.orc_text.specs.Counts.{capped}
 use Rattle.orc_io.specs.Counts.{next_count}
@@ -12,7 +12,7 @@ pub record RealFile : Type 0 where
   pub ops : ℕ
   pub heard : List (ℕ × List ℕ)
 
--- It tells these. Of a write or a sync that fails nothing is known.
+-- It reports these. Of a write or a sync that fails nothing is known.
 abbrev pub file_disk : DiskMeaning RealFile
 file_disk = record {
   content = λ _. None;

@@ -115,7 +115,7 @@ pub record Led {D : Type 0} (disk : DiskMeaning D) (course : Course) (old new : 
   -- where one failed, an operation of the disk inside failed, or it is stopped
   pub cause : course.failed ≡ true → (inner_course.failed ≡ true) ⊎ ((new.stopped ≡ true) × Rose old.stops new.stops)
 
--- it tells what the disk inside tells, counts its own faults too and what it was asked for, and tells where it was
+-- it reports what the disk inside reports, counts its own faults too and what it was asked for, and says where it was
 -- stopped
 abbrev pub inside : {D : Type 0} → DiskMeaning D → DiskMeaning (Stopping D)
 inside disk = record {

@@ -21,13 +21,13 @@ pub enum DiskOp {
     Sync,
 }
 
-/// One file. It may tell what it holds and what a crash may leave of it.
+/// One file. It may report what it holds and what a crash may leave of it.
 ///
 /// Between two syncs each written range and all past the length at the last sync may hold any bytes
 /// after a crash, and bytes outside stay. After a sync that succeeds a crash leaves what a read
 /// gives.
 pub trait Disk: Drop {
-    /// What the disk tells of itself: its content, the files that a crash may leave, how often it
+    /// What the disk reports about itself: its content, the files that a crash may leave, how often it
     /// failed, what its reads gave, where its operations led, and what one that failed did.
     ghost disk: { DiskMeaning Self };
 
@@ -76,7 +76,7 @@ pub trait Disk: Drop {
     /// Since this moment there is no other.
     ghost only_now: { (d : Self) (file : List ℕ) → disk.left_since d (disk.moment d) file → disk.may_leave d file };
 
-    /// A disk that doesn't tell what it holds has no image, at no moment.
+    /// A disk that doesn't report what it holds has no image, at no moment.
     ghost untold_has_no_image: { (d : Self) (since : ℕ) (file : List ℕ)
         → disk.left_since d since file → is_some (disk.content d) ≡ true };
 
@@ -91,7 +91,7 @@ pub trait Disk: Drop {
     ghost goes_on: { (first second : Course) (a b c : Self)
         → disk.leads first a b → disk.leads second b c → disk.leads (joined first second) a c };
 
-    /// The count of faults tells of failed operations.
+    /// The count of faults reports failed operations.
     ghost counts: { (course : Course) (a b : Self)
         → disk.leads course a b → Counted course.failed (disk.faults a) (disk.faults b) };
 
@@ -99,7 +99,7 @@ pub trait Disk: Drop {
     ghost counts_ops: { (course : Course) (a b : Self)
         → disk.leads course a b → disk.ops b ≡ capped (disk.ops a + course.operations) };
 
-    /// What its reads gave in a row of operations stands behind what they gave before.
+    /// What its reads gave in a row of operations stands after what they gave before.
     ghost tells_reads: { (course : Course) (a b : Self)
         → disk.leads course a b → disk.heard b ≡ disk.heard a ++ course.gave };
 }

@@ -1,4 +1,4 @@
-//! A real file as a disk, which tells nothing of its content.
+//! A real file as a disk, which reports nothing of its content.
 ghost use Rattle.std.specs.Prelude.{◌≡◌, Ok, MatchResult, IsErr, IfOk, OnOk, OnErr, []};
 ghost use Rattle.std.specs.Io.{ReadsAtMost};
 ghost use Rattle.orc_io.specs.Counts.{HasCause};

@@ -61,7 +61,7 @@ pub(crate) fn put(file: &mut Vec<u8>, at: usize, bytes: &[u8]) -> Result<(), All
     file.extend_from_slice(&bytes[inside..])
 }
 
-// The same where there is memory for it.
+// Puts bytes as `put` does, where there is memory for them.
 fn put_within(file: &mut Vec<u8>, at: usize, bytes: &[u8])
     requires { vec_len file.old + length bytes.now ≤ vec_capacity file.old }
     ensures items { file.new.items ≡ written at bytes.now file.old.items }
@@ -158,7 +158,7 @@ impl Kept {
 
     // One file that a crash now may leave, by choice. With 0 no write since the last sync outlives
     // it, and with 3 each does. With others parts of these writes do, or other bytes in their
-    // ranges, or more bytes behind the end.
+    // ranges, or more bytes after the end.
     pub(crate) fn image(&self, alloc: Global, choice: u64) -> Result<Vec<u8>, Memory>
         ensures image { IfOk result (λ image. IsImage self.now.start self.now.changes image.items) }
         ensures none { choice ≡ 0 → IfOk result (λ image. image.items ≡ synced_of self.now.start self.now.changes) }

@@ -1,10 +1,10 @@
 //! Files that outlive crashes, and what a crash at any moment may leave of them.
 //!
-//! A `Disk` tells, where it can, what a read gives, which images a crash now may leave, and which a
+//! A `Disk` reports, where it can, what a read gives, which images a crash now may leave, and which a
 //! crash at some moment since an earlier one may have left. Operations are its four kinds of calls:
 //! its length, reads, writes and syncs. `MemDisk` is such a file in memory, which fails at chosen
 //! operations and shows crash images. `StopDisk` stops another disk inside a write or a sync.
-//! `FileDisk` is a real file, which tells only what its reads gave.
+//! `FileDisk` is a real file, which reports only what its reads gave.
 #![tactic(auto)]
 
 mod disk;

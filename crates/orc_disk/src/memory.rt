@@ -1,4 +1,4 @@
-//! A disk in memory, which tells everything and fails at chosen operations.
+//! A disk in memory, which reports everything and fails at chosen operations.
 ghost use Rattle.std.specs.Prelude.{◌≡◌, ◌⊎◌, ◌+◌, ◌-◌, ◌<◌, ◌≤◌, ◌↔◌, [], length, IfOk, OnOk, OnErr, IsErr, IsTrue, Contains, min, take, drop, ◌++◌, true};
 ghost use Rattle.std.specs.Io.{ReadsAtMost};
 ghost use Rattle.orc_io.specs.Counts.{next_count};
@@ -107,7 +107,7 @@ impl MemDisk {
 
     /// One file that a crash now may leave, by choice. With 0 no write since the last sync outlives
     /// it, and with 3 each does. With others parts of these writes do, or other bytes in their
-    /// ranges, or more bytes behind the end.
+    /// ranges, or more bytes after the end.
     pub fn image(&self, alloc: Global, choice: u64) -> Result<Vec<u8>, Memory>
         ensures image { IfOk result (λ image. memory_disk.may_leave self.now image.items) }
         ensures none { choice ≡ 0 → IfOk result

@@ -60,7 +60,7 @@ impl<D: Disk> StopDisk<D> {
     /// 1 among the writes and syncs from now on; with 0 none does. Where that is a write, its first
     /// `bytes` bytes are put, or all where it has fewer. Where it is a sync, it is done exactly
     /// where `bytes` is at least 1.
-    /// Where the disk inside fails that operation, its count of faults alone tells so.
+    /// Where the disk inside fails that operation, its count of faults alone reports it.
     pub fn arm(&mut self, op: u64, bytes: u64)
         ensures { self.new ≡ record self.old { op = op; bytes = bytes } }
     {
@@ -121,7 +121,7 @@ impl<D: Disk> StopDisk<D> {
         armed
     }
 
-    // Puts what the armed write still puts, and tells nothing of how that went.
+    // Puts what the armed write still puts, and doesn't say how that went.
     fn put_front(&mut self, at: u64, bytes: &[u8])
         requires { ForSome (D.disk.content self.old.inner) (λ file. at ≤ length file) }
         ensures state { self.new ≡ record self.old { inner = self.new.inner } }
@@ -142,7 +142,7 @@ impl<D: Disk> StopDisk<D> {
         let _ = self.inner.write_at(at, &bytes[..count]);
     }
 
-    // Does the armed sync where it is to be done, and tells nothing of how that went.
+    // Does the armed sync where it is to be done, and doesn't say how that went.
     fn sync_last(&mut self)
         ensures state { self.new ≡ record self.old { inner = self.new.inner } }
         ensures unchanged { Unchanged D.disk self.old.inner self.new.inner }

@@ -19,16 +19,16 @@ fn put_range(file: &mut Vec<u8>, at: usize, bytes: &[u8]) -> Result<(), AllocErr
     put(file, at, bytes)
 }
 
-// Adds bytes behind the end.
+// Adds bytes after the end.
 fn lengthen(file: &mut Vec<u8>, bytes: &[u8]) -> Result<(), AllocError>
     ensures { OnOk result (file.new.items ≡ file.old.items ++ bytes.now) }
 {
     file.extend_from_slice(bytes)
 }
 
-// Puts a part of a write, or the whole with more. The last two bits of `choice` say how: a front of
-// it; a front of it and other bytes behind; the whole with other bytes in its front; the whole with
-// other bytes behind the end of the file. The next four bits say how much, and all but the last two
+// Puts a part of a write, or the whole with more. The last two bits of `choice` say how: a prefix of
+// it; a prefix of it and other bytes after that; the whole with other bytes over its start; the whole
+// with other bytes after the end of the file. The next four bits say how much, and all but the last two
 // which other byte.
 fn tear_apart(file: &mut Vec<u8>, at: usize, bytes: &[u8], choice: u64) -> Result<(), AllocError>
     ensures { OnOk result (Torn at (length bytes.now) file.old.items file.new.items) }
@@ -67,7 +67,7 @@ fn tear(file: &mut Vec<u8>, at: usize, bytes: &[u8], choice: u64) -> Result<(), 
     }
 }
 
-// Makes one change in a whole file and in a torn one. Behind a sync the torn file is the
+// Makes one change in a whole file and in a torn one. After a sync the torn file is the
 // whole one.
 fn step(
     whole: &mut Vec<u8>,

@@ -12,7 +12,7 @@
 //! - `disk is a file`: its disk is a real file, made for it in the folder that the program is started in
 //! - `run BUNDLE WORD .. -> PRINTED STATUS FAULT`: runs the bundle over a disk of its own; it must
 //!   print this text, or `nothing`, and end with this status and, where that isn't 0, this fault
-//! - `again BUNDLE ..`: the same over the disk that the run before left, where a file is opened anew
+//! - `again BUNDLE ..`: runs it so over the disk that the run before left, where a file is opened anew
 //! - `says WORDS`: so the fault of the run before, which is one of its bundle, is explained
 //! - `finds WORDS`: so it is said what in particular is at fault there
 //! - `refused TEXT`: each line of the text is a row `LINE RULE BUNDLE`, as `row` says

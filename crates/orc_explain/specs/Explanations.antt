@@ -120,7 +120,7 @@ form_words keyword.Base =
     ++ codes "action."
 form_words keyword.Data =
     codes "An item of the opening data is `data PATH` for an entry or `data PATH = VALUE` for a leaf, before "
-    ++ codes "the line `script`; below that line the step `data` has nothing after that word, and stands not "
+    ++ codes "the line `script`; below that line the step `data` has nothing after that word, and doesn't stand "
     ++ codes "within a call."
 form_words keyword.Yang =
     codes "A module is the line `yang N` and the N lines below it, before the line `script`."
@@ -134,9 +134,9 @@ form_words word = step_line_words word
 -- words, names and numbers
 abbrev pub word_words : List ℕ
 word_words =
-    codes " Exactly one space parts two words, and a space in a key is written \\s; "
+    codes " Words are separated by exactly one space, and a space in a key is written \\s; "
     ++ codes "a name is a letter or `_`, then letters, digits, `_`, `-` and `.`; "
-    ++ codes "a number has no needless zero before it and is below 2^64."
+    ++ codes "a number has no leading zeros and is below 2^64."
 
 -- a form, and what holds of its words
 abbrev pub whole_form : Keyword → List ℕ
@@ -181,21 +181,21 @@ unfoldable pub rule_words : Rule → Keyword → List ℕ
 rule_words rule.Size word =
     codes "This passes a limit: 16777216 bytes of a bundle, 1048576 of a line, 64 of a name, 4096 of a path, a "
     ++ codes "key or a value; 32 steps of a path, 8 keys of a step; 256 devices, 256 callers, 100000 steps of the "
-    ++ codes "script."
-rule_words rule.Utf8 word = codes "A bundle is UTF-8 text; <U+FFFD> stands where this line is none."
+    ++ codes "script; 1 to 86400 seconds of a `tick`."
+rule_words rule.Utf8 word = codes "A bundle is UTF-8 text; in this line <U+FFFD> stands for bytes that are no UTF-8."
 rule_words rule.Header word = codes "The first line that is neither empty nor a comment is `orc 1`."
 rule_words rule.Path word =
-    codes "A path is written as /if:port[ge-0/0/1]/mtu: before its first name stands the module's, and "
+    codes "A path is written as /if:port[ge-0/0/1]/mtu: its first name stands after the module's and a colon, and "
     ++ codes "keys stand in brackets; in a key a backslash is \\\\, a closing bracket \\], a space \\s, a tab "
     ++ codes "\\t, a line feed \\n, a carriage return \\r. A path that ends in keys is an entry and has no ` = "
     ++ codes "VALUE`; any other is a leaf and has one, but in `unset` and `unbase`, which have a path alone. On a "
     ++ codes "device with a type, and in the data, the names are those of its modules, an entry has each key of its "
     ++ codes "list, or a leaf-list's value, and a key has no line of its own. No line of the data (`data`, `set` and "
-    ++ codes "`unset`) names /orc:device or a list that has a template, nor what stands below it. After `template` "
-    ++ codes "stands the path of a list of the data that is reached through containers alone and has no items yet; "
-    ++ codes "after `create`, `modify` and `redeploy` an entry of a list that has a template. After `max` stands "
-    ++ codes "the path of a list or leaf-list, without keys at its end; `meta` takes any path of its device, that of "
-    ++ codes "a container, of a key or of a whole list too."
+    ++ codes "`unset`) names /orc:device or a list that has a template, nor what stands below it. `template` takes "
+    ++ codes "the path of a list of the data that is reached through containers alone and has no items yet; `create`, "
+    ++ codes "`modify` and `redeploy` take that of an entry of a list that has a template; `max` takes that of a list "
+    ++ codes "or leaf-list, without keys at its end; `meta` takes any path of its device, also that of a container, a "
+    ++ codes "key or a whole list."
 rule_words rule.Value word =
     codes "In a value a backslash is \\\\, a tab \\t, a line feed \\n and a carriage return \\r. It has no "
     ++ codes "other control character below U+0020, and no noncharacter. On a device with a type, and in the data, "
@@ -210,7 +210,7 @@ rule_words rule.Schema word =
 rule_words rule.Template word = codes "The N lines below `template T PATH N` are the JSON template of a list."
 rule_words rule.Json word = codes "The JSON text is a body of the list that the path names."
 rule_words rule.Opening word =
-    codes "The opening data are valid by their schema, and each device accepts its base."
+    codes "The opening data is valid under its schema, and each device accepts its base."
 rule_words rule.Line word = codes "A line has one of the forms that may stand there."
 
 -- what may stand in a line that breaks a rule

@@ -17,9 +17,8 @@ const LOOKED_AT: usize = 404;
 
 // What holds of words, names and numbers in every line.
 const WORDS: &str =
-    " Exactly one space parts two words, and a space in a key is written \\s; a name is a letter or \
-    `_`, then letters, digits, `_`, `-` and `.`; a number has no needless zero before it and is below \
-    2^64.";
+    " Words are separated by exactly one space, and a space in a key is written \\s; a name is a letter \
+    or `_`, then letters, digits, `_`, `-` and `.`; a number has no leading zeros and is below 2^64.";
 
 /// What a fault of a bundle means, in words: what stands in its line, and what may stand there.
 pub fn explanation(alloc: Global, bytes: &[u8], line: u64, rule: Rule) -> Result<Text, Memory>
@@ -184,23 +183,24 @@ fn rule_words(rule: Rule, word: Keyword) -> &'static str
         Rule::Size => {
             "This passes a limit: 16777216 bytes of a bundle, 1048576 of a line, 64 of a name, 4096 of \
              a path, a key or a value; 32 steps of a path, 8 keys of a step; 256 devices, 256 callers, \
-             100000 steps of the script."
+             100000 steps of the script; 1 to 86400 seconds of a `tick`."
         }
-        Rule::Utf8 => "A bundle is UTF-8 text; <U+FFFD> stands where this line is none.",
+        Rule::Utf8 =>
+            "A bundle is UTF-8 text; in this line <U+FFFD> stands for bytes that are no UTF-8.",
         Rule::Header => "The first line that is neither empty nor a comment is `orc 1`.",
         Rule::Path => {
-            "A path is written as /if:port[ge-0/0/1]/mtu: before its first name stands the \
-             module's, and keys stand in brackets; in a key a backslash is \\\\, a closing bracket \
+            "A path is written as /if:port[ge-0/0/1]/mtu: its first name stands after the module's and a \
+             colon, and keys stand in brackets; in a key a backslash is \\\\, a closing bracket \
              \\], a space \\s, a tab \\t, a line feed \\n, a carriage return \\r. A path that ends \
              in keys is an entry and has no ` = VALUE`; any other is a leaf and has one, but in \
              `unset` and `unbase`, which have a path alone. On a device with a type, and in the data, \
              the names are those of its modules, an entry has each key of its list, or a leaf-list's \
              value, and a key has no line of its own. No line of the data (`data`, `set` and `unset`) \
-             names /orc:device or a list that has a template, nor what stands below it. After \
-             `template` stands the path of a list of the data that is reached through containers alone \
-             and has no items yet; after `create`, `modify` and `redeploy` an entry of a list that has \
-             a template. After `max` stands the path of a list or leaf-list, without keys at its end; \
-             `meta` takes any path of its device, that of a container, of a key or of a whole list too."
+             names /orc:device or a list that has a template, nor what stands below it. `template` \
+             takes the path of a list of the data that is reached through containers alone and has no \
+             items yet; `create`, `modify` and `redeploy` take that of an entry of a list that has a \
+             template; `max` takes that of a list or leaf-list, without keys at its end; `meta` takes \
+             any path of its device, also that of a container, a key or a whole list."
         }
         Rule::Value => {
             "In a value a backslash is \\\\, a tab \\t, a line feed \\n and a carriage return \\r. It \
@@ -219,7 +219,7 @@ fn rule_words(rule: Rule, word: Keyword) -> &'static str
         Rule::Template => "The N lines below `template T PATH N` are the JSON template of a list.",
         Rule::Json => "The JSON text is a body of the list that the path names.",
         Rule::Opening => {
-            "The opening data are valid by their schema, and each device accepts its base."
+            "The opening data is valid under its schema, and each device accepts its base."
         }
         Rule::Line => "A line has one of the forms that may stand there.",
     }
@@ -252,7 +252,7 @@ fn form_words(word: Keyword) -> &'static str
         Keyword::Data => {
             "An item of the opening data is `data PATH` for an entry or `data PATH = VALUE` for a \
              leaf, before the line `script`; below that line the step `data` has nothing after that \
-             word, and stands not within a call."
+             word, and doesn't stand within a call."
         }
         Keyword::Yang => {
             "A module is the line `yang N` and the N lines below it, before the line `script`."

@@ -23,7 +23,7 @@ feed_all-append r (x ∷ xs) ys s h = on (feed r x) (λ next. feed_all-append ne
     on None more h = let never : ⊥ = cc in absurd never
     on (Some next) more h = more next h
 
--- the second part is read behind the first
+-- the second part is read after the first
 pub both : (r : Reading) (xs ys : List ℕ) (s t : Reading) → feed_all r xs ≡ Some s → feed_all s ys ≡ Some t → feed_all r (xs ++ ys) ≡ Some t
 both r xs ys s t h k = feed_all-append r xs ys s h ∙ k
 
@@ -77,7 +77,7 @@ module _ (r : Reading) where
   key_name : (e : Expression) (name : List ℕ) → is_identifier name ≡ true → feed_all (put r (OpenAt e)) name ≡ Some (put r (KeyName e name))
   key_name e = identifier_on r (OpenAt e) (KeyName e) (λ b h. goes _ _ (is_name_start b) h) (key_more e)
 
-  -- behind so many `../`
+  -- after so many `../`
   abbrev ups_place : ℕ → Place
   ups_place zero = Begin
   ups_place (suc ups) = Ups (suc ups)
@@ -196,7 +196,7 @@ MayStand r Whole = Unit {0}
 MayStand r Term = (r.depth == 0) ≡ false
 
 module _ (r : Reading) (e : Expression) (key : List ℕ) where
-  -- behind a bracket
+  -- after a bracket
   abbrev inner : Reading
   inner = record { conditional = r.conditional; depth = r.depth + 1; outer = record { front = e; key = key } ∷ r.outer; place = Begin }
 

@@ -202,7 +202,7 @@ no_keys s h = by s.keys refl h
     by [] is h = λ i. record { node = s.node; keys = sym is i }
     by (k ∷ ks) is h = absurd (false≢true (sym h ∙ ap (λ (x : List (List ℕ)). nat_lt 0 (length x)) is ∙ lt-ltb 0 (length (k ∷ ks)) (omega arith)))
 
--- a path that ends in keys, behind a step
+-- a path that ends in keys, after a step
 keyed_behind : (s : PathStep) (path : List PathStep) → ends_in_keys path ≡ true → ends_in_keys (s ∷ path) ≡ true
 keyed_behind s [] h = absurd (false≢true h)
 keyed_behind s (t ∷ rest) h = h

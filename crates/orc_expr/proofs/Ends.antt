@@ -9,7 +9,7 @@ use Rattle.orc_expr.specs.inside.Reading.{Place, Begin, Dot, Ups, UpDot, UpDots,
 use Rattle.orc_expr.specs.declared.expr.Test.TheVariants.{Any, Equals, Differs}
 use Rattle.orc_expr.proofs.NameBytes.{qualified_colon}
 
--- what may stand in front is a term and an expression
+-- what may stand before a step or predicate is a term and an expression
 pub front_term : (e : Expression) → is_role Front e ≡ true → is_role Term e ≡ true
 front_term Here h = refl
 front_term (FromRoot n) h = h
@@ -69,7 +69,7 @@ begins_at : (conditional : Bool) (outer : List Bracket) (depth : ℕ) → depth 
 begins_at conditional outer depth same fits p made =
     closes conditional outer fits made.e (place_text p) made.rest made.text made.term (λ none. made.whole (ap (λ (n : ℕ). n == 0) (same ∙ none)))
 
--- a test, behind an expression in no bracket
+-- a test, after an expression in no bracket
 tests : (conditional : Bool) (outer : List Bracket) (depth : ℕ) → depth ≡ length outer → (e : Expression) (text : List ℕ) → IsTested e text depth conditional
     → (front : List ℕ) (differs : Bool) (more rest : List ℕ) → is_quotable more ≡ true → front ++ rest ≡ expression_text e ++ (sign_text differs ++ more ++ codes "'")
     → Begins conditional (outer_text outer ++ front)

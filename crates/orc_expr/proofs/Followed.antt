@@ -22,7 +22,7 @@ abbrev with_now : List Waiting → Reached → Way
 with_now outer now = record { outer = outer; now = now }
 
 module _ (view : Viewed) (here : List PathStep) where
-  -- a bracket is closed behind others
+  -- a bracket is closed after others
   pub way_closed_push : (front : List Waiting) (last : Waiting) (now : Reached)
       → way_closed view here (front ++ last ∷ []) now ≡ record { outer = front; now = ask last.front last.key (texts_at view here now) }
   way_closed_push [] last now = refl

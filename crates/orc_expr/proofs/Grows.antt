@@ -1,4 +1,4 @@
--- A byte that is taken stands behind the text so far, and what was read stays whole.
+-- A byte that is taken stands after the text so far, and what was read stays whole.
 use Rattle.std.proofs.Common.{◌≡◌, ℕ, suc, ◌-◌, ◌+◌, ◌==◌, Bool, true, false, cond, not, ◌&&◌, List, [], ◌∷◌, ◌++◌, Option, Some, None, length, codes, IsTrue, refl, sym, ap, subst, ◌∙◌, arith, append_assoc, append-nil, add-one}
 use Rattle.std.specs.Option.{option_and_then}
 use Rattle.std.proofs.lemmas.Bool.{and_parts, and_from, false≢true, eqb-true}
@@ -9,13 +9,13 @@ use Rattle.orc_expr.specs.inside.Reading.{Place, Begin, Dot, Ups, UpDot, UpDots,
 use Rattle.orc_expr.proofs.Ends.{front_term, front_whole}
 use Rattle.orc_expr.proofs.NameBytes.{identifier_first, identifier_more, qualified_more, qualified_colon, list_all-push}
 
--- a byte stands behind this text of the place, and what was read is whole
+-- a byte stands after this text of the place, and what was read is whole
 record Steps (r : Reading) (text : List ℕ) (b : ℕ) (s : Reading) : Type 0 where
   built_with : reading_text s ≡ outer_text r.outer ++ text ++ b ∷ []
   fits : Fits s
   kind : s.conditional ≡ r.conditional
 
--- the text of a predicate behind that of its bracket
+-- the text of a predicate after that of its bracket
 moved : (o f k e c : List ℕ) → o ++ (f ++ codes "[" ++ k ++ codes "=" ++ e ++ c) ≡ o ++ (f ++ codes "[" ++ k ++ codes "=") ++ e ++ c
 moved o f k e c = simp append_assoc refl
 

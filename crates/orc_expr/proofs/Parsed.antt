@@ -13,7 +13,7 @@ use Rattle.orc_expr.proofs.Ends.{reading_begins, made_of}
 pub start_fits : (conditional : Bool) → Fits (start conditional)
 start_fits conditional = record { depth = refl; brackets = tt; parts = tt }
 
--- the reader stands behind so many bytes, and in front of the rest
+-- the reader stands after so many bytes, and before the rest
 pub record Stands (conditional : Bool) (text : List ℕ) (at : ℕ) (rest : List ℕ) (r : Reading) : Type 0 where
   pub front : List ℕ
   pub cut : text ≡ front ++ rest
@@ -54,7 +54,7 @@ module _ (conditional : Bool) (text : List ℕ) (at : ℕ) (rest : List ℕ) (r 
       subst (CanBegin (IsText conditional)) text_is
       (subst (λ k. CanBegin (IsText k) (reading_text r)) here.built_with.kind (reading_begins r fits))
 
-  -- no text begins with bytes that are refused behind it
+  -- no text begins with what was read and then a byte that is refused
   refused_begins : (b : ℕ) (more : List ℕ) → feed r b ≡ None → CanBegin (IsText conditional) (here.front ++ b ∷ more) → ⊥
   refused_begins b more never begins =
       let c = begins.1.0 in

@@ -13,7 +13,7 @@ abbrev with_led : List Pending → Option Led → Trail
 with_led outer now = record { outer = outer; now = now }
 
 module _ (shapes : Shapes) (here : List PathStep) where
-  -- a bracket is closed behind others
+  -- a bracket is closed after others
   pub trail_closed_push : (front : List Pending) (last : Pending) (now : Option Led)
       → trail_closed shapes here (front ++ last ∷ []) now ≡ record { outer = front; now = naming last.front last.key (led_node shapes here now) }
   trail_closed_push [] last now = refl

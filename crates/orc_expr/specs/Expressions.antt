@@ -20,7 +20,7 @@ pub data Expression : Type 0 where
   Where : Expression → List ℕ → Expression → Expression
   Quoted : List ℕ → Expression
 
--- where an expression stands: in front of a further step or predicate, by itself, or in a predicate
+-- where an expression stands: before a further step or predicate, by itself, or in a predicate
 pub data Role : Type 0 where
   Front : Role
   Whole : Role
@@ -30,7 +30,7 @@ pub data Role : Type 0 where
 abbrev pub is_quotable : List ℕ → Bool
 is_quotable text = list_all (λ byte. not (byte == 39) && not (byte == 125)) text
 
--- the context stands alone or as a term, with nothing behind it
+-- the context stands alone or as a term, with nothing after it
 abbrev pub is_here : Role → Bool
 is_here Front = false
 is_here Whole = true

@@ -15,8 +15,8 @@ abbrev pub IsConditionText : List ℕ → Type 0
 IsConditionText bytes =
     (condition : Condition) × (IsTrue (is_condition condition) × (condition_text condition ≡ bytes))
 
--- the text is none of the kind, and the fault has the length of its longest prefix with which one begins; want of
--- memory is free
+-- the text is none of the kind, and the fault has the length of its longest prefix with which one begins; running out
+-- of memory is free
 abbrev pub IsExprFault : (List ℕ → Type 0) → List ℕ → ExprFault → Type 0
 IsExprFault IsText bytes (Bad at) = IsBadAt IsText bytes at
 IsExprFault IsText bytes Memory = Unit {0}

@@ -18,13 +18,13 @@ TextsAreFixedByReads =
     (expression : Expression) (here : List PathStep) (view : Viewed)
     → IsFixedByReads (texts_of expression here) (λ look. look.reads) view
 
--- The same of nodes.
+-- Two views of equal shapes that share what was read give the same nodes, and the same faults and reads.
 abbrev pub NodesAreFixedByReads : Type 0
 NodesAreFixedByReads =
     (expression : Expression) (here : List PathStep) (view : Viewed)
     → IsFixedByReads (nodes_of expression here) (λ look. look.reads) view
 
--- The same of conditions.
+-- Two views of equal shapes that share what was read judge a condition alike, with the same faults and reads.
 abbrev pub ConditionsAreFixedByReads : Type 0
 ConditionsAreFixedByReads =
     (condition : Condition) (here : List PathStep) (view : Viewed)

@@ -37,7 +37,7 @@ use Rattle.orc_expr.specs.declared.step.Chosen.{Chosen}
 abbrev pub looked : {X : Type 0} → List X → Looked X
 looked found = record { found = Some found; reads = [] }
 
--- what the places give and read, behind the look that found them
+-- what the places give and read, after the look that found them
 abbrev pub look_on : {X : Type 0}
     → Looked (List PathStep) → (List (List PathStep) → List X) → (List (List PathStep) → List Read) → Looked X
 look_on before give reads =
@@ -148,7 +148,7 @@ list_look_by items step keys (asked ∷ more) =
 abbrev pub list_look : Config → LastStep → List (List ℕ) → Looked (List PathStep)
 list_look items step keys = list_look_by items step keys step.asked
 
--- where a step leads that further steps stand behind: into containers and entries
+-- where a step leads that has further steps after it: into containers and entries
 abbrev pub leads_by : Config → LastStep → Shape → Looked (List PathStep)
 leads_by items step shape.Absent = nowhere step.before
 leads_by items step shape.Container = alone step.asked step.before (nodes_look step)
@@ -301,7 +301,7 @@ abbrev pub judged : Condition → List PathStep → Viewed → Judged
 judged condition here view = judged_by condition.test (texts_of condition.look here view)
 
 -- The answer is what was found, and the reads are added; where a term gave more than one text the reads up to there
--- are; and want of memory adds none.
+-- are; and where memory runs out, none are.
 abbrev pub AnswersLook : {X : Type 0} → Option X → List Read → List Read → List Read → Result X EvalFault → Type 0
 AnswersLook found reads old new (Ok value) = (found ≡ Some value) × (new ≡ old ++ reads)
 AnswersLook found reads old new (Err Many) = (found ≡ None) × (new ≡ old ++ reads)

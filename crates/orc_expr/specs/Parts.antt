@@ -6,17 +6,17 @@ use Rattle.orc_expr.specs.declared.expr.Part.TheVariants as part
 use Rattle.orc_expr.specs.declared.expr.Expr.{Expr}
 use Rattle.orc_expr.specs.declared.expr.Cond.{Cond}
 
--- an expression up to a bracket, and the key behind it
+-- an expression up to a bracket, and the key after it
 pub record Bracket : Type 0 where
   pub front : Expression
   pub key : List ℕ
 
--- what was put together: the brackets that are open, the innermost first, and what stands behind them
+-- what was put together: the brackets that are open, the innermost first, and what stands after them
 pub record Built : Type 0 where
   pub outer : List Bracket
   pub now : Expression
 
--- behind a closing bracket
+-- after a closing bracket
 abbrev pub closed : List Bracket → Expression → Built
 closed [] term = record { outer = []; now = term }
 closed (bracket ∷ outer) term = record { outer = outer; now = Where bracket.front bracket.key term }

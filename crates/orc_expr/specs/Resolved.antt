@@ -47,7 +47,7 @@ name_key key led.Context = led.Context
 name_key key led.Given = led.Given
 name_key key (led.Last step) = led.Last (record step { named = step.named ++ key ∷ [] })
 
--- the same, whose term leads to a node
+-- a predicate more, whose term leads to a node
 abbrev pub naming : Option Led → List ℕ → Option (List PathStep) → Option Led
 naming front key None = None
 naming front key (Some node) = option_map (name_key key) front
@@ -61,7 +61,7 @@ led_node shapes here (Some led.Given) = Some []
 led_node shapes here (Some (led.Last step)) =
     if fits_shape (shapes step.parent step.name) step.named then Some (parent_behind step.parent step.name) else None
 
--- how far an expression leads, up to its last step; nothing where a name in front of that isn't in the schema
+-- how far an expression leads, up to its last step; nothing where a name before that isn't in the schema
 abbrev pub resolving : Shapes → List PathStep → Expression → Option Led
 resolving shapes here Here = Some led.Context
 resolving shapes here (FromRoot name) = Some (first_led [] name)

@@ -35,7 +35,7 @@ write_cmp (write.At path) (write.Service id) = Less
 write_cmp (write.Service id) (write.At path) = Greater
 write_cmp (write.Service id) (write.Service other) = text_cmp id other
 
--- the write at this place touches a read, no touching write is less, and none in front of it is equal
+-- the write at this place touches a read, no touching write is less, and none before it is equal
 pub record IsFirstTouch (reads : List Read) (writes : List Write) (at : ℕ) : Type 0 where
   pub written : Write
   pub there : slice_get writes at ≡ Some written

@@ -21,7 +21,7 @@ fn is_top_name(name: &Name) -> bool
     !is_identifier(name.as_str())
 }
 
-/// Whether the name can stand behind a place: with its module at the top, and without below.
+/// Whether the name can stand after a place: with its module at the top, and without it below.
 pub(crate) fn is_name_behind(place: &Path, name: &Name) -> bool
     ensures { result ≡ is_name_behind place.now name.now }
 {

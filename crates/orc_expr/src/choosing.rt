@@ -1,5 +1,5 @@
 //! What the predicates of a step choose.
-ghost use Rattle.std.specs.Prelude.{◌≡◌, IfOk};
+ghost use Rattle.std.specs.Prelude.{◌≡◌, ◌++◌, IfOk, OnOk};
 ghost use Rattle.orc_expr.specs.Looks.{chosen, selected, selected_by, asks_each_key};
 ghost use Rattle.orc_expr.specs.inside.Lists.{only_of};
 
@@ -34,6 +34,23 @@ fn only_text(alloc: Global, found: &Option<Row<Text>>) -> Result<Only, Memory>
     }
 }
 
+// What the term of a predicate gives. What it read is put after what others read.
+fn only_given(
+    alloc: Global,
+    given: Looked<Text>,
+    reads: &mut LinkedList<Read>,
+) -> Result<Only, Memory>
+    ensures only { IfOk result (λ only. only ≡ only_of given.found) }
+    ensures reads { OnOk result (reads.new ≡ reads.old ++ given.reads) }
+{
+    let Looked {
+        found,
+        reads: mut more,
+    } = given;
+    reads.append(&mut more)?;
+    only_text(alloc, &found)
+}
+
 // What the terms of predicates give, in their order. What they read is moved on, not copied.
 fn chosen(alloc: Global, asked: Row<Asked>) -> Result<Chosen, Memory>
     ensures { IfOk result (λ made. made ≡ chosen asked) }
@@ -41,12 +58,7 @@ fn chosen(alloc: Global, asked: Row<Asked>) -> Result<Chosen, Memory>
     let mut keys = Row::new(alloc);
     let mut reads = LinkedList::new(alloc);
     for next in asked.into_vec() {
-        let Looked {
-            found,
-            reads: mut more,
-        } = next.given;
-        reads.append(&mut more)?;
-        match only_text(alloc, &found)? {
+        match only_given(alloc, next.given, &mut reads)? {
             Only::One(text) => keys.push(text)?,
             Only::Nothing => {
                 return Ok(Chosen {

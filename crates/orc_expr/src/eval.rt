@@ -101,7 +101,7 @@ impl Expr {
     }
 
     /// The texts that the expression gives at a context, in path order. What it read is added, also
-    /// where the answer is `Many`; after want of memory nothing is added.
+    /// where the answer is `Many`; where memory runs out, nothing is added.
     pub fn eval<V: DataView>(
         &self,
         alloc: Global,
@@ -121,7 +121,7 @@ impl Expr {
 
     /// The nodes that the expression gives at a context, in path order: entries of a list, values of a
     /// leaf-list, or a leaf where it is present. What it read is added, also where the answer is
-    /// `Many`; after want of memory nothing is added.
+    /// `Many`; where memory runs out, nothing is added.
     pub fn nodes<V: DataView>(
         &self,
         alloc: Global,
@@ -181,7 +181,7 @@ impl Cond {
     }
 
     /// Whether the condition holds at a context. What it read is added, also where the answer is
-    /// `Many`; after want of memory nothing is added.
+    /// `Many`; where memory runs out, nothing is added.
     pub fn holds<V: DataView>(
         &self,
         alloc: Global,

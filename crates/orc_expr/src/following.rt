@@ -16,7 +16,7 @@ use orc_text::{Memory, Row, Text};
 use std::alloc::Global;
 use std::mem;
 
-/// How far the expression in front of a bracket was followed, and the key behind the bracket.
+/// How far the expression before a bracket was followed, and the key after the bracket.
 #[derive(Drop)]
 pub(crate) struct Waiting {
     front: Reached,
@@ -24,7 +24,7 @@ pub(crate) struct Waiting {
 }
 
 /// How far an expression was followed: the brackets that are open, the innermost last, and what
-/// stands behind them.
+/// stands after them.
 #[derive(Drop)]
 pub(crate) struct Following {
     outer: Vec<Waiting>,
@@ -140,7 +140,14 @@ fn ask(followed: Reached, key: Name, given: Looked<Text>) -> Result<Reached, Mem
 }
 
 impl Following {
-    // Opens a bracket behind what was followed so far.
+    // Stands there from now on. Where it stood is let go here alone.
+    fn stand(&mut self, now: Reached)
+        ensures { way_of self.new ≡ record (way_of self.old) { now = now } }
+    {
+        self.now = now;
+    }
+
+    // Opens a bracket after what was followed so far.
     fn open(&mut self, alloc: Global, key: &Name) -> Result<(), Memory>
         ensures { OnOk result (way_of self.new ≡ record {
           outer = (way_of self.old).outer ++ record { front = (way_of self.old).now; key = key.now } ∷ [];
@@ -155,7 +162,7 @@ impl Following {
         Ok(())
     }
 
-    // Closes a bracket: the term behind it is a predicate of what stands in front of it.
+    // Closes a bracket: the term after it is a predicate of what stands before it.
     fn close<V: DataView>(&mut self, alloc: Global, view: &V, here: &Path) -> Result<(), Memory>
         ensures { OnOk result
             (way_of self.new ≡ way_closed (V.viewed view.now) here.now (way_of self.old).outer (way_of self.old).now) }
@@ -186,24 +193,24 @@ impl Following {
             Part::Open(key) => self.open(alloc, key),
             Part::Close => self.close(alloc, view, here),
             Part::Here => {
-                self.now = Reached::Context;
+                self.stand(Reached::Context);
                 Ok(())
             }
             Part::FromRoot(name) => {
-                self.now = from_root(alloc, name)?;
+                self.stand(from_root(alloc, name)?);
                 Ok(())
             }
             Part::FromContext(ups, name) => {
-                self.now = from_context(alloc, here, *ups, name)?;
+                self.stand(from_context(alloc, here, *ups, name)?);
                 Ok(())
             }
             Part::Quoted(text) => {
-                self.now = Reached::Given(text.copy(alloc)?);
+                self.stand(Reached::Given(text.copy(alloc)?));
                 Ok(())
             }
             Part::Below(name) => {
                 let front = mem::replace(&mut self.now, Reached::Context);
-                self.now = step_down(alloc, view, here, front, name)?;
+                self.stand(step_down(alloc, view, here, front, name)?);
                 Ok(())
             }
         }

@@ -2,7 +2,7 @@
 ghost use Rattle.std.specs.Prelude.{◌≡◌, ◌++◌, ◌∷◌, [], map, Some, IfOk};
 ghost use Rattle.std.specs.List.{flat_map, filter};
 ghost use Rattle.orc_expr.specs.Looks.{looked, give_on, look_on, nowhere, nodes_under, nodes_look, entries_look, list_look, leads_by, leads, texts_by, nodes_by, front_of, leaf_texts, key_at, keys_at_end, is_present, context_shape, context_texts, context_nodes, texts_at, nodes_at};
-ghost use Rattle.orc_expr.specs.inside.Lists.{read_look, leaf_look, present_look, read_here};
+ghost use Rattle.orc_expr.specs.inside.Lists.{read_as, read_look, leaf_look, present_look, read_here};
 
 use crate::Read;
 use crate::choosing::{asks_each_key, selected};
@@ -32,27 +32,41 @@ fn nowhere<T: Drop>(alloc: Global, before: Looked<Path>) -> Looked<T>
 }
 
 // The nodes of a name below what was found.
-fn nodes_look(alloc: Global, step: LastStep) -> Result<Looked<Path>, Memory>
-    ensures { IfOk result (λ look. look ≡ nodes_look step) }
+fn nodes_below(alloc: Global, name: &Name, before: Looked<Path>) -> Result<Looked<Path>, Memory>
+    ensures { IfOk result (λ look. look ≡ give_on before (nodes_under name.now [])) }
 {
-    let Looked { found, reads } = step.before;
+    let Looked { found, reads } = before;
     match found {
         Some(places) => Ok(Looked {
-            found: Some(nodes_under(alloc, &step.name, &[], places.as_slice())?),
+            found: Some(nodes_under(alloc, name, &[], places.as_slice())?),
             reads,
         }),
         None => Ok(Looked { found: None, reads }),
     }
 }
 
-// The same nodes, and that their items or entries are read.
-fn read_look(alloc: Global, step: LastStep, kind: ReadKind) -> Result<Looked<Path>, Memory>
-    ensures { IfOk result (λ look. look ≡ read_look step kind) }
+// The nodes of a step, below where the steps before it lead.
+fn nodes_look(alloc: Global, step: LastStep) -> Result<Looked<Path>, Memory>
+    ensures { IfOk result (λ look. look ≡ nodes_look step) }
 {
-    let Looked { found, mut reads } = step.before;
+    let (before, name, _asked) = step.into_parts();
+    nodes_below(alloc, &name, before)
+}
+
+// The nodes of a name below what was found, and that their items or entries are read.
+fn read_below(
+    alloc: Global,
+    name: &Name,
+    before: Looked<Path>,
+    kind: ReadKind,
+) -> Result<Looked<Path>, Memory>
+    ensures { IfOk result (λ look. look ≡ look_on before (nodes_under name.now [])
+        (λ places. map (read_as kind) (nodes_under name.now [] places))) }
+{
+    let Looked { found, mut reads } = before;
     match found {
         Some(places) => {
-            let nodes = nodes_under(alloc, &step.name, &[], places.as_slice())?;
+            let nodes = nodes_under(alloc, name, &[], places.as_slice())?;
             push_reads(alloc, &mut reads, kind, nodes.as_slice())?;
             Ok(Looked {
                 found: Some(nodes),
@@ -61,6 +75,14 @@ fn read_look(alloc: Global, step: LastStep, kind: ReadKind) -> Result<Looked<Pat
         }
         None => Ok(Looked { found: None, reads }),
     }
+}
+
+// The nodes of a step, and that their items or entries are read.
+fn read_look(alloc: Global, step: LastStep, kind: ReadKind) -> Result<Looked<Path>, Memory>
+    ensures { IfOk result (λ look. look ≡ read_look step kind) }
+{
+    let (before, name, _asked) = step.into_parts();
+    read_below(alloc, &name, before, kind)
 }
 
 // All entries of the list, or all values of the leaf-list.
@@ -93,19 +115,14 @@ fn list_look<V: DataView>(
     if step.asked.is_empty() {
         return entries_look(alloc, view, step);
     }
-    let LastStep {
-        parent: _parent,
-        before,
-        name,
-        asked,
-    } = step;
+    let (before, name, asked) = step.into_parts();
     if !asks_each_key(keys, asked.as_slice()) {
         return Ok(nowhere(alloc, before));
     }
     selected(alloc, view, before, &name, asked)
 }
 
-// Where a step leads that further steps stand behind.
+// Where a step leads that has further steps after it.
 fn leads_by<V: DataView>(
     alloc: Global,
     view: &V,
@@ -117,11 +134,11 @@ fn leads_by<V: DataView>(
     match shape {
         Shape::Container if step.asked.is_empty() => nodes_look(alloc, step),
         Shape::List(keys) => list_look(alloc, view, step, keys.as_slice()),
-        _ => Ok(nowhere(alloc, step.before)),
+        _ => Ok(nowhere(alloc, step.into_before())),
     }
 }
 
-/// Where an expression leads that further steps stand behind.
+/// Where an expression leads that has further steps after it.
 pub(crate) fn leads<V: DataView>(
     alloc: Global,
     view: &V,
@@ -209,9 +226,9 @@ fn texts_by<V: DataView>(
     match shape {
         Shape::List(keys) => Ok(nowhere(alloc, list_look(alloc, view, step, keys.as_slice())?)),
         Shape::Leaf(default) if step.asked.is_empty() => leaf_look(alloc, view, step, default),
-        Shape::Key(place) if step.asked.is_empty() => key_look(alloc, step.before, *place),
+        Shape::Key(place) if step.asked.is_empty() => key_look(alloc, step.into_before(), *place),
         Shape::LeafList if step.asked.is_empty() => values_look(alloc, view, step),
-        _ => Ok(nowhere(alloc, step.before)),
+        _ => Ok(nowhere(alloc, step.into_before())),
     }
 }
 
@@ -247,7 +264,7 @@ fn nodes_by<V: DataView>(
         Shape::Leaf(_) if step.asked.is_empty() => present_look(alloc, view, step),
         Shape::Key(_) if step.asked.is_empty() => nodes_look(alloc, step),
         Shape::LeafList if step.asked.is_empty() => entries_look(alloc, view, step),
-        _ => Ok(nowhere(alloc, step.before)),
+        _ => Ok(nowhere(alloc, step.into_before())),
     }
 }
 

@@ -3,50 +3,50 @@
 /// Where a reader stands.
 #[derive(Clone, Copy)]
 pub(crate) enum Mode {
-    /// In front of an expression or a term.
+    /// Before an expression or a term.
     Begin,
-    /// Behind a first `.`.
+    /// After a first `.`.
     Dot,
-    /// Behind `../`.
+    /// After `../`.
     Ups,
-    /// Behind `../` and `.`.
+    /// After `../` and `.`.
     UpDot,
-    /// Behind `..`.
+    /// After `..`.
     UpDots,
-    /// Behind a first slash.
+    /// After a first slash.
     Slash,
     /// In the name of a module.
     Module,
-    /// Behind the colon.
+    /// After the colon.
     Colon,
     /// In a top node's name.
     RootName,
     /// In the first name of a relative path.
     FirstName,
-    /// Behind a later slash.
+    /// After a later slash.
     Next,
     /// In a later name.
     LaterName,
-    /// Behind an opening bracket.
+    /// After an opening bracket.
     OpenAt,
     /// In a key's name.
     KeyName,
     /// In a term in quotes.
     InQuotes,
-    /// Behind its closing quote.
+    /// After its closing quote.
     EndQuotes,
-    /// Behind a closing bracket.
+    /// After a closing bracket.
     ClosedAt,
-    /// Behind the space in front of a test.
+    /// After the space before a test.
     Spaced,
-    /// Behind `!`.
+    /// After `!`.
     Bang,
-    /// Behind `=` or `!=`.
+    /// After `=` or `!=`.
     Sign,
-    /// Behind the space after it.
+    /// After the space that follows it.
     SignSpace,
     /// In the text of a test.
     InTest,
-    /// Behind its closing quote.
+    /// After its closing quote.
     Tested,
 }

@@ -50,7 +50,7 @@ impl ReadSet {
         }
     }
 
-    /// Adds a read. After want of memory the reads are as they were.
+    /// Adds a read. Where memory runs out, the reads are as they were.
     pub fn push(&mut self, read: Read) -> Result<(), Memory>
         ensures ok { OnOk result (self.new.reads ≡ self.old.reads ++ read ∷ []) }
         ensures err { OnErr result (self.new ≡ self.old) }
@@ -58,7 +58,7 @@ impl ReadSet {
         self.reads.push(read)
     }
 
-    /// Adds the reads of another set, behind its own. After want of memory the reads are as they
+    /// Adds the reads of another set, after its own. Where memory runs out, the reads are as they
     /// were.
     pub fn append(&mut self, alloc: Global, more: ReadSet) -> Result<(), Memory>
         ensures ok { OnOk result (self.new.reads ≡ self.old.reads ++ more.reads) }

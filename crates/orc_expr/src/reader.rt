@@ -16,7 +16,6 @@ use std::mem;
 
 /// What was read: the parts that are whole, how many brackets are open, and the pieces of the part
 /// that is being read.
-#[derive(Drop)]
 pub(crate) struct Reader {
     conditional: bool,
     mode: Mode,
@@ -26,6 +25,22 @@ pub(crate) struct Reader {
     name: Text,
     text: Text,
     differs: bool,
+}
+
+// Written out, so that each exit that lets a reader go does so by one call.
+impl Drop for Reader {
+    fn drop(self) {
+        let Reader {
+            conditional: _,
+            mode: _,
+            depth: _,
+            parts: _,
+            ups: _,
+            name: _,
+            text: _,
+            differs: _,
+        } = self;
+    }
 }
 
 // A letter or `_`.
@@ -106,7 +121,7 @@ impl Reader {
         Ok(true)
     }
 
-    // In front of an expression or a term.
+    // Before an expression or a term.
     fn take_begin(&mut self, alloc: Global, byte: u8) -> Result<bool, Memory>
         ensures { Fed (feed_begin (reading_of self.old) byte) self.new result }
     {
@@ -134,7 +149,7 @@ impl Reader {
         }
     }
 
-    // Behind the parts of a term, a closing bracket.
+    // After the parts of a term, a closing bracket.
     fn close(&mut self) -> Result<bool, Memory>
         ensures { Fed (closing (reading_of self.old) (built_of self.old.parts).now) self.new result }
     {
@@ -147,7 +162,7 @@ impl Reader {
         Ok(true)
     }
 
-    // Behind the parts of an expression that ends.
+    // After the parts of an expression that ends.
     fn take_ended(&mut self, byte: u8) -> Result<bool, Memory>
         ensures { Fed (ended (reading_of self.old) (built_of self.old.parts).now byte) self.new result }
     {
@@ -164,7 +179,7 @@ impl Reader {
         Ok(true)
     }
 
-    // Behind the parts of an expression that a step or a predicate may stand behind.
+    // After the parts of an expression that a step or a predicate may follow.
     fn take_end(&mut self, byte: u8) -> Result<bool, Memory>
         ensures { Fed (goes_on (reading_of self.old) (built_of self.old.parts).now byte) self.new result }
     {
@@ -181,7 +196,7 @@ impl Reader {
         }
     }
 
-    // Behind a first dot.
+    // After a first dot.
     fn take_dot(&mut self, byte: u8) -> Result<bool, Memory>
         requires { self.old.mode ≡ stage.Dot }
         ensures { Fed (feed (reading_of self.old) byte) self.new result }
@@ -195,7 +210,7 @@ impl Reader {
         self.take_ended(byte)
     }
 
-    // Behind `../`.
+    // After `../`.
     fn take_ups(&mut self, alloc: Global, byte: u8) -> Result<bool, Memory>
         requires { self.old.mode ≡ stage.Ups }
         ensures { Fed (feed (reading_of self.old) byte) self.new result }
@@ -207,7 +222,7 @@ impl Reader {
         self.begin_name(alloc, Mode::FirstName, byte)
     }
 
-    // Behind `..`.
+    // After `..`.
     fn take_up_dots(&mut self, byte: u8) -> Result<bool, Memory>
         requires { self.old.mode ≡ stage.UpDots }
         ensures { Fed (feed (reading_of self.old) byte) self.new result }
@@ -248,7 +263,7 @@ impl Reader {
         Ok(true)
     }
 
-    // Behind the colon.
+    // After the colon.
     fn take_colon(&mut self, byte: u8) -> Result<bool, Memory>
         requires mode { self.old.mode ≡ stage.Colon }
         requires ascii { byte < 128 }
@@ -349,7 +364,7 @@ impl Reader {
         }
     }
 
-    // Behind the closing quote of a term.
+    // After the closing quote of a term.
     fn take_end_quotes(&mut self, alloc: Global, byte: u8) -> Result<bool, Memory>
         requires { self.old.mode ≡ stage.EndQuotes }
         ensures { Fed (feed (reading_of self.old) byte) self.new result }
@@ -362,7 +377,7 @@ impl Reader {
         self.close()
     }
 
-    // Behind the space in front of a test.
+    // After the space before a test.
     fn take_spaced(&mut self, byte: u8) -> bool
         requires { self.old.mode ≡ stage.Spaced }
         ensures { Went (feed (reading_of self.old) byte) self.new result }
@@ -381,7 +396,7 @@ impl Reader {
         }
     }
 
-    // Behind `!`.
+    // After `!`.
     fn take_bang(&mut self, byte: u8) -> bool
         requires { self.old.mode ≡ stage.Bang }
         ensures { Went (feed (reading_of self.old) byte) self.new result }
@@ -410,7 +425,7 @@ impl Reader {
         }
     }
 
-    // Behind the space after `=` or `!=`.
+    // After the space that follows `=` or `!=`.
     fn take_sign_space(&mut self, alloc: Global, byte: u8) -> bool
         requires { self.old.mode ≡ stage.SignSpace }
         ensures { Went (feed (reading_of self.old) byte) self.new result }
@@ -490,8 +505,18 @@ impl Reader {
     fn made(self, test: Test) -> Option<Cond>
         ensures { option_map condition_of result ≡ Some (record { look = (built_of self.parts).now; test = test }) }
     {
+        let Reader {
+            conditional: _,
+            mode: _,
+            depth: _,
+            parts,
+            ups: _,
+            name: _,
+            text: _,
+            differs: _,
+        } = self;
         Some(Cond {
-            expr: Expr { parts: self.parts },
+            expr: Expr { parts },
             test,
         })
     }

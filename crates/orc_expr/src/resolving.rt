@@ -16,11 +16,21 @@ use std::mem;
 
 /// The last step of an expression in a schema: the node above it, the name of the one that it leads
 /// to, and the keys that its predicates name.
-#[derive(Drop)]
 pub(crate) struct NodeStep {
     pub(crate) parent: Path,
     pub(crate) name: Name,
     pub(crate) named: Row<Name>,
+}
+
+// Written out, so that each exit that lets a step go does so by one call.
+impl Drop for NodeStep {
+    fn drop(self) {
+        let NodeStep {
+            parent: _,
+            name: _,
+            named: _,
+        } = self;
+    }
 }
 
 /// How far an expression leads in a schema: it is the context, a text in quotes, or has a last step.
@@ -31,7 +41,7 @@ pub(crate) enum Led {
     Last(NodeStep),
 }
 
-/// How far the expression in front of a bracket leads, and the key behind the bracket.
+/// How far the expression before a bracket leads, and the key after the bracket.
 #[derive(Drop)]
 pub(crate) struct Pending {
     front: Option<Led>,
@@ -39,7 +49,7 @@ pub(crate) struct Pending {
 }
 
 /// How far an expression leads: the brackets that are open, the innermost last, and what stands
-/// behind them. `None` is where something isn't in the schema.
+/// after them. `None` is where something isn't in the schema.
 #[derive(Drop)]
 pub(crate) struct Resolving {
     outer: Vec<Pending>,
@@ -160,7 +170,14 @@ fn naming(front: Option<Led>, key: Name, term: Option<Path>) -> Result<Option<Le
 }
 
 impl Resolving {
-    // Opens a bracket behind what was resolved so far.
+    // Stands there from now on. Where it stood is let go here alone.
+    fn stand(&mut self, now: Option<Led>)
+        ensures { trail_of self.new ≡ record (trail_of self.old) { now = now } }
+    {
+        self.now = now;
+    }
+
+    // Opens a bracket after what was resolved so far.
     fn open(&mut self, alloc: Global, key: &Name) -> Result<(), Memory>
         ensures { OnOk result (trail_of self.new ≡ record {
           outer = (trail_of self.old).outer ++ record { front = (trail_of self.old).now; key = key.now } ∷ [];
@@ -175,7 +192,7 @@ impl Resolving {
         Ok(())
     }
 
-    // Closes a bracket: the term behind it is a predicate of what stands in front of it.
+    // Closes a bracket: the term after it is a predicate of what stands before it.
     fn close<V: DataView>(&mut self, alloc: Global, view: &V, here: &Path) -> Result<(), Memory>
         ensures { OnOk result (trail_of self.new ≡ trail_closed (V.viewed view.now).shapes here.now
             (trail_of self.old).outer (trail_of self.old).now) }
@@ -205,24 +222,24 @@ impl Resolving {
             Part::Open(key) => self.open(alloc, key),
             Part::Close => self.close(alloc, view, here),
             Part::Here => {
-                self.now = Some(Led::Context);
+                self.stand(Some(Led::Context));
                 Ok(())
             }
             Part::FromRoot(name) => {
-                self.now = Some(first_led(alloc, root(alloc), name)?);
+                self.stand(Some(first_led(alloc, root(alloc), name)?));
                 Ok(())
             }
             Part::FromContext(ups, name) => {
-                self.now = led_up(alloc, here, *ups, name)?;
+                self.stand(led_up(alloc, here, *ups, name)?);
                 Ok(())
             }
             Part::Quoted(_text) => {
-                self.now = Some(Led::Given);
+                self.stand(Some(Led::Given));
                 Ok(())
             }
             Part::Below(name) => {
                 let parent = led_node(alloc, view, here, &self.now)?;
-                self.now = led_down(alloc, parent, name)?;
+                self.stand(led_down(alloc, parent, name)?);
                 Ok(())
             }
         }

@@ -47,7 +47,7 @@ fn write_cmp(write: &Write, other: &Write) -> Ordering
     }
 }
 
-// The place of the least touching write up to a place, from that of the writes in front of it.
+// The place of the least touching write up to a place, from that of the writes before it.
 fn best_with(reads: &[Read], writes: &[Write], best: Option<usize>, at: usize) -> Option<usize>
     requires place { at < length writes.now }
     requires best { IsBest reads.now (take at writes.now) best }

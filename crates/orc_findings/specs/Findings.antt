@@ -5,6 +5,7 @@ use Rattle.orc_decls.specs.declared.rule.Rule.TheVariants as rule
 
 -- more can be said of a line that breaks this rule
 abbrev pub has_finding : Rule → Bool
+has_finding rule.Size = true
 has_finding rule.Yang = true
 has_finding rule.Schema = true
 has_finding rule.Template = true

@@ -4,15 +4,16 @@ use orc_body_findings::{PathForm, path_finding, value_finding};
 use orc_decls::Rule;
 use orc_lines::{Declared, Keyword, cut};
 use orc_schema::Schema;
+use orc_services::ServiceList;
 use orc_text::{Memory, Text};
 use std::alloc::Global;
 
-// What a line names: a path of a device, or of the data, and the value that stands after it.
+/// What a line names: a path of a device, or of the data, and the value that stands after it.
 #[derive(Drop)]
-struct Named<'a> {
+pub(crate) struct Named<'a> {
     device: Option<&'a str>,
-    path: &'a str,
-    value: Option<&'a str>,
+    pub(crate) path: &'a str,
+    pub(crate) value: Option<&'a str>,
     form: PathForm,
 }
 
@@ -24,44 +25,45 @@ pub(crate) fn named_path_finding(
     words: &str,
     rule: Rule,
 ) -> Result<Option<Text>, Memory> {
-    match named_in(word, words) {
-        Some(named) => match named.device {
-            Some(name) => of_device(alloc, declared, name, &named, rule),
-            None => of_data(alloc, declared, &named, rule),
-        },
-        None => Ok(None),
-    }
-}
-
-// The finding in a path of the data.
-fn of_data(
-    alloc: Global,
-    declared: &Declared,
-    named: &Named<'_>,
-    rule: Rule,
-) -> Result<Option<Text>, Memory> {
-    let schema = &declared.data_schema;
-    let lists = declared.services.as_slice();
-    match rule {
-        Rule::Path => path_finding(alloc, schema, Some(lists), named.path, named.form),
-        _ => value_finding(alloc, schema, named.path, named.value),
-    }
-}
-
-// The finding in a path of the device of a name.
-fn of_device(
-    alloc: Global,
-    declared: &Declared,
-    name: &str,
-    named: &Named<'_>,
-    rule: Rule,
-) -> Result<Option<Text>, Memory> {
-    let name = Text::from_str(alloc, name)?;
+    let Some(named) = named_in(word, words) else {
+        return Ok(None);
+    };
     let plain = Schema::plain(alloc);
-    let schema = schema_of(declared, &name, &plain);
+    let schema = named_schema(alloc, declared, &named, &plain)?;
     match rule {
-        Rule::Path => path_finding(alloc, schema, None, named.path, named.form),
+        Rule::Path => path_finding(
+            alloc,
+            schema,
+            lists_of(declared, &named),
+            named.path,
+            named.form,
+        ),
         _ => value_finding(alloc, schema, named.path, named.value),
+    }
+}
+
+// The lists that have a template, where the path is one of the data.
+fn lists_of<'a>(declared: &'a Declared, named: &Named<'_>) -> Option<&'a [ServiceList]> {
+    match named.device {
+        Some(_) => None,
+        None => Some(declared.services.as_slice()),
+    }
+}
+
+/// The schema of what a line names: that of the data, that of its device, or the plain one where no such device is
+/// declared.
+pub(crate) fn named_schema<'a>(
+    alloc: Global,
+    declared: &'a Declared,
+    named: &Named<'_>,
+    plain: &'a Schema,
+) -> Result<&'a Schema, Memory> {
+    match named.device {
+        Some(name) => {
+            let name = Text::from_str(alloc, name)?;
+            Ok(schema_of(declared, &name, plain))
+        }
+        None => Ok(&declared.data_schema),
     }
 }
 
@@ -76,8 +78,8 @@ fn schema_of<'a>(declared: &'a Declared, name: &Text, plain: &'a Schema) -> &'a 
     }
 }
 
-// What the words after a keyword name.
-fn named_in<'a>(word: Keyword, words: &'a str) -> Option<Named<'a>> {
+/// What the words after a keyword name.
+pub(crate) fn named_in<'a>(word: Keyword, words: &'a str) -> Option<Named<'a>> {
     match word {
         Keyword::Data | Keyword::Set => Some(item_in(None, words)),
         Keyword::Base | Keyword::Write => device_item_in(words),

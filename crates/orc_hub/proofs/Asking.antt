@@ -1,9 +1,9 @@
 -- Who asked, while others are answered.
-use Rattle.std.proofs.Common.{◌≡◌, ◌≢◌, ℕ, zero, suc, Bool, true, false, cond, ◌&&◌, List, [], ◌∷◌, ◌++◌, Option, None, Some, get_or, length, set, refl, sym, ap, subst, ◌∙◌}
+use Rattle.std.proofs.Common.{◌≡◌, ◌≢◌, ℕ, ◌<◌, zero, suc, Bool, true, false, cond, ◌&&◌, nat_eq, List, [], ◌∷◌, ◌++◌, Option, None, Some, get_or, length, set, refl, sym, ap, subst, ◌∙◌, eqb-true, eq-eqb}
 use Rattle.std.specs.Prelude.{slice_get}
 use Rattle.std.specs.List.{find}
 use Rattle.std.specs.Option.{option_map, option_map_or}
-use Rattle.std.specs.Cmp.{first_so}
+use Rattle.std.specs.Cmp.{first_so, second_so}
 use Rattle.std.specs.Cmp.Lexicographic.{bytes_decides}
 use Rattle.std.proofs.lemmas.Bool.{false≢true}
 use Rattle.std.proofs.lemmas.List.Quantifiers.{position-Some}
@@ -12,7 +12,7 @@ use Rattle.orc_call.specs.declared.answer.Answer.{Answer}
 use Rattle.orc_call.specs.declared.call.Call.{Call}
 use Rattle.orc_datastore.specs.Legal.{IsSame}
 use Rattle.orc_decls.specs.Devices.{is_same_text}
-use Rattle.orc_rules.specs.Asked.{answered_at, answered_one, is_of, is_open_of, new_slot, open_of, slot_of, slot_set}
+use Rattle.orc_rules.specs.Asked.{answered_at, answered_one, is_of, is_open_at, is_open_of, new_slot, open_of, slot_of, slot_set}
 use Rattle.orc_rules.specs.declared.asked.Asked.{Asked}
 use Rattle.orc_hub.specs.Keeps.{IsAsker}
 use Rattle.orc_hub_parts.proofs.Positions.{found_again, found_last}
@@ -107,6 +107,54 @@ module _ (asked : List Asked) (call : Call) (closed : open_of asked call.caller 
     caller = their.caller;
     number = their.number;
   }
+
+-- a slot in which an answer is noted, or that is made for it, leaves each open call, which may be this one
+pub asks_noted : (asked : List Asked) (call : Call) (said : Answer) (o : Option ℕ) → slot_of asked call ≡ o → (p : ℕ) (other : Call) → IsAsker asked p other
+    → IsAsker (slot_set asked call o (Some said) (is_open_at asked o)) p other
+asks_noted asked call said (Some q) is p other their = on (nat_eq p q) refl
+  where
+    noted : Asked
+    noted = new_slot call (Some said) (is_open_at asked (Some q))
+
+    here : (q < length asked) × (is_of call.caller call.number (get_or asked q (new_slot call None true)) ≡ true)
+        × ((k : ℕ) → k < q → is_of call.caller call.number (get_or asked k (new_slot call None true)) ≡ false)
+    here = position-Some (is_of call.caller call.number) asked q (new_slot call None true) is
+
+    slot_is : p ≡ q → their.slot ≡ get_or asked q (new_slot call None true)
+    slot_is same =
+        same_Some their.slot (get_or asked q (new_slot call None true))
+        (sym their.there ∙ ap (slice_get asked) same ∙ slice_get-get_or asked q (new_slot call None true) here.0)
+
+    on : (b : Bool) → nat_eq p q ≡ b → IsAsker (set asked q noted) p other
+    on true e =
+        let same : p ≡ q = eqb-true p q e in
+        let one = get_or asked q (new_slot call None true) in
+        let slot : their.slot ≡ one = slot_is same in
+        let caller : one.caller ≡ call.caller =
+        (bytes_decides one.caller call.caller).0 (first_so (is_same_text one.caller call.caller) (nat_eq one.number call.number) here.1) in
+        let number : one.number ≡ call.number =
+        eqb-true one.number call.number (second_so (is_same_text one.caller call.caller) (nat_eq one.number call.number) here.1) in
+        record {
+          slot = noted;
+          there = ap (slice_get (set asked q noted)) same ∙ get_set asked q noted here.0;
+          is_open = ap (λ (o : Option Asked). option_map_or (λ (x : Asked). x.is_open) o false) (sym (ap (slice_get asked) same) ∙ their.there) ∙ their.is_open;
+          caller = sym caller ∙ sym (ap (λ (x : Asked). x.caller) slot) ∙ their.caller;
+          number = sym number ∙ sym (ap (λ (x : Asked). x.number) slot) ∙ their.number;
+        }
+    on false e = record {
+      slot = their.slot;
+      there = get_set_other asked q p noted (λ same. false≢true (sym e ∙ eq-eqb p q same)) ∙ their.there;
+      is_open = their.is_open;
+      caller = their.caller;
+      number = their.number;
+    }
+asks_noted asked call said None is p other their = record {
+  slot = their.slot;
+  there = get_front asked (new_slot call (Some said) false ∷ []) p their.slot their.there;
+  is_open = their.is_open;
+  caller = their.caller;
+  number = their.number;
+}
 
 -- and who asks has the open one
 pub asks_now : (asked : List Asked) (call : Call) (last : Option Answer) (o : Option ℕ) → slot_of asked call ≡ o → (place : ℕ) → slot_of (slot_set asked call o last true) call ≡ Some place

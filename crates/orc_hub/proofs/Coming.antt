@@ -1,5 +1,5 @@
 -- What submissions and admissions keep of the hub.
-use Rattle.std.proofs.Common.{◌≡◌, ◌≢◌, ◌⊎◌, inl, inr, ⊎_elim, ℕ, ◌+◌, ◌<◌, ◌≤◌, Bool, true, false, not, ◌&&◌, cond, nat_eq, nat_lt, List, [], ◌∷◌, ◌++◌, Option, None, Some, is_some, Err, Ok, All, IsTrue, length, take, get_or, set, append-nil, refl, sym, ap, subst, ◌∙◌, arith, lt-ltb, ltb-true, eqb-true, eq-eqb}
+use Rattle.std.proofs.Common.{◌≡◌, ◌≢◌, ◌⊎◌, inl, inr, ⊎_elim, ℕ, ◌+◌, ◌<◌, ◌≤◌, Bool, true, false, not, ◌&&◌, cond, nat_eq, nat_lt, List, [], ◌∷◌, ◌++◌, Option, None, Some, Err, Ok, All, IsTrue, length, take, get_or, set, append-nil, refl, sym, ap, subst, ◌∙◌, arith, lt-ltb, ltb-true, eqb-true, eq-eqb}
 use Rattle.std.specs.Prelude.{Result, slice_get}
 use Rattle.std.specs.Cmp.{first_so, second_so}
 use Rattle.std.proofs.lemmas.Bool.{false≢true}
@@ -51,7 +51,7 @@ use Rattle.orc_hub.specs.declared.hub.Submitted.{Submitted}
 use Rattle.orc_hub.specs.declared.hub.Submitted.TheVariants as submitted
 use Rattle.orc_hub_parts.specs.declared.numbers.Numbers.{Numbers}
 use Rattle.orc_hub_parts.specs.Numbered.{GivesNumber, IsLeastFree, is_given, is_noted}
-use Rattle.orc_hub.proofs.Asking.{asks_beside, asks_now, asks_still, none_open}
+use Rattle.orc_hub.proofs.Asking.{asks_beside, asks_noted, asks_now, asks_still, none_open}
 use Rattle.orc_hub.proofs.Keeping.{log_more, numbers_more}
 use Rattle.orc_hub.proofs.Submissions.{next_number}
 
@@ -235,12 +235,11 @@ module _ {D : Type 0} (disk : DiskMeaning D) (hub : Hub D) (entries : List Entry
         })
 
     answered_so : (said : Answer) (asked : List Asked) → KeepsAnswer call said hub.askers asked → AreAskers asked hub.waiting hub.active
-    answered_so said asked kept = on (open_of hub.askers call.caller) refl
-      where
-        on : (o : Option ℕ) → open_of hub.askers call.caller ≡ o
-            → AreAskers (cond (is_some o) hub.askers (slot_set hub.askers call (slot_of hub.askers call) (Some said) false)) hub.waiting hub.active
-        on None closed = askers_beside closed (Some said) false
-        on (Some number) is = own.askers
+    answered_so said asked kept = record {
+      waits = All-weaker (λ (one : Waiting). IsAsker hub.askers one.asker one.call) (λ (one : Waiting). IsAsker (with_answer call said hub.askers) one.asker one.call)
+          (λ one asks'. asks_noted hub.askers call said (slot_of hub.askers call) refl one.asker one.call asks') hub.waiting own.askers.waits;
+      prepares = λ p x there h. asks_noted hub.askers call said (slot_of hub.askers call) refl x.asker x.call (own.askers.prepares p x there h);
+    }
     answered_so said asked (wanting memory none) = own.askers
 
     kept_so : (said : Answer) (new : Hub D) → HasKept hub call said new → IsHub disk new entries
@@ -297,7 +296,7 @@ module _ {D : Type 0} (disk : DiskMeaning D) (hub : Hub D) (entries : List Entry
         → (plan ≡ Err answer.Memory) ⊎ (plan ≡ planned hub.decls (state_of hub.decls (take front hub.state.history)) front call)
         → (result : Submitted) (new : Hub D) → Submits hub call front plan result new → IsHub disk new entries
     submits_so law lawful front within plan of (submitted.Answered said) new s =
-        ⊎_elim (λ down. subst (λ (h : Hub D). IsHub disk h entries) (sym down.2) own) (λ up. kept_so said new up.2) s
+        ⊎_elim (λ down. kept_so said new down.2) (λ up. kept_so said new up.2) s
     submits_so law lawful front within plan of (submitted.Queued t) new s =
         ⊎_elim
         (λ memory. absurd (let no : Ok s.2.0 ≡ Err answer.Memory = sym s.2.1 ∙ memory in cc))

@@ -9,6 +9,7 @@ mod Commits
 pub mod Submissions
 mod Admissions
 pub mod Asking
+mod Closed
 mod Lefts
 mod Keeping
 mod Settlings

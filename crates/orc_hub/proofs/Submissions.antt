@@ -1,5 +1,5 @@
 -- What comes of a submission, in the words of the rules.
-use Rattle.std.proofs.Common.{◌≡◌, ◌⊎◌, inl, inr, ⊎_elim, ℕ, ◌≤◌, ◌<◌, Bool, true, false, not, ◌&&◌, nat_lt, cond, List, Option, None, Some, is_some, All, Err, Ok, refl, sym, ap, subst, ◌∙◌, arith, ltb-true, ltb-false}
+use Rattle.std.proofs.Common.{◌≡◌, ◌⊎◌, inl, inr, ⊎_elim, ℕ, ◌≤◌, Bool, true, false, not, ◌&&◌, nat_lt, List, None, Some, Err, Ok, refl, sym, ap, subst, ◌∙◌, arith, ltb-true}
 use Rattle.std.specs.Prelude.{MatchResult, Result, take}
 use Rattle.std.proofs.lemmas.Bool.{false≢true}
 use Rattle.std.proofs.lemmas.List.Elements.{All-weaker}
@@ -11,21 +11,17 @@ use Rattle.orc_datastore.specs.Plans.{planned}
 use Rattle.orc_datastore.specs.declared.plan.Plan.{Plan}
 use Rattle.orc_disk.specs.Meanings.{DiskMeaning}
 use Rattle.orc_journal.specs.Entries.{number_of}
-use Rattle.orc_journal.specs.Laws.{IsUnnamed}
 use Rattle.orc_journal.specs.declared.entry.Entry.{Entry}
-use Rattle.orc_rules.specs.Asked.{KeepsAnswer, open_of, slot_of, slot_set, with_answer}
-use Rattle.orc_rules.specs.Asked.KeepsAnswer.{kept}
+use Rattle.orc_rules.specs.Asked.{open_of}
 use Rattle.orc_rules.specs.Worlds.{AnswersSubmission, IsNextNumber}
 use Rattle.orc_rules.specs.Worlds.AnswersSubmission.{again as repeats, busy, refuses, reused as renumbers, wanting}
-use Rattle.orc_rules.specs.declared.asked.Asked.{Asked}
 use Rattle.orc_hub.specs.Hubs.{record_of}
 use Rattle.orc_hub.specs.Keeps.{IsHub}
-use Rattle.orc_hub.specs.Submits.{AnswersAgain, AnswersNow, HasKept, Queues, Submits}
+use Rattle.orc_hub.specs.Submits.{AnswersAgain, AnswersNow, AnswersWith, Queues, Submits}
 use Rattle.orc_hub.specs.Submits.AnswersAgain.{again, reused}
 use Rattle.orc_hub.specs.declared.hub.Hub.{Hub}
 use Rattle.orc_hub.specs.declared.hub.Submitted.{Submitted}
 use Rattle.orc_hub.specs.declared.hub.Submitted.TheVariants as submitted
-use Rattle.orc_hub_parts.specs.declared.numbers.Numbers.{Numbers}
 use Rattle.orc_hub_parts.specs.Numbered.{IsLeastFree, is_given, is_noted}
 
 -- there is no plan, for this
@@ -44,7 +40,7 @@ module _ {D : Type 0} (old : Hub D) (call : Call) (front : ℕ) (plan : Result P
       up,
       ⊎_elim (λ same. subst (λ (a : Answer). AnswersSubmission old.decls (record_of old) old.state.history call front a) (sym same) cause) (λ memory. wanted said memory) w.0,
       w.1,
-      λ _. closed,
+      λ _. inl closed,
     )
     now_is due cause (submitted.Queued t) new w = absurd w
 
@@ -56,7 +52,7 @@ module _ {D : Type 0} (old : Hub D) (call : Call) (front : ℕ) (plan : Result P
     free_is : (p : Result Plan Answer) → plan ≡ p → (p ≡ Err answer.Memory) ⊎ (p ≡ planned old.decls (state_of old.decls (take front old.state.history)) front call)
         → IsNew old.state.history call → (result : Submitted) (new : Hub D)
         → MatchResult p (λ it. Queues old call it result new) (λ said. AnswersNow old call said result new) → Submits old call front plan result new
-    free_is (Ok it) is of fresh (submitted.Answered said) new w = inr (up, wanted said w.0, w.1, λ _. closed)
+    free_is (Ok it) is of fresh (submitted.Answered said) new w = inr (up, wanted said w.0, w.1, λ _. inl closed)
     free_is (Ok it) is of fresh (submitted.Queued t) new w = (up, record { closed = closed; new = fresh }, (it, is, w))
     free_is (Err given) is of fresh result new w = now_is given (cause given of) result new w
       where
@@ -71,17 +67,28 @@ module _ {D : Type 0} (old : Hub D) (call : Call) (front : ℕ) (plan : Result P
     plan_is of fresh result new w = free_is plan refl of fresh result new w
 
   -- its caller has an open call
-  pub busy_is : (number : ℕ) → open_of old.askers call.caller ≡ Some number → Submits old call front plan (submitted.Answered (answer.Busy number)) old
-  busy_is number is = inr (
+  pub busy_is : (number : ℕ) → open_of old.askers call.caller ≡ Some number → (result : Submitted) (new : Hub D)
+      → AnswersWith old call (answer.Busy number) result new → Submits old call front plan result new
+  busy_is number is (submitted.Answered said) new w = inr (
     up,
-    busy number is,
-    record {
-      kept = subst (KeepsAnswer call (answer.Busy number) old.askers)
-          (ap (λ (o : Option ℕ). cond (is_some o) old.askers (slot_set old.askers call (slot_of old.askers call) (Some (answer.Busy number)) false)) is) kept;
-      rest = refl;
-    },
-    λ memory. (let no : answer.Busy number ≡ answer.Memory = memory in cc),
+    ⊎_elim (λ same. subst (λ (a : Answer). AnswersSubmission old.decls (record_of old) old.state.history call front a) (sym same) (busy number is)) (λ memory. wanted said memory.0) w.0,
+    w.1,
+    λ memory. ⊎_elim (λ same. absurd (let no : answer.Busy number ≡ answer.Memory = sym same ∙ memory in cc)) (λ none. inr none.1) w.0,
   )
+  busy_is number is (submitted.Queued t) new w = absurd w
+
+-- the hub is down
+pub down_is : {D : Type 0} (old : Hub D) (call : Call) (front : ℕ) (plan : Result Plan Answer) → old.down ≡ true → (result : Submitted) (new : Hub D)
+    → AnswersWith old call answer.Down result new → Submits old call front plan result new
+down_is old call front plan down (submitted.Answered said) new w = inl (down, w.0, w.1)
+down_is old call front plan down (submitted.Queued t) new w = absurd w
+
+-- an answer that is there twice
+pub now_with : {D : Type 0} (old : Hub D) (call : Call) (due given : Answer) → (given ≡ due) ⊎ (given ≡ answer.Memory) → (result : Submitted) (new : Hub D)
+    → AnswersWith old call given result new → AnswersNow old call due result new
+now_with old call due given of (submitted.Answered said) new w =
+    (⊎_elim (λ same. ⊎_elim (λ is. inl (same ∙ is)) (λ memory. inr (same ∙ memory)) of) (λ none. inr none.0) w.0, w.1)
+now_with old call due given of (submitted.Queued t) new w = absurd w
 
 -- the number of a call that waits is the next one
 not_given : (n a b : Bool) → b ≡ false → (not n && a && b) ≡ false

@@ -1,23 +1,22 @@
 -- What comes of a submission, said of the hub before it.
-use Rattle.std.proofs.Common.{◌≡◌, ℕ, ◌<◌, suc, zero, Bool, true, false, cond, List, [], ◌∷◌, ◌++◌, Option, None, Some, is_some, length, get_or, set, refl, sym, ap, subst, ◌∙◌, arith}
+use Rattle.std.proofs.Common.{◌≡◌, ℕ, ◌<◌, suc, zero, Bool, true, List, [], ◌∷◌, ◌++◌, Option, None, Some, length, get_or, set, refl, sym, ap, subst, ◌∙◌, arith}
 use Rattle.std.specs.Prelude.{MatchOption, slice_get}
-use Rattle.std.specs.List.{find}
-use Rattle.std.specs.Option.{option_map, option_map_or}
+use Rattle.std.specs.Option.{option_map_or}
 use Rattle.std.specs.Cmp.{first_so}
 use Rattle.std.specs.Cmp.Lexicographic.{bytes_decides}
 use Rattle.std.proofs.lemmas.List.{set-set, set_at}
 use Rattle.std.proofs.lemmas.List.Quantifiers.{position-Some}
-use Rattle.std.proofs.lemmas.Option.{none-some, same_Some, slice_get-get_or}
+use Rattle.std.proofs.lemmas.Option.{same_Some, slice_get-get_or}
 use Rattle.orc_call.specs.declared.answer.Answer.{Answer}
 use Rattle.orc_call.specs.declared.answer.Answer.TheVariants as answer
 use Rattle.orc_call.specs.declared.call.Call.{Call}
 use Rattle.orc_datastore.specs.declared.plan.Plan.{Plan}
 use Rattle.orc_decls.specs.Devices.{is_same_text}
-use Rattle.orc_rules.specs.Asked.{KeepsAnswer, is_of, is_open_of, last_at, new_slot, open_of, slot_of, slot_set, with_answer, with_open}
+use Rattle.orc_rules.specs.Asked.{KeepsAnswer, is_of, is_open_at, last_at, new_slot, slot_of, slot_set, with_answer}
 use Rattle.orc_rules.specs.Asked.KeepsAnswer.{kept, wanting}
 use Rattle.orc_rules.specs.declared.asked.Asked.{Asked}
 use Rattle.orc_hub_parts.specs.Askers.{opened_at, opened_one}
-use Rattle.orc_hub.specs.Submits.{HasKept, IsQueued, Queues, Waits}
+use Rattle.orc_hub.specs.Submits.{Queues, Waits}
 use Rattle.orc_hub.specs.declared.hub.Hub.{Hub}
 use Rattle.orc_hub.specs.declared.hub.Submitted.{Submitted}
 use Rattle.orc_hub.specs.declared.hub.Submitted.TheVariants as submitted
@@ -34,51 +33,9 @@ named_slot asked call place name is named =
     let caller : one.caller ≡ call.caller = (bytes_decides one.caller call.caller).0 (first_so (is_same_text one.caller call.caller) _ here.1) in
     subst (λ (o : Option Asked). MatchOption o ⊥ (λ (slot : Asked). slot.caller ≡ name)) (sym (slice_get-get_or asked place d here.0)) (caller ∙ sym named)
 
--- a caller without an open call has none where one of its slots is closed
-
-module _ {X : Type 0} (p : X → Bool) where
-  found_no_more : (xs : List X) (y : X) → find p xs ≡ None → p y ≡ false → find p (xs ++ y ∷ []) ≡ None
-  found_no_more [] y none fails = ap (λ (b : Bool). cond b (Some y) None) fails
-  found_no_more (x ∷ xs) y none fails = on (p x) refl (λ later. found_no_more xs y later fails)
-    where
-      on : (b : Bool) → p x ≡ b → (find p xs ≡ None → find p (xs ++ y ∷ []) ≡ None) → find p (x ∷ xs ++ y ∷ []) ≡ None
-      on true e rest = absurd (none-some x (sym none ∙ ap (λ (b : Bool). cond b (Some x) (find p xs)) e))
-      on false e rest = ap (λ (b : Bool). cond b (Some x) (find p (xs ++ y ∷ []))) e
-          ∙ rest (sym (ap (λ (b : Bool). cond b (Some x) (find p xs)) e) ∙ none)
-
-  found_no_other : (xs : List X) (i : ℕ) (y : X) → find p xs ≡ None → p y ≡ false → find p (set xs i y) ≡ None
-  found_no_other [] i y none fails = refl
-  found_no_other (x ∷ xs) i y none fails = on i (p x) refl (λ k later. found_no_other xs k y later fails)
-    where
-      on : (i : ℕ) (b : Bool) → p x ≡ b → ((k : ℕ) → find p xs ≡ None → find p (set xs k y) ≡ None) → find p (set (x ∷ xs) i y) ≡ None
-      on i true e rest = absurd (none-some x (sym none ∙ ap (λ (b : Bool). cond b (Some x) (find p xs)) e))
-      on zero false e rest = ap (λ (b : Bool). cond b (Some y) (find p xs)) fails
-          ∙ sym (ap (λ (b : Bool). cond b (Some x) (find p xs)) e) ∙ none
-      on (suc k) false e rest = ap (λ (b : Bool). cond b (Some x) (find p (set xs k y))) e
-          ∙ rest k (sym (ap (λ (b : Bool). cond b (Some x) (find p xs)) e) ∙ none)
-
-pub still_closed : (asked : List Asked) (call : Call) (place : Option ℕ) (said : Answer) → open_of asked call.caller ≡ None
-    → open_of (slot_set asked call place (Some said) false) call.caller ≡ None
-still_closed asked call place said closed = on place
-  where
-    none : (o : Option Asked) → option_map (λ (one : Asked). one.number) o ≡ None → o ≡ None
-    none None e = refl
-    none (Some x) e = absurd (none-some x.number (sym e))
-
-    before : find (is_open_of call.caller) asked ≡ None
-    before = none (find (is_open_of call.caller) asked) closed
-
-    on : (o : Option ℕ) → open_of (slot_set asked call o (Some said) false) call.caller ≡ None
-    on None = ap (option_map (λ (one : Asked). one.number)) (found_no_more (is_open_of call.caller) asked (new_slot call (Some said) false) before refl)
-    on (Some i) = ap (option_map (λ (one : Asked). one.number)) (found_no_other (is_open_of call.caller) asked i (new_slot call (Some said) false) before refl)
-
--- what is kept of an answer where the caller has no open call
-pub kept_answer : (asked new : List Asked) (call : Call) (said : Answer) → open_of asked call.caller ≡ None
-    → new ≡ slot_set asked call (slot_of asked call) (Some said) false → KeepsAnswer call said asked new
-kept_answer asked new call said closed put =
-    let same : with_answer call said asked ≡ slot_set asked call (slot_of asked call) (Some said) false =
-    ap (λ (o : Option ℕ). cond (is_some o) asked (slot_set asked call (slot_of asked call) (Some said) false)) closed in
-    subst (KeepsAnswer call said asked) (same ∙ sym put) kept
+-- what is kept of an answer
+pub kept_answer : (asked new : List Asked) (call : Call) (said : Answer) → new ≡ with_answer call said asked → KeepsAnswer call said asked new
+kept_answer asked new call said put = subst (KeepsAnswer call said asked) (sym put) kept
 
 pub kept_none : (asked new : List Asked) (call : Call) → slot_of asked call ≡ None → new ≡ asked → KeepsAnswer call answer.Memory asked new
 kept_none asked new call none same = subst (KeepsAnswer call answer.Memory asked) (sym same) (wanting refl none)
@@ -97,40 +54,42 @@ get_set [] i x h = absurd (omega (arith, h))
 get_set (y ∷ xs) zero x h = refl
 get_set (y ∷ xs) (suc i) x h = get_set xs i x (omega (arith, h))
 
-module _ (asked : List Asked) (call : Call) where
+module _ (asked : List Asked) (call : Call) (open_now : Bool) where
   -- where the slot was made
-  there_again : (q place : ℕ) → slot_of asked call ≡ Some q → slot_of (set asked q (new_slot call (Some answer.Memory) false)) call ≡ Some place → q ≡ place
+  there_again : (q place : ℕ) → slot_of asked call ≡ Some q → slot_of (set asked q (new_slot call (Some answer.Memory) open_now)) call ≡ Some place → q ≡ place
   there_again q place is slot =
-      same_Some q place (sym (found_again (is_of call.caller call.number) asked q (new_slot call (Some answer.Memory) false) is (own call (Some answer.Memory) false)) ∙ slot)
+      same_Some q place (sym (found_again (is_of call.caller call.number) asked q (new_slot call (Some answer.Memory) open_now) is (own call (Some answer.Memory) open_now)) ∙ slot)
 
-  there_last : (place : ℕ) → slot_of asked call ≡ None → slot_of (asked ++ new_slot call (Some answer.Memory) false ∷ []) call ≡ Some place → length asked ≡ place
+  there_last : (place : ℕ) → slot_of asked call ≡ None → slot_of (asked ++ new_slot call (Some answer.Memory) open_now ∷ []) call ≡ Some place → length asked ≡ place
   there_last place is slot =
-      same_Some (length asked) place (sym (found_last (is_of call.caller call.number) asked (new_slot call (Some answer.Memory) false) is (own call (Some answer.Memory) false)) ∙ slot)
+      same_Some (length asked) place (sym (found_last (is_of call.caller call.number) asked (new_slot call (Some answer.Memory) open_now) is (own call (Some answer.Memory) open_now)) ∙ slot)
 
-  pub opened_is : (last : Option Answer) (o : Option ℕ) → slot_of asked call ≡ o → (place : ℕ) → slot_of (slot_set asked call o (Some answer.Memory) false) call ≡ Some place
-      → opened_at last place (slot_set asked call o (Some answer.Memory) false) ≡ slot_set asked call o last true
+  pub opened_is : (last : Option Answer) (o : Option ℕ) → slot_of asked call ≡ o → (place : ℕ) → slot_of (slot_set asked call o (Some answer.Memory) open_now) call ≡ Some place
+      → opened_at last place (slot_set asked call o (Some answer.Memory) open_now) ≡ slot_set asked call o last true
   opened_is last (Some q) is place slot =
-      let one = new_slot call (Some answer.Memory) false in
+      let one = new_slot call (Some answer.Memory) open_now in
       subst (λ (n : ℕ). opened_at last n (set asked q one) ≡ set asked q (new_slot call last true)) (there_again q place is slot)
       (ap (λ (o : Option Asked). option_map_or (λ (x : Asked). set (set asked q one) q (opened_one last x)) o (set asked q one))
       (get_set asked q one (position-Some (is_of call.caller call.number) asked q one is).0) ∙ set-set asked q one (opened_one last one))
   opened_is last None is place slot =
-      let one = new_slot call (Some answer.Memory) false in
+      let one = new_slot call (Some answer.Memory) open_now in
       subst (λ (n : ℕ). opened_at last n (asked ++ one ∷ []) ≡ asked ++ new_slot call last true ∷ []) (there_last place is slot)
       (ap (λ (o : Option Asked). option_map_or (λ (x : Asked). set (asked ++ one ∷ []) (length asked) (opened_one last x)) o (asked ++ one ∷ []))
       (get_last asked one) ∙ set_last asked one (opened_one last one))
 
-  pub open_slot : (last : Option Answer) (o : Option ℕ) → slot_of asked call ≡ o → (place : ℕ) → slot_of (slot_set asked call o (Some answer.Memory) false) call ≡ Some place
+  pub open_slot : (last : Option Answer) (o : Option ℕ) → slot_of asked call ≡ o → (place : ℕ) → slot_of (slot_set asked call o (Some answer.Memory) open_now) call ≡ Some place
       → slot_of (slot_set asked call o last true) call ≡ Some place
   open_slot last (Some q) is place slot =
       found_again (is_of call.caller call.number) asked q (new_slot call last true) is (own call last true) ∙ ap (λ (n : ℕ). Some n) (there_again q place is slot)
   open_slot last None is place slot =
       found_last (is_of call.caller call.number) asked (new_slot call last true) is (own call last true) ∙ ap (λ (n : ℕ). Some n) (there_last place is slot)
 
-module _ {D : Type 0} (old : Hub D) (call : Call) (closed : open_of old.askers call.caller ≡ None) (plan : Plan) (asked : List Asked)
-    (put : asked ≡ slot_set old.askers call (slot_of old.askers call) (Some answer.Memory) false) (place : ℕ) (slot : slot_of asked call ≡ Some place)
-    (last : Option Answer) (was : last ≡ last_at old.askers (slot_of old.askers call)) where
-  slot' : slot_of (slot_set old.askers call (slot_of old.askers call) (Some answer.Memory) false) call ≡ Some place
+module _ {D : Type 0} (old : Hub D) (call : Call) (plan : Plan) (asked : List Asked) (put : asked ≡ with_answer call answer.Memory old.askers)
+    (place : ℕ) (slot : slot_of asked call ≡ Some place) (last : Option Answer) (was : last ≡ last_at old.askers (slot_of old.askers call)) where
+  abbrev was_open : Bool
+  was_open = is_open_at old.askers (slot_of old.askers call)
+
+  slot' : slot_of (with_answer call answer.Memory old.askers) call ≡ Some place
   slot' = subst (λ (l : List Asked). slot_of l call ≡ Some place) put slot
 
   pub waits_so : (result : Submitted) (new : Hub D) → Waits (record old { askers = asked }) call plan place last result new → Queues old call plan result new
@@ -138,17 +97,17 @@ module _ {D : Type 0} (old : Hub D) (call : Call) (closed : open_of old.askers c
     w.0,
     record {
       kept = subst (λ (h : Hub D). KeepsAnswer call said old.askers h.askers) (sym w.1)
-          (subst (λ (a : Answer). KeepsAnswer call a old.askers asked) (sym w.0) (kept_answer old.askers asked call answer.Memory closed put));
+          (subst (λ (a : Answer). KeepsAnswer call a old.askers asked) (sym w.0) (kept_answer old.askers asked call answer.Memory put));
       rest = w.1 ∙ ap (λ (l : List Asked). record old { askers = l }) (sym (ap (λ (h : Hub D). h.askers) w.1));
     },
   )
   waits_so (submitted.Queued t) new w = record {
     asker = place;
     slot = subst (λ (l : Option Answer). slot_of (slot_set old.askers call (slot_of old.askers call) l true) call ≡ Some place) was
-        (open_slot old.askers call last (slot_of old.askers call) refl place slot');
+        (open_slot old.askers call was_open last (slot_of old.askers call) refl place slot');
     least = w.0;
     given = w.1;
     waits = w.2 ∙ ap (λ (l : List Asked). record old { waiting = old.waiting ++ record { t = t; call = call; plan = plan; asker = place } ∷ []; askers = l; numbers = new.numbers })
-        (ap (opened_at last place) put ∙ opened_is old.askers call last (slot_of old.askers call) refl place slot'
+        (ap (opened_at last place) put ∙ opened_is old.askers call was_open last (slot_of old.askers call) refl place slot'
         ∙ ap (λ (l : Option Answer). slot_set old.askers call (slot_of old.askers call) l true) was);
   }

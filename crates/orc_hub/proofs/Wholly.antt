@@ -145,7 +145,7 @@ module _ {D : Type 0} (disk : DiskMeaning D) where
       → (old.down ≡ false → (plan ≡ Err answer.Memory) ⊎ (plan ≡ planned old.decls (state_of old.decls (take front old.state.history)) front call))
       → Submits old call front plan result new → KeepsHub disk old new
   submits_kept law old new call front plan (submitted.Answered said) lawful within of so =
-      ⊎_elim (λ down. same_kept old new down.2)
+      ⊎_elim (λ down. fallen old new (ap (λ (h : Hub D). h.decls) down.2.rest) (ap (λ (h : Hub D). h.down) down.2.rest ∙ down.0))
       (λ up. stays old new (ap (λ (h : Hub D). h.decls) up.2.rest) (ap (λ (h : Hub D). h.state.history) up.2.rest) up.0
       (λ entries own still. (entries, law old new entries call front plan (submitted.Answered said) own lawful (within up.0) (of up.0) so))) so
   submits_kept law old new call front plan (submitted.Queued t) lawful within of so =

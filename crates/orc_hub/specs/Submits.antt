@@ -35,6 +35,12 @@ module _ {D : Type 0} (old : Hub D) (call : Call) where
     pub kept : KeepsAnswer call said old.askers new.askers
     pub rest : new ≡ record old { askers = new.askers }
 
+  -- the call gets this answer at once, or that memory ran out for its slot, which there isn't yet
+  abbrev pub AnswersWith : Answer → Submitted → Hub D → Type 0
+  AnswersWith due (submitted.Answered said) new =
+      ((said ≡ due) ⊎ ((said ≡ answer.Memory) × (slot_of old.askers call ≡ None))) × HasKept said new
+  AnswersWith due (submitted.Queued t) new = ⊥
+
   -- the call gets this answer at once, or that memory ran out
   abbrev pub AnswersNow : Answer → Submitted → Hub D → Type 0
   AnswersNow due (submitted.Answered said) new = ((said ≡ due) ⊎ (said ≡ answer.Memory)) × HasKept said new
@@ -58,13 +64,16 @@ module _ {D : Type 0} (old : Hub D) (call : Call) where
   Queues plan (submitted.Answered said) new = (said ≡ answer.Memory) × HasKept said new
   Queues plan (submitted.Queued t) new = IsQueued plan t new
 
-  -- What `submit` does: where the hub is down the call is answered so, and nothing changes. Else it gets the answer
-  -- that is due at once, or waits. That its caller has an open call is answered without memory.
+  -- What `submit` does: where the hub is down the call is answered so. Else it gets the answer that is due at once, or
+  -- waits. The answer is kept, whichever it is, and where that takes a slot the answer may be Memory instead: that the
+  -- hub is down, or that its caller has an open call, is answered without memory where the call has its slot.
   abbrev pub Submits : ℕ → Result Plan Answer → Submitted → Hub D → Type 0
   Submits front plan (submitted.Answered said) new =
-      ((old.down ≡ true) × (said ≡ answer.Down) × (new ≡ old))
+      ((old.down ≡ true) × ((said ≡ answer.Down) ⊎ ((said ≡ answer.Memory) × (slot_of old.askers call ≡ None)))
+      × HasKept said new)
       ⊎ ((old.down ≡ false) × AnswersSubmission old.decls (record_of old) old.state.history call front said
-      × HasKept said new × (said ≡ answer.Memory → open_of old.askers call.caller ≡ None))
+      × HasKept said new
+      × (said ≡ answer.Memory → (open_of old.askers call.caller ≡ None) ⊎ (slot_of old.askers call ≡ None)))
   Submits front plan (submitted.Queued t) new =
       (old.down ≡ false) × IsFree × ((it : Plan) × (plan ≡ Ok it) × IsQueued it t new)
 

@@ -9,7 +9,7 @@ ghost use Rattle.orc_rules.specs.Asked.{open_of, slot_of};
 ghost use Rattle.orc_rules.specs.Worlds.{IsNextNumber};
 ghost use Rattle.orc_hub.specs.Hubs.{record_of};
 ghost use Rattle.orc_hub.specs.Keeps.{IsHub, IsSoundHub, KeepsHub};
-ghost use Rattle.orc_hub.specs.Submits.{AnswersAgain, AnswersNow, Queues, Submits, Waits};
+ghost use Rattle.orc_hub.specs.Submits.{AnswersAgain, AnswersNow, AnswersWith, Queues, Submits, Waits};
 ghost use Rattle.orc_hub.specs.declared.hub.Submitted.TheVariants as submitted;
 ghost use Rattle.orc_hub_parts.specs.Numbered.{IsLeastFree};
 
@@ -38,7 +38,7 @@ fn answer_at(history: &[Call], place: usize, call: &Call) -> Answer
 impl<D: Disk> Hub<D> {
     /// Submits a call that was planned on a snapshot of this front. It is answered at once: Down; Busy where
     /// its caller has an open call; Committed or Reused where an entry has its caller and number; what
-    /// refuses its plan; or Memory. Else it waits.
+    /// refuses its plan; or Memory. Else it waits. The answer is kept as the last of its caller and number.
     pub fn submit(
         &mut self,
         alloc: Global,
@@ -70,17 +70,22 @@ impl<D: Disk> Hub<D> {
     ) -> Submitted
         requires plan { self.old.down ≡ false → (plan ≡ Err Answer.Memory)
             ⊎ (plan ≡ planned self.old.decls (state_of self.old.decls (take front self.old.state.history)) front call) }
-        ensures submits { Submits self.old call front plan result self.new }
-        ensures number { (entries : List Entry) (t : ℕ) → IsHub D.disk self.old entries → result ≡ submitted.Queued t
-            → IsNextNumber (record_of self.old) entries t }
+        ensures { Submits self.old call front plan result self.new }
     {
         if self.down {
-            return Submitted::Answered(Answer::Down);
+            return self.answer_with(alloc, &call, Answer::Down, Answer::Down);
         }
         match self.askers.open_of(&call.caller) {
-            Some(number) => Submitted::Answered(Answer::Busy(number)),
+            Some(number) => self.answer_busy(alloc, &call, number),
             None => self.submit_closed(alloc, call, front, plan),
         }
+    }
+
+    // Answers a call whose caller's open call has this number.
+    fn answer_busy(&mut self, alloc: Global, call: &Call, number: u64) -> Submitted
+        ensures { AnswersWith self.old call.now (Answer.Busy number) result self.new }
+    {
+        self.answer_with(alloc, call, Answer::Busy(number), Answer::Busy(number))
     }
 
     // Submits a call where the hub is up and its caller has no open call.
@@ -130,10 +135,17 @@ impl<D: Disk> Hub<D> {
 
     // Answers a call at once, and keeps the answer.
     fn answer_now(&mut self, alloc: Global, call: &Call, answer: Answer) -> Submitted
-        requires { open_of self.old.askers call.now.caller ≡ None }
         ensures { AnswersNow self.old call.now answer result self.new }
     {
         let (answer, kept) = twice(alloc, answer);
+        self.answer_with(alloc, call, answer, kept)
+    }
+
+    // Answers a call at once, and keeps the same answer.
+    fn answer_with(&mut self, alloc: Global, call: &Call, answer: Answer, kept: Answer) -> Submitted
+        requires { kept ≡ answer }
+        ensures { AnswersWith self.old call.now answer result self.new }
+    {
         match self.askers.put(alloc, call, kept) {
             Ok(_) => Submitted::Answered(answer),
             Err(Memory) => Submitted::Answered(Answer::Memory),

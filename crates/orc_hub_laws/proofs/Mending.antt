@@ -52,7 +52,7 @@ use Rattle.orc_hub_laws.proofs.Going.{DiskLaws, appended_of, entries_are, failed
 use Rattle.orc_hub_laws.proofs.Rows.{RowDone, journal_cut, one_more, row_done, row_failed, row_full, row_stopped}
 use Rattle.orc_hub_laws.proofs.Telling.{AreNoted, are_unsettled, noted_so, number, resolved_same}
 
--- the same on each number of a range
+-- two functions that agree on each number of a range map it to the same
 map_range : {A : Type 0} (f g : ℕ → A) (start len : ℕ) → ((n : ℕ) → n < start + len → f n ≡ g n) → map f (range_with_len start len) ≡ map g (range_with_len start len)
 map_range f g start zero same = refl
 map_range f g start (suc len) same = λ i. same start (omega arith) i ∷ map_range f g (start + 1) len (λ n less. same n (omega (arith, less))) i

@@ -139,7 +139,7 @@ verdict_among n duties t devices sized = on (list_any (λ device. is_short (outc
 module _ {D : Type 0} (disk : DiskMeaning D) where
   pub submissions_named : FaultsAreNamed → SubmissionsAreNamed disk
   submissions_named named old new call front plan given so = ⊎_elim
-      (λ down. named_as (length old.decls.names) given answer.Down down.1 refl)
+      (λ down. ⊎_elim (λ same. named_as (length old.decls.names) given answer.Down same refl) (λ memory. named_as (length old.decls.names) given answer.Memory memory.0 refl) down.1)
       (λ up. submission_named named old.decls (record_of old) old.state.history call front given up.1) so
 
   turned_named : (old : Hub D) (entries : List Entry) (it : Waiting) (place : ℕ) (given : Answer) → IsHub disk old entries

@@ -1,4 +1,4 @@
--- What a hub notes of transactions that aren't settled is what the entries of its journal tell.
+-- What a hub notes of transactions that aren't settled is what the entries of its journal say.
 use Rattle.std.specs.Prelude.{◌≡◌, ◌≢◌, ◌⊎◌, ◌+◌, ◌<◌, ◌==◌, ℕ, zero, suc, Bool, true, false, cond, not, ◌||◌, nat_eq, nat_lt, Option, None, Some, is_some, List, [], ◌∷◌, ◌++◌, All, Contains, IsTrue, length, map, take, drop}
 use Rattle.std.specs.List.{filter, fold, list_any}
 use Rattle.std.specs.Option.{option_map_or}
@@ -138,7 +138,7 @@ has_settled t (x ∷ xs) u differ has = on (nat_eq x.t t) refl (has_settled t xs
         subst (λ (l : List Unsettled). Has l u) (sym (settled_cons t x xs false e))
         (⊎_elim (λ same. inl same) (λ rest. inr (again rest)) has)
 
--- what is told
+-- what entries say
 
 apart : {A : Type 0} (f : ℕ → A) (t : ℕ) (a : A) (u : ℕ) → (t ≡ u → ⊥) → updated_at f t a u ≡ f u
 apart {A = A} f t a u differ = on (nat_eq t u) refl
@@ -266,7 +266,7 @@ told_along law before (e ∷ rest) xs ordered more own =
     (told_along law (before ++ e ∷ []) rest (noted xs e) (is_ordered-push before e ordered next) (second_so (follows before e) (are_ordered (before ++ e ∷ []) rest) more)
     (subst (λ (told : Told). AreNoted told (noted xs e)) (sym (told_push before e)) (one_told before xs e ((law before e ordered).0 next) own)))
 
--- what the hub notes of entries in order is what they tell
+-- what the hub notes of entries in order is what they say
 pub noted_so : KeepsOrder → (entries : List Entry) → IsTrue (is_ordered entries) → AreNoted (told_by entries) (unsettled_by entries)
 noted_so law entries ordered =
     told_along law [] entries [] refl ordered (record { each = All-nil (IsNoted (told_by [])); ascends = tt; only = λ t told. absurd (told refl) })

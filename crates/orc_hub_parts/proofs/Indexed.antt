@@ -16,7 +16,7 @@ use Rattle.orc_call.specs.declared.answer.Answer.{Answer}
 use Rattle.orc_decls.specs.Devices.{is_same_text}
 use Rattle.orc_hub_parts.proofs.Indexing.{get_front, get_last, get_other, get_set}
 use Rattle.orc_hub_parts.proofs.Positions.{found, not_found}
-use Rattle.orc_hub_parts.specs.Askers.{answer_of, opened_at, opened_one}
+use Rattle.orc_hub_parts.specs.Askers.{answer_of, noted_at, noted_one, opened_at, opened_one}
 use Rattle.orc_hub_parts.specs.declared.index.Calls.{Calls}
 use Rattle.orc_hub_parts.specs.declared.index.Index.{Index}
 use Rattle.orc_hub_parts.specs.inside.Indexed.{AreIndexed, FindsSame, IsKnown, IsPaired, NotesOpen, NotesPlace, calls_among, latest_in, place_in}
@@ -227,6 +227,19 @@ module _ (slots : List Asked) (index : Index) (own : AreIndexed slots index) (pl
     latest_there = latest_still;
   }
 
+  -- it is open where it was
+  kept_slot : other.is_open ≡ one.is_open → AreIndexed changed index
+  kept_slot same = record {
+    paired = own.paired;
+    found = found_still;
+    there = there_still;
+    opened = λ j y at is. ⊎_elim
+        (λ h. ap (λ (x : Asked). latest_in index x.caller) h.1 ∙ ap (latest_in index) caller
+        ∙ own.opened place one there (sym same ∙ sym (ap (λ (x : Asked). x.is_open) h.1) ∙ is) ∙ ap Some (sym h.0))
+        (λ h. own.opened j y h.1 is) (before j y at);
+    latest_there = latest_still;
+  }
+
   -- it is open, and its caller had no open call
   open_slot : (later : Index) → IsPaired later → NotesOpen index later one.caller place → open_of slots one.caller ≡ None → AreIndexed changed later
   open_slot later paired notes none = record {
@@ -262,7 +275,7 @@ module _ (slots : List Asked) (index : Index) (own : AreIndexed slots index) (pl
       latest_now name j is false e =
           latest_still name j (sym (notes.latest name ∙ ap (λ (b : Bool). cond b (Some place) (latest_in index name)) e) ∙ is)
 
--- a slot answered, opened, added
+-- a slot answered, noted, opened, added
 
 pub answered_indexed : (slots : List Asked) (index : Index) (place : ℕ) (answer : Answer) → AreIndexed slots index → AreIndexed (answered_at place answer slots) index
 answered_indexed slots index place answer own = on (slice_get slots place) refl
@@ -271,6 +284,14 @@ answered_indexed slots index place answer own = on (slice_get slots place) refl
         → AreIndexed (option_map_or (λ (one : Asked). slice_set slots place (answered_one answer one)) o slots) index
     on None is = own
     on (Some one) is = closed_slot slots index own place one (answered_one answer one) is refl refl refl
+
+pub noted_indexed : (slots : List Asked) (index : Index) (place : ℕ) (answer : Answer) → AreIndexed slots index → AreIndexed (noted_at place answer slots) index
+noted_indexed slots index place answer own = on (slice_get slots place) refl
+  where
+    on : (o : Option Asked) → slice_get slots place ≡ o
+        → AreIndexed (option_map_or (λ (one : Asked). slice_set slots place (noted_one answer one)) o slots) index
+    on None is = own
+    on (Some one) is = kept_slot slots index own place one (noted_one answer one) is refl refl refl
 
 pub opened_indexed : (slots : List Asked) (index later : Index) (place : ℕ) (last : Option Answer) (name : List ℕ) → AreIndexed slots index
     → MatchOption (slice_get slots place) ⊥ (λ slot. slot.caller ≡ name) → open_of slots name ≡ None → IsPaired later → NotesOpen index later name place

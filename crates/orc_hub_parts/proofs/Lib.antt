@@ -8,3 +8,4 @@ pub mod Pasts
 pub mod Replayed
 pub mod Indexing
 pub mod Indexed
+pub mod Named

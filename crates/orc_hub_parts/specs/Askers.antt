@@ -18,6 +18,14 @@ abbrev pub opened_at : Option Answer → ℕ → List Asked → List Asked
 opened_at last place asked =
     option_map_or (λ one. slice_set asked place (opened_one last one)) (slice_get asked place) asked
 
+-- this is the last answer of the slot at this place, where a call that is open stays open
+abbrev pub noted_one : Answer → Asked → Asked
+noted_one answer one = record one { last = Some answer }
+
+abbrev pub noted_at : ℕ → Answer → List Asked → List Asked
+noted_at place answer asked =
+    option_map_or (λ one. slice_set asked place (noted_one answer one)) (slice_get asked place) asked
+
 -- an open call stands at this place
 pub record IsOpenAt (asked : List Asked) (place : ℕ) : Type 0 where
   pub slot : Asked

@@ -1,4 +1,4 @@
--- What the entries of a journal tell of transactions that aren't settled.
+-- What the entries of a journal say of transactions that aren't settled.
 use Rattle.std.specs.Prelude.{◌≡◌, ℕ, nat_eq, nat_lt, Bool, true, false, List, [], ◌∷◌, ◌++◌, drop, map, take, IsTrue, if◌then◌else◌}
 use Rattle.std.specs.List.{fold, position, position_or_len}
 use Rattle.std.specs.Option.{option_map_or}

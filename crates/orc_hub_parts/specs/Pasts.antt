@@ -1,4 +1,4 @@
--- The past that the entries of a journal tell, for a hub that starts.
+-- The past that the entries of a journal report, for a hub that starts.
 use Rattle.std.specs.Prelude.{◌≡◌, ℕ, ◌+◌, List, Some, take, slice_get}
 use Rattle.orc_datastore.specs.Legal.{IsLegal}
 use Rattle.orc_decls.specs.declared.declarations.Decls.{Decls}

@@ -1,7 +1,7 @@
 //! Who asked, and what was answered.
 ghost use Rattle.std.specs.Prelude.{◌≡◌, ◌<◌, ◌++◌, ◌∷◌, [], false, IfOk, MatchOption, None, OnErr, OnOk, Some, length, slice_get, slice_set};
 ghost use Rattle.std.specs.Option.{option_map};
-ghost use Rattle.orc_rules.specs.Asked.{answered_at, last_at, new_slot, open_of, slot_of, slot_set};
+ghost use Rattle.orc_rules.specs.Asked.{answered_at, last_at, new_slot, open_of, slot_of, with_answer};
 ghost use Rattle.orc_hub_parts.specs.Askers.{IsOpenAt, answer_of, named_at, opened_at};
 
 use crate::rows::cut;
@@ -111,16 +111,16 @@ impl Askers {
         self.names = Row::from_vec(names);
     }
 
-    /// Answers a call, in the slot of its caller and number, which is made where there is none. It tells
-    /// the place of the slot, and the last answer before. Only a new slot takes memory.
+    /// Notes the answer to a call in the slot of its caller and number, which is made where there is none.
+    /// A call that is open there stays open. It returns the place of the slot, and the last answer before.
+    /// Only a new slot takes memory.
     pub fn put(
         &mut self,
         alloc: Global,
         call: &Call,
         answer: Answer,
     ) -> Result<(usize, Option<Answer>), Memory>
-        ensures put { OnOk result (self.new
-            ≡ slot_set self.old call.now (slot_of self.old call.now) (Some answer) false) }
+        ensures put { OnOk result (self.new ≡ with_answer call.now answer self.old) }
         ensures place { IfOk result (λ done. slot_of self.new call.now ≡ Some done.0) }
         ensures last { IfOk result (λ done. done.1 ≡ last_at self.old (slot_of self.old call.now)) }
         ensures none { OnErr result (slot_of self.old call.now ≡ None) }
@@ -128,14 +128,14 @@ impl Askers {
     {
         match self.slots.place_of(&call.caller, call.number) {
             Some(place) => {
-                let last = self.slots.answer_over(alloc, place, answer);
+                let last = self.slots.note(alloc, place, answer);
                 Ok((place, last))
             }
             None => Ok((self.add(alloc, call, answer)?, None)),
         }
     }
 
-    // Adds a slot for a call, which has none, and answers it.
+    // Adds a slot for a call, which has none, with this answer.
     fn add(&mut self, alloc: Global, call: &Call, answer: Answer) -> Result<usize, Memory>
         requires { slot_of self.old call.now ≡ None }
         ensures added { OnOk result (self.new ≡ self.old ++ new_slot call.now (Some answer) false ∷ []) }

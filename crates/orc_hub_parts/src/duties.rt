@@ -1,16 +1,17 @@
 //! What is done on the devices, one by one and on all.
-ghost use Rattle.std.specs.Prelude.{◌≡◌, ◌<◌, IsTrue, MatchOption, length, map, slice_get, slice_set};
+ghost use Rattle.std.specs.Prelude.{◌≡◌, ◌<◌, not, IsTrue, MatchOption, length, map, slice_get, slice_set, take};
+ghost use Rattle.std.specs.List.{list_all};
 ghost use Rattle.orc_rules.specs.Duties.{duty_end, duty_told, duty_took, is_busy, is_over_on, outcome_on, stale_by};
 ghost use Rattle.orc_rules.specs.Hubs.{with_changed, duty_on, mend_fault};
 
-use crate::duty::{is_over_for, outcome, take_reply, tell};
+use crate::duty::{is_busy, is_over_for, outcome, take_reply, tell};
 use orc_call::{RecFault, Why};
 use orc_device::Reply;
 use orc_recover::Mend;
 use orc_rules::Duty;
 use orc_worker::Outcome;
 
-/// Takes the reply to the operation due on a device. It tells how the reconciliation of the device ended
+/// Takes the reply to the operation due on a device. It returns how the reconciliation of the device ended
 /// by it, if it did.
 pub fn take_on(
     duties: &mut [Duty],
@@ -51,6 +52,21 @@ pub fn tell_all(duties: &mut [Duty], t: u64, commit: bool)
     for device in 0..duties.len() {
         tell(&mut duties[device], t, commit);
     }
+}
+
+// Whether nothing is left to do on any of these devices.
+fn none_busy(duties: &[Duty]) -> bool
+    ensures { result ≡ list_all (λ duty. not (is_busy duty)) duties.now }
+{
+    duties.iter().all(|duty| !is_busy(duty))
+}
+
+/// Whether nothing is left to do on the devices before this one.
+pub fn none_busy_before(duties: &[Duty], device: u32) -> bool
+    requires { device < length duties.now }
+    ensures { result ≡ list_all (λ duty. not (is_busy duty)) (take device duties.now) }
+{
+    none_busy(&duties[..device as usize])
 }
 
 /// The last outcome that the work of a transaction had on a device.

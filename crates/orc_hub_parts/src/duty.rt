@@ -56,7 +56,7 @@ fn cause_by(t: u64, report: Option<Report>) -> Option<Why>
     }
 }
 
-// Whether a device is stale behind the end of its reconciliation.
+// Whether a device is stale after the end of its reconciliation.
 fn stale_ended(before: Option<Why>, end: Option<Mend>) -> Option<Why>
     ensures { result ≡ stale_ended before end }
 {
@@ -67,8 +67,8 @@ fn stale_ended(before: Option<Why>, end: Option<Mend>) -> Option<Why>
     }
 }
 
-/// Takes the reply to the operation due, with the link's count of faults, and tells why the device is
-/// stale behind it, if it is, and how its reconciliation ended, if it did.
+/// Takes the reply to the operation due, with the link's count of faults, and returns why the device is
+/// stale after it, if it is, and how its reconciliation ended, if it did.
 pub fn take_reply(
     duty: &mut Duty,
     before: Option<Why>,

@@ -1,5 +1,5 @@
 //! What a hub is made of: who asked and what they were told, the numbers of transactions, the open journal with what
-//! isn't settled in it, what the entries of a journal tell, and the work on devices: duties, what is due, verdicts and
+//! isn't settled in it, what the entries of a journal say, and the work on devices: duties, what is due, verdicts and
 //! transactions that left them.
 #![tactic(auto)]
 
@@ -19,7 +19,7 @@ mod verdicts;
 
 pub use askers::Askers;
 pub use due::{is_settling, least_due, place_due};
-pub use duties::{mend_fault, take_on, tell_all};
+pub use duties::{mend_fault, none_busy_before, take_on, tell_all};
 pub use duty::next_op;
 pub use log::{Log, Unsettled};
 pub use numbers::Numbers;

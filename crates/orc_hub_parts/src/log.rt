@@ -1,4 +1,4 @@
-//! The log: the open journal, and what its entries tell of transactions that aren't settled.
+//! The log: the open journal, and what its entries say of transactions that aren't settled.
 ghost use Rattle.std.specs.Prelude.{◌≡◌, ◌<◌, ◌≤◌, ◌++◌, ◌∷◌, ℕ, false, IfOk, IsErrOf, IsTrue, OnErr, OnOk, drop, length, map, take};
 ghost use Rattle.std.specs.List.{position};
 ghost use Rattle.orc_call.specs.declared.call.Call.{Call};
@@ -23,7 +23,7 @@ pub struct Unsettled {
     pub is_decided: bool,
 }
 
-/// The open journal; and the unsettled transactions that its entries tell, in the order of their numbers.
+/// The open journal; and the unsettled transactions that its entries report, in the order of their numbers.
 #[derive(Drop)]
 pub struct Log<D: Disk> {
     pub journal: Journal<D>,
@@ -54,7 +54,7 @@ fn place_for(unsettled: &[Unsettled], t: u64) -> usize
     unsettled.len()
 }
 
-// Notes an Intent that is to be appended, and tells its place.
+// Notes an Intent that is to be appended, and returns its place.
 fn note_intent(
     alloc: Global,
     unsettled: &mut Row<Unsettled>,
@@ -164,7 +164,7 @@ fn note_short(alloc: Global, unsettled: &mut Row<Unsettled>, entry: &Entry)
     }
 }
 
-/// Notes what an entry tells. Only an `Intent` takes memory.
+/// Notes what an entry says. Only an `Intent` takes memory.
 pub fn note(alloc: Global, unsettled: &mut Row<Unsettled>, entry: &Entry) -> Result<(), Memory>
     ensures { OnOk result (unsettled.new ≡ noted unsettled.old entry.now) }
 {
@@ -180,8 +180,8 @@ pub fn note(alloc: Global, unsettled: &mut Row<Unsettled>, entry: &Entry) -> Res
 }
 
 impl<D: Disk> Log<D> {
-    /// Appends an entry, as `Journal::append` does, and notes what it tells. Only an `Intent` takes memory,
-    /// and after want of it the log is as it was. Only an entry that has room meets a failure of the disk.
+    /// Appends an entry, as `Journal::append` does, and notes what it says. Only an `Intent` takes memory,
+    /// and where that runs out the log is as it was. Only an entry that has room meets a failure of the disk.
     pub fn append(&mut self, alloc: Global, entry: &Entry) -> Result<(), AppendFault>
         requires ready { IsReady D.disk self.old.journal }
         requires entry { IsEntry entry.now }
@@ -208,7 +208,7 @@ impl<D: Disk> Log<D> {
         }
     }
 
-    // The same for an Intent of this number and these devices.
+    // Appends an Intent of this number and these devices, and notes what it says.
     fn append_intent(
         &mut self,
         alloc: Global,
@@ -242,7 +242,7 @@ impl<D: Disk> Log<D> {
         }
     }
 
-    // The same for another entry, which takes no memory.
+    // Appends another entry, which takes no memory, and notes what it says.
     fn append_short(&mut self, alloc: Global, entry: &Entry) -> Result<(), AppendFault>
         requires ready { IsReady D.disk self.old.journal }
         requires entry { IsEntry entry.now }

@@ -1,4 +1,4 @@
-//! What the entries of a journal tell a hub that starts.
+//! What the entries of a journal say to a hub that starts.
 ghost use Rattle.std.specs.Prelude.{◌≡◌, ◌+◌, ◌++◌, ◌∷◌, [], ℕ, true, false, Ok, length, take, IfOk, IsErrOf, IsTrue};
 ghost use Rattle.orc_datastore.specs.Legal.{IsDue, IsLegal};
 ghost use Rattle.orc_decls.specs.Calls.{is_call};
@@ -18,7 +18,7 @@ use orc_state::State;
 use orc_text::{Memory, Row};
 use std::alloc::Global;
 
-/// The numbers of transactions, those that aren't settled, and the state behind the calls that were
+/// The numbers of transactions, those that aren't settled, and the state after the calls that were
 /// decided.
 #[derive(Drop)]
 pub struct Past {
@@ -69,7 +69,7 @@ impl Past {
         Ok(past)
     }
 
-    // Takes an entry behind those before it, and says whether the history is still legal.
+    // Takes an entry after those before it, and says whether the history is still legal.
     fn take(
         &mut self,
         alloc: Global,

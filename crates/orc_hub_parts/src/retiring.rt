@@ -59,7 +59,7 @@ fn nothing_held(alloc: Global) -> Held
     }
 }
 
-// A transaction whose workers have all ended behind its decision is active no more.
+// A transaction whose workers have all ended after its decision is active no more.
 fn retire(it: &mut Transaction, alloc: Global, duties: &[Duty])
     ensures { it.new ≡ retired duties.now it.old }
 {
@@ -83,7 +83,7 @@ fn come(it: &mut Transaction, t: u64, phase: Phase)
     }
 }
 
-/// Each transaction whose workers have all ended behind its decision is active no more.
+/// Each transaction whose workers have all ended after its decision is active no more.
 pub fn retire_all(alloc: Global, active: &mut [Transaction], duties: &[Duty])
     ensures { active.new ≡ map (retired duties.now) active.old }
 {

@@ -2,7 +2,7 @@
 ghost use Rattle.std.specs.Prelude.{◌≡◌, ◌<◌, ◌++◌, ◌∷◌, [], None, OnErr, OnOk, Some, MatchOption, false, if◌then◌else◌, length, slice_get};
 ghost use Rattle.std.specs.List.{position};
 ghost use Rattle.std.specs.Option.{option_map};
-ghost use Rattle.orc_hub_parts.specs.Askers.{answer_of, opened_at};
+ghost use Rattle.orc_hub_parts.specs.Askers.{answer_of, noted_at, opened_at};
 ghost use Rattle.orc_rules.specs.Asked.{answered_at, is_of, open_of};
 
 use crate::index::Index;
@@ -33,7 +33,7 @@ impl Model for Slots {
     ghost invariant = { λ slots. AreIndexed slots.rows slots.index };
 }
 
-// Answers the one who asked at this place, and tells the number.
+// Answers the one who asked at this place, and returns the number.
 fn answer_at(asked: &mut [Asked], place: usize, answer: Answer) -> u64
     requires { place < length asked.old }
     ensures asked { asked.new ≡ answered_at place answer asked.old }
@@ -45,14 +45,13 @@ fn answer_at(asked: &mut [Asked], place: usize, answer: Answer) -> u64
     one.number
 }
 
-// Answers the one who asked at this place, and hands out the answer before it.
-fn answer_over(asked: &mut [Asked], place: usize, answer: Answer) -> Option<Answer>
+// Notes the last answer of this place, and hands out the one before it.
+fn note_at(asked: &mut [Asked], place: usize, answer: Answer) -> Option<Answer>
     requires { place < length asked.old }
-    ensures asked { asked.new ≡ answered_at place answer asked.old }
+    ensures asked { asked.new ≡ noted_at place answer asked.old }
     ensures last { MatchOption (slice_get asked.old place) ⊥ (λ slot. result ≡ slot.last) }
 {
     let one = &mut asked[place];
-    one.is_open = false;
     mem::replace(&mut one.last, Some(answer))
 }
 
@@ -66,7 +65,7 @@ fn open_at(asked: &mut [Asked], place: usize, last: Option<Answer>)
     one.is_open = true;
 }
 
-// The same in a row.
+// Answers the one who asked at this place of a row, and returns the number.
 fn answer_in(alloc: Global, rows: &mut Row<Asked>, place: usize, answer: Answer) -> u64
     requires { place < length rows.old }
     ensures slots { rows.new ≡ answered_at place answer rows.old }
@@ -78,18 +77,13 @@ fn answer_in(alloc: Global, rows: &mut Row<Asked>, place: usize, answer: Answer)
     number
 }
 
-fn answer_over_in(
-    alloc: Global,
-    rows: &mut Row<Asked>,
-    place: usize,
-    answer: Answer,
-) -> Option<Answer>
+fn note_in(alloc: Global, rows: &mut Row<Asked>, place: usize, answer: Answer) -> Option<Answer>
     requires { place < length rows.old }
-    ensures slots { rows.new ≡ answered_at place answer rows.old }
+    ensures slots { rows.new ≡ noted_at place answer rows.old }
     ensures last { MatchOption (slice_get rows.old place) ⊥ (λ slot. result ≡ slot.last) }
 {
     let mut items = mem::replace(rows, Row::new(alloc)).into_vec();
-    let last = answer_over(items.as_mut_slice(), place, answer);
+    let last = note_at(items.as_mut_slice(), place, answer);
     *rows = Row::from_vec(items);
     last
 }
@@ -162,7 +156,7 @@ impl Slots {
         self.index.place(caller, number)
     }
 
-    /// Answers the one who asked at this place, and tells the number.
+    /// Answers the one who asked at this place, and returns the number.
     pub fn answer(&mut self, alloc: Global, place: usize, answer: Answer) -> u64
         requires { place < length self.old }
         ensures slots { self.new ≡ answered_at place answer self.old }
@@ -171,13 +165,14 @@ impl Slots {
         answer_in(alloc, &mut self.rows, place, answer)
     }
 
-    /// Answers the one who asked at this place, and hands out the answer before it.
-    pub fn answer_over(&mut self, alloc: Global, place: usize, answer: Answer) -> Option<Answer>
+    /// Notes the last answer of this place, and hands out the one before it. A call that is open there
+    /// stays open.
+    pub fn note(&mut self, alloc: Global, place: usize, answer: Answer) -> Option<Answer>
         requires { place < length self.old }
-        ensures slots { self.new ≡ answered_at place answer self.old }
+        ensures slots { self.new ≡ noted_at place answer self.old }
         ensures last { MatchOption (slice_get self.old place) ⊥ (λ slot. result ≡ slot.last) }
     {
-        answer_over_in(alloc, &mut self.rows, place, answer)
+        note_in(alloc, &mut self.rows, place, answer)
     }
 
     /// The call at this place is open, with this last answer. It is this caller's, who has no other one.
@@ -190,7 +185,7 @@ impl Slots {
         open_in(alloc, &mut self.rows, place, last);
     }
 
-    /// Adds a slot of a caller and number that have none, and whose call isn't open. After want of memory
+    /// Adds a slot of a caller and number that have none, and whose call isn't open. Where memory runs out
     /// nothing is changed.
     pub fn push(&mut self, alloc: Global, slot: Asked) -> Result<(), Memory>
         requires new { position (is_of slot.caller slot.number) self.old ≡ None }

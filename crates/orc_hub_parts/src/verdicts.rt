@@ -9,7 +9,7 @@ use orc_call::Answer;
 use orc_rules::Duty;
 use orc_worker::Outcome;
 
-// Whether memory was wanting.
+// Whether memory ran out.
 fn is_short(outcome: Option<Outcome>) -> bool
     ensures { result ≡ is_short outcome }
 {
@@ -39,7 +39,7 @@ fn lost_answer(device: u32, outcome: Option<Outcome>) -> Option<Answer>
     }
 }
 
-// Whether memory was wanting on one of the devices.
+// Whether memory ran out on one of the devices.
 fn any_short(duties: &[Duty], t: u64, devices: &[u32]) -> bool
     ensures { result ≡ list_any (λ device. is_short (outcome_on duties.now t device)) devices.now }
 {

@@ -166,13 +166,14 @@ impl Bench {
         }
     }
 
-    // The same of this hub.
+    // Ends this hub, and says whether its journal has these entries.
     fn leave(&mut self, hub: Kept, wanted: &str) -> Result<bool, Undone> {
         let (disk, decls) = hub.into_parts();
         self.leave_disk(&disk, &decls, wanted)
     }
 
-    // The same of a hub that had this disk and these declarations.
+    // Keeps what is on the disk of a hub that ended, and says whether the journal there, of these
+    // declarations, has these entries.
     fn leave_disk(&mut self, disk: &MemDisk, decls: &Decls, wanted: &str) -> Result<bool, Undone> {
         self.next.left = disk.image(self.alloc, CONTENT)?;
         has_entries(self.alloc, disk, decls, wanted)

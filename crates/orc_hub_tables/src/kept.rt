@@ -112,7 +112,7 @@ impl Kept {
         }
     }
 
-    // The same with declarations that were read.
+    // A hub with declarations that were read, over a disk, whose journal has at most so many bytes.
     fn over(alloc: Global, decls: Decls, disk: MemDisk, limit: u32) -> Result<Kept, Undone>
         requires decls { AreDecls decls }
         requires short { length decls.text < 2 ^ 32 }

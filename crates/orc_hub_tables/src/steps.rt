@@ -56,7 +56,8 @@ pub(crate) fn does(
     Ok(good)
 }
 
-/// The same, as `D OP > REPLY N`.
+/// The operation of a line is due on a device, and gets the line's reply, with its count of faults, as
+/// `D OP > REPLY N`; says whether it was due.
 pub(crate) fn steps(alloc: Global, hub: &mut Kept, rest: &str) -> Result<bool, Undone> {
     let (asked, given) = parted(rest)?;
     let (name, text) = first_word(asked);

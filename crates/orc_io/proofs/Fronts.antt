@@ -19,7 +19,7 @@ Consumes-trans (Some x) None c bs cs p q = absurd p
 Consumes-trans (Some x) (Some y) None bs cs p q = absurd q
 Consumes-trans (Some x) (Some y) (Some z) bs cs p q = p ∙ ap (λ l. bs ++ l) q ∙ sym (append_assoc bs cs z)
 
--- a front of a piece, and then a front of its rest
+-- a prefix of a piece, and then a prefix of its rest
 pub Appends-more : (a b c : Option (List ℕ)) (bs : List ℕ) (at n : ℕ) → Appends a b (take at bs)
     → Appends b c (take n (take (length bs - at) (drop at bs))) → Appends a c (take (at + n) bs)
 Appends-more a b c bs at n p q =

@@ -1,8 +1,8 @@
--- How much a source gave and how much a sink took, where they tell it.
+-- How much a source gave and how much a sink took, where they report it.
 use Rattle.std.specs.Prelude.{ℕ, ◌≤◌, List, length, take, Option}
 use Rattle.std.specs.Io.KnownBytes.{Appends, Consumes}
 
--- the sink took a front of the bytes and nothing else
+-- the sink took a prefix of the bytes and nothing else
 abbrev pub TakesFront : Option (List ℕ) → Option (List ℕ) → List ℕ → Type 0
 TakesFront old new bytes = (count : ℕ) × Appends old new (take count bytes)
 

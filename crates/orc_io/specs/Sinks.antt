@@ -1,14 +1,14 @@
--- What contracts see of the sinks of this crate, and what each tells of itself.
+-- What contracts see of the sinks of this crate, and what each reports about itself.
 use Rattle.std.specs.Prelude.{ℕ, ◌-◌, List, ◌++◌, length, Option, Some}
 use Rattle.orc_io.specs.Counts.{next_count}
 use Rattle.orc_io.specs.Meanings.{SinkMeaning}
 
--- a sink over a writer: the bytes held, where the writer tells them, and how often it failed
+-- a sink over a writer: the bytes held, where the writer reports them, and how often it failed
 pub record WriterSink : Type 0 where
   pub held : Option (List ℕ)
   pub faults : ℕ
 
--- it tells what its writer tells
+-- it reports what its writer reports
 abbrev pub writer_sink : SinkMeaning WriterSink
 writer_sink = record { held = λ sink. sink.held; faults = λ sink. sink.faults }
 
@@ -21,7 +21,7 @@ pub record MemorySink : Type 0 where
   pub calls : ℕ
   pub faults : ℕ
 
--- it tells all
+-- it reports all that it holds
 abbrev pub memory_sink : SinkMeaning MemorySink
 memory_sink = record { held = λ sink. Some sink.held; faults = λ sink. sink.faults }
 

@@ -9,9 +9,8 @@ use crate::{Failed, Source};
 use std::alloc::Global;
 use std::marker::Model;
 
-/// A source over another one, which keeps the bytes that it gave, so that they can be looked at once
-/// they were read. From the first want of memory on it keeps no more: what it kept is then a front
-/// of what it gave, and `is_all` tells so.
+/// A source over another one, which keeps the bytes that it gave, so that they can be looked at once they were read. As
+/// soon as memory runs out, it keeps no more: what it kept is then a prefix of what it gave, and `is_all` says so.
 #[derive(Drop)]
 pub struct KeptSource<S: Source> {
     inner: S,
@@ -56,7 +55,7 @@ impl<S: Source> KeptSource<S> {
         self.kept.as_slice()
     }
 
-    /// Whether these are all the bytes that it gave, since memory was never wanting.
+    /// Whether these are all the bytes that it gave, since memory never ran out.
     pub fn is_all(&self) -> bool
         ensures { result ≡ self.now.is_all }
     {

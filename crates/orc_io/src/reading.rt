@@ -19,9 +19,8 @@ pub enum WholeFault {
     Memory,
 }
 
-/// Reads a source to its end, or its first `limit + 1` bytes where it has more: it takes no byte
-/// behind these, and returns also where a source never ends. After a refusal the bytes read are gone
-/// from the source, and no others.
+/// Reads a source to its end, or its first `limit + 1` bytes where it has more: it takes no byte after these, and
+/// returns also where a source never ends. After a refusal the bytes read are gone from the source, and no others.
 pub fn read_whole<S: Source>(
     alloc: Global,
     source: &mut S,

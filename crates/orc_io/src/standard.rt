@@ -10,8 +10,8 @@ use crate::{Failed, Sink, Source};
 use std::io::{Read, Write};
 use std::marker::Model;
 
-/// A source over a reader. It tells what the reader tells, and each error of the reader counts as a
-/// fault.
+/// A source over a reader. It reports what the reader reports, and each error of the reader counts
+/// as a fault.
 #[derive(Drop)]
 pub struct StdSource<R: Read> {
     reader: R,
@@ -59,8 +59,8 @@ impl<R: Read + Drop> Source for StdSource<R> {
     }
 }
 
-/// A sink over a writer. It tells what the writer tells. Each error of the writer counts as a fault,
-/// and so does a write that takes nothing of a piece with bytes.
+/// A sink over a writer. It reports what the writer reports. Each error of the writer counts as a fault, and so does a
+/// write that takes nothing of a piece with bytes.
 #[derive(Drop)]
 pub struct StdSink<W: Write> {
     writer: W,

@@ -9,13 +9,13 @@ ghost use Rattle.orc_io.specs.Meanings.{SourceMeaning, SinkMeaning};
 #[derive(Clone, Copy, Debug, PartialEq, Eq)]
 pub struct Failed;
 
-/// Where bytes come from. It may tell the bytes that it has left.
+/// Where bytes come from. It may report the bytes that it has left.
 pub trait Source: Drop {
-    /// What the source tells of itself: the bytes left, and how often it failed.
+    /// What the source reports about itself: the bytes left, and how often it failed.
     ghost source: { SourceMeaning Self };
 
-    /// Reads some bytes to the front of a buffer, and answers how many. Zero for a buffer with room
-    /// is the end of input. A call that fails takes nothing from the source.
+    /// Reads some bytes to the beginning of a buffer, and answers how many. Zero for a buffer with
+    /// room is the end of input. A call that fails takes nothing from the source.
     fn read_some(&mut self, buf: &mut [u8]) -> Result<usize, Failed>
         ensures bound { ReadsAtMost result buf.new }
         ensures bytes { ReadConsumes (source.left self.old) (source.left self.new) result buf.new }
@@ -26,9 +26,9 @@ pub trait Source: Drop {
         ensures { result ≡ source.faults self.now };
 }
 
-/// Where bytes go. It may tell the bytes that it holds.
+/// Where bytes go. It may report the bytes that it holds.
 pub trait Sink: Drop {
-    /// What the sink tells of itself: the bytes held, and how often it failed.
+    /// What the sink reports about itself: the bytes held, and how often it failed.
     ghost sink: { SinkMeaning Self };
 
     /// Takes the first bytes of a piece, at least one where there is one, and answers how many. A

@@ -6,7 +6,7 @@ ghost use Rattle.orc_io.specs.Pieces.{TakesFront};
 
 use crate::{Failed, Sink};
 
-/// Writes all of a piece. After a failure the sink took a front of it.
+/// Writes all of a piece. After a failure the sink took a prefix of it.
 pub fn write_whole<K: Sink>(sink: &mut K, bytes: &[u8]) -> Result<(), Failed>
     ensures ok { OnOk result (Appends (K.sink.held sink.old) (K.sink.held sink.new) bytes.now) }
     ensures err { OnErr result (TakesFront (K.sink.held sink.old) (K.sink.held sink.new) bytes.now) }

@@ -26,7 +26,7 @@ second_of_two : (a b : Bool) → IsTrue (a && b) → IsTrue b
 second_of_two true b h = h
 second_of_two false b h = absurd cc
 
--- an open gate behind the first of some entries that end there: the next of them stands behind it
+-- an open gate after the first of some entries that end there: the next of them stands after it
 next_begins : (past before entries : List Entry) (rest after : List ℕ) → IsTrue (is_ending after) → All IsWritable before → All IsWritable entries
     → IsTrue (are_ordered past entries) → flat_map gated before ++ 1 ∷ rest ≡ flat_map gated entries ++ after → BeginsNext (past ++ before) rest
 next_begins past [] [] rest after ending h k ordered e =
@@ -51,7 +51,7 @@ next_begins past (y ∷ before) (x ∷ entries) rest after ending h k ordered e 
     (next_begins (past ++ x ∷ []) before entries rest after ending (All-tail IsWritable y before h) (All-tail IsWritable x entries k)
     (second_of_two (follows past x) (are_ordered (past ++ x ∷ []) entries) ordered) first.1)
 
--- its bytes behind the header
+-- its bytes after the header
 behind_header : (file decls : List ℕ) (entries : List Entry) (j : IsJournal file decls entries) → file ≡ header decls ++ (flat_map gated entries ++ j.rest)
 behind_header file decls entries j = j.bytes ∙ append_assoc (header decls) (flat_map gated entries) j.rest
 

@@ -1,4 +1,4 @@
--- What an open journal is once the block of an entry was put behind it.
+-- What an open journal is once the block of an entry was put after it.
 use Rattle.std.specs.Prelude.{◌≡◌, ℕ, ◌+◌, ◌<◌, ◌≤◌, ◌^◌, true, false, List, [], ◌∷◌, ◌++◌, length, IfSome, is_some}
 use Rattle.std.specs.Option.{option_map}
 use Rattle.std.specs.Int.{w32, to_be_bytes}

@@ -29,14 +29,14 @@ same_numbers (x ∷ xs) (y ∷ ys) h k e =
 pub same_devices : (xs ys : List ℕ) → AreDevices xs → AreDevices ys → devices_bytes xs ≡ devices_bytes ys → xs ≡ ys
 same_devices xs ys h k e = same_numbers xs ys h.numbers k.numbers (ap (drop 2) e)
 
--- what is read behind the count
+-- what is read after the count
 pub devices_found : (bytes rest : List ℕ) (count : ℕ) (numbers : List ℕ) → HasCount bytes count rest → AreNumbers rest count numbers → IsStrictlyIncreasing numbers → HasDevices bytes numbers
 devices_found bytes rest count numbers has read ascending = record {
   lawful = record { count = omega (arith, has.fits, read.counted); numbers = read.fit; ascending = sorted_from_strictly_increasing numbers ascending };
   parts = has.parts ∙ ap (λ t. to_be_bytes w16 count ++ t) read.parts ∙ ap (λ n. to_be_bytes w16 n ++ numbers_bytes numbers) (sym read.counted);
 }
 
--- the count of devices, and what stands behind it
+-- the count of devices, and what stands after it
 behind_count : (bytes rest : List ℕ) (count : ℕ) (devices : List ℕ) → HasCount bytes count rest → HasDevices bytes devices → (count ≡ length devices) × (rest ≡ numbers_bytes devices)
 behind_count bytes rest count devices has are =
     let e : to_be_bytes w16 count ++ rest ≡ to_be_bytes w16 (length devices) ++ numbers_bytes devices = sym has.parts ∙ are.parts in

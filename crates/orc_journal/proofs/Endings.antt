@@ -109,7 +109,7 @@ module _ (bytes decls : List ℕ) (entries : List Entry) (j : IsJournal bytes de
     only = inr (inr (entries, j.writable, gate_lacks));
   }
 
--- the same of a disk that holds these bytes, where it tells them
+-- what becomes of the file of a disk that holds these bytes, where it reports them
 module _ (content : Option (List ℕ)) (bytes decls : List ℕ) (entries : List Entry) (whole : IfSome content (λ file. bytes ≡ file)) (j : IsJournal bytes decls entries) where
   pub disk_gated : journal_length decls entries ≤ length bytes → IfSome content (OpensTo decls entries bytes)
   disk_gated le = IfSome_then content whole (λ file is. inl (gate_there bytes decls entries j le, sym is))

@@ -1,4 +1,4 @@
--- The header of a journal, read from the front.
+-- The header of a journal, read from the start.
 use Rattle.std.proofs.Common.{◌≡◌, ℕ, ◌<◌, ◌≤◌, ◌^◌, List, [], ◌∷◌, ◌++◌, length, take, drop, refl, sym, ap, ◌∙◌, append_assoc}
 use Rattle.std.specs.Int.{w32, to_be_bytes, from_be_bytes}
 use Rattle.std.proofs.lemmas.List.{take_at, drop_at, drop_all}
@@ -6,7 +6,7 @@ use Rattle.orc_call.proofs.Singles.{same_4}
 use Rattle.orc_journal.specs.Journals.{magic, header, common, IsForeign}
 use Rattle.orc_journal.specs.inside.Fronts.{BeginsOtherwise}
 
--- a front that isn't there
+-- a prefix that isn't there
 pub otherwise_more : (bytes front more : List ℕ) → BeginsOtherwise bytes front → BeginsOtherwise bytes (front ++ more)
 otherwise_more bytes front more other rest e = other (more ++ rest) (e ∙ append_assoc front more rest)
 

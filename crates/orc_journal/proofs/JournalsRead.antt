@@ -31,7 +31,7 @@ journal_bytes-push decls entries entry after =
     sym (append_assoc (journal_bytes decls entries) (gated entry) after)
     ∙ ap (λ t. t ++ after) (flat_map_more gated (header decls) entries entry)
 
--- one entry more behind an open gate
+-- one entry more after an open gate
 pub read_more : (file decls : List ℕ) (entries : List Entry) (rest behind : List ℕ) (stages : Stages) (more : List Entry) (after : List ℕ) (later : Stages)
     → IsRead file decls entries rest stages → rest ≡ 1 ∷ behind → HasNext entries behind more after later → IsRead file decls more after later
 read_more file decls entries rest behind stages more after later r gate next =

@@ -31,7 +31,7 @@ module _ {D : Type 0} (disk : DiskMeaning D) where
     left = IfSome_then (disk.content new) left becomes;
   }
 
-  -- the same on an empty disk, where any bytes may come
+  -- what a write leaves on an empty disk, where any bytes may come
   pub LeavesOpening-empty : (decls : List ℕ) (old new : D) (at n : ℕ) → IfSome (disk.content old) (λ file. file ≡ [])
       → is_some (disk.content new) ≡ is_some (disk.content old)
       → LeavesOnly disk old new (IsTornFrom (disk.may_leave old) at n) → IfSome (disk.content new) (IsTornFrom (disk.may_leave old) at n)

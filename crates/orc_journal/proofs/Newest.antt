@@ -20,7 +20,7 @@ call_of-append t (x ∷ xs) ys = ap (λ o. option_or o (call_in t x)) (call_of-a
     on None p q = refl
     on (Some call) p q = refl
 
--- it stands here, where none stands behind
+-- it stands here, where none stands after it
 pub found : (t : ℕ) (entries : List Entry) (at : ℕ) (entry : Entry) (call : Call) → at < length entries → entry ≡ get_or entries at entry
     → call_of t (drop (at + 1) entries) ≡ None → call_in t entry ≡ Some call → call_of t entries ≡ Some call
 found t entries at entry call within is none here =

@@ -1,4 +1,4 @@
--- Writes and syncs one behind the other, up to a fault.
+-- Writes and syncs one after the other, up to a fault.
 use Rattle.std.specs.Prelude.{ℕ, ◌+◌, ◌≤◌, true, false, [], ◌∷◌, ◌++◌}
 use Rattle.std.proofs.Common.{arith, inl, inr}
 use Rattle.orc_disk.specs.Rows.{Course, joined, row}
@@ -69,7 +69,7 @@ module _ {D : Type 0} (disk : DiskMeaning D) where
       failed = λ is. fails_later 0 1 1 a b c first (ends.failed is);
     }
 
-    -- more writes and syncs behind the first sync, if any
+    -- more writes and syncs after the first sync, if any
     pub synced_more : (old synced mid new : D) (n : ℕ) (looked : IsSynced disk old synced mid) → LedBy disk (syncs disk looked) old mid
         → disk.leads (row n false) mid new → (more : IsSynced disk old synced new) × LedBy disk (syncs disk more + n) old new
     synced_more old synced mid new n (inl was) did led = (

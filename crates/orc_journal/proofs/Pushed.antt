@@ -54,7 +54,7 @@ always : {A : Type 0} → A → A ↔ IsTrue true
 always a = (λ _. refl, λ _. a)
 
 module _ (xs : List Entry) (x : Entry) where
-  -- no second intent, and no second decision, comes behind an entry of the transaction
+  -- no second intent, and no second decision, comes after an entry of the transaction
   named : (t : ℕ) → number_of x ≡ t → IsUnnamed (xs ++ x ∷ []) t → ⊥
   named t same h = of_last (λ e. number_of e ≡ t → ⊥) xs x h same
 
@@ -64,7 +64,7 @@ module _ (xs : List Entry) (x : Entry) where
   settles : (t : ℕ) → (x ≡ Settled t → ⊥) → HasIntent xs t → IsUnsettled xs t → HasIntent (xs ++ x ∷ []) t × IsUnsettled (xs ++ x ∷ []) t
   settles t apart is open_yet = (intent_stays xs x t is, All-push (λ e. e ≡ Settled t → ⊥) xs x open_yet apart)
 
--- behind an intent
+-- after an intent
 module _ (xs : List Entry) (t : ℕ) (call : Call) (devices : List ℕ) (new : IsUnnamed xs t) where
   intent_there : HasIntent (xs ++ Intent t call devices ∷ []) t
   intent_there = (call, devices, Contains-push xs (Intent t call devices))
@@ -82,7 +82,7 @@ module _ (xs : List Entry) (t : ℕ) (call : Call) (devices : List ℕ) (new : I
       subst (λ n. MayFollow (xs ++ Intent t call devices ∷ []) (Settled n) ↔ IsTrue true) same
       (always (intent_there, only_unsettled (xs ++ Intent t call devices ∷ []) t only_intents))
 
--- behind a decision
+-- after a decision
 behind_decide : (xs : List Entry) (t : ℕ) → HasIntent xs t → HasOnlyIntents xs t → (entry : Entry) → t ≡ number_of entry
     → (MayFollow (xs ++ Decide t ∷ []) entry ↔ IsTrue (may_be_next (Decide t) entry))
 behind_decide xs t is only (Intent u other more) same = never (named xs (Decide t) u same)
@@ -101,7 +101,7 @@ behind_abort xs t is only (Settled u) same =
     subst (λ n. MayFollow (xs ++ Abort t ∷ []) (Settled n) ↔ IsTrue true) same
     (always (settles xs (Abort t) t (λ e. absurd cc) is (only_unsettled xs t only)))
 
--- behind the end
+-- after the end
 behind_settled : (xs : List Entry) (t : ℕ) (entry : Entry) → t ≡ number_of entry
     → (MayFollow (xs ++ Settled t ∷ []) entry ↔ IsTrue (may_be_next (Settled t) entry))
 behind_settled xs t (Intent u other more) same = never (named xs (Settled t) u same)

@@ -1,4 +1,4 @@
--- What the two writes of an append leave, the entry behind the gate and then the gate.
+-- What the two writes of an append leave, the entry after the gate and then the gate.
 use Rattle.std.specs.Prelude.{◌≡◌, ℕ, ◌+◌, ◌-◌, List, [], ◌∷◌, ◌++◌, length, Option, Some, None, IfSome}
 use Rattle.std.specs.Option.{option_map}
 use Rattle.std.proofs.Common.{inl, refl, sym, ap, ◌∙◌, subst, arith, length-append}
@@ -17,12 +17,12 @@ use Rattle.orc_journal.proofs.TornFiles.{IsStaged, journal_push, torn_behind, wr
 pub journal_length-push : (decls : List ℕ) (entries : List Entry) (entry : Entry) → journal_length decls (entries ++ entry ∷ []) ≡ journal_length decls entries + length (entry_bytes entry) + 1
 journal_length-push decls entries entry = omega (arith, ap length (journal_push decls entries entry), length-append (journal_bytes decls entries) (gated entry))
 
--- what is so of the file after a write, where the disk tells it
+-- what is so of the file after a write, where the disk reports it
 pub IfSome-mapped : (old new : Option (List ℕ)) (f : List ℕ → List ℕ) (P Q : List ℕ → Type 0) → new ≡ option_map f old → IfSome old P → ((file : List ℕ) → P file → Q (f file)) → IfSome new Q
 IfSome-mapped None new f P Q is holds step = subst (λ (o : Option (List ℕ)). IfSome o Q) (sym is) tt
 IfSome-mapped (Some file) new f P Q is holds step = subst (λ (o : Option (List ℕ)). IfSome o Q) (sym is) (step file holds)
 
--- and of a file that it tells
+-- and of a file that it reports
 pub IfSome-some : (content : Option (List ℕ)) (P : List ℕ → Type 0) (file : List ℕ) → content ≡ Some file → IfSome content P → P file
 IfSome-some content P file is holds = MatchOption-at_some _ P file is holds
 
@@ -36,7 +36,7 @@ with_entry-done old mid new at block entry is first second =
     twice None = refl
     twice (Some file) = refl
 
--- with the entry behind its ending gate the file is still the journal of those before
+-- with the entry after its ending gate the file is still the journal of those before
 pub staged_closed : (decls : List ℕ) (entries : List Entry) (entry : Entry) (file : List ℕ) → IsStaged decls entries entry file → IsGated file decls entries
 staged_closed decls entries entry file is = record {
   gate = is.gate;

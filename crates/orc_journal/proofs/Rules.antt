@@ -16,7 +16,7 @@ use Rattle.orc_journal.proofs.Orderings.{stage_of-push, parts}
 abbrev HasMore : List Entry → ℕ → Type 0
 HasMore before t = (entry : Entry) × Contains before entry × (number_of entry ≡ t) × (entry_kind entry ≡ 1 → ⊥)
 
--- what its stage tells of a transaction
+-- what its stage says of a transaction
 abbrev Tells : ℕ → List Entry → Option Stage → Type 0
 Tells t xs None = IsUnnamed xs t
 Tells t xs (Some Open) = HasIntent xs t × HasOnlyIntents xs t

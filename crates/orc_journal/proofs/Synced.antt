@@ -14,7 +14,7 @@ use Rattle.orc_journal.specs.Opening.{IsOpening, MayBecome, LeavesOpening}
 use Rattle.orc_journal.proofs.Changes.{Unchanged-refl, Unchanged-trans, Unchanged-leaves}
 use Rattle.orc_journal.proofs.Endings.{opening_nothing, opening_same}
 
--- the file that is read where it is told
+-- the file that is read, where the disk reports it
 read_there : (content : Option (List ℕ)) (file : List ℕ) → content ≡ Some file → IfSome content (λ held. file ≡ held)
 read_there content file is = subst (λ (o : Option (List ℕ)). IfSome o (λ held. file ≡ held)) (sym is) refl
 

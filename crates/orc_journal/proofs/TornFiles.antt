@@ -18,7 +18,7 @@ torn_front at n file c le torn =
     let front : take at c ≡ take at file = sym (take-take at (length file) c le) ∙ torn.front in
     sym (take-append-drop at c) ∙ ap (λ (l : List ℕ). l ++ drop at c) front
 
--- and so is what stands behind it
+-- and so is what stands after it
 pub torn_back : (at n : ℕ) (file c : List ℕ) → at + n ≤ length file → Torn at n file c → drop (at + n) c ≡ drop (at + n) file ++ drop (length file) c
 torn_back at n file c le torn =
     let kept = take (length file) c in
@@ -35,7 +35,7 @@ pub journal_push : (decls : List ℕ) (entries : List Entry) (entry : Entry) →
 journal_push decls entries entry =
     ap (λ (l : List ℕ). header decls ++ l) (sym (flat_map_more gated [] entries entry)) ∙ sym (append_assoc (header decls) (flat_map gated entries) (gated entry))
 
--- the file is a journal, with an entry and a closed gate behind its ending gate
+-- the file is a journal, with an entry and a closed gate after its ending gate
 pub record IsStaged (decls : List ℕ) (entries : List Entry) (entry : Entry) (file : List ℕ) : Type 0 where
   pub gate : ℕ
   pub rest : List ℕ
@@ -58,7 +58,7 @@ module _ (decls : List ℕ) (entries : List Entry) where
   gate_front : (file : List ℕ) (g : IsGated file decls entries) → take (journal_length decls entries) file ≡ bytes ++ g.gate ∷ []
   gate_front file g = ap (take (journal_length decls entries)) (gate_split file g) ∙ take_at (bytes ++ g.gate ∷ []) g.rest (journal_length decls entries) (length_push bytes g.gate)
 
-  -- a write behind the gate leaves the journal as it is
+  -- a write after the gate leaves the journal as it is
   pub torn_behind : (n : ℕ) (file c : List ℕ) → IsGated file decls entries → Torn (journal_length decls entries) n file c → IsGated c decls entries
   torn_behind n file c g torn =
       let at = journal_length decls entries in

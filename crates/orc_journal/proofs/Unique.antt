@@ -10,7 +10,7 @@ use Rattle.orc_journal.specs.declared.entry.Entry.{Entry}
 use Rattle.orc_journal.proofs.Fronts.{one_entry}
 use Rattle.orc_journal.proofs.Headers.{one_header}
 
--- entries behind open gates, up to one ending, are one list
+-- entries after open gates, up to one ending, are one list
 one_list : (a b : List Entry) (r s : List ℕ) → All IsWritable a → All IsWritable b → IsTrue (is_ending r) → IsTrue (is_ending s) → flat_map gated a ++ r ≡ flat_map gated b ++ s → a ≡ b
 one_list [] [] r s h k end end' e = refl
 one_list [] (y ∷ b) r s h k end end' e =

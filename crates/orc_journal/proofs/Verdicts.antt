@@ -13,19 +13,19 @@ use Rattle.orc_journal.proofs.Fronts.{one_entry}
 use Rattle.orc_journal.proofs.Orderings.{parts}
 use Rattle.orc_journal.proofs.Unique.{one_journal}
 
--- the entry that stands behind an open gate
+-- the entry that stands after an open gate
 at_gate : (bytes : List ℕ) (x : Entry) (a : List Entry) (r : List ℕ) → IsWritable x → bytes ≡ flat_map gated (x ∷ a) ++ r → HasEntry (drop 1 bytes) x (flat_map gated a ++ r)
 at_gate bytes x a r writable e = record {
   writable = writable;
   parts = ap (drop 1) e ∙ append_assoc (entry_bytes x) (flat_map gated a) r;
 }
 
--- equal entries in front are taken away
+-- equal entries at the start are taken away
 module _ (x y : Entry) (a b : List Entry) (r s : List ℕ) (h : All IsWritable (x ∷ a)) (k : All IsWritable (y ∷ b)) (e : flat_map gated (x ∷ a) ++ r ≡ flat_map gated (y ∷ b) ++ s) where
   first_same : (x ≡ y) × (flat_map gated a ++ r ≡ flat_map gated b ++ s)
   first_same = one_entry _ x y _ _ (at_gate _ x a r (All-head IsWritable x a h) refl) (at_gate _ y b s (All-head IsWritable y b k) e)
 
--- behind these entries an open gate is followed by none that may stand there
+-- after these entries an open gate is followed by none that may stand there
 record Stops (before a : List Entry) (behind : List ℕ) : Type 0 where
   writable : All IsWritable a
   ordered : IsTrue (are_ordered before a)
@@ -78,7 +78,7 @@ stops file decls at h = record {
   none = λ entry more there may_follow. h.none entry more there.parts there.writable may_follow;
 }
 
--- what stands behind the header
+-- what stands after the header
 body : (file decls : List ℕ) (a b : List Entry) (r s : List ℕ) → file ≡ journal_bytes decls a ++ r → file ≡ journal_bytes decls b ++ s → flat_map gated a ++ r ≡ flat_map gated b ++ s
 body file decls a b r s e f =
     append_cancel_left (header decls) _ _ (sym (append_assoc (header decls) (flat_map gated a) r) ∙ sym e ∙ f ∙ append_assoc (header decls) (flat_map gated b) s)

@@ -13,11 +13,11 @@ use Rattle.orc_journal.specs.Opened.{OpenJournal, Holds, WhereHolds}
 use Rattle.orc_journal.specs.declared.entry.Entry.{Entry}
 use Rattle.orc_journal.specs.declared.gate.TheConstants.{OPEN}
 
--- an entry, and a closed gate behind it
+-- an entry, and a closed gate after it
 abbrev pub block_bytes : Entry → List ℕ
 block_bytes entry = entry_bytes entry ++ closing_gate ∷ []
 
--- the file of a journal of this length behind an append: the entry and a closed gate were put behind the ending gate,
+-- the file of a journal of this length after an append: the entry and a closed gate were put after the ending gate,
 -- and then that gate was opened
 abbrev pub with_entry : ℕ → Entry → List ℕ → List ℕ
 with_entry len entry file = written (len - 1) (OPEN ∷ []) (written len (block_bytes entry) file)
@@ -37,7 +37,7 @@ opens_gate = 3
 
 -- A file is what an append leaves of which so many writes and syncs were done and the next one failed: a journal, with
 -- its ending gate, of the entries before, where that one came before the opening of the gate, and of those and the
--- new one, where it came behind. Where the opening of the gate failed it may be either.
+-- new one, where it came after. Where the opening of the gate failed it may be either.
 pub record IsLeftBehind (done : ℕ) (decls : List ℕ) (entries : List Entry) (entry : Entry) (file : List ℕ)
     : Type 0 where
   pub before : done + 1 < opens_gate → IsGated file decls entries
@@ -62,21 +62,21 @@ module _ {D : Type 0} (disk : DiskMeaning D) where
     pub course : disk.leads (row 4 false) old.disk new.disk
 
   -- The write failed that opens the gate of a journal of this length. Before it the entry and a closed gate were put,
-  -- and what the disk tells of a cut write it tells of this one.
+  -- and what the disk reports of a cut write it reports of this one.
   pub record FailsToOpen (len : ℕ) (entry : Entry) (old new : D) : Type 0 where
     pub before : D
     pub ran : disk.leads (row (opens_gate - 1) false) old before
     pub put : disk.content before ≡ option_map (written len (block_bytes entry)) (disk.content old)
     pub cut : disk.cut (len - 1) (OPEN ∷ []) before new
 
-  -- A sync failed behind so many writes and syncs: what the disk tells of it.
+  -- A sync failed after so many writes and syncs: what the disk reports of it.
   pub record FailsToSync (done : ℕ) (old new : D) : Type 0 where
     pub before : D
     pub ran : disk.leads (row done false) old before
     pub cut : disk.cut_sync before new
 
   -- What an append to a journal of this length put of which so many writes and syncs were done and the next one failed:
-  -- of a write that failed what the disk tells of a cut one, and behind each write what that put.
+  -- of a write that failed what the disk reports of a cut one, and after each write what that put.
   pub record PutsShort (done len : ℕ) (entry : Entry) (old new : D) : Type 0 where
     pub cut : done ≡ 0 → disk.cut len (block_bytes entry) old new
     pub syncing : (done ≡ 1) ⊎ (done ≡ opens_gate) → FailsToSync done old new
@@ -93,7 +93,7 @@ module _ {D : Type 0} (disk : DiskMeaning D) where
         IfSome (option_map (written (old.len - 1) (OPEN ∷ [])) (disk.content before))
         (λ file. IsGated file decls (entries ++ entry ∷ [])))
 
-  -- One of the four failed and was the last. How many were done before it tells which entries are there, and what was
+  -- One of the four failed and was the last. How many were done before it says which entries are there, and what was
   -- put.
   pub record HasFailed (old new : OpenJournal D) (entry : Entry) : Type 0 where
     pub rose : Rose (disk.faults old.disk) (disk.faults new.disk)

@@ -22,7 +22,7 @@ abbrev pub as_calls : Option Call → List Call
 as_calls None = []
 as_calls (Some call) = call ∷ []
 
--- what an entry commits behind those before it: a Decide the call of its intent
+-- what an entry commits after those before it: a Decide the call of its intent
 abbrev pub commits : List Entry → Entry → List Call
 commits before (Intent t call devices) = []
 commits before (Decide t) = as_calls (call_of t before)

@@ -14,8 +14,8 @@ module _ {D : Type 0} (disk : DiskMeaning D) where
   abbrev pub OfHeard : D → D → (List ℕ → Type 0) → Type 0
   OfHeard synced new P = (file : List ℕ) × Heard disk synced new file × P file
 
-  -- The cause of each fault, for a disk before the call, where it is read from, and behind the call. Want of memory is
-  -- free.
+  -- The cause of each fault, for a disk before the call, where it is read from, and after the call. Running out of
+  -- memory is free.
   abbrev pub IsOpenFault : D → D → D → List ℕ → ℕ → OpenFault → Type 0
   IsOpenFault old synced new decls limit (Foreign at) = OfHeard synced new (λ file. IsForeign file decls at)
   IsOpenFault old synced new decls limit NotJournal = OfHeard synced new (λ file. IsNotJournal file)

@@ -6,7 +6,7 @@ use Rattle.orc_disk.specs.Meanings.{DiskMeaning}
 use Rattle.orc_disk.specs.Moments.{Unchanged}
 use Rattle.orc_disk.specs.Course.{Hears}
 
--- these reads, one behind the other from the start on, gave these bytes, each some of them
+-- these reads, one after the other from the start on, gave these bytes, each some of them
 pub data Gave : List (ℕ × List ℕ) → List ℕ → Type 0 where
   none : Gave [] []
   more : (reads : List (ℕ × List ℕ)) (bytes piece : List ℕ) → 1 ≤ length piece → Gave reads bytes
@@ -14,7 +14,7 @@ pub data Gave : List (ℕ × List ℕ) → List ℕ → Type 0 where
 
 module _ {D : Type 0} (disk : DiskMeaning D) where
   -- Operations led there, and none failed. Their reads gave this file piece by piece, and the last one gave no byte
-  -- behind it, and the disk has just these reads more in its list. Where it tells what it held, that is the file.
+  -- after it, and the disk has just these reads more in its list. Where it reports what it held, that is the file.
   pub record Heard (old new : D) (file : List ℕ) : Type 0 where
     pub reads : List (ℕ × List ℕ)
     pub pieces : Gave reads file
@@ -35,7 +35,7 @@ module _ {D : Type 0} (disk : DiskMeaning D) where
     pub unchanged : Unchanged disk old synced
     pub durable : LeavesAsRead (disk.content synced) (disk.may_leave synced)
 
-  -- the disk from which on it is read: as it was where it is empty, and else behind its first sync
+  -- the disk from which on it is read: as it was where it is empty, and else after its first sync
   abbrev pub IsSynced : D → D → D → Type 0
   IsSynced old synced new = WasEmpty old synced new ⊎ WasSynced old synced
 

@@ -16,11 +16,11 @@ magic = MAGIC.now
 abbrev pub header : List ℕ → List ℕ
 header decls = magic ++ to_be_bytes w32 (length decls) ++ decls
 
--- an open gate and the entry behind it
+-- an open gate and the entry after it
 abbrev pub gated : Entry → List ℕ
 gated entry = OPEN ∷ entry_bytes entry
 
--- the header, and each entry behind its gate
+-- the header, and each entry after its gate
 abbrev pub journal_bytes : List ℕ → List Entry → List ℕ
 journal_bytes decls entries = header decls ++ flat_map gated entries
 
@@ -44,7 +44,7 @@ pub record IsJournal (file decls : List ℕ) (entries : List Entry) : Type 0 whe
   pub ending : IsTrue (is_ending rest)
   pub writable : All IsWritable entries
 
--- the same, and its ending gate is there
+-- the file is a journal of these declarations and these entries, and its ending gate is there
 pub record IsGated (file decls : List ℕ) (entries : List Entry) : Type 0 where
   pub gate : ℕ
   pub rest : List ℕ
@@ -67,7 +67,7 @@ pub record IsNotJournal (file : List ℕ) : Type 0 where
 abbrev pub stored : List ℕ → List ℕ
 stored file = take (from_be_bytes w32 (take 4 (drop (length magic) file))) (drop HEADER_LEN file)
 
--- the length of the longest front that two texts have in common
+-- the length of the longest prefix that two texts have in common
 abbrev pub common : List ℕ → List ℕ → ℕ
 common [] ys = 0
 common (x ∷ xs) [] = 0
@@ -80,7 +80,7 @@ pub record IsForeign (file decls : List ℕ) (at : ℕ) : Type 0 where
   pub other : (rest : List ℕ) → file ≡ header decls ++ rest → ⊥
   pub place : at ≡ common (stored file) decls
 
--- an open gate stands before this offset, and behind it no entry, or one that may not follow those before it
+-- an open gate stands before this offset, and after it no entry, or one that may not follow those before it
 pub record IsDamaged (file decls : List ℕ) (at : ℕ) : Type 0 where
   pub before : List Entry
   pub rest : List ℕ

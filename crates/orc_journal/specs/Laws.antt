@@ -63,14 +63,14 @@ MayFollow before (Decide t) = HasIntent before t × HasOnlyIntents before t
 MayFollow before (Abort t) = HasIntent before t × HasOnlyIntents before t
 MayFollow before (Settled t) = HasIntent before t × IsUnsettled before t
 
--- Behind entries in order another one may stand exactly where it finds what it asks: an intent is the first entry of
--- its transaction, a Decide or Abort comes behind the intent and nothing else, and a Settled behind the intent, once.
+-- After entries in order another one may stand exactly where it finds what it asks: an intent is the first entry of
+-- its transaction, a Decide or Abort comes after the intent and nothing else, and a Settled after the intent, once.
 abbrev pub KeepsOrder : Type 0
 KeepsOrder =
     (before : List Entry) (entry : Entry) → IsTrue (is_ordered before)
     → (IsTrue (follows before entry) ↔ MayFollow before entry)
 
--- what may come behind an entry of the same transaction: Decide, Abort or Settled behind an intent, and Settled behind a
+-- what may come after an entry of the same transaction: Decide, Abort or Settled after an intent, and Settled after a
 -- Decide or an Abort
 abbrev pub may_be_next : Entry → Entry → Bool
 may_be_next (Intent t call devices) (Intent number other others) = false

@@ -17,8 +17,8 @@ pub record OpenJournal (D : Type 0) : Type 0 where
   pub spent : Bool
 
 module _ {D : Type 0} (disk : DiskMeaning D) where
-  -- The open journal is that of these declarations and entries: where the disk tells what it holds, it holds it with
-  -- the ending gate, and a crash leaves what a read gives.
+  -- The open journal is that of these declarations and entries: where the disk reports what it holds, it holds it
+  -- with the ending gate, and a crash leaves what a read gives.
   pub record Holds (journal : OpenJournal D) (decls : List ℕ) (entries : List Entry) : Type 0 where
     pub unspent : journal.spent ≡ false
     pub start : journal.start ≡ length (header decls)

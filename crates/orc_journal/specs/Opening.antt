@@ -21,7 +21,7 @@ AreEntriesOf file decls entries = ((file ≡ []) × (entries ≡ [])) ⊎ IsJour
 abbrev pub LacksGate : List ℕ → List ℕ → Type 0
 LacksGate decls file = (entries : List Entry) × All IsWritable entries × (file ≡ journal_bytes decls entries)
 
--- What may become of a file while it is opened: it stays, and bytes come behind it only where it is empty, or ends in
+-- What may become of a file while it is opened: it stays, and bytes come after it only where it is empty, or ends in
 -- the place of its ending gate.
 pub record IsOpening (decls old new : List ℕ) : Type 0 where
   pub more : List ℕ
@@ -29,7 +29,7 @@ pub record IsOpening (decls old new : List ℕ) : Type 0 where
   pub only : (more ≡ []) ⊎ ((old ≡ []) ⊎ LacksGate decls old)
 
 -- What became of a file that was opened as the journal of these entries. With its ending gate it stays. Empty, or where
--- it ends in the gate's place, it becomes the journal with a closed gate, and nothing stands behind that.
+-- it ends in the gate's place, it becomes the journal with a closed gate, and nothing stands after that.
 abbrev pub OpensTo : List ℕ → List Entry → List ℕ → List ℕ → Type 0
 OpensTo decls entries old new =
     (IsGated old decls entries × (new ≡ old))
@@ -42,7 +42,7 @@ OpensBy decls entries old operations =
     ⊎ (((old ≡ []) ⊎ (old ≡ journal_bytes decls entries)) × (operations ≡ 2))
 
 module _ {D : Type 0} (disk : DiskMeaning D) where
-  -- what may become of the file that a disk holds while it is opened, where the disk tells it
+  -- what may become of the file that a disk holds while it is opened, where the disk reports it
   abbrev pub MayBecome : List ℕ → D → List ℕ → Type 0
   MayBecome decls old file = IfSome (disk.content old) (λ held. IsOpening decls held file)
 
@@ -82,7 +82,7 @@ module _ {D : Type 0} (disk : DiskMeaning D) where
 
   -- It was refused, and the disk handed back. Where the fault is none of the disk, nothing changed, and it was synced
   -- unless it is empty: that sync, if any, was the only one. Where it is one of the disk, an operation failed before
-  -- the third write or sync was done, and a read behind one sync at most; `synced` may then be any disk, and no clause
+  -- the third write or sync was done, and a read after one sync at most; `synced` may then be any disk, and no clause
   -- reads it.
   pub record HasRefused (decls : List ℕ) (limit : ℕ) (old new : D) (fault : OpenFault) : Type 0 where
     pub synced : D

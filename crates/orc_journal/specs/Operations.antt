@@ -10,8 +10,8 @@ module _ {D : Type 0} (disk : DiskMeaning D) where
       (gave : List (ℕ × List ℕ))
       × disk.leads (record { operations = operations; failed = false; gave = gave }) old new
 
-  -- Fewer writes and syncs than so many were done, and no operation failed. Then one failed, and none came behind it:
-  -- the next write or sync, or a read, which comes behind fewer of them than `reads`.
+  -- Fewer writes and syncs than so many were done, and no operation failed. Then one failed, and none came after it:
+  -- the next write or sync, or a read, which comes after fewer of them than `reads`.
   pub record FailsBefore (most reads : ℕ) (old new : D) : Type 0 where
     pub done : ℕ
     pub fewer : done < most

@@ -1,4 +1,4 @@
-//! What an append writes: an entry, and a closed gate behind it.
+//! What an append writes: an entry, and a closed gate after it.
 ghost use Rattle.std.specs.Prelude.{◌≡◌, ◌⊎◌, ◌≤◌, ◌^◌, ◌++◌, ◌∷◌, [], length, not, is_some, IfSome, IfOk, IfErr};
 ghost use Rattle.std.specs.Int.{w32, w64, to_be_bytes};
 ghost use Rattle.orc_journal.specs.Entries.{IsEntry, entry_kind, payload, is_intent};
@@ -58,8 +58,8 @@ fn framed(alloc: Global, kind: u8, len: u32, said: &[u8]) -> Result<Vec<u8>, Mem
     Ok(block)
 }
 
-/// The block of any entry, behind a journal of this length. What an entry says may be too long for
-/// its own length, and then the journal is full.
+/// The block of any entry that is put after a journal of this length. What an entry says may be too
+/// long for its own length, and then the journal is full.
 pub(crate) fn long_block(alloc: Global, entry: &Entry, len: u64) -> Result<Vec<u8>, AppendFault>
     requires { IsEntry entry.now }
     ensures block { IfOk result (λ block. block.items ≡ block_bytes entry.now) }

@@ -17,7 +17,7 @@ fn call_in(entry: &Entry, t: u64) -> Option<&Call>
 }
 
 // The call of the intent of a transaction among entries; of two the later one counts. It looks from
-// the end, since a Decide stands close behind its intent.
+// the end, since a Decide stands close after its intent.
 fn call_of(entries: &[Entry], t: u64) -> Option<&Call>
     ensures { option_copied result ≡ call_of t entries.now }
 {
@@ -31,7 +31,7 @@ fn call_of(entries: &[Entry], t: u64) -> Option<&Call>
     None
 }
 
-/// The call that an entry commits behind those before it: a Decide that of its transaction's intent.
+/// The call that an entry commits after those before it: a Decide that of its transaction's intent.
 pub fn committed_by<'a>(before: &'a [Entry], entry: &Entry) -> Option<&'a Call>
     ensures { as_calls (option_copied result) ≡ commits before.now entry.now }
 {

@@ -1,4 +1,4 @@
-//! Reading one entry from the front of the bytes.
+//! Reading one entry from the start of the bytes.
 ghost use Rattle.std.specs.Prelude.{◌≡◌, [], ◌↔◌, ◌*◌, ◌<◌, length, IfOk, IsTrue, MatchOption};
 ghost use Rattle.std.specs.List.Sorted.{IsStrictlyIncreasing};
 ghost use Rattle.orc_journal.specs.inside.Fronts.{HasEntry, HasNoEntry, HasFrame, HasNoFrame, Says, SaysNothing, HasNumber, IsNoNumber, HasCount, HasCall, HasNoCall, HasDevices, HasNoDevices, AreNumbers};

@@ -7,7 +7,7 @@ use orc_call::{Call, encoded_len};
 use orc_text::{Counted, Row};
 
 /// What the journal records of a transaction, which is given by its number.
-#[derive(PartialEq, Eq, Drop)]
+#[derive(PartialEq, Eq)]
 pub enum Entry {
     /// The transaction begins: its call, and the numbers of the devices that it changes, ascending.
     Intent {
@@ -27,6 +27,22 @@ pub enum Entry {
     Settled {
         t: u64,
     },
+}
+
+// Written out, so that a crate above lets an entry go by one call.
+impl Drop for Entry {
+    fn drop(self) {
+        match self {
+            Entry::Intent {
+                t: _,
+                call: _,
+                devices: _,
+            } => {}
+            Entry::Decide { t: _ } => {}
+            Entry::Abort { t: _ } => {}
+            Entry::Settled { t: _ } => {}
+        }
+    }
 }
 
 impl Entry {

@@ -16,14 +16,14 @@ pub(crate) const MAGIC: &[u8; 8] = b"ORCJRNL1";
 /// The length of a header without its declarations: the first bytes, and the length of those.
 pub(crate) const HEADER_LEN: u64 = 12;
 
-// What stands behind this front.
+// What stands after this prefix.
 fn behind<'a>(bytes: &'a [u8], front: &[u8]) -> Option<&'a [u8]>
     ensures { MatchOption result (BeginsOtherwise bytes.now front.now) (λ rest. bytes.now ≡ front.now ++ rest.now) }
 {
     bytes.strip_prefix(front)
 }
 
-// What stands behind the length of these declarations, and behind them.
+// What stands after the length of these declarations and the declarations themselves.
 fn behind_decls<'a>(bytes: &'a [u8], decls: &[u8]) -> Option<&'a [u8]>
     requires { length decls.now < 2 ^ 32 }
     ensures { MatchOption result (BeginsOtherwise bytes.now (to_be_bytes w32 (length decls.now) ++ decls.now))
@@ -45,7 +45,7 @@ fn stored(bytes: &[u8]) -> &[u8]
     if len < rest.len() { &rest[..len] } else { rest }
 }
 
-// The length of the longest front that two texts have in common.
+// The length of the longest prefix that two texts have in common.
 fn common(xs: &[u8], ys: &[u8]) -> usize
     ensures { result ≡ common xs.now ys.now }
 {
@@ -56,7 +56,7 @@ fn common(xs: &[u8], ys: &[u8]) -> usize
     at
 }
 
-/// What stands behind the header of a journal of these declarations.
+/// What stands after the header of a journal of these declarations.
 pub(crate) fn behind_header<'a>(bytes: &'a [u8], decls: &[u8]) -> Result<&'a [u8], ReadFault>
     requires some { 0 < length bytes.now }
     requires short { length decls.now < 2 ^ 32 }
@@ -73,7 +73,7 @@ pub(crate) fn behind_header<'a>(bytes: &'a [u8], decls: &[u8]) -> Result<&'a [u8
     }
 }
 
-/// The header, and a closed gate behind it.
+/// The header, and a closed gate after it.
 pub(crate) fn header_block(alloc: Global, decls: &[u8]) -> Result<Vec<u8>, Memory>
     requires { length decls.now < 2 ^ 32 }
     ensures { IfOk result (λ block. block.items ≡ header decls.now ++ CLOSED ∷ []) }

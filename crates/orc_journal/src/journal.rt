@@ -91,7 +91,7 @@ impl<D: Disk> Journal<D> {
     }
 
     /// The offset in the file of the first byte of the entry at this index, that of its kind,
-    /// behind its gate. The entries are those of the journal, in order.
+    /// after its gate. The entries are those of the journal, in order.
     pub fn offset(&self, entries: &[Entry], index: usize) -> u64
         requires within { index < length entries.now }
         requires whole { self.now.start + length (flat_map gated entries.now) + 1 ≡ self.now.len }
@@ -100,7 +100,7 @@ impl<D: Disk> Journal<D> {
         self.len - total_count(&entries[index..])
     }
 
-    /// Appends an entry: writes it and a closed gate behind the present gate, syncs, opens the
+    /// Appends an entry: writes it and a closed gate after the present gate, syncs, opens the
     /// present gate, and syncs. After `DiskFault` the journal is spent. Only an `Intent` takes
     /// memory.
     pub fn append(&mut self, alloc: Global, entry: &Entry) -> Result<(), AppendFault>

@@ -16,7 +16,7 @@ pub fn has_one_verdict()
     ensures { HasOneVerdict }
 {}
 
-/// Behind entries in order an intent may stand exactly where none of them names its transaction, a
+/// After entries in order an intent may stand exactly where none of them names its transaction, a
 /// Decide or Abort where the intent is there and nothing else of it, and a Settled where the intent
 /// is there and no Settled of it.
 pub fn keeps_order()
@@ -24,7 +24,7 @@ pub fn keeps_order()
 {}
 
 /// An entry more changes nothing for the next one of another transaction. Of the same one, Decide,
-/// Abort or Settled may come behind an intent, Settled behind a Decide or an Abort, and no more.
+/// Abort or Settled may come after an intent, Settled after a Decide or an Abort, and no more.
 pub fn entry_more_keeps_order()
     ensures { EntryMoreKeepsOrder }
 {}

@@ -1,6 +1,6 @@
 //! The journal: entries on a disk that outlive crashes.
 //!
-//! A file holds a header with the declarations, and then entries, each behind a gate. An entry
+//! A file holds a header with the declarations, and then entries, each after a gate. An entry
 //! counts where its gate is open, and the first closed gate ends the journal. `Journal::attach`
 //! opens such a file, and `append` adds an entry so that a crash at any moment leaves the entries
 //! before it, or those and the new one.

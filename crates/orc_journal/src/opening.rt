@@ -25,7 +25,7 @@ use std::alloc::Global;
 // How many bytes one read takes at most.
 const PIECE_LEN: usize = 4096;
 
-// Reads once more, behind the bytes that were read, and answers whether there were more.
+// Reads once more, after the bytes that were read, and answers whether there were more.
 fn read_piece<D: Disk>(disk: &mut D, bytes: &mut Vec<u8>) -> Result<bool, OpenFault>
     ensures more { IfOk result (λ more. more ≡ true → vec_len bytes.old < vec_len bytes.new) }
     ensures front { IfOk result (λ more. IfSome (D.disk.content disk.old) (λ file.

@@ -16,7 +16,7 @@ pub(crate) struct Stages {
     by_number: BTreeMap<u64, Stage>,
 }
 
-// The stage of a transaction behind an entry that names it, where the entry may follow.
+// The stage of a transaction after an entry that names it, where the entry may follow.
 fn next_stage(before: Option<Stage>, entry: &Entry) -> Option<Stage>
     ensures { result ≡ next_stage before entry.now }
 {
@@ -32,7 +32,7 @@ fn next_stage(before: Option<Stage>, entry: &Entry) -> Option<Stage>
 }
 
 impl Stages {
-    /// The stages behind no entry.
+    /// The stages where there is no entry yet.
     pub(crate) fn new(alloc: Global) -> Stages
         ensures { AreStages result [] }
     {
@@ -41,7 +41,7 @@ impl Stages {
         }
     }
 
-    /// Whether the entry may stand behind those so far. If it may, it is one of them from now on.
+    /// Whether the entry may stand after those so far. If it may, it is one of them from now on.
     pub(crate) fn take(&mut self, entry: &Entry) -> Result<bool, Memory>
         ensures fits { (before : List Entry) → AreStages self.old before
             → IfOk result (λ fits. fits ≡ follows before entry.now) }

@@ -1,4 +1,4 @@
-//! A write and its sync, and an entry behind a gate.
+//! A write and its sync, and an entry after a gate.
 ghost use Rattle.std.specs.Prelude.{◌≡◌, ◌<◌, ◌≤◌, [], ◌∷◌, ◌++◌, length, OnOk, OnErr, IfSome, is_some, false};
 ghost use Rattle.std.specs.Option.{ForSome, option_map};
 ghost use Rattle.orc_io.specs.Counts.{HasCause};
@@ -36,7 +36,7 @@ pub(crate) fn put_synced<D: Disk>(disk: &mut D, at: u64, bytes: &[u8]) -> Result
     disk.sync()
 }
 
-/// Puts an entry and a closed gate at this place, behind the gate before it, and then opens that
+/// Puts an entry and a closed gate at this place, after the gate before it, and then opens that
 /// gate.
 pub(crate) fn put_gated<D: Disk>(disk: &mut D, at: u64, block: &[u8]) -> Result<(), Failed>
     requires behind { 0 < at }

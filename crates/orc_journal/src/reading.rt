@@ -42,7 +42,7 @@ impl From<Memory> for ReadFault {
     }
 }
 
-// What stands behind an open gate.
+// What stands after an open gate.
 fn behind_gate(bytes: &[u8]) -> Option<&[u8]>
     ensures { MatchOption result (IsTrue (is_ending bytes.now)) (λ rest. bytes.now ≡ OPEN ∷ rest.now) }
 {
@@ -52,7 +52,7 @@ fn behind_gate(bytes: &[u8]) -> Option<&[u8]>
     }
 }
 
-// Reads the entry that the bytes begin with, where it may stand behind those that were read
+// Reads the entry that the bytes begin with, where it may stand after those that were read
 // before, and answers what follows it.
 fn read_entry<'a>(
     alloc: Global,

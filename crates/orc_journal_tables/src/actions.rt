@@ -6,7 +6,7 @@ use orc_table_programs::{Undone, first_word};
 use orc_text::Text;
 use std::alloc::Global;
 
-/// The action of a word and what stands behind it.
+/// The action of a word and what stands after it.
 pub(crate) fn action_of(alloc: Global, word: &str, rest: &str) -> Result<Action, Undone> {
     match word {
         "create" => create(alloc, rest),
@@ -18,7 +18,7 @@ pub(crate) fn action_of(alloc: Global, word: &str, rest: &str) -> Result<Action,
     }
 }
 
-// The same where it is one with a single item or path.
+// The action of a word, where it is one with a single item or path.
 fn item_action_of(alloc: Global, word: &str, rest: &str) -> Result<Action, Undone> {
     match word {
         "set" => Ok(Action::Set(put_of(alloc, rest)?)),

@@ -87,7 +87,7 @@ impl Calls {
         Ok(refused)
     }
 
-    // Whether each of these bytes is refused behind the fields.
+    // Whether each of these bytes is refused after the fields.
     fn are_refused(&self, unlawful: &str) -> Result<bool, Undone> {
         for bytes in unlawful.split(" | ") {
             let bytes = hex_of(self.alloc, bytes)?;
@@ -108,7 +108,7 @@ impl Calls {
         Ok(true)
     }
 
-    // Whether the fields with these bytes behind them are refused where the fields end.
+    // Whether the fields with these bytes after them are refused where the fields end.
     fn is_refused_with(&self, bytes: &[u8]) -> Result<bool, Undone> {
         let mut all = Vec::from_slice(self.alloc, self.fields.as_slice())?;
         all.extend_from_slice(bytes)?;

@@ -4,8 +4,8 @@
 //! - `bytes BYTES`: it has these bytes more
 //! - `fronts N M entries K`, `fronts N M FAULT`, `fronts N M FAULT AT`: its first bytes, of each length
 //!   from N to M, are a journal of K entries, or are refused so
-//! - `fronts N M FAULT AT +`: the same, where each byte more raises the place by one
-//! - `entry INDEX KIND NUMBER PLACE`, and `commits` behind it: this is its entry, which begins at this
+//! - `fronts N M FAULT AT +`: they are refused so, where each byte more raises the place by one
+//! - `entry INDEX KIND NUMBER PLACE`, and `commits` after it: this is its entry, which begins at this
 //!   offset, and commits a call or none
 //! - `again LIMIT`: its entries are appended to an empty disk and spell it; then no other one fits
 //! - `room LIMIT -> OUTCOME`: to an empty disk with this limit a Decide of 1 is appended, which is `done`,
@@ -85,7 +85,7 @@ impl Journals {
         Ok(true)
     }
 
-    // Whether each front gives this answer, as `FROM TO ANSWER`.
+    // Whether each prefix gives this answer, as `FROM TO ANSWER`.
     fn gives(&self, rest: &str) -> Result<bool, Undone> {
         let (from, rest) = first_word(rest);
         let (to, answer) = first_word(rest);
@@ -98,7 +98,7 @@ impl Journals {
         Ok(true)
     }
 
-    // Whether so many bytes give this answer, which are so many more than the first front's.
+    // Whether so many bytes give this answer, which are so many more than the first prefix has.
     fn front_gives(&self, count: usize, more: usize, answer: &str) -> Result<bool, Undone> {
         let front = self.bytes.get(..count).ok_or(Undone)?;
         let given = given(self.alloc, front, self.decls.as_slice())?;
@@ -163,7 +163,7 @@ impl Journals {
         self.shown_stop(outcome, &disk)
     }
 
-    // An outcome, and how many entries are read and left behind it.
+    // An outcome, and how many entries are read and left after it.
     fn shown_stop(&self, outcome: &str, disk: &MemDisk) -> Result<String, Undone> {
         let read = self.count_in(disk, CONTENT)?;
         let left = self.count_in(disk, SYNCED)?;
@@ -270,7 +270,7 @@ fn is_full(alloc: Global, journal: &mut Journal<TableDisk>, len: u64) -> bool
     }
 }
 
-// An entry behind others, as `KIND NUMBER PLACE`, and `commits` behind it.
+// An entry that follows others, as `KIND NUMBER PLACE`, and `commits` after that.
 fn shown_entry(
     alloc: Global,
     before: &[Entry],
@@ -310,7 +310,7 @@ fn shown(alloc: Global, fault: OpenFault) -> Result<String, AllocError> {
     }
 }
 
-// The answer that a front must give, which is so many bytes longer than the first one.
+// The answer that a prefix must give, which is so many bytes longer than the first one.
 fn wanted(alloc: Global, answer: &str, more: usize) -> Result<String, Undone> {
     let Some(rising) = answer.strip_suffix(" +") else {
         return Ok(String::from_str(alloc, answer)?);

@@ -41,7 +41,7 @@ pub(crate) fn device_put_of(alloc: Global, text: &str) -> Result<DevicePut, Undo
     })
 }
 
-/// The name in front of the first bar, and the items behind it.
+/// The name before the first bar, and the items after it.
 pub(crate) fn named(text: &str) -> (&str, &str) {
     text.split_once(" | ").unwrap_or((text, ""))
 }
@@ -58,7 +58,7 @@ pub(crate) fn body_of(alloc: Global, items: &str) -> Result<Row<Put>, Undone> {
     Ok(body)
 }
 
-/// The same with items of devices.
+/// The items of devices between the bars.
 pub(crate) fn writes_of(alloc: Global, items: &str) -> Result<Row<DevicePut>, Undone> {
     let mut writes = Row::new(alloc);
     if items.is_empty() {

@@ -1,4 +1,4 @@
--- What is found, one part behind another.
+-- What is found, one part after another.
 use Rattle.std.proofs.Common.{◌≡◌, ℕ, suc, nat_lt, true, List, [], ◌∷◌, ◌++◌, length, refl, sym, ap, ◌∙◌, arith}
 use Rattle.std.specs.Prelude.{not}
 use Rattle.std.proofs.lemmas.Bool.Decides.{nat_tests}

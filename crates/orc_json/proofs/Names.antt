@@ -1,4 +1,4 @@
--- Names behind the steps of a path.
+-- Names after the steps of a path.
 use Rattle.std.proofs.Common.{◌≡◌, ℕ, ◌==◌, true, false, cond, List, [], ◌∷◌, refl, ap, ◌∙◌, arith}
 use Rattle.std.specs.Prelude.{◌&&◌}
 use Rattle.std.specs.List.{list_all}
@@ -16,7 +16,7 @@ rest_has_no_colon (b ∷ bs) h =
     ap (λ t. cond t (is_identifier bs) (is_name_byte b && is_qualified_rest bs)) (no_colon b parts.0)
     ∙ ap (λ t. t && is_qualified_rest bs) parts.0 ∙ rest_has_no_colon bs parts.1
 
--- an identifier has no module in front
+-- an identifier has no module before its name
 pub not_qualified : (xs : List ℕ) → is_identifier xs ≡ true → is_qualified xs ≡ false
 not_qualified [] h = refl
 not_qualified (b ∷ bs) h =

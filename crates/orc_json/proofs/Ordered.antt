@@ -1,4 +1,4 @@
--- Members in the order of their names: put one after another they stand one behind another.
+-- Members in the order of their names: put in turn, they stand one after another.
 use Rattle.std.proofs.Common.{◌≡◌, ℕ, List, true, Ordering, Less, Equal, Greater, nat_cmp, refl, sym, ap, ◌∙◌}
 use Rattle.std.specs.Ordering.{match_ordering, ordering_reverse, is_lt}
 use Rattle.std.specs.Cmp.Lexicographic.{slice_cmp}
@@ -15,7 +15,7 @@ abbrev pub put_all : Members → Members → Members
 put_all no_members done = done
 put_all (member name d ms) done = put_all ms (put name d done)
 
--- members behind others
+-- members after others
 abbrev pub chained : Members → Members → Members
 chained no_members ms = ms
 chained (member name d more) ms = member name d (chained more ms)

@@ -1,4 +1,4 @@
--- The rows in front belong to the first node, or to the first entry.
+-- The first rows belong to the first node, or to the first entry.
 use Rattle.std.proofs.Common.{◌≡◌, ◌≢◌, ◌≤◌, ℕ, ◌+◌, Bool, true, false, cond, T, List, [], ◌∷◌, ◌++◌, length, nat_eq, Some, refl, sym, ap, subst, ◌∙◌, append-nil, arith}
 use Rattle.std.specs.Prelude.{IsTrue, ◌&&◌, slice_get}
 use Rattle.std.specs.FinMap.{is_sorted}
@@ -21,7 +21,7 @@ use Rattle.orc_json.specs.Written.AreMembers.{no_member, child}
 use Rattle.orc_json.specs.Written.AreEntries.{no_entry, entry}
 use Rattle.orc_json.proofs.Under.{Each, each_so, step_of, IsUnder, IsInside, under_next, members_under, node_under, node_some, step_under}
 
--- How many are in front ----------------------------------------------------------------------------------------------
+-- How many rows pass from the start on --------------------------------------------------------------------------------
 
 -- the first of the rows doesn't pass
 abbrev Stops : (Row → Bool) → Rows → Type 0
@@ -121,7 +121,7 @@ child_front at name [] later some h stops = absurd (some refl)
 child_front at name (row ∷ part) later some h stops =
     front-all (same_name (length at)) row part later (each_so (IsUnder at name) (λ other. same_name (length at) row other ≡ true) (λ other v. same_name_under at name row other h.0 v) part h.1) (stops row h.0)
 
--- the first member has the rows in front
+-- the first member has the first rows
 pub record FirstMember (s : SchemaTable) (keys : List (List ℕ)) (at : List PathStep) (all : Rows) (whole : Members) : Type 0 where
   pub name : List ℕ
   pub value : Data
@@ -184,7 +184,7 @@ entries_stop s keys at name texts rows ds h (entry others inside later ms es wel
     (first_of_both (is_lt (path_cmp (below at name texts) (below at name others))) (below_all path_cmp (below at name texts) (inside ++ later)) h)
     (ap (below at name) e))
 
--- the first entry has the rows in front
+-- the first entry has the first rows
 pub record FirstEntry (s : SchemaTable) (keys : List (List ℕ)) (at : List PathStep) (name : List ℕ) (all : Rows) (whole : Items) : Type 0 where
   pub texts : List (List ℕ)
   pub inside : Rows

@@ -1,4 +1,4 @@
--- One entry more in front of the members of an object: it goes into the array of its name, or begins one.
+-- One entry more before the members of an object: it goes into the array of its name, or begins one.
 use Rattle.std.proofs.Common.{◌≡◌, ◌≢◌, Bool, true, false, ℕ, List, [], ◌∷◌, ◌++◌, Option, Some, None, Ok, refl, sym, ap, subst, ◌∙◌, append_assoc, append-nil}
 use Rattle.std.specs.Prelude.{IsTrue}
 use Rattle.std.specs.List.{IsDistinct}
@@ -59,7 +59,7 @@ pub record HasNode (s : SchemaTable) (at : Path) (name : List ℕ) (rows : Rows)
   pub is : IsNode s at name (node_below s at name) rows json
 
 module _ (s : SchemaTable) (keys : List (List ℕ)) (at : Path) (name : List ℕ) (other : is_key_name keys name ≡ false) (named : is_name_behind at name ≡ true) where
-  -- a node's rows in front of members with greater names
+  -- a node's rows before members with greater names
   pub in-front : (group rows : Rows) (ms : Members) → HasNode s at name group → AreMembers s keys at rows ms → is_less name (first_name ms) ≡ true
       → Begun s keys at (group ++ rows) name
   in-front group rows ms has are less = record {
@@ -69,7 +69,7 @@ module _ (s : SchemaTable) (keys : List (List ℕ)) (at : Path) (name : List ℕ
   }
 
   module _ (group : Rows) (alone : HasNode s at name group) (joined : (rows : Rows) → HasNode s at name rows → HasNode s at name (group ++ rows)) where
-    -- an entry in front of members, of which the first may have its name
+    -- an entry before members, of which the first may have its name
     pub added : (rows : Rows) (ms : Members) → AreMembers s keys at rows ms → is_not_past name (first_name ms) ≡ true → Begun s keys at (group ++ rows) name
     added rows ms no_member h = in-front group rows ms alone no_member refl
     added rows ms (child found d part later rest not_key behind one before more) h =

@@ -26,7 +26,7 @@ Path = List PathStep
 abbrev pub look : Rows → Path → Option Item
 look rows p = find_in path_cmp p rows
 
--- rows with a step in front
+-- rows with a step added before their paths
 abbrev pub with_step : PathStep → Rows → Rows
 with_step st [] = []
 with_step st (row ∷ rows) = (st ∷ row.0, row.1) ∷ with_step st rows
@@ -245,7 +245,7 @@ way-first st [] p way = absurd (false≢true way.keyed)
 way-first st (a ∷ w) [] way = absurd (omega (arith, way.shorter))
 way-first st (a ∷ w) (b ∷ x) way = ap (λ (u : PathStep). is_lt (step_cmp st u)) (first_is a b w (take (length w) x) way.begins)
 
--- the first step in front of both, it is still on the way
+-- with one step more before both, it is still on the way
 pub way-step : (st : PathStep) (w p : Path) → IsWay w p → IsWay (st ∷ w) (st ∷ p)
 way-step st [] p way = absurd (false≢true way.keyed)
 way-step st (a ∷ w) p way = record {

@@ -84,7 +84,7 @@ module _ (s : SchemaTable) (sound : IsSound s) (n : ℕ) (walk : Walk s n) (keys
   abbrev above : List (List ℕ)
   above = path_names at
 
-  -- Behind the rows that begin with the step
+  -- After the rows that begin with the step
 
   later-level : Level s keys at later
   later-level = record {

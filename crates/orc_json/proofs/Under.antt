@@ -91,7 +91,7 @@ pub slice_get-seam : (xs : List PathStep) (y : PathStep) (ys : List PathStep) �
 slice_get-seam [] y ys = refl
 slice_get-seam (x ∷ xs) y ys = slice_get-seam xs y ys
 
--- the step of a row behind a path
+-- the step of a row after a path
 pub step_under : (at : List PathStep) (name : List ℕ) (row : Row) (u : IsUnder at name row) → slice_get row.0 (length at) ≡ Some (step_of name u.keys)
 step_under at name row u =
     ap (λ p. slice_get p (length at)) (u.is ∙ append_assoc at (step_of name u.keys ∷ []) u.more) ∙ slice_get-seam at (step_of name u.keys) u.more

@@ -117,7 +117,7 @@ member_found schema keys at name json inside entries = if is_key_name keys name 
 
 abbrev mutual
   -- The JSON object of the root, of a container or of an entry at a path. `keys` are the names of the keys that an
-  -- entry of a list has in it, of which its path tells; no others have any.
+  -- entry of a list has in it, which its path holds already; no others have any.
   pub object_at : SchemaTable → List (List ℕ) → List PathStep → Data → List Finding
   object_at schema keys at null = breaks at KIND ∷ []
   object_at schema keys at (boolean truth) = breaks at KIND ∷ []

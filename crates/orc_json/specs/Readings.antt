@@ -79,8 +79,8 @@ pub record IsReadAs (schema : SchemaTable) (bytes : List ℕ) (config : Config) 
 abbrev pub rows_below : List PathStep → Config → List (List PathStep × Item)
 rows_below at config = filter (λ row. is_prefix at row.0 && nat_lt (length at) (length row.0)) (entries config)
 
--- An answer: what a configuration is answered with, or the least fault of the JSON, or that there is no JSON; want of
--- memory is free.
+-- An answer: what a configuration is answered with, or the least fault of the JSON, or that there is no JSON;
+-- running out of memory is free.
 abbrev pub JsonGives : {X : Type 0} → (Config → X → Type 0) → SchemaTable → List PathStep → List ℕ
     → Result X JsonFault → Type 0
 JsonGives Is schema at bytes (Ok answer) =

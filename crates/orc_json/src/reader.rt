@@ -45,7 +45,7 @@ pub fn read_entry(
 }
 
 /// The JSON value that bytes are the text of (RFC 8259), where they are the text of one that is no more
-/// than 127 deep and has no number past the range of a double. The one error is want of memory.
+/// than 127 deep and has no number past the range of a double. The one error is that memory runs out.
 pub fn parse(alloc: Global, bytes: &[u8]) -> Result<Option<Value>, Memory>
     ensures { IfOk result (λ found. MatchOption found (IsNoJson bytes.now)
         (λ value. IsJson bytes.now (view value))) }

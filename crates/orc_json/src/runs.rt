@@ -1,10 +1,10 @@
-//! Rows in front of others that go on with the same name, or with the same step.
+//! How many rows at the start go on with the same name, or with the same step.
 ghost use Rattle.std.specs.Prelude.{◌≡◌, ◌≤◌, ◌<◌, ◌+◌, option_copied, length, take, slice_get};
 ghost use Rattle.orc_json.specs.inside.Fronts.{same_name, same_step, front, longest, first_path};
 
 use orc_path::{Item, Path, Step};
 
-/// The step of a path behind so many others.
+/// The step of a path after so many others.
 pub(crate) fn step_at(path: &Path, depth: usize) -> Option<&Step>
     ensures { option_copied result ≡ slice_get path.now depth }
 {
@@ -12,7 +12,7 @@ pub(crate) fn step_at(path: &Path, depth: usize) -> Option<&Step>
     steps.get(depth)
 }
 
-// Whether two rows have one name behind so many steps.
+// Whether two rows have one name after so many steps.
 fn has_same_name(row: &(Path, Item), other: &(Path, Item), depth: usize) -> bool
     ensures { result ≡ same_name depth row.now other.now }
 {
@@ -25,7 +25,7 @@ fn has_same_name(row: &(Path, Item), other: &(Path, Item), depth: usize) -> bool
     }
 }
 
-// Whether two rows have one step, with its keys, behind so many others.
+// Whether two rows have one step, with its keys, after so many others.
 fn has_same_step(row: &(Path, Item), other: &(Path, Item), depth: usize) -> bool
     ensures { result ≡ same_step depth row.now other.now }
 {
@@ -38,7 +38,7 @@ fn has_same_step(row: &(Path, Item), other: &(Path, Item), depth: usize) -> bool
     }
 }
 
-/// The first row, and how many behind it have its name behind so many steps.
+/// How many rows from the first on have its name after so many steps.
 pub(crate) fn name_front(rows: &[(Path, Item)], depth: usize) -> usize
     ensures value { result ≡ front (same_name depth) rows.now }
     ensures within { result ≤ length rows.now }
@@ -57,7 +57,7 @@ pub(crate) fn name_front(rows: &[(Path, Item)], depth: usize) -> usize
     count + 1
 }
 
-/// The first row, and how many behind it have its step behind so many others.
+/// How many rows from the first on have its step after so many others.
 pub(crate) fn step_front(rows: &[(Path, Item)], depth: usize) -> usize
     ensures value { result ≡ front (same_step depth) rows.now }
     ensures within { result ≤ length rows.now }

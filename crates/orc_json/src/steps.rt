@@ -42,7 +42,7 @@ fn later_name(alloc: Global, text: &str) -> Result<Option<Name>, Memory>
     }
 }
 
-/// The text as a name behind these steps, where it may be one.
+/// The text as a name after these steps, where it may be one.
 pub fn name_behind(alloc: Global, at: &Path, text: &str) -> Result<Option<Name>, Memory>
     ensures { IfOk result (λ name. name ≡ (if is_name_behind at.now text.now then Some text.now else None)) }
 {
@@ -68,7 +68,7 @@ pub fn path_below(alloc: Global, at: &Path, name: &Name, keys: Row<Text>) -> Res
 }
 
 /// The keys of an entry that has one alone, as each entry of a leaf-list has its value (RFC 7950 section 7.7).
-/// The error is want of memory.
+/// The error is that memory runs out.
 pub fn one_key(alloc: Global, key: Text) -> Result<Row<Text>, Memory>
     ensures { IfOk result (λ keys. keys ≡ key ∷ []) }
 {

@@ -43,7 +43,7 @@ pub(crate) fn leaf_value(alloc: Global, kind: &Kind, rows: &[(Path, Item)]) -> R
     }
 }
 
-// The JSON of the key of a row behind so many steps.
+// The JSON of the key of a row after so many steps.
 fn key_value(alloc: Global, depth: usize, kind: &Kind, path: &Path) -> Result<Value, Memory>
     ensures { IfOk result (λ value. (at : List PathStep) (name text : List ℕ) → length at ≡ depth
         → path.now ≡ below at name (text ∷ []) → IsTrue (is_canonical kind.now text)

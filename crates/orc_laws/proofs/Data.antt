@@ -1,4 +1,4 @@
--- The data behind histories: it is a configuration, it is valid, and the list of the devices in it stays.
+-- The data after histories: it is a configuration, it is valid, and the list of the devices in it stays.
 use Rattle.std.proofs.Common.{◌≡◌, ℕ, ◌==◌, Bool, true, false, cond, ◌&&◌, ◌||◌, not, List, [], ◌∷◌, length, take, All, IsTrue, None, Some, refl, sym, ap, ◌∙◌, arith}
 use Rattle.std.specs.declared.option.Option.{Option}
 use Rattle.std.specs.Option.{option_map_or}

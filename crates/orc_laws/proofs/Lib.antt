@@ -5,3 +5,4 @@ mod Removals
 mod Lone
 mod Made
 mod Presence
+mod EntryWrites

@@ -213,7 +213,7 @@ module _ (law : LiteralIsExpansion) (decls : Decls) (is : AreDecls decls) (confi
   one_left live (BasePut put) a id h named e = tt
   one_left live (BaseRemove device path) a id h named e = tt
 
-  -- what is left behind all actions
+  -- what is left after all actions
   abbrev LeftIn : List Action → List Service → Action → Type 0
   LeftIn acts live action =
       (id : List ℕ) → service_of action ≡ Some id → IsLeftBy decls config action (find (has_id id) (live_after decls.names acts live))

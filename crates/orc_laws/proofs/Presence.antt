@@ -103,7 +103,7 @@ all_unnamed id step still (a ∷ actions) b h =
     ap (λ c. fold step c actions) (still b a (or_first (is_of id a) (is_service_among actions id) h))
     ∙ all_unnamed id step still actions b (or_second (is_of id a) (is_service_among actions id) h)
 
--- the living services behind expanded actions
+-- the living services after expanded actions
 
 literal_of : (names : List (List ℕ)) (id : List ℕ) (o : Option (Result Expanding Failed)) (a : Action) → (as_literal names id o).outcome ≡ Ok a
     → (writes : List DevicePut) × (a ≡ Literal id writes)

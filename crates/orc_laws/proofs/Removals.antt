@@ -171,7 +171,7 @@ calls_without decls s (call ∷ calls) id other h =
           (calls_without decls (after decls s call) calls id (All-tail (NamesOther id) call calls other) h.1),
     )
 
--- histories one behind the other
+-- histories one after the other
 
 unrefused_back : (decls : Decls) (s : Datastore) (a b : List Call) → IsUnrefused decls s (a ++ b) → IsUnrefused decls (fold_from decls s a) b
 unrefused_back decls s [] b h = h
@@ -181,7 +181,7 @@ unrefused_joined : (decls : Decls) (s : Datastore) (a b : List Call) → IsUnref
 unrefused_joined decls s [] b h k = k
 unrefused_joined decls s (call ∷ a) b h k = (h.0, unrefused_joined decls (after decls s call) a b h.1 k)
 
--- the state behind the two calls, and what comes later
+-- the state after the two calls, and what comes later
 same_behind : (decls : Decls) (s : Datastore) (before between later : List Call) (create delete : Call) (id : List ℕ) (writes : List DevicePut)
     → Creates create id writes → Deletes delete id → path_of id ≡ None → lives (fold_from decls s before).live id ≡ false → All (NamesOther id) between
     → fold_from decls s (before ++ create ∷ [] ++ between ++ delete ∷ [] ++ later) ≡ fold_from decls s (before ++ between ++ later)

@@ -67,13 +67,13 @@ fold-without decls s (call ∷ calls) id h =
     fold-without decls (after decls s call) calls id (All-tail (NamesOther id) call calls h)
     ∙ ap (λ (z : Datastore). fold_from decls z calls) (after-without decls s call id (All-head (NamesOther id) call calls h))
 
--- the state behind a call of these actions
+-- the state after a call of these actions
 abbrev after_all : Decls → Datastore → List Action → Datastore
 after_all decls s actions =
     let acts = expanded_to (expanded_actions (serving_on decls (data_after actions s.data)) actions).outcome in
     record s { «data» = data_after actions s.data; bases = bases_after decls.names acts s.bases; live = live_after decls.names acts s.live }
 
--- the state behind a call that deletes a service, and behind one that makes one
+-- the state after a call that deletes a service, and after one that makes one
 pub after-deletes : (decls : Decls) (s : Datastore) (call : Call) (id : List ℕ) → Deletes call id → path_of id ≡ None → after decls s call ≡ without id s
 after-deletes decls s call id h none =
     ap (after_all decls s) h

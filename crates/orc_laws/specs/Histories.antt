@@ -1,4 +1,4 @@
--- What holds behind whole histories: of trees and data, and where a service came and went.
+-- What holds after whole histories: of trees and data, and where a service came and went.
 use Rattle.std.specs.Prelude.{◌≡◌, ℕ, true, false, List, [], ◌∷◌, ◌++◌, All, Contains, IsTrue}
 use Rattle.std.specs.declared.option.Option.TheVariants.{None, Some}
 use Rattle.std.specs.FinMap.{get}
@@ -19,7 +19,7 @@ use Rattle.orc_call.specs.declared.call.DevicePut.{DevicePut}
 use Rattle.orc_datastore.specs.declared.service.Service.{Service}
 use Rattle.orc_datastore.specs.Laws.{AreActions}
 
--- Where the actions of a history are ones that call blocks can give, the data behind it is a configuration.
+-- Where the actions of a history are ones that call blocks can give, the data after it is a configuration.
 abbrev pub DataIsConfiguration : Type 0
 DataIsConfiguration =
     (decls : Decls) (history : List Call)
@@ -27,7 +27,7 @@ DataIsConfiguration =
     → All (λ name. IsTrue (is_lawful_name name)) decls.names
     → AreActions decls history → IsConfig (state_of decls history).data
 
--- Where the opening data is valid and no call of a history is refused, the data behind it is valid.
+-- Where the opening data is valid and no call of a history is refused, the data after it is valid.
 abbrev pub DataIsValid : Type 0
 DataIsValid =
     (decls : Decls) (history : List Call)
@@ -84,7 +84,7 @@ DeletedWithoutTrace =
     → fold_from decls state (before ++ create ∷ [] ++ between ++ delete ∷ [])
     ≡ fold_from decls state (before ++ between)
 
--- Nor is a call refused for want of it: where no call of a history is refused, none is without the two, whatever calls
+-- Nor is a call refused for lack of it: where no call of a history is refused, none is without the two, whatever calls
 -- come later.
 abbrev pub UnrefusedWithoutTrace : Type 0
 UnrefusedWithoutTrace =

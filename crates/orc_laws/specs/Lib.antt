@@ -1,3 +1,4 @@
 pub mod Histories
 pub mod Making
 pub mod Services
+pub mod Entries

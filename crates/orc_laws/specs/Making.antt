@@ -41,7 +41,7 @@ pub record HoldsExpansion (decls : Decls) (config : Config) (id : List ℕ) (fou
   pub expanded : expansion_at (serving_on decls config) it ≡ Ok e
   pub holds : found ≡ Some (record { id = id; parts = e.written })
 
--- What an action leaves of the service that it names, where these are the data behind its call: one of a list that it
+-- What an action leaves of the service that it names, where these are the data after its call: one of a list that it
 -- creates, modifies or redeploys holds its expansion on them, a literal one what its writes say, and a deleted one is
 -- gone.
 abbrev pub IsLeftBy : Decls → Config → Action → Option Service → Type 0

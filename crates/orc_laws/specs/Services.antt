@@ -16,7 +16,7 @@ use Rattle.orc_call.specs.declared.call.Call.{Call}
 use Rattle.orc_datastore.specs.declared.service.Service.{Service}
 use Rattle.orc_laws.specs.Histories.{NamesOther}
 
--- The entries of a list with a template are the living services: behind a legal history, of such a list, a service
+-- The entries of a list with a template are the living services: after a legal history, of such a list, a service
 -- lives exactly where its entry stands in the data, at the path whose text is its name.
 abbrev pub ServiceLivesWhereItStands : Type 0
 ServiceLivesWhereItStands =
@@ -32,7 +32,7 @@ UnnamedServiceStays =
     → service_named (fold_from decls state calls) id ≡ service_named state id
 
 -- A service that a call names is what its action leaves, where the call isn't refused: it holds its expansion on the
--- data behind the call, or what its writes say, or is gone. So it stays, whatever calls come later that don't name it,
+-- data after the call, or what its writes say, or is gone. So it stays, whatever calls come later that don't name it,
 -- also where they change the data.
 abbrev pub ServiceHoldsItsExpansion : Type 0
 ServiceHoldsItsExpansion =
@@ -53,7 +53,7 @@ pub record IsLastMade (decls : Decls) (history : List Call) (id : List ℕ) (ser
   pub other : All (NamesOther id) later
   pub left : IsLeftBy decls (after decls (state_of decls before) call).data action (Some service)
 
--- What a service holds that lives behind a legal history is what the last call that named it made.
+-- What a service holds that lives after a legal history is what the last call that named it made.
 abbrev pub LivingIsLastMade : Type 0
 LivingIsLastMade =
     (decls : Decls) (history : List Call) (id : List ℕ) (service : Service)

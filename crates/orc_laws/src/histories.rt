@@ -30,13 +30,13 @@ pub fn order_of_creation_is_free()
     ensures { OrderOfCreationIsFree }
 {}
 
-/// Where the actions of a history are ones that call blocks can give, the data behind it is a
+/// Where the actions of a history are ones that call blocks can give, the data after it is a
 /// configuration.
 pub fn data_is_configuration()
     ensures { DataIsConfiguration }
 {}
 
-/// Where the opening data is valid, the data behind each history of calls, none of them refused, is.
+/// Where the opening data is valid, the data after each history of calls, none of them refused, is.
 pub fn data_is_valid()
     ensures { DataIsValid }
 {}

@@ -3,12 +3,14 @@ ghost use Rattle.std.specs.Prelude.{◌≡◌};
 ghost use Rattle.orc_schema.specs.Schemas.{plain_table};
 ghost use Rattle.orc_decls.specs.Calls.{schema_named};
 ghost use Rattle.orc_decls.specs.Devices.{names_of};
+ghost use Rattle.orc_lines.specs.Lawful.{decls_with};
 
 use crate::names::SortedNames;
 use orc_call::Put;
-use orc_decls::{Device, Names, schema_named};
+use orc_decls::{Decls, Device, Names, schema_named};
 use orc_schema::Schema;
 use orc_services::ServiceList;
+use orc_template::Devices;
 use orc_text::{Row, Text};
 use orc_yang::Stmt;
 
@@ -24,7 +26,6 @@ pub enum Section {
 }
 
 /// What was declared so far.
-#[derive(Drop)]
 pub struct Declared {
     pub section: Section,
     /// How many lines of a block are still to come.
@@ -50,7 +51,50 @@ pub struct Declared {
     pub services: Row<ServiceList>,
 }
 
+// Written out, so that a function that owns what was declared lets it go by one call at each exit.
+impl Drop for Declared {
+    fn drop(self) {
+        let Declared {
+            section: _,
+            skip: _,
+            modules: _,
+            statements: _,
+            has_data: _,
+            types: _,
+            schemas: _,
+            names: _,
+            devices: _,
+            data_schema: _,
+            data: _,
+            templates: _,
+            services: _,
+        } = self;
+    }
+}
+
 impl Declared {
+    /// The declarations, with their text and the table of the devices.
+    pub fn into_decls(self, text: Row<u8>, table: Devices) -> Decls
+        ensures { result ≡ record (decls_with text self) { schemas = table.schemas; table = table } }
+    {
+        let Declared {
+            section: _,
+            skip: _,
+            modules: _,
+            statements: _,
+            has_data: _,
+            types: _,
+            schemas: _,
+            names,
+            devices,
+            data_schema,
+            data,
+            templates: _,
+            services,
+        } = self;
+        Decls::of_parts(text, names, devices, table, data_schema, data, services)
+    }
+
     /// The schema of the device of a name; the plain one where none is declared.
     pub fn schema_named<'a>(&'a self, name: &Text, plain: &'a Schema) -> &'a Schema
         requires named { self.now.names ≡ names_of self.now.devices }

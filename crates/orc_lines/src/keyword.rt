@@ -1,6 +1,6 @@
 //! The first words of lines.
 ghost use Rattle.std.specs.Prelude.{◌≡◌};
-ghost use Rattle.orc_lines.specs.Keywords.{keyword_of};
+ghost use Rattle.orc_lines.specs.Keywords.{call_keyword_of, keyword_of, step_keyword_of};
 
 /// The first word of a line.
 #[derive(Clone, Copy)]
@@ -45,7 +45,8 @@ pub enum Keyword {
     Other,
 }
 
-/// The keyword that a word is.
+/// The keyword that a word is. It hands on from table to table, since one `match` on all words takes
+/// long to prove.
 #[tactic(auto, unfolding(crate::specs::Keywords::keyword_of))]
 pub fn keyword_of(word: &str) -> Keyword
     ensures { result ≡ keyword_of word.now }
@@ -63,6 +64,15 @@ pub fn keyword_of(word: &str) -> Keyword
         "show" => Keyword::Show,
         "json" => Keyword::Json,
         "meta" => Keyword::Meta,
+        _ => call_keyword_of(word),
+    }
+}
+
+// The keyword of a line of a call, or of a step.
+fn call_keyword_of(word: &str) -> Keyword
+    ensures { result ≡ call_keyword_of word.now }
+{
+    match word {
         "call" => Keyword::Call,
         "create" => Keyword::Create,
         "modify" => Keyword::Modify,
@@ -74,6 +84,15 @@ pub fn keyword_of(word: &str) -> Keyword
         "unset" => Keyword::Unset,
         "unbase" => Keyword::Unbase,
         "end" => Keyword::End,
+        _ => step_keyword_of(word),
+    }
+}
+
+// The keyword of a step.
+fn step_keyword_of(word: &str) -> Keyword
+    ensures { result ≡ step_keyword_of word.now }
+{
+    match word {
         "settle" => Keyword::Settle,
         "stop" => Keyword::Stop,
         "recover" => Keyword::Recover,

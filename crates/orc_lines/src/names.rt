@@ -14,10 +14,19 @@ use std::marker::Model;
 
 /// Names, of which no two are equal, numbered from 0 in the order in which they came.
 /// Beside them stands the number of each, in the order of the names.
-#[derive(Drop)]
 pub struct SortedNames {
     names: Vec<Text>,
     places: BTreeMap<Text, usize>,
+}
+
+// Written out, so that a crate above lets names go by one call.
+impl Drop for SortedNames {
+    fn drop(self) {
+        let SortedNames {
+            names: _,
+            places: _,
+        } = self;
+    }
 }
 
 impl Model for SortedNames {

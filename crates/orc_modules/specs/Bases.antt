@@ -31,7 +31,7 @@ typed_by t (Means m) = made_by m (type_of m.base t)
 typed_by t Endless = None
 typed_by t Unclear = None
 
--- the text is a default of the type; a leafref takes any, since its target tells
+-- the text is a default of the type; a leafref takes any, since its target decides
 abbrev pub takes_type : LeafType → List ℕ → Bool
 takes_type t text = option_map_or (λ kind. is_some (default_of kind text)) (kind_of t) true
 
@@ -60,7 +60,7 @@ typedef_named inner (Some d) = typedef_at inner d
 abbrev pub built_in_named : List Stmt → Base → Named
 built_in_named above b = Means (record { base = b; default = None; home = home_of above })
 
--- What the argument of a `type` statement stands for, behind fewer than n typedefs: a built-in type, or else the
+-- What the argument of a `type` statement stands for, through fewer than n typedefs: a built-in type, or else the
 -- typedef that the name means.
 abbrev pub base_of : ℕ → List Stmt → List Stmt → Stmt → Named
 base_of zero modules above t = Endless

@@ -23,7 +23,7 @@ pub record Found : Type 0 where
   pub above : List Stmt
   pub here : Stmt
 
--- the prefix of a name, and the name behind it
+-- the prefix of a name, and the name after it
 abbrev pub prefix_of : List ℕ → Option (List ℕ)
 prefix_of text = if is_some (position is_colon text) then Some (before_first is_colon text) else None
 

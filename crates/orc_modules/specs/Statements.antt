@@ -62,8 +62,8 @@ leader_step s = sum_by (λ t. t.1) s.subs + (if may_lead s.keyword (map (λ t. t
 abbrev pub leaders : Stmt → ℕ
 leaders = para-Stmt ℕ leader_step
 
--- Whether a statement of the second word is read in one of the first. Nothing below `type` is read here: orc_types
--- tells what a whole `type` statement makes. A statement without effect is unread, and so is one that defines no
+-- Whether a statement of the second word is read in one of the first. Nothing below `type` is read here: orc_types says
+-- what a whole `type` statement makes. A statement without effect is unread, and so is one that defines no
 -- configuration, where a data definition may stand.
 abbrev pub reads : Word → Word → Bool → Bool
 reads TypeName _ state = false
@@ -102,7 +102,7 @@ below_step s above = places_in (word_of s.keyword) above [] s.subs
 abbrev pub places_below : Stmt → List Stmt → List Place
 places_below = para-Stmt (List Stmt → List Place) below_step
 
--- every statement of the modules that is read, in the order of the text, behind other modules
+-- every statement of the modules that is read, in the order of the text, after other modules
 abbrev pub module_places : List Stmt → List Stmt → List Place
 module_places before [] = []
 module_places before (m ∷ ms) = (record { above = []; before = before; here = m } ∷ places_below m (m ∷ []))

@@ -124,7 +124,7 @@ fn is_bare<'a, 'm>(
     Ok(true)
 }
 
-// The same of the grouping of this name in the innermost block.
+// Whether it is clear that the grouping of this name in the innermost block brings nothing.
 #[cycle(bare)]
 fn is_bare_named<'a, 'm>(
     alloc: Global,

@@ -64,7 +64,7 @@ fn made_by(alloc: Global, meant: Meant, stmt: &Stmt) -> Result<Option<Typed>, Me
     }
 }
 
-// The same of what the name may stand for.
+// What a `type` statement makes of what its name may stand for.
 fn typed_by(alloc: Global, named: Named, stmt: &Stmt) -> Result<Option<Typed>, Memory>
     ensures { IfOk result (λ typed. typed ≡ typed_by stmt.now named) }
 {
@@ -81,7 +81,7 @@ fn is_default(alloc: Global, kind: &Kind, text: &str) -> Result<bool, Memory>
     Ok(default_of(alloc, kind, text)?.is_some())
 }
 
-/// Whether a text is a default of the type; a leafref takes any, since its target tells.
+/// Whether a text is a default of the type; a leafref takes any, since its target decides.
 pub fn takes_type(alloc: Global, of_type: &LeafType, text: &str) -> Result<bool, Memory>
     ensures { IfOk result (λ takes. takes ≡ takes_type of_type.now text.now) }
 {
@@ -153,7 +153,7 @@ pub(crate) fn typedef<'a, 'm>(
     meaning(modules, "typedef", argument(stmt), above)
 }
 
-// What the argument of a `type` statement stands for, behind fewer typedefs than `depth`.
+// What the argument of a `type` statement stands for, through fewer typedefs than `depth`.
 fn base_at<'a, 'm>(
     alloc: Global,
     depth: usize,

@@ -35,6 +35,7 @@ fn bringer_of_leaf<'a, 'm>(
         ≡ option_map_or (λ g. leaf_brought depth (modules_of modules.now) (g.here ∷ g.above) name.now (subs g.here))
         (option_map found o) None) }
 {
+    // Looked at, so that the name counts as used: only the contract and its proof speak of it.
     let _ = name;
     bringer(alloc, depth, modules, above, stmt)
 }

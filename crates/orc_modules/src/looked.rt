@@ -33,7 +33,7 @@ fn argument_looks(stmt: &Stmt) -> usize {
     text_looks(argument(stmt))
 }
 
-// The same, where it is longer than an identifier may be.
+// How much the argument of a statement is, where it is longer than an identifier may be.
 fn name_looks(stmt: &Stmt) -> usize {
     if argument(stmt).len() <= NAME {
         return 0;
@@ -56,7 +56,7 @@ pub fn looked_at(block: &[Stmt]) -> usize {
         .saturating_add(texts)
 }
 
-/// The same of the block of a statement.
+/// How much it is to go through the block of a statement, as `looked_at` counts.
 pub fn looks_below(stmt: &Stmt) -> usize {
     looked_at(stmt.subs.as_slice())
 }

@@ -11,9 +11,9 @@ const MAX_LOOKS: u64 = 200_000_000;
 const MAX_TEXTS: u64 = 20_000_000;
 
 /// What the build of one schema may still look at, and how many texts it may still keep. It bounds
-/// time and memory alone: where nothing is left the build wants memory, and no clause speaks of it.
-/// It also says where the build stands, so that behind a fault its place can be told: no clause
-/// speaks of that either.
+/// time and memory alone: where nothing is left the build runs out of memory, and no clause speaks
+/// of it. It also says where the build stands, so that after a fault its place can be reported: no
+/// clause speaks of that either.
 #[derive(Drop)]
 pub struct Looks {
     looks: Cell<u64>,
@@ -54,12 +54,12 @@ impl Looks {
         take(&self.looks, statements as u64);
     }
 
-    /// So many statements are looked at for what they define. It wants memory where no more may be.
+    /// So many statements are looked at for what they define. Memory runs out where no more may be.
     pub fn visit(&self, statements: usize) -> Result<(), Memory> {
         spend(&self.looks, (statements as u64).saturating_mul(4))
     }
 
-    /// So many texts are kept. It wants memory where no more may be.
+    /// So many texts are kept. Memory runs out where no more may be.
     pub fn keep(&self, texts: usize) -> Result<(), Memory> {
         spend(&self.texts, texts as u64)
     }
@@ -75,7 +75,7 @@ impl Looks {
         self.at.set(at);
     }
 
-    /// The walk over the nodes, behind that over the statements, goes to the next one.
+    /// The walk over the nodes, after that over the statements, goes to the next one.
     pub fn go_on(&self) {
         self.node.set(match self.node.get() {
             Some(node) => Some(node.saturating_add(1)),

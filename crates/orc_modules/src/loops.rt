@@ -64,7 +64,7 @@ fn are_same(one: &Above<'_, '_>, other: &Above<'_, '_>) -> bool
     }
 }
 
-// The same of a statement and those around it.
+// Whether a statement and those around it are the same as the others.
 #[cycle(same)]
 fn are_same_under(stmt: &Stmt, outer: &Above<'_, '_>, other: &Above<'_, '_>) -> bool
     ensures { result ≡ are_same (stmt.now ∷ stack outer.now) (stack other.now) }
@@ -264,7 +264,7 @@ fn uses_leads<'a, 'm>(
     }
 }
 
-// The same of the grouping that it stands in.
+// Whether the name of a `uses` leads to the grouping that it stands in.
 fn uses_lead_back<'a, 'm>(
     alloc: Global,
     modules: &Modules<'a>,

@@ -1,4 +1,4 @@
-//! The groupings of a block in an order in which each comes behind those that it uses.
+//! The groupings of a block in an order in which each comes after those that it uses.
 
 use crate::parts::{Part, block_part};
 use crate::scope::{is_near, plain_name};
@@ -135,7 +135,7 @@ fn add_ready(users: &[usize], open: &mut [usize], ready: &mut Vec<usize>) -> Res
     Ok(())
 }
 
-/// The names of the groupings of the own block of a module of this prefix: each comes behind those
+/// The names of the groupings of the own block of a module of this prefix: each comes after those
 /// of the block that it uses. Those that lead to themselves are left out.
 pub(crate) fn order_of<'m>(
     alloc: Global,

@@ -33,7 +33,7 @@ impl<'a> Modules<'a> {
         Ok(Modules { all, most, looks })
     }
 
-    /// Goes one level further down, where `depth` levels are left. It wants memory past 2,000 levels.
+    /// Goes one level further down, where `depth` levels are left. It runs out of memory past 2,000 levels.
     pub fn go_down(&self, depth: usize) -> Result<(), Memory> {
         if self.most.saturating_sub(depth) >= MAX_LEVELS {
             return Err(Memory);

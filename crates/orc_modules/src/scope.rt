@@ -26,7 +26,7 @@ pub enum Above<'a, 'm> {
     Module(&'a Stmt),
     /// A statement, and those around it.
     Under(&'a Stmt, &'a Above<'a, 'm>),
-    /// The same, with the definitions of its block by their names.
+    /// A statement with the definitions of its block by their names, and those around it.
     Indexed(&'a Block<'m>, &'a Above<'a, 'm>),
 }
 
@@ -44,7 +44,7 @@ pub(crate) struct Site<'a, 'm> {
     pub(crate) above: &'a Above<'a, 'm>,
 }
 
-// The texts before the first colon and behind it.
+// The texts before the first colon and after it.
 fn split_name(text: &str) -> Option<(&str, &str)>
     ensures some { is_some result ≡ is_some (position is_colon text.now) }
     ensures first { IfSome result (λ parts. (parts.0.now ≡ before_first is_colon text.now)
@@ -63,7 +63,7 @@ pub fn prefix_of(text: &str) -> Option<&str>
     }
 }
 
-/// The name behind its prefix.
+/// The name after its prefix.
 pub fn plain_name(text: &str) -> &str
     ensures { result.now ≡ plain_name text.now }
 {

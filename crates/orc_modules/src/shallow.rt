@@ -141,6 +141,7 @@ fn add_depth<'m>(
     requires known { AreShallow here.now (depth_by depths.old) }
     ensures { OnOk result (AreShallow here.now (depth_by depths.new)) }
 {
+    // Looked at, so that the module counts as used: only the contract and its proof speak of it.
     let _ = here;
     let block = grouping.subs.as_slice();
     let own = names_of(alloc, "grouping", block)?;

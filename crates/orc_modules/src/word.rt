@@ -4,7 +4,7 @@ ghost use Rattle.orc_modules.specs.Words.{word_of, node_word, part_word, other_w
 
 use orc_types::is_idle;
 
-/// What a keyword is to this profile of YANG. What may stand below `type` is told by `orc_types`.
+/// What a keyword is to this profile of YANG. `orc_types` says what may stand below `type`.
 #[derive(Clone, Copy, Debug, PartialEq, Eq)]
 pub enum Word {
     Module,

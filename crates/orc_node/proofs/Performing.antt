@@ -138,7 +138,7 @@ module _ (link after : LinkState) (op : Op) (lives : is_stranded link.node.state
   fails_performs when.Before listed answer h = failed_performs listed answer h.0 h.1
   fails_performs when.After listed answer h = lost_performs listed answer h
 
--- the same, of the parts of a link
+-- what a link that fails performs, by the parts of the link
 module _ (node : AcceptingNode) (session : ℕ) (faults : ℕ) (listed rest : List (OpKind × When)) (op : Op) (kind : OpKind) (after : LinkState) (answer : Reply)
     (is : kind ≡ kind_of_op op) (left : rest ≡ without_first kind listed) (lives : is_stranded node.state session op ≡ false) where
   served_is : rest ≡ without_first (kind_of_op op) listed

@@ -116,7 +116,7 @@ lives : (t : Bool) → not t ≡ false → t ≡ true
 lives true h = refl
 lives false h = absurd (true≢false h)
 
--- the same sessions, with locks whose holders live
+-- sessions stay sound where locks alone change and the holders of these live
 relocked : (node : NodeState) → HasSoundSessions node → (after : NodeState) → after.live ≡ node.live
     → HolderLives after.running_lock node → HolderLives after.candidate_lock node → HasSoundSessions after
 relocked node h after same running candidate = record {

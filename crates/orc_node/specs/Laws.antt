@@ -13,14 +13,14 @@ use Rattle.orc_device.specs.Nodes.{DeviceKind, NodeState, dropped, is_live, kept
 use Rattle.orc_node.specs.Kinds.{device_kind}
 use Rattle.orc_node.specs.Nodes.{new_node}
 
--- Its test tells equality, and the changes between two trees lead from the one to the other, where that is a
--- configuration.
+-- Its test says which trees are equal, and the changes between two trees lead from the one to the other, where that is
+-- a configuration.
 pub record IsRight (kind : DeviceKind) : Type 0 where
   pub same : (config other : Config) → kind.same config other ≡ true → config ≡ other
   pub equal : (config : Config) → kind.same config config ≡ true
   pub changed : (from to : Config) → IsConfig to → kind.changed (kind.between from to) from ≡ to
 
--- Each device tells equal configurations, and the changes between two of them lead from the one to the other.
+-- Each device says which configurations are equal, and the changes between two of them lead from the one to the other.
 abbrev pub KindsAreRight : Type 0
 KindsAreRight = (accept : Accept) → IsRight (device_kind accept)
 

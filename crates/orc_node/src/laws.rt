@@ -2,8 +2,8 @@
 //! do nothing: their contracts are the laws.
 ghost use Rattle.orc_node.specs.Laws.{ChangesAreTaken, KeepsWhatItComesBackTo, KindsAreRight, NumbersBeginAgain, RunsWhatWasCommitted, SessionsStaySound};
 
-/// The test of a device tells equality, and the changes between two trees lead from the one to the
-/// other, where that is a configuration.
+/// The test of a device says which trees are equal, and the changes between two trees lead from the
+/// one to the other, where that is a configuration.
 pub fn kinds_are_right()
     ensures { KindsAreRight }
 {}

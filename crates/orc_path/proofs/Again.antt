@@ -56,7 +56,7 @@ rest_again : (n : List ℕ) → is_qualified_rest n ≡ true → name_modes Modu
 rest_again [] h = let no : ⊥ = cc in absurd no
 rest_again (b ∷ bs) h = rest_again_at (b == 58) b bs (λ k. rest_again bs k) h
 
--- an identifier behind a module's name
+-- an identifier after a module's name
 pub qualified_again : (n : List ℕ) → is_qualified n ≡ true → name_modes Slash n ≡ Some Inside
 qualified_again [] h = let no : ⊥ = cc in absurd no
 qualified_again (b ∷ bs) h = ap (λ t. option_and_then (λ k. name_modes k bs) (cond t (Some Module) None)) (first_so _ _ h) ∙ rest_again bs (second_so _ _ h)
@@ -100,7 +100,7 @@ keys_again d n ks (k ∷ more) h =
     ∙ keys_again d n (ks ++ k ∷ []) more (second_so _ _ h)
     ∙ ap (λ x. Some (reader_at Closed d n x [])) (append_assoc ks (k ∷ []) more)
 
--- the mode behind a name with these keys
+-- the mode after a name with these keys
 abbrev mode_behind : List (List ℕ) → Mode
 mode_behind [] = Inside
 mode_behind (k ∷ ks) = Closed

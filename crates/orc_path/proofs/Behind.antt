@@ -1,4 +1,4 @@
--- What stands behind a text that is read so far.
+-- The reader after a text that is read so far.
 use Rattle.std.proofs.Common.{◌≡◌, ℕ, ◌<◌, ◌≤◌, Bool, true, false, List, [], ◌∷◌, ◌++◌, Some, None, Option, encode_utf8, encode_utf8_all, refl, sym, ap, subst, ◌∙◌, arith, append_assoc, append-nil, length}
 use Rattle.std.proofs.Math.Dec.{ltb}
 use Rattle.std.specs.List.{flat_map, list_all}
@@ -27,7 +27,7 @@ use Rattle.orc_path.proofs.Again.{reader_at}
 pub some_same : {A : Type 0} {x y : A} → Some x ≡ Some y → x ≡ y
 some_same e = cc
 
--- the reader stands behind the text
+-- the reader stands after the text
 pub record IsBehind (text : List ℕ) (r : Reader) : Type 0 where
   pub fits : Fits r
   pub is : read r ≡ text
@@ -131,7 +131,7 @@ wide_step text r s c high scalar plain b e = by (in_key r.mode)
         let grown = key_grows r.mode r (encode_utf8 c) key b.fits w (is_plain_text-encode c scalar plain) in
         subst (λ t. Fits t × (read t ≡ text ++ encode_utf8 c)) is (grown.0, grown.1 ∙ ap (λ x. x ++ encode_utf8 c) b.is)
 
--- the reader behind a character more
+-- the reader after one more character
 pub steps : (text : List ℕ) (r s : Reader) (c : ℕ) → IsScalar c → is_plain_character c ≡ true → IsBehind text r → feed_all r (encode_utf8 c) ≡ Some s → IsBehind (text ++ encode_utf8 c) s
 steps text r s c scalar plain b e =
     let grown = by (ltb c 128) refl in
@@ -146,7 +146,7 @@ steps text r s c scalar plain b e =
     by true low = low_step text r s c (ltb-true c 128 low) scalar plain b e
     by false high = wide_step text r s c (ltb-false c 128 high) scalar plain b e
 
--- the reader behind many
+-- the reader after many more characters
 all_steps_by : (o : Option Reader) (text : List ℕ) (r s : Reader) (c : ℕ) (cs : List ℕ) → feed_all r (encode_utf8 c) ≡ o → IsScalar c → is_plain_character c ≡ true → IsBehind text r
     → ((t : Reader) → IsBehind (text ++ encode_utf8 c) t → feed_all t (encode_utf8_all cs) ≡ Some s → IsBehind ((text ++ encode_utf8 c) ++ encode_utf8_all cs) s)
     → option_and_then (λ t. feed_all t (encode_utf8_all cs)) o ≡ Some s → IsBehind (text ++ encode_utf8 c ++ encode_utf8_all cs) s

@@ -41,7 +41,7 @@ qualified_words : (n : List ℕ) → is_qualified n ≡ true → list_all is_wor
 qualified_words [] h = absurd (false≢true h)
 qualified_words (b ∷ bs) h = let parts = and_parts _ _ h in and_from _ _ (name_word b (start_is_name_byte b parts.0)) (rest_words bs parts.1)
 
--- a name in front
+-- a name, put before the rest
 name_front : (n xs m : List ℕ) (ks : List (List ℕ)) (ss : List PathStep) → list_all is_word_byte n ≡ true → steps_of InName xs ≡ record { node = m; keys = ks } ∷ ss
     → steps_of InName (n ++ xs) ≡ record { node = n ++ m; keys = ks } ∷ ss
 name_front [] xs m ks ss h e = e

@@ -25,7 +25,7 @@ four c l = cond-false _ _ _ (le-ltb c 128 (omega arith)) ∙ cond-false _ _ _ (l
 abbrev pub fellow : ℕ → ℕ
 fellow c = c - c % 64
 
--- a character of several bytes: those in front of its last one are its fellow's too
+-- a character of several bytes: those before its last one are its fellow's too
 pub record IsWide (c : ℕ) : Type 0 where
   pub front : List ℕ
   pub bytes : encode_utf8 c ≡ front ++ (128 + c % 64) ∷ []

@@ -16,7 +16,7 @@ use Rattle.orc_path.proofs.Parts.{chosen, none_given, taken, list_all_more, name
 use Rattle.orc_text.proofs.Plain.{is_plain_text-nil, is_plain_text-append}
 use Rattle.orc_path.proofs.Plain.{is_plain_text-byte}
 
--- a step behind others
+-- a step after others
 pub is_path_more : (done : List PathStep) (s : PathStep) → is_path done ≡ true → is_name_behind done s.node ≡ true → list_all is_key s.keys ≡ true → is_path (done ++ s ∷ []) ≡ true
 is_path_more [] s h k l = and_from _ _ (and_from _ _ k l) refl
 is_path_more (t ∷ ts) s h k l = and_from _ _ (first_so _ _ h) (list_all_more is_later_step ts s (second_so _ _ h) (and_from _ _ k l))
@@ -44,7 +44,7 @@ read_at Closed r = front r
 abbrev pub read : Reader → List ℕ
 read r = read_at r.mode r
 
--- the parts fit, and the byte stands behind what was read
+-- the parts fit, and the byte stands after what was read
 abbrev pub Grows : Mode → Reader → ℕ → Reader → Type 0
 Grows m r b s = Fits s × (read s ≡ read_at m r ++ b ∷ [])
 
@@ -173,7 +173,7 @@ name_grows m to r b f e =
     let so = fits_around to (record r { mode = to; node = r.node ++ b ∷ [] }) a.before (name_step r.done m to r.node b a.node e) a.keys in
     (so.0, so.1 ∙ node_grows (flat_map step_text r.done) r.node r.keys b a.keys ∙ ap (λ x. x ++ b ∷ []) (sym a.text))
 
--- a byte of ASCII that is taken stands behind the text that was read so far
+-- a byte of ASCII that is taken stands after the text that was read so far
 pub feed_grows : (m : Mode) (r s : Reader) (b : ℕ) → b < 128 → r.mode ≡ m → FitsAt m r → feed_at m r b ≡ Some s → Grows m r b s
 feed_grows m r s b low at f e = by_name (name_mode m b) refl e
   where

@@ -1,4 +1,4 @@
--- A front of what is due, where writing stops.
+-- A prefix of what is due, where writing stops.
 use Rattle.std.proofs.Common.{◌≡◌, ℕ, List, [], ◌++◌, refl, sym, ap, ◌∙◌, append_assoc, append-nil}
 use Rattle.std.specs.Prelude.{Result, Ok, Err, OnErr}
 use Rattle.std.proofs.lemmas.List.{append_cancel_left}
@@ -22,7 +22,7 @@ front_of_part due before now rest (front, added) all = record {
   added = added;
 }
 
--- the first piece was written, and then a front of the second
+-- the first piece was written, and then a prefix of the second
 pub front_behind : (first due before between now : List ℕ) → between ≡ before ++ first → AddsFront due between now → AddsFront (first ++ due) before now
 front_behind first due before between now is a = record {
   front = first ++ a.front;

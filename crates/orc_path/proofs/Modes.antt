@@ -36,7 +36,7 @@ module _ (r : Reader) (m : Mode) (c : ℕ) (is : r.mode ≡ m) where
   refuses_wide plain high out =
       goes plain ∙ ap mode_of (wide_out r (encode_utf8 c) (λ key. out (sym is ∙ key)) (are_wide-encode c high) (encode_some c))
 
--- some reader at this mode stands behind so many bytes, and in front of the rest
+-- some reader at this mode stands after so many bytes, and before the rest
 pub record IsAt (text : List ℕ) (at : ℕ) (rest : List ℕ) (mode : Mode) : Type 0 where
   pub reader : Reader
   pub is : reader.mode ≡ mode

@@ -13,12 +13,12 @@ use Rattle.orc_path.proofs.Parts.{none_given, name_step}
 use Rattle.orc_path.proofs.Stops.{given_before, bad_at, bad_end}
 use Rattle.orc_path.proofs.Again.{identifier_again, qualified_again}
 
--- whether a name may end behind these bytes
+-- whether a name may end after these bytes
 abbrev may_end : Option Mode → Bool
 may_end None = false
 may_end (Some m) = is_name_end m
 
--- some mode is behind the bytes
+-- there is a mode after the bytes
 abbrev Takes : List ℕ → Type 0
 Takes xs = (m : Mode) × (name_modes Slash xs ≡ Some m)
 

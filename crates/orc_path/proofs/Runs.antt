@@ -5,7 +5,7 @@ use Rattle.orc_path.specs.inside.Reading.{name_mode, feed, feed_all}
 use Rattle.orc_path.specs.declared.mode.Mode.{Mode}
 use Rattle.orc_path.specs.declared.reader.Reader.{Reader}
 
--- the mode behind bytes of a name
+-- the mode after bytes of a name
 abbrev pub name_modes : Mode → List ℕ → Option Mode
 name_modes mode [] = Some mode
 name_modes mode (b ∷ bs) = option_and_then (λ next. name_modes next bs) (name_mode mode b)

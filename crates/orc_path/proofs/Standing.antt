@@ -13,7 +13,7 @@ use Rattle.orc_path.proofs.Parts.{none_given}
 use Rattle.orc_path.proofs.Behind.{IsBehind, starts, steps}
 use Rattle.orc_path.proofs.Refused.{refused}
 
--- it stands behind so many bytes, and in front of the rest
+-- it stands after so many bytes, and before the rest
 pub record IsStanding (text : List ℕ) (at : ℕ) (rest : List ℕ) (r : Reader) : Type 0 where
   pub front : List ℕ
   pub cut : text ≡ front ++ rest
@@ -59,7 +59,7 @@ module _ (text : List ℕ) (at : ℕ) (rest after : List ℕ) (r : Reader) (c : 
       subst (λ n. IsBadAt IsPathText text (n + begun_in r.mode c)) here.len
       (subst (λ x. IsBadAt IsPathText x (length here.front + begun_in r.mode c)) (sym all) (refused here.front r c after scalar_next here.behind e))
 
--- it stands behind the whole text
+-- it stands after the whole text
 pub stands_last : (text : List ℕ) (at : ℕ) (rest : List ℕ) (r : Reader) → IsStanding text at rest r → length rest ≡ 0 → IsBehind text r
 stands_last text at rest r here e =
     let none_left : rest ≡ [] = nil_from_length rest e in

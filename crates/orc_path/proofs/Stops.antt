@@ -14,7 +14,7 @@ module _ (IsText : List ℕ → Type 0) where
   pub can_begin_text : (xs : List ℕ) → IsText xs → CanBegin IsText xs
   can_begin_text xs t = ([], subst IsText (sym (append-nil xs)) t)
 
-  -- the text is bad where its front begins one and the front with a byte more begins none
+  -- the text is bad at a place where the prefix up to it begins a good one and the prefix with a byte more begins none
   pub bad_at : (xs : List ℕ) (at : ℕ) → at < length xs → CanBegin IsText (take at xs) → (CanBegin IsText (take (suc at) xs) → ⊥) → IsBadAt IsText xs at
   bad_at xs at within here not_so = record {
     within = omega arith;
@@ -28,7 +28,7 @@ module _ (IsText : List ℕ → Type 0) where
           subst (CanBegin IsText) (take-take (suc at) n xs (omega arith))
           (can_begin_front (take (suc at) (take n xs)) (drop (suc at) (take n xs)) (subst (CanBegin IsText) (sym (take-append-drop (suc at) (take n xs))) b))
 
-  -- the same, in parts
+  -- a text of three parts, a beginning, a byte and a rest, is bad at the byte where the first two begin no good text
   pub bad_behind : (begun : List ℕ) (byte : ℕ) (rest : List ℕ) → CanBegin IsText begun → (CanBegin IsText (begun ++ byte ∷ []) → ⊥) → IsBadAt IsText ((begun ++ byte ∷ []) ++ rest) (length begun)
   bad_behind begun byte rest here not_so =
       bad_at ((begun ++ byte ∷ []) ++ rest) (length begun) (let l = length-append (begun ++ byte ∷ []) rest in let k = long in omega arith)

@@ -56,7 +56,7 @@ module _ (r : ValueReader) where
   plain : (rest : List ℕ) → r.is_escaped ≡ false → ahead r rest ≡ led r.value (unescaped rest)
   plain rest no_escape = ap (λ t. led r.value (unescaped (cond t (92 ∷ rest) rest))) no_escape
 
-  -- behind a backslash
+  -- after a backslash
   pub ahead_meant : (c m : ℕ) (value rest : List ℕ) → r.is_escaped ≡ true → value_unescape c ≡ Some m → value ≡ r.value ++ encode_utf8 m
       → ahead r (encode_utf8 c ++ rest) ≡ ahead (record { value = value; is_escaped = false }) rest
   ahead_meant c m value rest is_so is pushed =

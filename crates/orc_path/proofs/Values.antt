@@ -48,7 +48,7 @@ raw_none b (next ∷ rest) h = next_none b h (led_by_meant (value_unescape next)
     next_none : (b : ℕ) → is_never_raw b ≡ true → (x y : Option (List ℕ)) → cond (b == 92) x (cond (is_never_raw b) None y) ≡ None
     next_none b h x y = grind arith
 
--- bytes in front
+-- bytes before others
 
 pub led_led : (xs ys : List ℕ) (o : Option (List ℕ)) → led xs (led ys o) ≡ led (xs ++ ys) o
 led_led xs ys None = refl
@@ -97,7 +97,7 @@ unescaped_backslash rest = low 92 rest (omega arith)
 meaning_is_low : (c m : ℕ) → value_unescape c ≡ Some m → c < 128
 meaning_is_low c m h = grind arith
 
--- and what it means with the character behind it
+-- and what it means with the character after it
 pub unescaped_meant : (c m : ℕ) (rest : List ℕ) → value_unescape c ≡ Some m → unescaped (92 ∷ (encode_utf8 c ++ rest)) ≡ led (m ∷ []) (unescaped rest)
 unescaped_meant c m rest h = ap (λ x. unescaped (92 ∷ x)) (low c rest (meaning_is_low c m h)) ∙ ap (λ o. led_by_meant o (unescaped rest)) h
 

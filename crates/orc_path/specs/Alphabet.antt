@@ -29,7 +29,7 @@ abbrev pub is_qualified : List ℕ → Bool
 is_qualified [] = false
 is_qualified (byte ∷ rest) = is_name_start byte && is_qualified_rest rest
 
--- an identifier, alone or behind a module's name and a colon
+-- an identifier, alone or after a module's name and a colon
 abbrev pub is_node_name : List ℕ → Bool
 is_node_name bytes = is_identifier bytes || is_qualified bytes
 

@@ -14,7 +14,7 @@ use Rattle.orc_path.specs.declared.item.Item.TheVariants.{Entry, Leaf}
 abbrev pub Config : Type 0
 Config = FinMap path_cmp Item
 
--- the way is an entry on the way to the path: the path goes on behind it, and it ends in keys
+-- the way is an entry on the way to the path: the path goes on after it, and it ends in keys
 pub record IsWay (way path : List PathStep) : Type 0 where
   pub shorter : length way < length path
   pub begins : way ≡ take (length way) path

@@ -11,7 +11,7 @@ fits [] item = false
 fits (first ∷ later) Entry = ends_in_keys (first ∷ later)
 fits (first ∷ later) (Leaf text) = not (ends_in_keys (first ∷ later))
 
--- an item and where it stands: the path, and behind it the text of a leaf's value
+-- an item and where it stands: the path, and after it the text of a leaf's value
 abbrev pub item_text : List PathStep → Item → List ℕ
 item_text path Entry = path_text path
 item_text path (Leaf text) = path_text path ++ codes " = " ++ value_text text

@@ -13,7 +13,7 @@ is_long_name name = nat_lt NAME_LEN (length name)
 abbrev pub is_long_value : List ℕ → Bool
 is_long_value value = nat_lt VALUE_LEN (length value)
 
--- an identifier of a node's name is: the one in front of the colon or the one behind it, or the only one
+-- an identifier of a node's name is past its limit: the one before the colon or the one after it, or the only one
 abbrev pub is_long_node : List ℕ → Bool
 is_long_node node =
     is_long_name (before_first (λ byte. byte == 58) node) || is_long_name (after_first (λ byte. byte == 58) node)

@@ -6,7 +6,7 @@ use Rattle.orc_path.specs.Steps.{PathStep, is_path}
 use Rattle.orc_path.specs.Texts.{path_text}
 use Rattle.orc_path.specs.Values.{meant}
 
--- the part of a path's text in which a byte stands: a name, a key, or behind a backslash in a key
+-- the part of a path's text in which a byte stands: a name, a key, or after a backslash in a key
 pub data TextPart : Type 0 where
   InName : TextPart
   InKey : TextPart
@@ -15,22 +15,22 @@ pub data TextPart : Type 0 where
 abbrev pub blank_step : PathStep
 blank_step = record { node = []; keys = [] }
 
--- the byte, in front of the first step's name
+-- the byte, put before the first step's name
 abbrev pub onto_name : ℕ → List PathStep → List PathStep
 onto_name byte [] = []
 onto_name byte (step ∷ steps) = record step { node = byte ∷ step.node } ∷ steps
 
--- the byte, in front of the first of the keys
+-- the byte, put before the first of the keys
 abbrev pub onto_first_key : ℕ → List (List ℕ) → List (List ℕ)
 onto_first_key byte [] = []
 onto_first_key byte (key ∷ keys) = (byte ∷ key) ∷ keys
 
--- the byte, in front of the first step's first key
+-- the byte, put before the first step's first key
 abbrev pub onto_key : ℕ → List PathStep → List PathStep
 onto_key byte [] = []
 onto_key byte (step ∷ steps) = record step { keys = onto_first_key byte step.keys } ∷ steps
 
--- with an empty key in front of the first step's keys
+-- with an empty key before the first step's keys
 abbrev pub with_key : List PathStep → List PathStep
 with_key [] = []
 with_key (step ∷ steps) = record step { keys = [] ∷ step.keys } ∷ steps
@@ -46,7 +46,7 @@ steps_of InKey (byte ∷ rest) =
     if byte == 92 then steps_of Escaped rest else onto_key byte (steps_of InKey rest)
 steps_of Escaped (byte ∷ rest) = onto_key (meant byte) (steps_of InKey rest)
 
--- the path that a text means: a slash alone is the root, and in front of the first slash stands nothing
+-- the path that a text means: a slash alone is the root, and nothing stands before the first slash
 abbrev pub steps_in : List ℕ → List PathStep
 steps_in text = if pointwise nat_eq text (codes "/") then [] else drop 1 (steps_of InName text)
 

@@ -21,7 +21,7 @@ abbrev pub is_path : List PathStep → Bool
 is_path [] = true
 is_path (first ∷ later) = is_first_step first && list_all is_later_step later
 
--- what a name is behind these steps: with its module where it is the first, and without where it is a later one
+-- what a name is after these steps: with its module where it is the first, and without where it is a later one
 abbrev pub is_name_behind : List PathStep → List ℕ → Bool
 is_name_behind [] name = is_qualified name
 is_name_behind (first ∷ later) name = is_identifier name

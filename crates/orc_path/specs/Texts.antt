@@ -4,7 +4,7 @@ use Rattle.std.specs.List.{flat_map}
 use Rattle.orc_path.specs.Alphabet.{is_node_name}
 use Rattle.orc_path.specs.Steps.{PathStep, is_path}
 
--- a byte of a key: backslash, ], space, tab, line feed and carriage return stand behind a backslash
+-- a byte of a key: backslash, ], space, tab, line feed and carriage return stand after a backslash
 abbrev pub escape : ℕ → List ℕ
 escape byte =
     if byte == 92 then codes "\\\\" else
@@ -25,7 +25,7 @@ abbrev pub path_text : List PathStep → List ℕ
 path_text [] = codes "/"
 path_text (first ∷ later) = step_text first ++ flat_map step_text later
 
--- a byte of a value: backslash, tab, line feed and carriage return stand behind a backslash
+-- a byte of a value: backslash, tab, line feed and carriage return stand after a backslash
 abbrev pub value_escape : ℕ → List ℕ
 value_escape byte =
     if byte == 92 then codes "\\\\" else
@@ -55,7 +55,7 @@ pub record IsBadAt (IsText : List ℕ → Type 0) (bytes : List ℕ) (at : ℕ) 
   pub longest : (len : ℕ) → at < len → len ≤ length bytes → CanBegin IsText (take len bytes) → ⊥
   pub none : IsText bytes → ⊥
 
--- of the bytes that are due a front stands behind what stood there before, and nothing else
+-- a prefix of the bytes that are due stands after what stood there before, and nothing else
 pub record AddsFront (due before now : List ℕ) : Type 0 where
   pub front : List ℕ
   pub rest : List ℕ

@@ -5,7 +5,7 @@ use Rattle.std.specs.Cmp.Lexicographic.{pointwise}
 use Rattle.orc_path.specs.Alphabet.{is_value}
 use Rattle.orc_path.specs.Texts.{value_text}
 
--- what a byte means behind a backslash: s a space, t a tab, n a line feed, r a carriage return, and another one itself
+-- what a byte means after a backslash: s a space, t a tab, n a line feed, r a carriage return, and another one itself
 abbrev pub meant : ℕ → ℕ
 meant byte =
     if byte == 115 then 32 else
@@ -13,7 +13,7 @@ meant byte =
     if byte == 110 then 10 else
     if byte == 114 then 13 else byte
 
--- the bytes that a text means, in front of which a backslash stands or not
+-- the bytes that a text means, whether or not a backslash stands before it
 abbrev pub value_bytes : Bool → List ℕ → List ℕ
 value_bytes is_escaped [] = []
 value_bytes true (byte ∷ rest) = meant byte ∷ value_bytes false rest

@@ -45,10 +45,20 @@ impl Copied for Item {
 
 /// What a committed call writes: a data path whose item differs before and after it, or a service
 /// that it names. Paths come before services.
-#[derive(Debug, PartialEq, Eq, PartialOrd, Ord, Drop)]
+#[derive(Debug, PartialEq, Eq, PartialOrd, Ord)]
 pub enum Write {
     At(Path),
     Service(Text),
+}
+
+// Written out, so that a crate above lets a write go by one call.
+impl Drop for Write {
+    fn drop(self) {
+        match self {
+            Write::At(_) => {}
+            Write::Service(_) => {}
+        }
+    }
 }
 
 impl Write {

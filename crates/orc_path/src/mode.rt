@@ -9,27 +9,27 @@ use orc_text::is_plain_character;
 /// Where a reader stands.
 #[derive(Clone, Copy)]
 pub(crate) enum Mode {
-    /// In front of the text.
+    /// Before the text.
     Start,
-    /// Behind the first slash.
+    /// After the first slash.
     Slash,
     /// In the first name, which may be its module's.
     Module,
-    /// Behind the colon.
+    /// After the colon.
     Colon,
     /// In a name that may end here.
     Inside,
-    /// Behind a later slash.
+    /// After a later slash.
     Next,
     /// In a key.
     Key,
-    /// Behind a backslash in a key.
+    /// After a backslash in a key.
     Escape,
-    /// Behind a key.
+    /// After a key.
     Closed,
 }
 
-/// The mode behind a byte of a name, where one may stand here.
+/// The mode after a byte of a name, where that byte may come here.
 pub(crate) fn name_mode(mode: Mode, byte: u8) -> Option<Mode>
     ensures { result ≡ name_mode mode byte }
 {
@@ -50,7 +50,7 @@ pub(crate) fn is_name_end(mode: Mode) -> bool
     matches!(mode, Mode::Module | Mode::Inside)
 }
 
-/// The byte that this one means behind a backslash in a key.
+/// The byte that this one means after a backslash in a key.
 pub(crate) fn unescaped(byte: u8) -> Option<u8>
     ensures { result ≡ unescape byte }
 {
@@ -71,7 +71,7 @@ pub(crate) fn is_raw(byte: u8) -> bool
     byte > b' ' && byte != b'\\' && byte != b']'
 }
 
-// Behind a name or a key.
+// After a name or a key.
 fn end_mode(byte: u8) -> Option<Mode>
     ensures { result ≡ end_mode byte }
 {
@@ -94,7 +94,7 @@ fn key_mode(byte: u8) -> Option<Mode>
     }
 }
 
-// Behind a backslash.
+// After a backslash.
 fn escape_mode(byte: u8) -> Option<Mode>
     ensures { result ≡ mark_mode Escape byte }
 {
@@ -104,7 +104,7 @@ fn escape_mode(byte: u8) -> Option<Mode>
     }
 }
 
-// The mode behind a byte that is none of a name.
+// The mode after a byte that is not part of a name.
 fn mark_mode(mode: Mode, byte: u8) -> Option<Mode>
     ensures { result ≡ mark_mode mode byte }
 {
@@ -117,7 +117,7 @@ fn mark_mode(mode: Mode, byte: u8) -> Option<Mode>
     }
 }
 
-// The mode behind a byte that is a character, where one may stand here.
+// The mode after a byte that is a character, where it may come here.
 fn next_mode(mode: Mode, byte: u8) -> Option<Mode>
     ensures { result ≡ next_mode mode byte }
 {
@@ -127,7 +127,7 @@ fn next_mode(mode: Mode, byte: u8) -> Option<Mode>
     }
 }
 
-/// The mode behind a character, where one may stand here.
+/// The mode after a character, where it may come here.
 pub(crate) fn mode_behind(mode: Mode, character: char) -> Option<Mode>
     ensures { Moves mode character result }
 {

@@ -10,8 +10,8 @@ use orc_text::{Copied, Memory, Text};
 use std::alloc::Global;
 use std::marker::Model;
 
-/// The name of a node: an identifier (RFC 7950 section 6.2, with ASCII letters), alone or behind
-/// its module's and a colon.
+/// The name of a node: an identifier (RFC 7950 section 6.2, with ASCII letters), alone or after its
+/// module's name and a colon.
 #[derive(Debug, PartialEq, Eq, PartialOrd, Ord, Drop)]
 pub struct Name {
     text: Text,

@@ -54,7 +54,7 @@ impl Reader {
         Ok(true)
     }
 
-    // Takes a byte behind a backslash.
+    // Takes a byte after a backslash.
     fn take_escaped(&mut self, byte: u8) -> Result<bool, Memory>
         ensures { Fed (feed_escape self.old byte) self.new result }
     {
@@ -80,7 +80,7 @@ impl Reader {
         }
     }
 
-    // Takes a byte behind a name or a key.
+    // Takes a byte after a name or a key.
     fn take_end(&mut self, alloc: Global, byte: u8) -> Result<bool, Memory>
         requires { IsStepRead self.old }
         ensures { Fed (feed_end self.old byte) self.new result }

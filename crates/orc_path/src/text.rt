@@ -87,8 +87,8 @@ fn push_leaf(out: &mut String, value: &str) -> Result<(), Memory>
     push_value(out, value)
 }
 
-/// Adds an item to a text: its path, and behind it, where it is a leaf, ` = ` and its value with
-/// escapes. After want of memory a front of it may stand there.
+/// Adds an item to a text: its path, and after it, where it is a leaf, ` = ` and its value with
+/// escapes. If memory runs out, a prefix of it may stand there.
 pub fn push_item(out: &mut String, alloc: Global, path: &Path, item: &Item) -> Result<(), Memory>
     ensures ok { OnOk result (string_bytes out.new ≡ string_bytes out.old ++ item_text path.now item.now) }
     ensures err { OnErr result (AddsFront (item_text path.now item.now) (string_bytes out.old) (string_bytes out.new)) }

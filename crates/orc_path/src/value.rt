@@ -37,8 +37,8 @@ fn push_character(out: &mut String, character: char) -> Result<(), AllocError>
     }
 }
 
-/// Adds the text of a value: backslash, tab, line feed and carriage return are escaped. After want
-/// of memory a front of it may stand there.
+/// Adds the text of a value: backslash, tab, line feed and carriage return are escaped. If memory
+/// runs out, a prefix of it may stand there.
 pub fn push_value(out: &mut String, value: &str) -> Result<(), Memory>
     ensures ok { OnOk result (string_bytes out.new ≡ string_bytes out.old ++ value_text value.now) }
     ensures err { OnErr result (AddsFront (value_text value.now) (string_bytes out.old) (string_bytes out.new)) }
@@ -49,7 +49,7 @@ pub fn push_value(out: &mut String, value: &str) -> Result<(), Memory>
     Ok(())
 }
 
-// The character that this one means behind a backslash.
+// The character that this one means after a backslash.
 fn unescaped(character: char) -> Option<char>
     ensures { result ≡ value_unescape character }
 {
@@ -62,7 +62,7 @@ fn unescaped(character: char) -> Option<char>
     }
 }
 
-/// What was read of a value: its text, and whether a backslash stands in front of the next character.
+/// What was read of a value: its text, and whether a backslash stands before the next character.
 #[derive(Drop)]
 struct ValueReader {
     value: Text,
@@ -77,7 +77,7 @@ fn is_never_raw(character: char) -> bool
 }
 
 impl ValueReader {
-    // Takes the character behind a backslash, where one may stand there.
+    // Takes the character after a backslash, where it may come there.
     fn take_escaped(&mut self, character: char) -> Result<bool, Memory>
         requires { self.old.is_escaped ≡ true }
         ensures { Took self.old character self.new result }
@@ -111,7 +111,7 @@ impl ValueReader {
     }
 }
 
-// Whether a backslash stands in front of what follows a character, where that may come here.
+// Whether a backslash stands before what follows a character, where that character may come here.
 fn next_escaped(is_escaped: bool, character: char) -> Option<bool>
     ensures { MayCome is_escaped character result }
 {

@@ -8,8 +8,8 @@ use crate::{Item, Name, Path, Shape};
 use orc_text::Memory;
 use std::alloc::Global;
 
-/// A configuration with its schema, as an expression looks at them. What it tells of itself is its
-/// items by path, and what the schema says of a name below a parent.
+/// A configuration with its schema, as an expression looks at them. What it reports about itself is
+/// its items by path, and what the schema says of a name below a parent.
 pub trait DataView {
     ghost use Rattle.orc_path.specs.Views.{Viewed};
 

@@ -1,4 +1,4 @@
--- The program's state behind a plan and a commit.
+-- The program's state after a plan and a commit.
 use Rattle.std.proofs.Common.{◌≡◌, ℕ, ◌≤◌, List, [], ◌∷◌, length, sym, subst}
 use Rattle.std.specs.Prelude.{IfOk, Option}
 use Rattle.std.specs.declared.result.Result.{Result}

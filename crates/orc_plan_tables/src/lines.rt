@@ -2,10 +2,10 @@
 //!
 //! In a table `|` ends a line of a text.
 //!
-//! - `head TEXT`: the next scripts stand behind these declarations
-//! - `more N TEXT`: and behind N times this text, where `#` is the number of the time
+//! - `head TEXT`: the next scripts stand after these declarations
+//! - `more N TEXT`: and after this text, N times, where `#` is the number of the time
 //! - `steps N SCRIPT`: the script has so many steps
-//! - `fault LINE RULE SCRIPT`: this line of it is at fault, counted from the first one behind the
+//! - `fault LINE RULE SCRIPT`: this line of it is at fault, counted from the first one after the
 //!   declarations, for this rule
 ghost use Rattle.std.specs.Prelude.{◌≤◌, length};
 ghost use Rattle.orc_bundle.specs.Bundles.{IsBundle};
@@ -17,7 +17,7 @@ use orc_table_programs::{Table, Undone, first_word};
 use orc_text::Row;
 use std::alloc::Global;
 
-/// The declarations, and what stands behind them in front of each script.
+/// The declarations, and what stands between them and each script.
 #[derive(Drop)]
 pub(crate) struct Lines {
     alloc: Global,
@@ -51,7 +51,7 @@ impl Table for Lines {
 }
 
 impl Lines {
-    /// No declarations, and nothing behind them.
+    /// No declarations, and nothing after them.
     pub(crate) fn new(alloc: Global) -> Lines {
         Lines {
             alloc,
@@ -60,7 +60,7 @@ impl Lines {
         }
     }
 
-    // `N TEXT`: so many times the text stands in front of each script.
+    // `N TEXT`: so many times the text stands before each script.
     fn more(&mut self, rest: &str) -> Result<(), Undone> {
         let (count, text) = first_word(rest);
         let count: u32 = count.parse()?;
@@ -99,7 +99,7 @@ impl Lines {
         }
     }
 
-    // The steps of a script behind the declarations, or its fault.
+    // The steps of a script after the declarations, or its fault.
     fn read(&self, script: &str) -> Result<Result<Row<ScriptStep>, BundleFault>, Undone> {
         let mut whole = String::from_str(self.alloc, self.head.as_str())?;
         whole.push_str(self.front.as_str())?;

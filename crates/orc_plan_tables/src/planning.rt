@@ -32,7 +32,7 @@ pub enum When {
     First,
 }
 
-/// The state behind the calls so far; the snapshot of the opening, the one that was taken before the last
+/// The state after the calls so far; the snapshot of the opening, the one that was taken before the last
 /// call but one, and the one before the last; and what the last one holds.
 #[derive(Drop)]
 pub struct Bench {
@@ -59,7 +59,7 @@ pub(crate) fn push_bundle(
     push_steps(alloc, out, &bundle.decls, steps, when, times)
 }
 
-// The same of these steps.
+// Adds the plans of the calls in these steps and what comes of them.
 fn push_steps(
     alloc: Global,
     out: &mut String,
@@ -140,7 +140,7 @@ fn take(
     }
 }
 
-// The same of a call that is new.
+// Adds the plan of a call that is new, and what comes of it.
 fn take_new(
     alloc: Global,
     out: &mut String,
@@ -291,7 +291,7 @@ fn serve(
 {
     match show(alloc, out, decls, bench, call, when, times, &plan) {
         Ok(()) => {
-            bench.held = Some(plan.held);
+            bench.held = Some(plan.into_held());
             Ok(())
         }
         Err(Memory) => Err(Memory),

@@ -125,7 +125,7 @@ touched_agrees devices live services a b h t made c another d p x y f g =
     (subst (λ (o : Option Item). differs x o ≡ false) g
     (no_unequal_among (others live a.id) d (entries (part a d)) p x b mine (sym (get-entries (part a d) p) ∙ f) beside))
 
--- services that agree, behind actions without a clash
+-- services that agree, after actions without a clash
 after_agree : (devices : List (List ℕ)) (actions : List Action) (live : List Service) → clash devices live actions ≡ None
     → AreUnique live → AllAgree live → AllAgree (live_after devices actions live)
 after_agree devices actions live h unique all a b c e = on (origin devices actions live a c) (origin devices actions live b e)

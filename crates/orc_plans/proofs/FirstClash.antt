@@ -60,7 +60,7 @@ Comes g found services at =
     ((found ≡ Some at) × NoneLess g services at.0)
     ⊎ (Best g services at × ((f : At) → found ≡ Some f → path_cmp at.0 f.0 ≡ Less))
 
--- one more in front, that has nothing at a lesser path
+-- one more at the beginning, that has nothing at a lesser path
 none_less_more : (g : Service → Option At) (s : Service) (services : List Service) (path : List PathStep)
     → ((o : At) → g s ≡ Some o → path_cmp o.0 path ≡ Less → ⊥) → NoneLess g services path → NoneLess g (s ∷ services) path
 none_less_more g s services path here rest x at c is lt = on (in_cases s x services c)

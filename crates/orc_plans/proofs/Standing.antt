@@ -1,4 +1,4 @@
--- What a plan holds, what a call leaves that it doesn't hold, and how plans that fit stand behind one another.
+-- What a plan holds, what a call leaves that it doesn't hold, and how plans that fit stand after one another.
 use Rattle.std.proofs.Common.{◌≡◌, ◌≢◌, ◌⊎◌, inl, inr, ℕ, zero, suc, ◌+◌, ◌<◌, ◌≤◌, ◌==◌, Bool, true, false, cond, not, ◌&&◌, ◌||◌, List, [], ◌∷◌, ◌++◌, length, map, All, None, Some, refl, sym, ap, ◌∙◌, subst, arith, append-nil}
 use Rattle.std.specs.declared.option.Option.{Option}
 use Rattle.std.specs.declared.result.Result.{Result}
@@ -207,7 +207,7 @@ made_apart s others (action ∷ actions) made h a =
     subst (AreApart others) (sym p.whole)
     (ap (λ o. option_map_or (is_service_among others) o false) (one_serves s action p.one p.first_is) ∙ a.0, made_apart s others actions p.rest p.later_is a.1)
 
--- what is so of the living services of a name is so behind actions that don't name it
+-- what is so of the living services of a name is so after actions that don't name it
 
 module _ (devices : List (List ℕ)) (q : Service → Bool) (id : List ℕ) where
   abbrev mine : Service → Bool
@@ -253,7 +253,7 @@ any_so id (x ∷ xs) = ap (λ t. t || list_any (λ (s : Service). has_id id s &&
     on true = refl
     on false = refl
 
--- a call behind another one that fits
+-- a call after another one that fits
 
 module _ (decls : Decls) (state : Datastore) (others acts : List Action)
     (named : (id : List ℕ) → is_service_among others id ≡ false → is_named_by acts id ≡ false) where
@@ -313,7 +313,7 @@ pub record LeavesCall (decls : Decls) (state : Datastore) (call other : Call) : 
       → write_touches_any (call_reads decls state call) (write.At path) ≡ false
   pub apart : AreApart other.actions call.actions
 
--- what a call holds behind one that leaves it
+-- what a call holds after one that leaves it
 
 module _ (stands : ExpandedStands) (decls : Decls) (state : Datastore) (call other : Call) (held : Held)
     (own : HoldsOn decls state call held) (leaves : LeavesCall decls state call other) where
@@ -369,7 +369,7 @@ module _ (stands : ExpandedStands) (decls : Decls) (state : Datastore) (call oth
   pub holds_on : HoldsOn decls after_other call held
   holds_on = record { exist = same_existence; expanded = ap unexpanded same_expanded ∙ own.expanded; is = same_held }
 
--- and behind many
+-- and after many
 
 module _ (stands : ExpandedStands) (decls : Decls) (call : Call) (held : Held) (IsSo : Datastore → Call → Type 0)
     (leaves : (state : Datastore) (other : Call) → HoldsOn decls state call held → IsSo state other → LeavesCall decls state call other) where
@@ -593,7 +593,7 @@ module _ (devices : List (List ℕ)) (d : ℕ) where
         ∙ ap (λ (l : List Service). l ++ filter busy (new_services devices action)) (unnamed_stay action (filter busy state.live) now.0)
         ∙ ap (λ (l : List Service). filter busy state.live ++ l) now.1 ∙ append-nil (filter busy state.live))
 
--- the base of a device behind actions depends on its base before
+-- the base of a device after actions depends on its base before
 
 bases_same : (devices : List (List ℕ)) (acts : List Action) (bases less : List Config) (d : ℕ) → length bases ≡ length less → config_of bases d ≡ config_of less d
     → config_of (bases_after devices acts bases) d ≡ config_of (bases_after devices acts less) d

@@ -165,7 +165,7 @@ module _ (stands : ExpandedStands) (law : LiteralIsExpansion) (decls : Decls) (a
   abbrev Free : Datastore → Call × Plan → Type 0
   Free state it = clash decls.names state.live (expanded_to (expanded_call decls state it.0)) ≡ None
 
-  -- one that fits another is as free of clashes behind it
+  -- one that fits another is as free of clashes after it
   free_again : (state : Datastore) (done it : Call × Plan) → AreLawful decls done → Stands decls state done → Stands decls state it → Fits it done
       → Free state it → Free (after decls state done.0) it
   free_again state done it lawful own other fit free =

@@ -1,4 +1,4 @@
--- What a call comes to stands behind one that changes nothing that its expansions read.
+-- What a call comes to still stands after one that changes nothing that its expansions read.
 use Rattle.std.proofs.Common.{◌≡◌, ◌≢◌, ◌⊎◌, inl, inr, Bool, true, false, ◌||◌, List, [], ◌∷◌, All, IsTrue, None, Some, refl, sym, ap, ◌∙◌, cond}
 use Rattle.std.specs.declared.option.Option.{Option}
 use Rattle.std.specs.List.{Contains}
@@ -108,7 +108,7 @@ unread_apart decls state call other lawful apart path differs = on (write_touche
         let inside = changes_are_targets decls other.actions state.data path lawful differs in
         absurd (apart inside.0 found.0 inside.1 found.1 (path, (inside.2, found.2)))
 
--- all that the expansions of a call come to, with what they read, stands behind another one that changes nothing of that
+-- all that the expansions of a call come to, with what they read, stands after another one that changes none of that
 pub comes_unread : ExpandedStands → (decls : Decls) (state : Datastore) (call other : Call)
     → ((path : List PathStep) → get (data_after other.actions state.data) path ≢ get state.data path
     → write_touches_any (call_reads decls state call) (write.At path) ≡ false)

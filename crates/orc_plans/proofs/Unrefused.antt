@@ -1,4 +1,4 @@
--- A call that isn't refused isn't refused behind others that fit.
+-- A call that isn't refused isn't refused after others that fit.
 use Rattle.std.proofs.Common.{◌≡◌, ◌⊎◌, inl, inr, ℕ, suc, ◌+◌, ◌<◌, Bool, true, false, not, ◌||◌, List, [], ◌∷◌, ◌++◌, length, All, IsTrue, None, Some, MatchOption, refl, sym, ap, subst, ◌∙◌, arith}
 use Rattle.std.specs.declared.option.Option.{Option}
 use Rattle.std.specs.Prelude.{option_map}
@@ -61,8 +61,8 @@ is_busy devices d s path item h = on (busy devices d s) refl
     on true is = refl
     on false is = absurd (holds_item devices d s path item (not_busy devices d s is) h)
 
--- On a device either the same services hold something before actions, or none that these name does behind them: then
--- there is a clash there behind them only where there was one.
+-- On a device either the same services hold something before actions, or none that these name does after them: then
+-- there is a clash there after them only where there was one.
 module _ (devices : List (List ℕ)) (acts : List Action) (before less : List Service) where
   abbrev lives_now : List Service
   lives_now = live_after devices acts before
@@ -182,7 +182,7 @@ module _ (devices : List (List ℕ)) (d : ℕ) (all : List Action) where
       (All-weaker (IsQuiet d devices live) (λ (a : Action). All (λ (s : Service). part s d ≡ empty) (new_services devices a)) (λ a quiet. quiet.1) all h)
       live (blank_before live h)
 
--- behind one that fits, and behind many
+-- after one that fits, and after many
 
 module _ (stands : ExpandedStands) (decls : Decls) (call : Call) (held : Held) where
   abbrev pub IsFree : Datastore → Type 0

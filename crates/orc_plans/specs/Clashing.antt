@@ -55,7 +55,7 @@ pub record IsLeastClash (services live : List Service) (device : ℕ) (path : Li
   pub least_name :
       (rival' : Service) → IsClash live device path service rival' → text_cmp rival'.id id ≡ Less → ⊥
 
--- The clash that refuses a call is the least one between the services that it names and the others that live behind it,
+-- The clash that refuses a call is the least one between the services that it names and the others that live after it,
 -- and where no clash refuses it there is none.
 abbrev pub ClashIsLeast : Type 0
 ClashIsLeast =

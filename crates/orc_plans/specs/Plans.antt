@@ -1,4 +1,4 @@
--- What a plan holds, and behind which calls it stands.
+-- What a plan holds, and after which calls it still stands.
 use Rattle.std.specs.Prelude.{◌≡◌, ◌≢◌, ℕ, ◌<◌, length, true, false, List, [], ◌∷◌, ◌++◌, All, Contains, IsTrue, drop, map}
 use Rattle.std.specs.declared.option.Option.TheVariants.{None}
 use Rattle.std.specs.declared.result.Result.TheVariants.{Ok}
@@ -40,7 +40,7 @@ ChangesAreTargets =
     → All (λ action. IsTrue (is_action decls action)) actions
     → get (data_after actions config) path ≢ get config path → IsInsideOne (call_targets actions) path
 
--- What the actions of a call come to stands behind another call, where no target of that covers a read of its
+-- What the actions of a call come to still stands after another call, where no target of that covers a read of its
 -- expansions.
 abbrev pub ExpandedStandsBehind : Type 0
 ExpandedStandsBehind =
@@ -146,7 +146,7 @@ abbrev pub LeavesReads : List Read → Datastore → Call → Type 0
 LeavesReads reads state call =
     (written : Write) → IsWriteOf state call written → write_touches_any reads written ≡ false
 
--- A plan stands until a write touches one of its reads: it does behind calls that leave its reads, whatever else they
+-- A plan stands until a write touches one of its reads: it does after calls that leave its reads, whatever else they
 -- do, and its call comes to the same actions there.
 abbrev pub UnreadPlanStands : Type 0
 UnreadPlanStands =
@@ -162,8 +162,8 @@ abbrev pub FitsBeside : Decls → Held → Datastore → Call → Type 0
 FitsBeside decls held state call =
     All (λ action. IsTrue (is_action decls action)) call.actions × FitTogether held (call_held decls state call)
 
--- A plan stands behind other calls, each of which fits it on the state on which it is done, and its call comes to the
--- same actions there.
+-- A plan still stands after other calls, each of which fits it on the state on which it is done, and its call comes to
+-- the same actions there.
 abbrev pub PlanStands : Type 0
 PlanStands =
     (decls : Decls) (state : Datastore) (call : Call) (plan : Plan) (others : List Call)
@@ -172,7 +172,7 @@ PlanStands =
     → let behind = fold_from decls state others in
     StandsOn decls behind call plan × (expanded_call decls behind call ≡ expanded_call decls state call)
 
--- So a call that isn't refused on a state isn't refused behind other calls that fit it, where the data is valid with it
+-- So a call that isn't refused on a state isn't refused after other calls that fit it, where the data is valid with it
 -- there: no action is at fault, each service can be expanded, and there is no clash.
 abbrev pub UnrefusedStands : Type 0
 UnrefusedStands =
@@ -182,7 +182,7 @@ UnrefusedStands =
     → let behind = fold_from decls state others in
     invalid decls.data_schema (data_after call.actions behind.data) ≡ None → refusal decls behind call ≡ None
 
--- Nor is there a clash behind other calls that fit a plan that stands, where there is none on the state, whether or not
+-- Nor is there a clash after other calls that fit a plan that stands, where there is none on the state, whether or not
 -- the data is valid with it there.
 abbrev pub UnclashedStands : Type 0
 UnclashedStands =
@@ -201,7 +201,7 @@ HeldStay =
     → let behind = fold_from decls state others in
     (tree_due behind device ≡ tree_due state device) × (config_of behind.bases device ≡ config_of state.bases device)
 
--- And what a call makes of each of these devices is the same behind them.
+-- And what a call makes of each of these devices is the same after them.
 abbrev pub PlannedTreeIsStable : Type 0
 PlannedTreeIsStable =
     (decls : Decls) (state : Datastore) (call : Call) (plan : Plan) (others : List Call) (device : ℕ)

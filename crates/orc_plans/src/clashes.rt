@@ -8,7 +8,7 @@ pub fn services_agree()
 {}
 
 /// The clash for which a call is refused is the least: there a service that the call names and another
-/// one that lives behind it would write unequal items, and no two do so on a lesser device, at a
+/// one that lives after it would write unequal items, and no two do so on a lesser device, at a
 /// lesser path of that device, by a service that the call names earlier, or with another one of a
 /// lesser name there. Where no clash refuses the call there is none.
 pub fn clash_is_least()

@@ -1,4 +1,4 @@
-//! What plans rest on: behind which calls a plan stands, what it is enough for, what it holds, and which
+//! What plans rest on: after which calls a plan still stands, what it is enough for, what it holds, and which
 //! clash refuses a call. Each law is the contract of a function that does nothing; who needs one calls it.
 #![tactic(auto)]
 

@@ -1,4 +1,4 @@
-//! Laws of plans: what one holds, and behind which calls it stands.
+//! Laws of plans: what one holds, and after which calls it still stands.
 ghost use Rattle.orc_plans.specs.Plans.{ChangesAreTargets, ExpandedStandsBehind, PlanRefusesFirst, UnheldStay, UntouchedStay, ChangesAreHeld, PlannedStands, PlanIsEnough, UnreadPlanStands, PlanStands, UnclashedStands, UnrefusedStands, HeldStay, PlannedTreeIsStable, LegalStands, PlansStandTogether, PlannedTogetherFit, TogetherUnrefused};
 
 use orc_datastore::literal_is_expansion;
@@ -9,7 +9,7 @@ pub fn changes_are_targets()
     ensures { ChangesAreTargets }
 {}
 
-/// What the actions of a call come to stands behind another call, where no target of that covers a
+/// What the actions of a call come to still stands after another call, where no target of that covers a
 /// read of its expansions.
 pub fn expanded_stands_behind()
     ensures { ExpandedStandsBehind }
@@ -53,7 +53,7 @@ pub fn plan_is_enough()
     literal_is_expansion();
 }
 
-/// A plan stands behind calls of which no write touches one of its reads, whatever else they do: its
+/// A plan still stands after calls of which no write touches one of its reads, whatever else they do: its
 /// call has no fault of existence there, comes to the same actions, holds the same and writes the same.
 pub fn unread_plan_stands()
     ensures { UnreadPlanStands }
@@ -62,7 +62,7 @@ pub fn unread_plan_stands()
     expanded_stands();
 }
 
-/// A plan stands behind other calls, each of which fits it where it is done.
+/// A plan still stands after other calls, each of which fits it where it is done.
 pub fn plan_stands()
     ensures { PlanStands }
 {
@@ -70,7 +70,7 @@ pub fn plan_stands()
     expanded_stands();
 }
 
-/// A call that isn't refused isn't refused behind other calls that fit it, where the data is valid with
+/// A call that isn't refused isn't refused after other calls that fit it, where the data is valid with
 /// it there.
 pub fn unrefused_stands()
     ensures { UnrefusedStands }
@@ -78,7 +78,7 @@ pub fn unrefused_stands()
     expanded_stands();
 }
 
-/// A call that clashes with no living service doesn't behind other calls that fit its plan, whether or not
+/// A call that clashes with no living service clashes with none after other calls that fit its plan, whether or not
 /// the data is valid with it there.
 pub fn unclashed_stands()
     ensures { UnclashedStands }
@@ -93,14 +93,14 @@ pub fn held_stay()
     expanded_stands();
 }
 
-/// And what its call makes of each of these devices is the same behind them.
+/// And what its call makes of each of these devices is the same after them.
 pub fn planned_tree_is_stable()
     ensures { PlannedTreeIsStable }
 {
     expanded_stands();
 }
 
-/// So a call that makes a history legal makes one legal behind which other calls were done that fit it,
+/// So a call that makes a history legal also makes one legal to which other calls were added that fit it,
 /// where the data is valid with it there.
 pub fn legal_stands()
     ensures { LegalStands }

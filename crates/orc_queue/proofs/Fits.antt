@@ -6,7 +6,7 @@ use Rattle.orc_expr.specs.declared.read.Read.{Read}
 use Rattle.orc_expr.specs.declared.read.Target.{Target}
 use Rattle.orc_queue.specs.declared.held.Held.{Held}
 
--- the same of equal lists
+-- what a test says of lists it says of equal ones
 pub seen : {targets targets' : List Target} {reads reads' : List Read} (b : Bool) → targets' ≡ targets → reads' ≡ reads
     → IsTrue b ↔ All (CoversNone reads') targets' → IsTrue b ↔ All (CoversNone reads) targets
 seen {targets} {targets'} {reads} {reads'} b same same' tells =

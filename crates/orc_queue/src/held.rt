@@ -9,12 +9,23 @@ use std::alloc::Global;
 
 /// What a planned call holds: the numbers of its devices, the ids of the services that it names, what
 /// it read, and what it may write on any data.
-#[derive(Drop)]
 pub struct Held {
     pub devices: Row<u32>,
     pub services: Row<Text>,
     pub reads: ReadSet,
     pub targets: Row<Target>,
+}
+
+// Written out, so that a crate above lets go what a call holds by one call.
+impl Drop for Held {
+    fn drop(self) {
+        let Held {
+            devices: _,
+            services: _,
+            reads: _,
+            targets: _,
+        } = self;
+    }
 }
 
 impl Held {

@@ -2,7 +2,7 @@
 //!
 //! `Held` is what a call holds while it is under way: its devices, the services that it names, what it
 //! read and what it may write. Two calls fit together where they share no device and no service, and
-//! neither may write what the other one read. `Queue` is what waits, and tells which of it may go on first.
+//! neither may write what the other one read. `Queue` is what waits, and says which of it may go on first.
 #![tactic(auto)]
 
 mod fitting;

@@ -98,7 +98,7 @@ impl<W: Drop> Queue<W> {
         it
     }
 
-    /// One more waits behind the others. After want of memory the queue is as it was.
+    /// One more waits after the others. Where memory runs out, the queue is as it was.
     pub fn push(&mut self, it: W) -> Result<(), Memory>
         ensures ok { OnOk result (self.new ≡ self.old ++ it ∷ []) }
         ensures err { OnErr result (self.new ≡ self.old) }

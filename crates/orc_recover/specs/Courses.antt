@@ -15,7 +15,7 @@ bringing running due =
     LockRunning ∷ LockCandidate ∷ Edit (differences running due) ∷ Validate ∷ Commit ∷ UnlockCandidate ∷ UnlockRunning
     ∷ CloseSession ∷ []
 
--- an operation that is due for a mender, in front of later ones
+-- an operation that is due for a mender, before later ones
 abbrev pub mended_first : Option Op → List Op → List Op
 mended_first None later = []
 mended_first (Some op) later = op ∷ later

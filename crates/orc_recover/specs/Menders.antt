@@ -153,7 +153,7 @@ took_at same mender Resolving [] answer = record mender { stage = read_stage sam
 took_at same mender Resolving (intent ∷ later) answer = resolved_one mender later (is_resolved answer)
 took_at same mender stage left answer = record mender { stage = stepped stage (is_ok answer) }
 
--- the mender after a reply, where the function tells which trees are equal
+-- the mender after a reply, where the function says which trees are equal
 abbrev pub mender_took : (Config → Config → Bool) → MenderState → Reply → MenderState
 mender_took same mender answer = took_at same mender mender.stage mender.left answer
 

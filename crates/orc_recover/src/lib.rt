@@ -2,7 +2,7 @@
 //!
 //! It opens a session, confirms or cancels what is left of unsettled transactions, reads the running
 //! configuration, and where that isn't the one due, brings it there. `next` is the operation due,
-//! `took` takes its reply and tells how the reconciliation of the device ended.
+//! `took` takes its reply and reports how the reconciliation of the device ended.
 #![tactic(auto)]
 
 mod ends;

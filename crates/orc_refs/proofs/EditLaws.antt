@@ -1,4 +1,4 @@
--- Edits that are done one behind another.
+-- Edits that are done one after another.
 use Rattle.std.proofs.Common.{◌≡◌, ℕ, ◌+◌, ◌<◌, List, [], ◌∷◌, length, drop, get_or, refl, sym, ap, ◌∙◌}
 use Rattle.orc_path.specs.Configurations.{Config}
 use Rattle.orc_tree.proofs.Changed.{one_less}

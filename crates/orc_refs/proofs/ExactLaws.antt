@@ -1,4 +1,4 @@
--- The changes of a plan are exactly the difference of the trees before and behind it.
+-- The changes of a plan are exactly the difference of the trees before and after it.
 use Rattle.std.proofs.Common.{◌≡◌, Bool, true, false, cond, ◌&&◌, T, List, [], ◌∷◌, ◌++◌, Some, None, refl, sym, ap, ◌∙◌, is_some}
 use Rattle.std.specs.Prelude.{is_none}
 use Rattle.std.specs.declared.option.Option.{Option}
@@ -169,7 +169,7 @@ removals-picked from to (e ∷ es) are =
     by rest None = ap (λ l. Remove e.0 ∷ l) rest
     by rest (Some item) = rest
 
--- the changes of a plan are exactly the difference, where what is due stands behind it and nothing else changes
+-- the changes of a plan are exactly the difference, where the tree after it has what is due and nothing else changes
 pub changes_exact : (b : Backs) (tree base new : Config) (ms : List Move) (es : Paths) → T (is_sorted path_cmp es)
     → ((q : List PathStep) → get new q ≡ due b tree base ms q) → ((q : List PathStep) → is_some (find path_cmp q es) ≡ false → due b tree base ms q ≡ get tree q)
     → changes_due b tree base ms es ≡ difference tree new

@@ -115,7 +115,7 @@ enter_equal ids at id x l is equal =
     ∙ ap (λ o. by_order o (id ∷ x ∷ drop (at + 1) ids) (x ∷ drop (at + 1) ids) (x ∷ enter_id id (drop (at + 1) ids))) equal
     ∙ sym (first_left ids at x l is)
 
--- and one that comes behind it is entered further on
+-- and one that comes after it is entered further on
 pub enter_greater : (ids : List (List ℕ)) (at : ℕ) (id x : List ℕ) → at < length ids → x ≡ get_or ids at x → text_cmp id x ≡ Greater
     → take at ids ++ enter_id id (drop at ids) ≡ take (at + 1) ids ++ enter_id id (drop (at + 1) ids)
 enter_greater ids at id x l is greater =

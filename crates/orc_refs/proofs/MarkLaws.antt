@@ -241,7 +241,7 @@ in_put p q list rows =
     ap (λ (o : Option (Vec Brought Global)). option_map_or (λ (l : Vec Brought Global). shown l.items) o []) (find-put path_cmp path_cmp_total p q list rows)
     ∙ elim (eq_by_cmp path_cmp p q) as (λ t. option_map_or (λ (l : Vec Brought Global). shown l.items) (cond t (Some list) (find path_cmp p rows)) [] ≡ cond t (shown list.items) (brought_in rows p)) [ true ↦ refl | false ↦ refl ]
 
--- what is brought by a mark stands behind what was there
+-- what is brought by a mark stands after what was there
 pub entered_row : (mark : List PathStep × List (List ℕ × Item)) (old new : TouchedRows) (list : Vec Brought Global) → is_sorted path_cmp old ≡ true → new ≡ put path_cmp mark.0 list old
     → shown list.items ≡ brought_in old mark.0 ++ mark.1 → IsEntered mark old new
 entered_row mark old new list s is added = record {

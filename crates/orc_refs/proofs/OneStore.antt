@@ -61,7 +61,7 @@ same_rising (x ∷ xs) (y ∷ ys) r s same = by (λ h. same_rising xs ys (second
                 ap (λ (z : List ℕ). holds_id z xs) (sym is) ∙ not_among x xs r ∙ sym (not_among y ys s) ∙ ap (λ (z : List ℕ). holds_id z ys) (sym first ∙ is)
             on false k g = g ∙ ap (λ b. b || holds_id id ys) (ap (λ (z : List ℕ). is_id z id) (sym first) ∙ k)
 
--- who writes a path is told by what services write there
+-- who writes a path shows in what services write there
 writes_told : (s : Store) → IsStore s → (id : List ℕ) (p : List PathStep) → is_some (written_by s id p) ≡ holds_id id (ids_at s p)
 writes_told s is id p = on (holds_id id (ids_at s p)) refl
   where

@@ -27,7 +27,7 @@ use Rattle.orc_refs.proofs.RowLaws.{BackRows, get-rows, ids-none}
 abbrev Ids : Type 0
 Ids = List (List ℕ)
 
--- the rows before a part, its own, and those behind it
+-- the rows before a part, its own, and those after it
 pub parts-at : {X : Type 0} (f : X → BackRows) (ps : List X) (i : ℕ) (p : X) → i < length ps → p ≡ get_or ps i p
     → flat_map f ps ≡ flat_map f (take i ps) ++ (f p ++ flat_map f (drop (suc i) ps))
 parts-at {X} f ps i p l is =
@@ -128,7 +128,7 @@ remove-behind [] i l = absurd (omega arith)
 remove-behind (q ∷ ps) zero l = refl
 remove-behind (q ∷ ps) (suc i) l = remove-behind ps i (omega arith)
 
--- Parts behind other owners
+-- Parts held by other owners
 
 pub flat-values : {V : Type 0} (f : V → BackRows) (ps qs : List (Arc V Global)) → map arc_value ps ≡ map arc_value qs
     → flat_map (λ (p : Arc V Global). f (arc_value p)) ps ≡ flat_map (λ (p : Arc V Global). f (arc_value p)) qs

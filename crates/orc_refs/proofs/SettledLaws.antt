@@ -248,7 +248,7 @@ pub nothing_due : (s : Store) (base : Config) (ms : List Move) (es : Paths) → 
     → (p : List PathStep) → is_some (find path_cmp p es) ≡ false → after s base ms p ≡ get s.tree p
 nothing_due s base ms es is start covers p h = untouched_item s base ms p is start (covers.touch p h) (covers.same p h)
 
--- the store behind a plan, where its tree is a configuration
+-- the store after a plan, where its tree is a configuration
 planned : (s : Store) (base : Config) (ms : List Move) (es : Paths) → IsStore s → IsConfig base → StartAt s ms → BringWhole ms → ((p : List PathStep) → all_bring ms p (after s base ms p) ≡ true)
     → Covers s base ms es → IsAfter s (planned_store s base (changes_due s.backs s.tree base ms es) (rows_due s.backs ms es)) base ms
 planned s base ms es is base_is start parts agree covers = record {

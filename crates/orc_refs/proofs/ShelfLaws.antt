@@ -157,7 +157,7 @@ rows_on-halves n shelves front behind f b =
     ap (λ (r : Shelves). rows_on r ++ rows_on behind) f ∙ ap (λ (r : Shelves). rows_on (take n shelves) ++ rows_on r) b
     ∙ sym (flat_map-append shelf_rows (take n shelves) (drop n shelves)) ∙ ap rows_on (take-append-drop n shelves)
 
--- rows behind other owners
+-- rows held by other owners
 pub back_rows-values : (rows shared : Kept) → map arc_value shared ≡ map arc_value rows → back_rows shared ≡ back_rows rows
 back_rows-values rows shared same =
     let row : Back → Entry = λ back. (back.path, back.ids) in

@@ -40,7 +40,7 @@ pub record ClashesAt (writes : List ℕ → List PathStep → Option Item) (move
       → text_cmp other id ≢ Greater
   pub before : (earlier : List PathStep) → path_cmp earlier path ≡ Less → AreUnrivalled writes earlier moves
 
--- a clash is the least of what services would write; want of memory has no cause
+-- a clash is the least of what services would write; running out of memory has no cause
 abbrev pub IsCause : (List ℕ → List PathStep → Option Item) → List Move → RefsFault → Type 0
 IsCause writes moves (Clash path other) = ClashesAt writes moves path other
 IsCause writes moves Memory = Unit {0}

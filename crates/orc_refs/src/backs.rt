@@ -20,7 +20,7 @@ use std::marker::Model;
 use std::sync::Arc;
 use std::sync::ledger::Ledger;
 
-// The racks of a store, which stand behind one owner that its copies share.
+// The racks of a store, held by one owner that its copies share.
 #[derive(Drop)]
 pub(crate) struct RackList {
     pub(crate) racks: Vec<Arc<Rack>>,
@@ -59,7 +59,7 @@ impl Backs {
         })
     }
 
-    // The same rows. It costs a counter.
+    // A copy, which has equal rows. It costs a counter.
     pub(crate) fn copy(&self) -> Result<Backs, Memory>
         ensures { IfOk result (λ backs. backs ≡ self.now) }
     {

@@ -87,7 +87,7 @@ fn mark_move<'a>(marks: &mut Vec<Mark<'a>>, m: &'a Move) -> Result<(), Memory>
     mark_brought(marks, &m.service, m.new.as_slice())
 }
 
-// The marks of changes, and behind them those of moves.
+// The marks of changes, and after them those of moves.
 pub(crate) fn all_marks<'a>(
     alloc: Global,
     changes: &'a [Change],

@@ -22,13 +22,13 @@ pub(crate) trait Part {
     // it has what its kind of part has: a row, a shelf
     ghost IsPart: { Self → Type 0 };
 
-    // Whether its first row comes behind a path.
+    // Whether its first row comes after a path.
     fn starts_behind(&self, path: &Path) -> bool
         requires { IsPart self.now }
         ensures { result ≡ starts_behind path.now (rows self.now) };
 }
 
-// Another list of the same parts, which stand behind owners.
+// Another list of the same parts, which are held by owners.
 pub(crate) fn share<T: Drop>(alloc: Global, parts: &[Arc<T>]) -> Result<Vec<Arc<T>>, Memory>
     ensures { IfOk result (λ shared. map arc_value shared.items ≡ map arc_value parts.now) }
 {

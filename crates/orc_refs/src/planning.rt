@@ -36,7 +36,7 @@ pub(crate) struct Due {
     pub(crate) rows: Row<(Path, Row<Text>)>,
 }
 
-// The same, with the base and the tree that the store is to have.
+// What is due on a store, with the base and the tree that the store is to have.
 #[derive(Drop)]
 pub(crate) struct Prepared {
     pub(crate) due: Due,
@@ -119,7 +119,7 @@ fn due_on<L: Ledger>(
     }
 }
 
-// Removals, and behind them what is put.
+// Removals, and after them what is put.
 fn joined(mut removals: Row<Change>, puts: Row<Change>) -> Result<ChangeSet, Memory>
     ensures { IfOk result (λ set. set.changes ≡ removals ++ puts) }
 {

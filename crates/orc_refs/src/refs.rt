@@ -22,11 +22,21 @@ use std::sync::ledger::{Blank, Ledger};
 
 /// The store of one device: its base, the tree that it should have, and the back pointers of each
 /// path that services write.
-#[derive(Drop)]
 pub struct Refs {
     base: Tree,
     tree: Tree,
     backs: Backs,
+}
+
+// Written out, so that a crate above lets a store go by one call.
+impl Drop for Refs {
+    fn drop(self) {
+        let Refs {
+            base: _,
+            tree: _,
+            backs: _,
+        } = self;
+    }
 }
 
 impl Model for Refs {

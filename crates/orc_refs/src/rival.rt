@@ -31,7 +31,8 @@ pub(crate) fn rival(
     }
 }
 
-// The same, where there is one.
+// Of the services that write another item at a path than the first move that brings one there, the
+// least id, where there is one.
 fn least_rival<'a>(moves: &'a [Move], path: &Path, found: &Place<'a>) -> Option<&'a Text>
     requires whole { BringWhole moves.now }
     ensures { option_copied result

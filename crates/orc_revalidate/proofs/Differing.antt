@@ -1,4 +1,4 @@
--- The paths that are told are those at which two configurations differ.
+-- The paths that are reported are those at which two configurations differ.
 use Rattle.std.proofs.Common.{◌≡◌, ◌≢◌, ◌⊎◌, inl, inr, Bool, true, false, List, [], ◌∷◌, ◌++◌, Contains, None, Some, is_some, refl, sym, ap, subst, ◌∙◌}
 use Rattle.std.specs.Prelude.{Option, if◌then◌else◌}
 use Rattle.std.specs.List.{flat_map}
@@ -19,7 +19,7 @@ use Rattle.orc_revalidate.proofs.Rowed.{Path, Row, differs, row_found, row_in}
 use Rattle.orc_revalidate.proofs.Within.{row_inside}
 
 module _ (old new : Config) where
-  -- told of a row that came
+  -- what is reported of a row that came
   lacks : (row : Row) (path : Path) → In (lacking old row) path → (has_row old row ≡ false) × (row.0 ≡ path)
   lacks row path h = on (has_row old row) refl h
     where
@@ -71,7 +71,7 @@ module _ (old new : Config) where
       (in_flat_map (gone new) (rows_inside old target) (path, item) path (row_inside old target (path, item) (row_in old path item is) inside)
       (subst (λ (b : Bool). In (if b then [] else path ∷ []) path) (sym (ap is_some none)) (inl refl)))
 
-  -- a path at which they differ is told
+  -- a path at which they differ is reported
   whole_in : (target : Target) (path : Path) → IsInside target path → get old path ≢ get new path → In (changed_in old new target) path
   whole_in target path inside apart = on (get new path) refl (get old path) refl
     where

@@ -108,7 +108,7 @@ module _ (s : SchemaTable) (c : Config) where
       on None is there = absurd there
       on (Some line) is there = front_breach line path b (line_among s path line is) (length path) there
 
--- ---- the front of an entry's path
+-- ---- the steps that an entry's path begins with
 
 heads : (x y : PathStep) (xs ys : Path) → x ∷ xs ≡ y ∷ ys → x ≡ y
 heads x y xs ys e = cc

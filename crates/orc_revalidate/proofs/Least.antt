@@ -79,7 +79,7 @@ module _ (least_is : LeastBreachIsLeast) (xs ys : List Breach) (to : (b : Breach
           let second = (least_is ys).some b f in
           ap Some (neither a b (not_less ys b a second (to a (among xs a first))) (not_less xs a b first (from b (among ys b second))))
 
--- Behind a change inside targets of a valid configuration, by which no instance may have gone, the least of what is
+-- After a change inside targets of a valid configuration, by which no instance may have gone, the least of what is
 -- looked at is what is broken.
 module _ (least_is : LeastBreachIsLeast) (s : SchemaTable) (ascends : Ascends s.lines) (old new : Config) (config : IsConfig new) (targets : List Target) where
   broken_is : s.plain ≡ false → (c : Config) → broken_of s c ≡ least_breach (breaches s c)

@@ -28,7 +28,7 @@ names_are a b h = (pointwise_decides bytes_decides a b).0 h
 pub names_same : (a b : Names) → a ≡ b → same_names a b ≡ true
 names_same a b e = (pointwise_decides bytes_decides a b).1 e
 
--- ---- what is behind the names of a path
+-- ---- what comes after the names of a path
 
 pub behind_own : (path : Path) (more : Names) → behind path (path_names path ++ more) ≡ Some more
 behind_own [] more = refl
@@ -49,7 +49,7 @@ plain_names : (names : Names) → path_names (plain_steps names) ≡ names
 plain_names [] = refl
 plain_names (name ∷ names) = ap (λ (ns : Names). name ∷ ns) (plain_names names)
 
--- a node that is reached from a place: the place with steps without keys behind it, one at least
+-- a node that is reached from a place: the place with steps without keys after it, one at least
 pub record IsReached (s : SchemaTable) (place : Path) (names : Names) (own : Path) : Type 0 where
   pub later : Names
   pub at : behind place names ≡ Some later

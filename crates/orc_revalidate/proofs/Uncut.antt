@@ -38,7 +38,7 @@ module _ (c : Config) (config : IsConfig c) (path : Path) (there : is_some (get 
           }))
       on (inr more) = an_item (get c (take j path)) (ap (λ (p : Path). is_some (get c p)) (take_all j path more) ∙ there)
 
-  -- the first k steps of the other path are a front of the path
+  -- the first k steps of the other path are a prefix of the path
   record IsFront (q : Path) (k : ℕ) : Type 0 where
     steps : ℕ
     same : take k q ≡ take steps path

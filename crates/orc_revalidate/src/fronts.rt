@@ -46,7 +46,7 @@ fn keep_below<'a>(
     }
 }
 
-// The same below the steps, where a row stands there.
+// The lesser of the best and of what is broken at a line below the steps, where a row stands there.
 fn keep_standing<'a>(
     best: Best<'a>,
     schema: &Schema,
@@ -62,7 +62,8 @@ fn keep_standing<'a>(
     }
 }
 
-// The same below the root and each entry that so many of the path's first steps are, or fewer.
+// The lesser of the best and of what is broken at a line below the root, and below each entry that so
+// many of the path's first steps are, or fewer.
 fn keep_fronts<'a>(
     best: Best<'a>,
     schema: &Schema,
@@ -82,8 +83,8 @@ fn keep_fronts<'a>(
     keep_fronts(kept, schema, tree, line, path, number - 1)
 }
 
-// The same below the root and each entry on the path. Where nothing can be missing, or too many, at the
-// node, no entry is searched for.
+// The lesser of the best and of what is broken at a line below the root, and below each entry on the path.
+// Where nothing can be missing, or too many, at the node, no entry is searched for.
 fn keep_at<'a>(
     best: Best<'a>,
     schema: &Schema,

@@ -1,4 +1,4 @@
-//! Validity behind a change, at the cost of the change.
+//! Validity after a change, at the cost of the change.
 //!
 //! `revalidate` answers what `valid` of `orc_check` answers of a configuration that was made from a valid
 //! one, and looks only at what the change can break. `specs/inside/Looked` says what that is, and

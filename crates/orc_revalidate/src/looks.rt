@@ -1,4 +1,4 @@
-//! What is looked at behind a change, and the least breach of it.
+//! What is looked at after a change, and the least breach of it.
 ghost use Rattle.std.specs.Prelude.{◌≡◌, IfOk, map};
 ghost use Rattle.std.specs.List.{fold, flat_map};
 ghost use Rattle.orc_check.specs.Validity.{lesser_breach, least_breach};
@@ -108,7 +108,7 @@ fn keep_target<'a>(
     Ok(keep_each_went(first, schema, new, went.as_slice()))
 }
 
-/// The least breach of what is looked at behind a change inside targets.
+/// The least breach of what is looked at after a change inside targets.
 pub(crate) fn least_looked<'a>(
     alloc: Global,
     schema: &'a Schema,

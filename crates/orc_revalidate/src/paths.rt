@@ -94,8 +94,8 @@ fn push_target(
 }
 
 /// The paths at which a configuration differs from what it was, where each of them lies inside one of
-/// these targets: a path that lies inside two of them is told twice. It costs a search for each target
-/// and one for each row inside them, and looks at no other row.
+/// these targets: a path that lies inside two of them is reported twice. It costs a search for each
+/// target and one for each row inside them, and looks at no other row.
 pub fn changed_paths(
     alloc: Global,
     old: &Tree,

@@ -14,7 +14,7 @@ use orc_schema::Schema;
 use orc_tree::Tree;
 use std::alloc::Global;
 
-// The same where no instance may have gone.
+// What `valid` answers of the new tree, where no instance to which a leafref leads may have gone.
 fn look(
     alloc: Global,
     schema: &Schema,

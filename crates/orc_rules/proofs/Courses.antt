@@ -1,4 +1,4 @@
--- A worker stands where its outcome says, whatever is replied and decided; and what a reply tells of staleness.
+-- A worker stands where its outcome says, whatever is replied and decided; and what a reply says of staleness.
 use Rattle.std.proofs.Common.{◌≡◌, ◌⊎◌, inl, inr, ℕ, Bool, true, false, cond, not, ◌||◌, Option, Some, None, refl, sym, ap, ◌∙◌}
 use Rattle.std.specs.Option.{option_or}
 use Rattle.std.proofs.lemmas.Bool.{false≢true}

@@ -36,7 +36,7 @@ use Rattle.orc_worker.specs.declared.stage.Stage.{Stage}
 use Rattle.orc_rules.proofs.Network.{happens_keeps}
 use Rattle.orc_rules.proofs.Promises.{is_equal, start_kept}
 
--- what is told is the history
+-- the history in what is told is the history of the entries
 told_history_from : (before entries : List Entry) (told : Told) → (told_from before told entries).history ≡ told.history ++ history_from before entries
 told_history_from before [] told = sym (append-nil told.history)
 told_history_from before (entry.Intent t call devices ∷ entries) told = told_history_from (before ++ entry.Intent t call devices ∷ []) entries (told_with before told (entry.Intent t call devices))

@@ -95,7 +95,7 @@ settled_history entries (t ∷ ts) =
 nothing_more : (entries front rest : List Entry) → [] ≡ front ++ rest → history_of (entries ++ front) ≡ history_of entries
 nothing_more entries front rest is = ap (λ (l : List Entry). history_of (entries ++ l)) (nil_front front rest is) ∙ ap history_of (append-nil entries)
 
--- of one entry a front is nothing, or it
+-- of one entry a prefix is nothing, or it
 one_front : (P : List Entry → Type 0) (e : Entry) → P [] → P (e ∷ []) → (front rest : List Entry) → e ∷ [] ≡ front ++ rest → P front
 one_front P e none some [] rest is = none
 one_front P e none some (x ∷ front) rest is =
@@ -174,7 +174,7 @@ module _ {D : Type 0} (here : Setting D) (are_decls : AreDecls here.decls) (plan
     abbrev Accepts : List Call → Type 0
     Accepts history = AcceptsFronts here.decls here.kinds history
 
-    -- fronts
+    -- prefixes
 
     none_more : (front rest : List Entry) → [] ≡ front ++ rest → Accepts (history_of (entries_read world.journal ++ front))
     none_more front rest is = subst Accepts (sym (nothing_more (entries_read world.journal) front rest is)) kept.fronts
@@ -243,7 +243,7 @@ module _ {D : Type 0} (here : Setting D) (are_decls : AreDecls here.decls) (plan
           (subst Accepts (sym (history_of-append (entries_read world.journal) (entry.Decide it.t)
           ∙ ap (λ (o : Option Call). history_of (entries_read world.journal) ++ as_calls o) (known.intents place it there so.0).call)) decided_accepts) front rest is
 
-    -- of what was appended a read may give a front
+    -- of what was appended a read may give a prefix
     pub does_fronts : (meant : Event) (row : List Entry) (next : World D) → DoesUnderHub here world hub meant row next → (front rest : List Entry) → row ≡ front ++ rest
         → Accepts (history_of (entries_read world.journal ++ front))
     does_fronts meant row next (DoesUnderHub.admits place it sets there first idle passes fresh) front rest is =

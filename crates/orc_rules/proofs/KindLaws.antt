@@ -1,4 +1,4 @@
--- A device of the hub's is lawful: its test tells equality, and the way to what is due leads there.
+-- A device of the hub's is lawful: its test decides equality, and the way to what is due leads there.
 use Rattle.std.proofs.Common.{◌≡◌, ℕ, Bool, true, false, cond, nat_lt, List, [], ◌∷◌, All, IsTrue, length, refl, sym, ap, ◌∙◌}
 use Rattle.std.specs.FinMap.{empty}
 use Rattle.std.specs.Prelude.{filter}

@@ -49,7 +49,7 @@ next_front decls entries row done e rest parts fronts =
     one_front decls (entries ++ done) e own.0 own.1 more'.0 more'.1
 
 module _ {D : Type 0} (here : Setting D) where
-  -- a disk that tells what it holds goes on to
+  -- a disk that reports what it holds goes on to
   still_read_back : (old new : D) → is_some (here.disk.content new) ≡ is_some (here.disk.content old)
       → IsReadBack here.disk here.decls.text here.limit here.granted old → IsReadBack here.disk here.decls.text here.limit here.granted new
   still_read_back old new tells (inl granted) = inl granted

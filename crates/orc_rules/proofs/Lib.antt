@@ -26,6 +26,7 @@ pub mod Devices
 pub mod Reporting
 pub mod Tracking
 pub mod Courses
+pub mod Reaching
 pub mod Moving
 pub mod Slots
 pub mod Attending

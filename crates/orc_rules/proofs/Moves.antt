@@ -88,7 +88,7 @@ all_left (x ∷ xs) all zero it there =
     ap (λ (a : Transaction). a.phase) (sym (same_Some x it there)) ∙ left_so x.phase (both_true (is_left x.phase) (list_all (λ it. is_left it.phase) xs) all).0
 all_left (x ∷ xs) all (suc place) it there = all_left xs (both_true (is_left x.phase) (list_all (λ it. is_left it.phase) xs) all).1 place it there
 
--- the place that an operation brings a device to, in words of a cell and of what the journal tells
+-- the place that an operation brings a device to, in words of a cell and of what the journal says
 after_is : (c : Cell Call) (told : Told) (at : ℕ) → c.at ≡ at → c.place ≡ told.place → c.history ≡ told.history → (one : Op) (b : Bool) → at_after c one b ≡ cond b (came_to told at one) at
 after_is c told at is place history one false = is
 after_is c told at is place history (op.Confirm t) true = ap (λ (o : Option ℕ). place_or o c.at) (ap (λ (f : ℕ → Option ℕ). f t) place) ∙ ap (place_or (told.place t)) is

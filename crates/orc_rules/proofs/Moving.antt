@@ -35,7 +35,7 @@ use Rattle.orc_rules.specs.Cells.DeviceRole.{Free, Works, Mends}
 use Rattle.orc_rules.specs.Courses.{agrees}
 use Rattle.orc_rules.specs.Duties.{duty_order, is_over, stale_by, stale_ended}
 use Rattle.orc_rules.specs.Events.{link_behind}
-use Rattle.orc_rules.specs.Hubs.{Hub, due_on, duty_on, has_met_failure, order_on}
+use Rattle.orc_rules.specs.Hubs.{Hub, due_on, duty_on, has_come_to, has_met_failure, order_on}
 use Rattle.orc_rules.specs.Invariant.{IsLawful, MayRest}
 use Rattle.orc_rules.specs.Kept.{FitAt, NetworkKept, Shadow, StandsAt, ValidAt, heard as then_heard, is_stale, local_of, mend_at, mends_at, network_of, role_of, role_on, stale_on, stale_then, works_at}
 use Rattle.orc_rules.specs.Network.{Happening, Local, May, Network, Planning, cell, cell_of, happens, local, intent_seen, seen_plan}
@@ -55,11 +55,12 @@ use Rattle.orc_rules.proofs.Recording.{given_at}
 -- the operation due, and what is done
 -- what is due may be performed
 pub due_is : (hub : Hub) (device : ℕ) (op : Op) → due_on hub device ≡ Some op → order_on hub device ≡ Some op
-due_is hub device op e = on (has_met_failure hub.mends) e
+due_is hub device op e = on (has_met_failure hub.mends) (has_come_to hub device) e
   where
-    on : (b : Bool) → cond b None (order_on hub device) ≡ Some op → order_on hub device ≡ Some op
-    on true h = absurd (let no : ◌≡◌ {A = Option Op} None (Some op) = h in cc)
-    on false h = h
+    on : (met come : Bool) → cond met None (cond come (order_on hub device) None) ≡ Some op → order_on hub device ≡ Some op
+    on true come h = absurd (let no : ◌≡◌ {A = Option Op} None (Some op) = h in cc)
+    on false true h = h
+    on false false h = absurd (let no : ◌≡◌ {A = Option Op} None (Some op) = h in cc)
 
 pub order_is : (hub : Hub) (device : ℕ) → order_on hub device ≡ duty_order (duty_on hub.duties device)
 order_is hub device = on (slice_get hub.duties device)

@@ -93,7 +93,7 @@ pends_since k n s (Cancel id) NoMemory t possible is = PendsSince.before is (λ 
 pends_since k n s one happened t possible is =
     PendsSince.before (sym (ap pending_id (way_trees k n s one happened refl).pending) ∙ is) (λ told at. same_either (took_effect happened) at)
 
--- the place of a transaction's call in the history: what more is read leaves it, or puts the call behind all that were there
+-- the place of a transaction's call in the history: what more is read leaves it, or puts the call after all the others
 
 told_grows : (es : List Entry) (e : Entry) → length (told_by es).history ≤ length (told_by (es ++ e ∷ [])).history
 told_grows es e = subst (λ (told : Told). length (told_by es).history ≤ length told.history) (sym (told_push es e)) (by e)

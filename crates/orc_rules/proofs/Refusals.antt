@@ -88,7 +88,7 @@ abbrev pub IsHarmless : Mend → Tag → Type 0
 IsHarmless (Mresolving (t ∷ ts)) tag = tag ≡ InvalidValue
 IsHarmless m tag = ⊥
 
--- each front's tree is accepted
+-- each prefix's tree is accepted
 abbrev pub AcceptsAll : {Call : Type 0} → DeviceKind → (List Call → Config) → List Call → Type 0
 AcceptsAll k over history = (n : ℕ) → k.accepts (over (take n history)) ≡ true
 
@@ -174,7 +174,7 @@ module _ {Call : Type 0} (k : DeviceKind) (over : List Call → Config) (fit : I
   unlock_running_allowed : (tag : Tag) → c.node.running_lock ≡ Some c.session → op_refusal k c.node c.session UnlockRunning ≡ Some tag → is_live c.node c.session ≡ true → ⊥
   unlock_running_allowed tag e h live = no_refusal (not (is_held_by_session c.node.running_lock c.session)) OperationFailed tag (not_yes _ (by_mine c.node.running_lock c.session e)) (past_session k c.node c.session UnlockRunning tag live h)
 
-  -- where every front's tree is accepted
+  -- where every prefix's tree is accepted
   pub mender_refused : (m : Mend) (tag : Tag) → AcceptsAll k over c.history → MendFacts over c m →
       PossibleDue k c.node c.session (due_op k over c (Mends m)) (Denied tag) → IsHarmless m tag
   mender_refused (Mopening ts) tag all f p = cc

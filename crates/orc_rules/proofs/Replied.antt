@@ -1,4 +1,4 @@
--- Each event keeps what is known of replies: what devices accept, who has a session, and what outcomes tell.
+-- Each event keeps what is known of replies: what devices accept, who has a session, and what outcomes say.
 use Rattle.std.proofs.Common.{◌≡◌, inl, inr, ℕ, Bool, true, false, nat_eq, nat_lt, List, [], ◌∷◌, ◌++◌, Option, Some, None, All, map, length, refl, sym, ap, subst, ◌∙◌, append-nil}
 use Rattle.std.specs.Prelude.{slice_get}
 use Rattle.std.specs.List.{list_any}

@@ -153,7 +153,7 @@ module _ (k : DeviceKind) (n : NodeState) (s : ℕ) where
   opened_mend same between left due mend_stage.Over op way e = cc
   opened_mend same between left due st op way e = λ p h goes. stays_open op way (past_opening between left due st op e refl) (h refl)
 
--- what the reply to a worker tells
+-- what the reply to a worker says
 
 -- a reply in preparing
 tells_by : (n : NodeState) (op : Op) (way : Way) (next o : Option Outcome) (f : ℕ) (accepted : Bool) → good_reply n op ≡ reply.Ok

@@ -20,7 +20,7 @@ use Rattle.orc_rules.specs.declared.transaction.Waiting.{Waiting}
 use Rattle.orc_rules.proofs.Entering.{apart_of, named_by, settle_push, unnamed_push}
 use Rattle.orc_rules.proofs.Legality.{no_front, same_history}
 
--- an intent that is told is there, and isn't settled
+-- an intent that entries report is there, and isn't settled
 Knows : List Entry → Told → Type 0
 Knows before told = (t : ℕ) → (told.intents t ≢ None) → MayFollow before (entry.Settled t)
 

@@ -46,7 +46,7 @@ use Rattle.orc_rules.specs.declared.transaction.Transaction.{Transaction}
 use Rattle.orc_rules.proofs.Reporting.{is_of}
 use Rattle.orc_rules.proofs.Slots.{none_so, told_busy}
 
--- what is told by one entry more
+-- what one entry more says
 
 told_from_push : (before entries : List Entry) (told : Told) (e : Entry)
     → told_from before told (entries ++ e ∷ []) ≡ told_with (before ++ entries) (told_from before told entries) e
@@ -82,7 +82,7 @@ unnamed_from t before (x ∷ entries) told none own =
 pub unnamed_told : (t : ℕ) (entries : List Entry) → IsUnnamed entries t → ((told_by entries).intents t ≡ None) × ((told_by entries).place t ≡ None)
 unnamed_told t entries none = unnamed_from t [] entries (record { history = []; place = λ t. None; intents = λ t. None }) none (refl, refl)
 
--- the network that is told, with the hub's part of it
+-- the network as entries report it, with the hub's part of it
 
 abbrev pub net_at : Decls → (ℕ → Shadow) → Told → Hub → (ℕ → NodeState) → (ℕ → Link) → Network Call
 net_at decls shadow told hub nodes links = record {

@@ -36,7 +36,7 @@ use Rattle.orc_rules.proofs.Turning.{uncut_read}
 some_not : {X : Type 0} {x : X} → ◌≡◌ {A = Option X} (Some x) None → ⊥
 some_not e = cc
 
--- fronts of rows
+-- prefixes of rows
 pub nil_front : (front rest : List Entry) → [] ≡ front ++ rest → front ≡ []
 nil_front [] rest e = refl
 nil_front (x ∷ front) rest e = cc

@@ -104,8 +104,8 @@ has_session (duty.Mends mender) = mends_in_session mender.stage
 
 -- replies
 
--- What an outcome of preparing tells of the tree that is due with the call: a device that is prepared accepts it, and one
--- refuses it with operation-failed alone, and only where it doesn't accept it.
+-- What an outcome of preparing says of the tree that is due with the call: a device that is prepared accepts it, and
+-- one refuses it with operation-failed alone, and only where it doesn't accept it.
 abbrev pub Tells : Option Outcome → Bool → Type 0
 Tells (Some outcome.Prepared) accepted = accepted ≡ true
 Tells (Some (outcome.Refused tag)) accepted = (tag ≡ OperationFailed) × (accepted ≡ false)
@@ -119,7 +119,7 @@ IsHonest (duty.Mends mender) reply = Unit {0}
 
 module _ (decls : Decls) (kinds : ℕ → DeviceKind) where
   -- What is known of replies under a hub: who has come past the opening of a session has one; what the outcomes of
-  -- preparing tell; and no worker takes for a fault what is none.
+  -- preparing say; and no worker takes for a fault what is none.
   pub record Replies (history : List Call) (active : List Transaction) (duties : List Duty) (links : ℕ → Link)
       : Type 0 where
     pub opened : (device : ℕ)
@@ -148,8 +148,8 @@ module _ {D : Type 0} (here : Setting D) where
     pub under : (hub : Hub) → world.hub ≡ Some hub
         → Replies here.decls here.kinds (history_read world.journal) hub.active hub.duties world.links
 
-  -- What is kept of fronts: each device accepts the tree due after each prefix of the history, and so no reconciliation
-  -- is refused.
+  -- What is kept of prefixes: each device accepts the tree due after each prefix of the history, and so no
+  -- reconciliation is refused.
   pub record FrontsKept (world : World D) : Type 0 where
     pub fronts : AcceptsFronts here.decls here.kinds (history_read world.journal)
     pub under : (hub : Hub) → world.hub ≡ Some hub → IsNotRefused hub.mends hub.duties world.links

@@ -1,5 +1,5 @@
 -- Who asked what, and what was answered.
-use Rattle.std.specs.Prelude.{ℕ, ◌≡◌, nat_eq, Bool, true, false, ◌&&◌, List, [], ◌∷◌, ◌++◌, Option, Some, None, is_some, slice_get, slice_set, if◌then◌else◌}
+use Rattle.std.specs.Prelude.{ℕ, ◌≡◌, nat_eq, Bool, true, false, ◌&&◌, List, [], ◌∷◌, ◌++◌, Option, Some, None, slice_get, slice_set}
 use Rattle.std.specs.List.{find}
 use Rattle.std.specs.Option.{option_and_then, option_map, option_map_or}
 use Rattle.orc_call.specs.declared.answer.Answer.{Answer}
@@ -43,10 +43,15 @@ abbrev pub slot_set : List Asked → Call → Option ℕ → Option Answer → B
 slot_set asked call None last open_now = asked ++ new_slot call last open_now ∷ []
 slot_set asked call (Some place) last open_now = slice_set asked place (new_slot call last open_now)
 
--- it is answered at once: where its caller has an open call, which may be this one, nothing changes
+-- the call in the slot at this place is open
+abbrev pub is_open_at : List Asked → Option ℕ → Bool
+is_open_at asked place = option_map_or (λ at. option_map_or (λ one. one.is_open) (slice_get asked at) false) place false
+
+-- It is answered at once: the answer is the last of its caller and number. It ends no call: where theirs is open, as
+-- it may be where the answer is Busy, it stays open.
 abbrev pub with_answer : Call → Answer → List Asked → List Asked
 with_answer call said asked =
-    if is_some (open_of asked call.caller) then asked else slot_set asked call (slot_of asked call) (Some said) false
+    slot_set asked call (slot_of asked call) (Some said) (is_open_at asked (slot_of asked call))
 
 -- What is kept of an answer at once: the answer, as the last of its caller and number. Where memory runs out, and
 -- these have no slot yet, nothing is, since a slot takes memory.

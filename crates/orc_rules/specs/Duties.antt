@@ -28,13 +28,13 @@ abbrev pub no_call_works : Duty → Bool
 no_call_works (Works worker) = is_over worker.stage
 no_call_works other = true
 
--- the operation due
+-- the operation that is next
 abbrev pub duty_order : Duty → Option Op
 duty_order Free = None
 duty_order (Works worker) = worker_order worker
 duty_order (Mends mender) = mender_order differences mender
 
--- an operation is due
+-- something is left to do: an operation is next
 abbrev pub is_busy : Duty → Bool
 is_busy Free = false
 is_busy (Works worker) = is_due worker.stage

@@ -75,7 +75,7 @@ module _ {D : Type 0} (here : Setting D) (world : World D) where
   abbrev pub history : List Call
   history = history_read world.journal
 
-  -- what the entries that a read gives tell
+  -- what the entries that a read gives say
   abbrev pub told_now : Told
   told_now = told_by (entries_read world.journal)
 

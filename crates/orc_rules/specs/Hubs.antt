@@ -1,5 +1,6 @@
 -- The hub as a record: what is due, and what a report and a decision make of it.
-use Rattle.std.specs.Prelude.{ℕ, Bool, true, false, List, Option, Some, None, map, slice_get, slice_set, if◌then◌else◌}
+use Rattle.std.specs.Prelude.{ℕ, Bool, true, false, not, ◌||◌, List, Option, Some, None, is_some, map, take, slice_get, slice_set, if◌then◌else◌}
+use Rattle.std.specs.List.{list_all}
 use Rattle.std.specs.Option.{option_map, option_map_or, option_or}
 use Rattle.orc_call.specs.declared.answer.Answer.{Answer}
 use Rattle.orc_call.specs.declared.answer.RecFault.{RecFault}
@@ -10,7 +11,7 @@ use Rattle.orc_device.specs.declared.reply.Reply.{Reply}
 use Rattle.orc_recover.specs.declared.ends.Mend.{Mend}
 use Rattle.orc_recover.specs.declared.ends.Mend.TheVariants as mend
 use Rattle.orc_rules.specs.Asked.{answered_at}
-use Rattle.orc_rules.specs.Duties.{duty_end, duty_order, duty_told, duty_took, stale_by}
+use Rattle.orc_rules.specs.Duties.{duty_end, duty_order, duty_told, duty_took, is_busy, stale_by}
 use Rattle.orc_rules.specs.Transactions.{in_phase, retired}
 use Rattle.orc_rules.specs.declared.asked.Asked.{Asked}
 use Rattle.orc_rules.specs.declared.duty.Duty.{Duty}
@@ -40,9 +41,15 @@ abbrev pub has_met_failure : Option (Option RecFault) → Bool
 has_met_failure (Some (Some met)) = true
 has_met_failure other = false
 
--- the operation that may be performed on a device: none where a reconciliation has met a failure
+-- a reconciliation, where one is begun, has come to a device: nothing is left to do on the devices declared before it
+abbrev pub has_come_to : Hub → ℕ → Bool
+has_come_to hub device = not (is_some hub.mends) || list_all (λ duty. not (is_busy duty)) (take device hub.duties)
+
+-- The operation that may be performed on a device: none where a reconciliation has met a failure, or hasn't come to the
+-- device yet.
 abbrev pub due_on : Hub → ℕ → Option Op
-due_on hub device = if has_met_failure hub.mends then None else order_on hub device
+due_on hub device =
+    if has_met_failure hub.mends then None else if has_come_to hub device then order_on hub device else None
 
 -- an element of a list changed, where it is there
 abbrev pub with_changed : {X : Type 0} → (X → X) → ℕ → List X → List X

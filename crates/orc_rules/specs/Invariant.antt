@@ -150,7 +150,7 @@ module _ {Call : Type 0} (over : List Call → Config) where
         → (number ≤ length cell.history) × (over (take number cell.history) ≡ intent.due)
     pub role : RoleFacts cell cell.role
 
--- What is asked of a device's kind: its test tells equality, and the way to a tree that is due leads there.
+-- What is asked of a device's kind: its test decides equality, and the way to a tree that is due leads there.
 pub record IsLawful {Call : Type 0} (kind : DeviceKind) (over : List Call → Config) : Type 0 where
   pub same : (config other : Config) → kind.same config other ≡ true → config ≡ other
   pub changed : (config : Config) (history : List Call)

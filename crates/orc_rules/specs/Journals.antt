@@ -55,7 +55,7 @@ with_entries decls entries (entry ∷ later) file =
     with_entries decls (entries ++ entry ∷ []) later (with_entry (journal_length decls entries) entry file)
 
 module _ {D : Type 0} (disk : DiskMeaning D) (decls : List ℕ) where
-  -- The armed stop came in this operation of the append of an entry behind these. The disk did those before it, none of
+  -- The armed stop came in this operation of the append of an entry after these. The disk did those before it, none of
   -- which failed, and that one too where it still puts a byte; `failed` says whether that one failed. Where it didn't,
   -- the disk holds just the bytes that were put by then, over those from before, and a sync that it still did makes
   -- what is there outlive crashes.
@@ -72,9 +72,9 @@ module _ {D : Type 0} (disk : DiskMeaning D) (decls : List ℕ) where
     pub synced : failed ≡ false → 1 ≤ bytes → (operation ≡ 2) ⊎ (operation ≡ 4)
         → LeavesAsRead (disk.content new) (disk.may_leave new)
 
-  -- So many operations of the append of an entry behind these were done, fewer than all, and the next one failed in the
-  -- disk. That one counts, and none came behind it. Of the bytes that it put or made durable is known what the disk
-  -- tells of a write or a sync that failed.
+  -- So many operations of the append of an entry after these were done, fewer than all, and the next one failed in the
+  -- disk. That one counts, and none came after it. Of the bytes that it put or made durable is known what the disk
+  -- reports of a write or a sync that failed.
   pub record PutsUntilFault (entries : List Entry) (entry : Entry) (old new : D) : Type 0 where
     pub done : ℕ
     pub fewer : done < 4
@@ -82,7 +82,7 @@ module _ {D : Type 0} (disk : DiskMeaning D) (decls : List ℕ) where
     pub fails : FailsBehind disk done old new
     pub puts : PutsShort disk done (journal_length decls entries) entry old new
 
-  -- what the disk did behind so many operations of a row, by how that came out: nothing, or a part of the next append
+  -- what the disk did after so many operations of a row, by how that came out: nothing, or a part of the next append
   abbrev pub DidLast : ℕ → Journal D → Appended → Journal D → D → Type 0
   DidLast done old Done new between = new.disk ≡ between
   DidLast done old Stopped new between = (entry : Entry) × (operation : ℕ) × (new.cut ≡ entry ∷ [])
@@ -94,7 +94,7 @@ module _ {D : Type 0} (disk : DiskMeaning D) (decls : List ℕ) where
 
   -- What the disk did of a row of which these entries were appended: for each of them a write, a sync, a write and a
   -- sync, of which none failed. What it then holds are just the bytes of these entries and their gates, over those from
-  -- before, and a crash leaves that. Behind it the disk did what it did of the next one, and nothing else.
+  -- before, and a crash leaves that. After it the disk did what it did of the next one, and nothing else.
   pub record PutsRow (added : List Entry) (old : Journal D) (outcome : Appended) (new : Journal D) : Type 0 where
     pub between : D
     pub did : Did disk (4 * length added) false old.disk between
@@ -144,8 +144,8 @@ module _ {D : Type 0} (disk : DiskMeaning D) (decls : List ℕ) (limit : ℕ) wh
     pub later : disk.faults old.disk ≤ disk.faults new.disk
 
   -- The entries of a row were appended in turn. These were, and are synced; the others were not, and how it came out
-  -- says why. The disk did just what that takes: of a disk that tells no bytes, as a real file, that says how many writes
-  -- and syncs came, and that nothing was read. What was appended fits the limit, with the entry that was cut.
+  -- says why. The disk did just what that takes: of a disk that reports no bytes, as a real file, that says how many
+  -- writes and syncs came, and that nothing was read. What was appended fits the limit, with the entry that was cut.
   pub record AppendsRow (old : Journal D) (row : List Entry) (outcome : Appended) (new : Journal D) : Type 0 where
     pub before : old.cut ≡ []
     pub done : List Entry
@@ -157,7 +157,7 @@ module _ {D : Type 0} (disk : DiskMeaning D) (decls : List ℕ) (limit : ℕ) wh
     pub fits : (new.synced ++ new.cut ≡ old.synced) ⊎ (journal_length decls (new.synced ++ new.cut) ≤ limit)
     pub outlives : OutlivesRow old row new
 
-  -- Reads give what was written: the disk tells what it holds, or that is taken for granted.
+  -- Reads give what was written: the disk reports what it holds, or that is taken for granted.
   abbrev pub IsReadBack : Bool → D → Type 0
   IsReadBack granted held = (granted ≡ true) ⊎ (is_some (disk.content held) ≡ true)
 

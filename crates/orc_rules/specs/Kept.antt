@@ -152,7 +152,7 @@ module _ (decls : Decls) (shadow : ℕ → Shadow) (entries : List Entry) where
     at = (shadow device).at;
   }
 
-  -- the network of a world: what its entries tell as they are read, what the hub has active, and the devices
+  -- the network of a world: what its entries say as they are read, what the hub has active, and the devices
   abbrev pub network_of : Option Hub → (ℕ → NodeState) → (ℕ → Link) → Network Call
   network_of hub nodes links = record {
     history = (told_by entries).history;

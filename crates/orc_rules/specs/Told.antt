@@ -1,4 +1,4 @@
--- What the entries of a journal tell: the history, each decided transaction's place in it, and the unsettled intents.
+-- What the entries of a journal say: the history, each decided transaction's place in it, and the unsettled intents.
 use Rattle.std.specs.Prelude.{ℕ, ◌+◌, nat_eq, Option, Some, None, List, [], ◌∷◌, ◌++◌, length}
 use Rattle.std.specs.List.{list_any}
 use Rattle.orc_call.specs.declared.call.Call.{Call}
@@ -32,11 +32,11 @@ told_with before told (entry.Decide t) = record told {
 told_with before told (entry.Abort t) = told
 told_with before told (entry.Settled t) = record told { intents = updated_at told.intents t None }
 
--- what these entries tell besides, after others
+-- what these entries say besides, after others
 abbrev pub told_from : List Entry → Told → List Entry → Told
 told_from before told [] = told
 told_from before told (entry ∷ entries) = told_from (before ++ entry ∷ []) (told_with before told entry) entries
 
--- what the entries of a journal tell
+-- what the entries of a journal say
 abbrev pub told_by : List Entry → Told
 told_by entries = told_from [] (record { history = []; place = λ t. None; intents = λ t. None }) entries

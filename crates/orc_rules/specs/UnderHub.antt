@@ -34,8 +34,8 @@ use Rattle.orc_rules.specs.declared.transaction.Phase.{Phase}
 use Rattle.orc_rules.specs.declared.transaction.Phase.TheVariants as phase
 use Rattle.orc_rules.specs.declared.transaction.Transaction.{Transaction}
 
--- A kind of device tells equal trees, and the way from one tree to another, as the hub's menders and workers do; and a set
--- of changes does there what it says.
+-- A kind of device says which trees are equal, and the way from one tree to another, as the hub's menders and workers
+-- do; and a set of changes does there what it says.
 pub record IsOfHub (kind : DeviceKind) : Type 0 where
   pub same : kind.same ≡ equal_configs
   pub between : kind.between ≡ differences

@@ -30,9 +30,9 @@ use Rattle.orc_rules.specs.declared.duty.Duty.{Duty}
 use Rattle.orc_rules.specs.declared.transaction.Phase.{Phase}
 use Rattle.orc_rules.specs.declared.transaction.Phase.TheVariants as phase
 
--- Where a run takes place: what the disk tells, what is declared, what each device accepts, the most bytes of a journal,
--- and whether it is taken for granted that a journal that is opened again reads what was written. (Over a disk that tells
--- what it holds that is so, granted or not. What a file holds nobody tells.)
+-- Where a run takes place: what the disk reports, what is declared, what each device accepts, the most bytes of a
+-- journal, and whether it is taken for granted that a journal that is opened again reads what was written. (Over a disk
+-- that reports what it holds that is so, granted or not. Nobody reports what a file holds.)
 pub record Setting (D : Type 0) : Type 1 where
   pub disk : DiskMeaning D
   pub decls : Decls
@@ -142,7 +142,7 @@ abbrev pub DoAscend : List ℕ → Type 0
 DoAscend [] = Unit {0}
 DoAscend (number ∷ later) = All (λ other. number < other) later × DoAscend later
 
--- these are the unsettled transactions that a journal tells, in order of their numbers
+-- these are the unsettled transactions that a journal reports, in order of their numbers
 pub record AreUnsettled (told : Told) (numbers : List ℕ) : Type 0 where
   pub ascending : DoAscend numbers
   pub all : (t : ℕ) → Contains numbers t ↔ (told.intents t ≢ None)

@@ -1,10 +1,9 @@
--- How a run begins, and that it has the headline.
+-- How a run begins.
 use Rattle.std.proofs.Common.{◌≡◌, ◌⊎◌, inl, inr, ℕ, ◌≤◌, Bool, true, false, List, [], ◌∷◌, ◌++◌, length, IsTrue, refl, sym, ap, subst, ◌∙◌}
 use Rattle.std.specs.List.{list_all}
 use Rattle.std.specs.Prelude.{MatchOption, ◌↔◌, is_some, if◌then◌else◌}
 use Rattle.std.proofs.lemmas.Option.{IfSome_then}
 use Rattle.orc_append.specs.Views.{unstopped}
-use Rattle.orc_decls.specs.Declarations.{AreDecls}
 use Rattle.orc_decls.specs.declared.declarations.Decls.{Decls}
 use Rattle.orc_disk.specs.Course.{Counted}
 use Rattle.orc_disk.specs.Meanings.{DiskMeaning}
@@ -16,12 +15,8 @@ use Rattle.orc_journal.specs.Committed.{history_of}
 use Rattle.orc_journal.specs.Opening.{AreEntriesOf, HasOpened}
 use Rattle.orc_journal.specs.declared.entry.Entry.{Entry}
 use Rattle.orc_print.specs.Printed.{recovered_line}
-use Rattle.orc_rules.specs.Journals.{IsReadBack, Journal, history_read}
+use Rattle.orc_rules.specs.Journals.{Journal, history_read}
 use Rattle.orc_rules.specs.Worlds.{World as Seen}
-use Rattle.orc_runs.specs.Headline.{Headline}
-use Rattle.orc_runs.specs.Laws.{BundleRunsHaveTheHeadline}
-use Rattle.orc_runs.specs.Runs.{Run}
-use Rattle.orc_runs.specs.Starts.{StartsRun}
 use Rattle.orc_script.specs.Steps.{is_step}
 use Rattle.orc_script.specs.declared.step.ScriptStep.{ScriptStep}
 use Rattle.orc_scene.specs.Begins.{HasBegun}
@@ -32,48 +27,19 @@ use Rattle.orc_scene.specs.declared.scene.Scene.{Scene}
 use Rattle.orc_run.specs.Ends.{BeginsOver}
 use Rattle.orc_run.specs.Opening.{IsOpened, MayBeOpening}
 use Rattle.orc_run.specs.declared.opening.TheConstants.{LARGEST_JOURNAL}
-use Rattle.orc_run.specs.inside.Scripts.{Greets, HasDoneInEach, IsFirst}
+use Rattle.orc_run.specs.inside.Scripts.{Greets, HasDoneOver, IsFirst}
 use Rattle.orc_run.proofs.Reasons.{led_later, told}
 
 module _ {D : Type 0} (disk : DiskMeaning D) where
-  -- what begins a run begins one where less is granted, if reads give what was written
-  starts_so : (decls : Decls) (limit : ℕ) (granted : Bool) (first : Seen D) → StartsRun (run_setting disk decls limit true) first
-      → IsReadBack disk decls.text limit granted first.journal.disk → StartsRun (run_setting disk decls limit granted) first
-  starts_so decls limit granted first starts back = record {
-    holds = starts.holds;
-    uncut = starts.uncut;
-    unarmed = starts.unarmed;
-    read_back = back;
-    ordered = starts.ordered;
-    legal = starts.legal;
-    file = starts.file;
-    opened = starts.opened;
-    fresh = starts.fresh;
-    empty = starts.empty;
-    hub = starts.hub;
-    snapshots = starts.snapshots;
-    nodes = starts.nodes;
-    links = starts.links;
-  }
-
-  -- each run from a world's beginning on has the headline, where reads give what was written
-  pub claimed : BundleRunsHaveTheHeadline disk → (decls : Decls) (limit : ℕ) (granted : Bool) (first : Seen D) → AreDecls decls
-      → StartsRun (run_setting disk decls limit true) first
-      → (script : List ScriptStep) (last : Seen D) (run : Run (run_setting disk decls limit granted) script first last)
-      → IsReadBack disk decls.text limit granted first.journal.disk
-      → Headline (run_setting disk decls limit granted) script first last run
-  claimed law decls limit granted first are starts script last run back =
-      law decls limit granted script first last run are (starts_so decls limit granted first starts back)
-
   -- nothing was done yet
-  pub none_done : (decls : Decls) (first : Seen D) (world : Scene D) → IsFirst disk decls first world → HasDoneInEach disk decls first [] [] world
-  none_done decls first world is granted may = record {
+  pub none_done : (decls : Decls) (first : Seen D) (world : Scene D) → IsFirst disk decls first world → HasDoneOver disk decls first [] [] world
+  none_done decls first world is = record {
     lines = [];
     seen = first;
     are = refl;
     steps_are = refl;
     texts_are = refl;
-    is = is.is granted;
+    is = is.is;
     unmended = is.unmended;
     noted = is.noted;
     logs = λ earlier later line device split log. absurd (nothing earlier later line split);
@@ -87,7 +53,7 @@ module _ {D : Type 0} (disk : DiskMeaning D) where
   pub is_first : (decls : Decls) (from : D) (world : Scene D) (begun : HasBegun disk decls from LARGEST_JOURNAL world) → IsFirst disk decls begun.seen world
   is_first decls from world begun = record {
     starts = begun.starts;
-    is = begun.is;
+    is = begun.is false;
     limit_is = begun.limit_is;
     unmended = begun.unmended;
     noted = begun.noted;

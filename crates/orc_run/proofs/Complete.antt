@@ -1,5 +1,5 @@
 -- A run for which all is right, and in which nothing fails, is done, or memory runs out.
-use Rattle.std.proofs.Common.{◌≡◌, ◌⊎◌, inr, ⊎_elim, ℕ, zero, suc, ◌+◌, Bool, true, false, List, [], ◌∷◌, ◌++◌, length, take, Some, None, Option, Ok, Err, Result, refl, sym, ap, subst, ◌∙◌, append_assoc, arith}
+use Rattle.std.proofs.Common.{◌≡◌, ◌⊎◌, inl, ⊎_elim, ℕ, zero, suc, ◌+◌, Bool, true, false, List, [], ◌∷◌, ◌++◌, length, take, Some, None, Option, Ok, Err, Result, refl, sym, ap, subst, ◌∙◌, append_assoc, arith}
 use Rattle.std.specs.Prelude.{Contains, is_some, IfSome}
 use Rattle.std.specs.List.{flat_map}
 use Rattle.std.specs.Option.{option_map}
@@ -20,10 +20,10 @@ use Rattle.orc_journal.specs.Committed.{commits, history_from, history_of}
 use Rattle.orc_journal.specs.Journals.{IsDamaged, IsForeign, IsNotJournal, journal_bytes}
 use Rattle.orc_journal.specs.declared.entry.Entry.{Entry}
 use Rattle.orc_rules.specs.Events.{DoesAnyway, Steps, Turn}
-use Rattle.orc_rules.specs.Journals.{IsReadBack}
 use Rattle.orc_rules.specs.Worlds.{Setting, World}
 use Rattle.orc_rules.specs.declared.event.Event.{Event}
 use Rattle.orc_runs.specs.Ends.{EndOfRun, EndOfRun as ended, EndedBecause, IsEndedBy, IsIllegal, is_refused_journal}
+use Rattle.orc_run_laws.specs.Reads.{ReadsGiveWhatWasWritten}
 use Rattle.orc_runs.specs.Headline.{Headline}
 use Rattle.orc_runs.specs.Runs.{AreDone, EndsFor, EndsIn, LineDone, Run, line_list, turns_of}
 use Rattle.orc_runs.specs.Scripts.{Goes, Part, set_by}
@@ -188,7 +188,7 @@ module _ {D : Type 0} (here : Setting D) where
       (subst (λ (l : List (Turn D)). Contains l turn) (sym is) (Contains-push earlier turn))))
 
   module _ (first : World D) (script : List ScriptStep) (last : World D) (run : Run here script first last)
-      (claim : IsReadBack here.disk here.decls.text here.limit here.granted first.journal.disk → Headline here script first last run) (told : tells first ≡ true) where
+      (claim : ReadsGiveWhatWasWritten here.disk first (turns_of run) → Headline here script first last run) (told : tells first ≡ true) where
     never_in : (line : Option (LineDone D)) → run.end ≡ line → EndsIn here run.middle line last → (why : EndOfRun) → is_refused_journal why ≡ true
         → EndsFor here line (Some why) → ⊥
     never_in None at ends why refused because = absurd cc
@@ -198,7 +198,7 @@ module _ {D : Type 0} (here : Setting D) where
         let there : Contains (turns_of run) turn =
         subst (λ (e : Option (LineDone D)). Contains (flat_map (λ (l : LineDone D). l.turns) (run.lines ++ line_list e)) turn) (sym at)
         (among run.lines line at_end.0 turn at_end.2) in
-        let untold : here.disk.content turn.before.journal.disk ≡ None = (claim (inr told)).reopens turn why there at_end.3 refused in
+        let untold : here.disk.content turn.before.journal.disk ≡ None = (claim (inl told)).reopens turn why there at_end.3 refused in
         let tells_there : tells turn.before ≡ true =
         last_tells true _ (set_by line.step line.before) line.turns line.behind ends.1.goes at_end.0 turn at_end.2
         ∙ begins_so line run.middle ends.0
@@ -263,7 +263,7 @@ module _ {D : Type 0} (meaning : DiskMeaning D) where
         → run.end ≡ Some (stop_of_end why) → ⊥
     run_never why is status run same =
         let here = run_setting meaning bundle.decls LARGEST_JOURNAL false in
-        let ran = run.ran false (λ wrong. absurd (false≢true wrong)) in
+        let ran = run.ran in
         never_refused here run.first run.done ran.last ran.run ran.claim
         (run.begins.still_tells ∙ ap (λ (o : Option (List ℕ)). is_some o) legal.holds)
         why is run.end ran.why same
@@ -291,7 +291,7 @@ module _ {D : Type 0} (meaning : DiskMeaning D) where
         → run.end ≡ Some (stop_of_end why) → ⊥
     sum_run_never why is status run same =
         let here = run_setting meaning bundle.decls LARGEST_JOURNAL false in
-        let ran = run.ran false (λ wrong. absurd (false≢true wrong)) in
+        let ran = run.ran in
         never_refused here run.first bundle.steps ran.last ran.run ran.claim
         (run.begins.still_tells ∙ ap (λ (o : Option (List ℕ)). is_some o) legal.holds)
         why is run.end ran.why same

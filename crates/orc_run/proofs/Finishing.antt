@@ -1,5 +1,5 @@
 -- How the lines of a script come to their end.
-use Rattle.std.proofs.Common.{◌≡◌, ℕ, ◌+◌, ◌<◌, Bool, true, false, List, [], ◌∷◌, ◌++◌, length, take, drop, get_or, None, Some, Option, Ok, Err, Result, refl, sym, ap, subst, ◌∙◌, append-nil}
+use Rattle.std.proofs.Common.{◌≡◌, ℕ, ◌+◌, ◌<◌, true, false, List, [], ◌∷◌, ◌++◌, length, take, drop, get_or, None, Some, Option, Ok, Err, Result, refl, sym, ap, subst, ◌∙◌, append-nil}
 use Rattle.std.specs.Prelude.{MatchResult}
 use Rattle.std.specs.Io.KnownBytes.{Appends}
 use Rattle.std.proofs.lemmas.Bool.{false≢true}
@@ -10,7 +10,7 @@ use Rattle.orc_io.specs.Pieces.{TakesFront}
 use Rattle.orc_io.proofs.Fronts.{Appends-trans}
 use Rattle.orc_rules.specs.Journals.{Journal}
 use Rattle.orc_rules.specs.Worlds.{Setting, World as Seen}
-use Rattle.orc_runs.specs.Laws.{BundleRunsHaveTheHeadline}
+use Rattle.orc_run_laws.specs.Laws.{ReadBackRunsHaveTheHeadline}
 use Rattle.orc_script.specs.declared.step.ScriptStep.{ScriptStep}
 use Rattle.orc_script.specs.declared.step.ScriptStep.TheVariants as step
 use Rattle.orc_world.specs.Lines.{DoesLine, EndsInLine, IsLineCall, MayRecover}
@@ -21,13 +21,12 @@ use Rattle.orc_scene.specs.declared.stop.WorldStop.TheVariants as stop
 use Rattle.orc_scene.specs.declared.scene.Place.{Place}
 use Rattle.orc_scene.specs.declared.scene.Place.TheVariants.{Up, Down, Ended, Moved}
 use Rattle.orc_scene.specs.declared.scene.Scene.{Scene}
-use Rattle.orc_run.specs.Ends.{LinesRun, MayBeGranted, Wrote}
+use Rattle.orc_run.specs.Ends.{LinesRun, Wrote}
 use Rattle.orc_run.specs.declared.opening.TheConstants.{LARGEST_JOURNAL}
 use Rattle.orc_run.specs.declared.stop.Stop.{Stop}
 use Rattle.orc_run.specs.declared.stop.Stop.TheVariants as ending
-use Rattle.orc_run.specs.inside.Scripts.{Finishes, HasDone, HasDoneInEach, IsFirst, WritesLine, stop_of_world}
-use Rattle.orc_run.proofs.Beginning.{claimed}
-use Rattle.orc_run.proofs.Lined.{granted_before, granted_last, one_more, ran_so_far, ran_to_end}
+use Rattle.orc_run.specs.inside.Scripts.{Finishes, HasDoneOver, IsFirst, WritesLine, stop_of_world}
+use Rattle.orc_run.proofs.Lined.{one_more, ran_so_far, ran_to_end}
 use Rattle.orc_run.proofs.Writing.{all_more, all_of, begins_more}
 
 -- one more line of a script
@@ -86,13 +85,13 @@ module _ {D : Type 0} (disk : DiskMeaning D) where
   module _ (line : ScriptStep) (old new : Scene D) (before after : List ℕ) where
     -- what a call for a line did, in the setting of a limit
     line_at : (result : Result (Unit {0}) WorldStop) → IsLineCall disk line old result new before after → (limit : ℕ) → old.limit ≡ limit
-        → (decls : Decls) (granted : Bool) (seen : Seen D) → IsSeenAs (run_setting disk decls limit granted) seen old → MayRecover line granted
-        → MatchResult result (λ value. DoesLine (run_setting disk decls limit granted) line seen old new before after)
-        (λ why. EndsInLine (run_setting disk decls limit granted) line seen old new before after why)
-    line_at result call limit same decls granted seen =
-        subst (λ (n : ℕ). IsSeenAs (run_setting disk decls n granted) seen old → MayRecover line granted
-        → MatchResult result (λ value. DoesLine (run_setting disk decls n granted) line seen old new before after)
-        (λ why. EndsInLine (run_setting disk decls n granted) line seen old new before after why)) same (call decls granted seen)
+        → (decls : Decls) (seen : Seen D) → IsSeenAs (run_setting disk decls limit false) seen old
+        → MatchResult result (λ value. DoesLine (run_setting disk decls limit false) line seen old new before after)
+        (λ why. EndsInLine (run_setting disk decls limit false) line seen old new before after why)
+    line_at result call limit same decls seen =
+        subst (λ (n : ℕ). IsSeenAs (run_setting disk decls n false) seen old
+        → MatchResult result (λ value. DoesLine (run_setting disk decls n false) line seen old new before after)
+        (λ why. EndsInLine (run_setting disk decls n false) line seen old new before after why)) same (λ is. call decls false seen is (may_any line))
 
     -- what a line printed after nothing
     pub line_from : (result : Result (Unit {0}) WorldStop) → IsLineCall disk line old result new before after → before ≡ [] → (text : List ℕ) → text ≡ after
@@ -111,43 +110,37 @@ module _ {D : Type 0} (disk : DiskMeaning D) where
         on (Ok done) does = seen_somewhere (run_setting disk going.0 old.limit false) does.next new.place does.is.place
         on (Err why) ends = disk_somewhere new.place ends.last.journal.disk ends.disk
 
-  module _ (law : BundleRunsHaveTheHeadline disk) (decls : Decls) (first : Seen D) (begun : Scene D) (is_first : IsFirst disk decls first begun) where
-    -- one more line was done, whatever is granted
+  module _ (law : ReadBackRunsHaveTheHeadline disk) (decls : Decls) (first : Seen D) (begun : Scene D) (is_first : IsFirst disk decls first begun) where
+    -- one more line was done
     pub done_more : (done : List ScriptStep) (texts : List (List ℕ)) (line : ScriptStep) (old new : Scene D) (text : List ℕ)
-        → HasDoneInEach disk decls first done texts old → IsLineCall {A = Unit {0}} disk line old (Ok tt) new [] text
-        → HasDoneInEach disk decls first (done ++ line ∷ []) (texts ++ text ∷ []) new
-    done_more done texts line old new text each call granted may =
-        let here = run_setting disk decls LARGEST_JOURNAL granted in
-        let so : HasDone here first done texts old = each granted (granted_before granted done line may) in
-        one_more here first done texts line old new text so
-        (line_at line old new [] text (Ok tt) call LARGEST_JOURNAL so.is.limit.0 decls granted so.seen so.is (granted_last granted done line may))
+        → HasDoneOver disk decls first done texts old → IsLineCall {A = Unit {0}} disk line old (Ok tt) new [] text
+        → HasDoneOver disk decls first (done ++ line ∷ []) (texts ++ text ∷ []) new
+    done_more done texts line old new text so call =
+        one_more (run_setting disk decls LARGEST_JOURNAL false) first done texts line old new text so
+        (line_at line old new [] text (Ok tt) call LARGEST_JOURNAL so.is.limit.0 decls so.seen so.is)
 
     -- a run of lines that were done
-    pub runs_so_far : (done : List ScriptStep) (texts : List (List ℕ)) (world : Scene D) (last : D) → HasDoneInEach disk decls first done texts world
-        → HasDisk world.place last → (granted : Bool) → MayBeGranted granted done
-        → LinesRun (run_setting disk decls LARGEST_JOURNAL granted) first done texts None last
-    runs_so_far done texts world last each has granted may =
-        let here = run_setting disk decls LARGEST_JOURNAL granted in
-        let so : HasDone here first done texts world = each granted may in
-        ran_so_far here first (λ script end run. claimed disk law decls LARGEST_JOURNAL granted first so.is.decls is_first.starts script end run)
+    pub runs_so_far : (done : List ScriptStep) (texts : List (List ℕ)) (world : Scene D) (last : D) → HasDoneOver disk decls first done texts world
+        → HasDisk world.place last → LinesRun (run_setting disk decls LARGEST_JOURNAL false) first done texts None last
+    runs_so_far done texts world last so has =
+        let here = run_setting disk decls LARGEST_JOURNAL false in
+        ran_so_far here first (λ script end run. law decls LARGEST_JOURNAL script first end run so.is.decls is_first.starts)
         done texts world last so (disk_there here so.seen world.place last so.is.place has)
 
     -- a run of lines and of one after them, in which it ended
     runs_to_end : (done : List ScriptStep) (texts : List (List ℕ)) (line : ScriptStep) (old new : Scene D) (text : List ℕ) (why : WorldStop) (last : D)
-        → HasDoneInEach disk decls first done texts old → IsLineCall {A = Unit {0}} disk line old (Err why) new [] text → HasDisk new.place last
-        → (granted : Bool) → MayBeGranted granted (done ++ line ∷ [])
-        → LinesRun (run_setting disk decls LARGEST_JOURNAL granted) first (done ++ line ∷ []) (texts ++ text ∷ []) (Some (stop_of_world why)) last
-    runs_to_end done texts line old new text why last each call has granted may =
-        let here = run_setting disk decls LARGEST_JOURNAL granted in
-        let so : HasDone here first done texts old = each granted (granted_before granted done line may) in
+        → HasDoneOver disk decls first done texts old → IsLineCall {A = Unit {0}} disk line old (Err why) new [] text → HasDisk new.place last
+        → LinesRun (run_setting disk decls LARGEST_JOURNAL false) first (done ++ line ∷ []) (texts ++ text ∷ []) (Some (stop_of_world why)) last
+    runs_to_end done texts line old new text why last so call has =
+        let here = run_setting disk decls LARGEST_JOURNAL false in
         let ends : EndsInLine here line so.seen old new [] text why =
-        line_at line old new [] text (Err why) call LARGEST_JOURNAL so.is.limit.0 decls granted so.seen so.is (granted_last granted done line may) in
-        ran_to_end here first (λ script end run. claimed disk law decls LARGEST_JOURNAL granted first so.is.decls is_first.starts script end run)
+        line_at line old new [] text (Err why) call LARGEST_JOURNAL so.is.limit.0 decls so.seen so.is in
+        ran_to_end here first (λ script end run. law decls LARGEST_JOURNAL script first end run so.is.decls is_first.starts)
         done texts line old new text why last so ends (one_disk new.place ends.last.journal.disk last ends.disk has)
 
     -- all lines were done
     pub finishes_whole : (held now : Option (List ℕ)) (steps : List ScriptStep) (i : ℕ) (texts : List (List ℕ)) (world : Scene D) (last : D)
-        → take i steps ≡ steps → HasDoneInEach disk decls first (take i steps) texts world → HasDisk world.place last
+        → take i steps ≡ steps → HasDoneOver disk decls first (take i steps) texts world → HasDisk world.place last
         → Appends held now (all_of texts) → Finishes disk decls first held now steps last (Ok (record {}))
     finishes_whole held now steps i texts world last all each has took = record {
       done = steps;
@@ -155,14 +148,14 @@ module _ {D : Type 0} (disk : DiskMeaning D) where
       parts = sym (append-nil steps);
       texts = texts;
       end = None;
-      ran = runs_so_far steps texts world last (subst (λ (l : List ScriptStep). HasDoneInEach disk decls first l texts world) all each) has;
+      ran = runs_so_far steps texts world last (subst (λ (l : List ScriptStep). HasDoneOver disk decls first l texts world) all each) has;
       wrote = (refl, took);
       whole = λ ok. refl;
       unwritten = λ failed. absurd cc;
     }
 
     module _ (a b c : Option (List ℕ)) (steps : List ScriptStep) (i : ℕ) (line : ScriptStep) (within : i < length steps) (is : line ≡ get_or steps i line)
-        (texts : List (List ℕ)) (old : Scene D) (each : HasDoneInEach disk decls first (take i steps) texts old) (took : Appends a b (all_of texts)) (last : D) where
+        (texts : List (List ℕ)) (old : Scene D) (each : HasDoneOver disk decls first (take i steps) texts old) (took : Appends a b (all_of texts)) (last : D) where
       split : steps ≡ (take i steps ++ line ∷ []) ++ drop (i + 1) steps
       split = sym (take-append-drop (i + 1) steps) ∙ ap (λ (l : List ScriptStep). l ++ drop (i + 1) steps) (taken_more steps i line within is)
 
@@ -171,8 +164,7 @@ module _ {D : Type 0} (disk : DiskMeaning D) where
 
       -- the text of a line was not written
       unwritten_here : (new : Scene D) (text : List ℕ) (end : Option Stop)
-          → ((granted : Bool) → MayBeGranted granted (take i steps ++ line ∷ [])
-          → LinesRun (run_setting disk decls LARGEST_JOURNAL granted) first (take i steps ++ line ∷ []) (texts ++ text ∷ []) end last)
+          → LinesRun (run_setting disk decls LARGEST_JOURNAL false) first (take i steps ++ line ∷ []) (texts ++ text ∷ []) end last
           → TakesFront b c text → Finishes disk decls first a c steps last (Err ending.WriteFault)
       unwritten_here new text end ran front = record {
         done = take i steps ++ line ∷ [];
@@ -212,19 +204,19 @@ module _ {D : Type 0} (disk : DiskMeaning D) where
               (runs_so_far (take i steps ++ line ∷ []) (texts ++ text ∷ []) new last (done_more (take i steps) texts line old new text each call) has) front
           on (Err why) call = unwritten_here new text (Some (stop_of_world why)) (runs_to_end (take i steps) texts line old new text why last each call has) front
 
--- a line that was done and written: its text, and one more line done, whatever is granted
+-- a line that was done and written: its text, and one more line done
 pub line_more : {D : Type 0} (disk : DiskMeaning D) (b c : Option (List ℕ)) (line : ScriptStep) (old new : Scene D) → WritesLine disk b c line old (Ok tt) new
     → (text : List ℕ) × Appends b c text
-    × (BundleRunsHaveTheHeadline disk → (decls : Decls) (first : Seen D) (begun : Scene D) → IsFirst disk decls first begun
-    → (done : List ScriptStep) (texts : List (List ℕ)) → HasDoneInEach disk decls first done texts old
-    → HasDoneInEach disk decls first (done ++ line ∷ []) (texts ++ text ∷ []) new)
+    × (ReadBackRunsHaveTheHeadline disk → (decls : Decls) (first : Seen D) (begun : Scene D) → IsFirst disk decls first begun
+    → (done : List ScriptStep) (texts : List (List ℕ)) → HasDoneOver disk decls first done texts old
+    → HasDoneOver disk decls first (done ++ line ∷ []) (texts ++ text ∷ []) new)
 line_more {D} disk b c line old new writes = on (Ok tt) refl writes
   where
     on : (result : Result (Unit {0}) Stop) → result ≡ Ok tt → WritesLine disk b c line old result new
         → (text : List ℕ) × Appends b c text
-        × (BundleRunsHaveTheHeadline disk → (decls : Decls) (first : Seen D) (begun : Scene D) → IsFirst disk decls first begun
-        → (done : List ScriptStep) (texts : List (List ℕ)) → HasDoneInEach disk decls first done texts old
-        → HasDoneInEach disk decls first (done ++ line ∷ []) (texts ++ text ∷ []) new)
+        × (ReadBackRunsHaveTheHeadline disk → (decls : Decls) (first : Seen D) (begun : Scene D) → IsFirst disk decls first begun
+        → (done : List ScriptStep) (texts : List (List ℕ)) → HasDoneOver disk decls first done texts old
+        → HasDoneOver disk decls first (done ++ line ∷ []) (texts ++ text ∷ []) new)
     on result is (WritesLine.goes_on text new' call took) =
         (text, took, λ law decls first begun first_is done texts each. done_more disk law decls first begun first_is done texts line old new text each call)
     on result is (WritesLine.ends_in text new' why call took) = absurd cc

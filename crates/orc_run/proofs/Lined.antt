@@ -1,24 +1,22 @@
 -- Lines of a script, one more, and the run that they are.
-use Rattle.std.proofs.Common.{◌≡◌, ◌⊎◌, inl, inr, ⊎_elim, ℕ, Bool, true, false, List, [], ◌∷◌, ◌++◌, map, None, Some, refl, sym, ap, ◌∙◌, append-nil}
-use Rattle.std.specs.Prelude.{All, ◌≢◌}
+use Rattle.std.proofs.Common.{◌≡◌, ◌⊎◌, inl, inr, ⊎_elim, ℕ, false, List, [], ◌∷◌, ◌++◌, map, None, Some, refl, sym, ap, ◌∙◌, append-nil}
 use Rattle.std.proofs.lemmas.List.{map-append}
-use Rattle.std.proofs.lemmas.List.Elements.{All-cons, All-head, All-nil, All-tail}
 use Rattle.std.proofs.lemmas.List.Sums.{fold-append}
 use Rattle.orc_decls.specs.Devices.{name_of}
 use Rattle.orc_device.specs.declared.reply.Logged.{Logged}
 use Rattle.orc_print.specs.Logs.{log_text}
-use Rattle.orc_rules.specs.Journals.{IsReadBack}
 use Rattle.orc_rules.specs.Worlds.{Setting, World as Seen}
+use Rattle.orc_run_laws.specs.Reads.{ReadsGiveWhatWasWritten}
 use Rattle.orc_runs.specs.Headline.{Headline}
-use Rattle.orc_runs.specs.Runs.{AreDone, IsDone, LineDone, PrintLogs, Run, logged, logged_with}
+use Rattle.orc_runs.specs.Runs.{AreDone, IsDone, LineDone, PrintLogs, Run, logged, logged_with, turns_of}
 use Rattle.orc_script.specs.declared.step.ScriptStep.{ScriptStep}
 use Rattle.orc_script.specs.declared.step.ScriptStep.TheVariants as step
-use Rattle.orc_world.specs.Lines.{DoesLine, EndsInLine, MayRecover}
+use Rattle.orc_world.specs.Lines.{DoesLine, EndsInLine}
 use Rattle.orc_scene.specs.RunEnds.{end_of_run}
 use Rattle.orc_scene.specs.declared.stop.WorldStop.{WorldStop}
 use Rattle.orc_scene.specs.declared.stop.WorldStop.TheVariants as stop
 use Rattle.orc_scene.specs.declared.scene.Scene.{Scene}
-use Rattle.orc_run.specs.Ends.{LinesRun, MayBeGranted, stop_of_end}
+use Rattle.orc_run.specs.Ends.{LinesRun, stop_of_end}
 use Rattle.orc_run.specs.declared.stop.Stop.{Stop}
 use Rattle.orc_run.specs.inside.Scripts.{HasDone, stop_of_world}
 
@@ -47,28 +45,6 @@ stop_is stop.Memory = refl
 stop_is (stop.Foreign at) = refl
 stop_is stop.NotJournal = refl
 stop_is (stop.Damaged at) = refl
-
--- what may be granted of lines may be granted of those before the last one
-pub granted_before : (granted : Bool) (lines : List ScriptStep) (last : ScriptStep) → MayBeGranted granted (lines ++ last ∷ []) → MayBeGranted granted lines
-granted_before granted lines last may = λ is. fewer lines (may is)
-  where
-    fewer : (lines : List ScriptStep) → All (λ line. line ≢ step.Recover) (lines ++ last ∷ []) → All (λ line. line ≢ step.Recover) lines
-    fewer [] all = All-nil (λ line. line ≢ step.Recover)
-    fewer (line ∷ lines) all = All-cons (λ one. one ≢ step.Recover) line lines (All-head (λ one. one ≢ step.Recover) line (lines ++ last ∷ []) all)
-        (fewer lines (All-tail (λ one. one ≢ step.Recover) line (lines ++ last ∷ []) all))
-
--- what may be granted of lines may be granted of the last one
-pub granted_last : (granted : Bool) (lines : List ScriptStep) (last : ScriptStep) → MayBeGranted granted (lines ++ last ∷ []) → MayRecover last granted
-granted_last granted lines last may = on granted last (λ is. of_last lines (may is))
-  where
-    of_last : (lines : List ScriptStep) → All (λ line. line ≢ step.Recover) (lines ++ last ∷ []) → last ≢ step.Recover
-    of_last [] all = All-head (λ one. one ≢ step.Recover) last [] all
-    of_last (line ∷ lines) all = of_last lines (All-tail (λ one. one ≢ step.Recover) line (lines ++ last ∷ []) all)
-
-    on : (granted : Bool) (at : ScriptStep) → (granted ≡ true → at ≢ step.Recover) → MayRecover at granted
-    on true step.Recover other = absurd (other refl refl)
-    on false step.Recover other = refl
-    on granted at other = tt
 
 module _ {D : Type 0} (here : Setting D) where
   -- one more line
@@ -109,7 +85,7 @@ module _ {D : Type 0} (here : Setting D) where
       }
 
   module _ (first : Seen D) (claim : (script : List ScriptStep) (last : Seen D) (run : Run here script first last)
-      → IsReadBack here.disk here.decls.text here.limit here.granted first.journal.disk → Headline here script first last run) where
+      → ReadsGiveWhatWasWritten here.disk first (turns_of run) → Headline here script first last run) where
     -- the run that lines are, where it didn't end in them
     pub ran_so_far : (done : List ScriptStep) (texts : List (List ℕ)) (world : Scene D) (disk : D) (so : HasDone here first done texts world)
         → so.seen.journal.disk ≡ disk → LinesRun here first done texts None disk

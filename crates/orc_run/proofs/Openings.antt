@@ -137,7 +137,7 @@ module _ {D : Type 0} (disk : DiskMeaning D) where
         (λ unopened. inr (over_unopened bundle _ _ (stop_of_world why) unopened))
         (unopened_or_never bundle left left' held from to why not)
 
-    -- the same of a bundle that was made
+    -- where the world has not begun, the run of a bundle that was made ended with its sum, or never began
     pub never_summed : (bundle : ScriptedBundle) (left left' held : Option (List ℕ)) (from to : D) (why : WorldStop)
         → HasNotBegun disk bundle.decls from LARGEST_JOURNAL why to
         → SumsOrNeverBegins disk bundle (record { left = left; held = held; disk = from }) (record { left = left'; held = held; disk = to }) (Err (stop_of_world why))

@@ -1,5 +1,5 @@
 -- The run of a bundle that was made, and its summary.
-use Rattle.std.proofs.Common.{◌≡◌, ◌⊎◌, inr, ⊎_elim, ℕ, ◌+◌, Bool, true, false, List, [], ◌∷◌, ◌++◌, length, Some, None, Option, Ok, Err, Result, refl, sym, ap, subst, ◌∙◌}
+use Rattle.std.proofs.Common.{◌≡◌, ◌⊎◌, inr, ⊎_elim, ℕ, ◌+◌, true, false, List, [], ◌∷◌, ◌++◌, length, Some, None, Option, Ok, Err, Result, refl, sym, ap, subst, ◌∙◌}
 use Rattle.std.specs.Prelude.{MatchResult, ◌≢◌, count_by, if◌then◌else◌}
 use Rattle.std.specs.FinMap.{entries}
 use Rattle.std.specs.Option.{option_map, option_map_or}
@@ -23,7 +23,7 @@ use Rattle.orc_rules.specs.Journals.{Journal, history_read}
 use Rattle.orc_rules.specs.Worlds.{Setting, World as Seen}
 use Rattle.orc_rules.specs.declared.event.Event.{Event}
 use Rattle.orc_runs.specs.Ends.{EndOfRun}
-use Rattle.orc_runs.specs.Laws.{BundleRunsHaveTheHeadline}
+use Rattle.orc_run_laws.specs.Laws.{ReadBackRunsHaveTheHeadline}
 use Rattle.orc_runs.specs.Runs.{EndsFor, LineDone, Run, turns_of}
 use Rattle.orc_script.specs.declared.step.ScriptStep.{ScriptStep}
 use Rattle.orc_text.specs.Counts.{capped}
@@ -31,7 +31,7 @@ use Rattle.orc_scene.proofs.Allowed.{links_long}
 use Rattle.orc_scene.specs.Begins.{HasBegun}
 use Rattle.orc_scene.specs.Effects.{hub_in}
 use Rattle.orc_scene.specs.Courses.{events_in}
-use Rattle.orc_world.specs.Scripts.{RunsInWorld, RunsScript}
+use Rattle.orc_world.specs.Scripts.{KeepsLogs, RunsInWorld, RunsScript}
 use Rattle.orc_scene.specs.Stands.{HasDisk, IsPlaceSeenAs, IsSeenAs, IsNotReconciling, is_somewhere, run_setting}
 use Rattle.orc_scene.specs.RunEnds.{end_of_run}
 use Rattle.orc_scene.specs.declared.stop.WorldStop.{WorldStop}
@@ -39,7 +39,7 @@ use Rattle.orc_scene.specs.declared.stop.WorldStop.TheVariants as stop
 use Rattle.orc_scene.specs.declared.scene.Place.{Place}
 use Rattle.orc_scene.specs.declared.scene.Place.TheVariants.{Up, Down, Ended, Moved}
 use Rattle.orc_scene.specs.declared.scene.Scene.{Scene}
-use Rattle.orc_run.specs.Ends.{EndsSummed, MayBeGranted, Outside, ScriptRun, SummedRun, WroteSummary, stop_of_end}
+use Rattle.orc_run.specs.Ends.{EndsSummed, Outside, ScriptRun, SummedRun, WroteSummary, stop_of_end}
 use Rattle.orc_run.specs.Summaries.{RunCounts, counts_of, is_call_line, is_commit, items_on, summary_text}
 use Rattle.orc_run.specs.declared.opening.TheConstants.{LARGEST_JOURNAL}
 use Rattle.orc_run.specs.declared.stop.Done.{Done}
@@ -47,7 +47,7 @@ use Rattle.orc_run.specs.declared.stop.Stop.{Stop}
 use Rattle.orc_run.specs.declared.stop.Stop.TheVariants as ending
 use Rattle.orc_run.specs.inside.Scripts.{Greets, stop_of_world}
 use Rattle.orc_run.specs.inside.Sums.{SumsOrNeverBegins, counted, counts_in, items_over}
-use Rattle.orc_run.proofs.Beginning.{begins_over, claimed}
+use Rattle.orc_run.proofs.Beginning.{begins_over}
 use Rattle.orc_run.proofs.Finishing.{disk_somewhere, disk_there, one_disk, seen_somewhere}
 use Rattle.orc_run.proofs.Lined.{stop_is}
 use Rattle.orc_run.proofs.Rising.{rose_later, script_rose}
@@ -98,18 +98,19 @@ module _ {D : Type 0} (here : Setting D) where
 module _ {D : Type 0} (disk : DiskMeaning D) where
   -- what `run_steps` did, in the setting of a limit
   abbrev RunsAt : List ScriptStep → Scene D → Result (Unit {0}) WorldStop → Scene D → List ℕ → List ℕ → ℕ → Type 0
-  RunsAt script old result new before after limit = (decls : Decls) (granted : Bool) (seen : Seen D)
-      → IsSeenAs (run_setting disk decls limit granted) seen old
-      → MayBeGranted granted script
+  RunsAt script old result new before after limit = (decls : Decls) (seen : Seen D)
+      → IsSeenAs (run_setting disk decls limit false) seen old
       → (last : Seen D)
-      × (does : RunsInWorld (run_setting disk decls limit granted) script seen old new before after last)
+      × (does : RunsInWorld (run_setting disk decls limit false) script seen old new before after last)
       × MatchResult result
-      (λ done. (does.run.end ≡ None) × IsSeenAs (run_setting disk decls limit granted) last new × IsNotReconciling new.place)
+      (λ done. (does.run.end ≡ None) × IsSeenAs (run_setting disk decls limit false) last new × IsNotReconciling new.place
+      × KeepsLogs old new does.run.lines)
       (λ why. (does.run.why ≡ Some (end_of_run why)) × HasDisk new.place last.journal.disk)
 
   runs_at : (script : List ScriptStep) (old : Scene D) (result : Result (Unit {0}) WorldStop) (new : Scene D) (before after : List ℕ)
       → RunsScript disk script old result new before after → (limit : ℕ) → old.limit ≡ limit → RunsAt script old result new before after limit
-  runs_at script old result new before after runs limit same = subst (RunsAt script old result new before after) same runs
+  runs_at script old result new before after runs limit same =
+      subst (RunsAt script old result new before after) same (λ decls seen is. runs decls false seen is (λ wrong. absurd (false≢true wrong)))
 
   -- what is printed as a run begins with this hub
   greeting_at : Place D → List ℕ
@@ -128,14 +129,14 @@ module _ {D : Type 0} (disk : DiskMeaning D) where
   no_why here None why because is = because
   no_why here (Some line) why because is = absurd cc
 
-  module _ (law : BundleRunsHaveTheHeadline disk) (decls : Decls) (from : D) (old : Scene D) (begun : HasBegun disk decls from LARGEST_JOURNAL old)
+  module _ (law : ReadBackRunsHaveTheHeadline disk) (decls : Decls) (from : D) (old : Scene D) (begun : HasBegun disk decls from LARGEST_JOURNAL old)
       (script : List ScriptStep) (new : Scene D) (before after : List ℕ) (last : D) (has : HasDisk new.place last) where
     -- the script came to its end
-    pub ran_whole : RunsScript disk script old (Ok tt) new before after → (granted : Bool) → MayBeGranted granted script
-        → ScriptRun (run_setting disk decls LARGEST_JOURNAL granted) begun.seen script (summary_text (counts_in script new)) None last
-    ran_whole runs granted may =
-        let here = run_setting disk decls LARGEST_JOURNAL granted in
-        let all = runs_at script old (Ok tt) new before after runs LARGEST_JOURNAL begun.limit_is decls granted begun.seen (begun.is granted) may in
+    pub ran_whole : RunsScript disk script old (Ok tt) new before after
+        → ScriptRun (run_setting disk decls LARGEST_JOURNAL false) begun.seen script (summary_text (counts_in script new)) None last
+    ran_whole runs =
+        let here = run_setting disk decls LARGEST_JOURNAL false in
+        let all = runs_at script old (Ok tt) new before after runs LARGEST_JOURNAL begun.limit_is decls begun.seen (begun.is false) in
         let seen = all.0 in
         let does = all.1 in
         let ends = all.2 in
@@ -147,15 +148,15 @@ module _ {D : Type 0} (disk : DiskMeaning D) where
           why = sym (ap (option_map stop_of_end) (no_why here does.run.end does.run.why does.run.because ends.0));
           disk_is = disk_there here seen new.place last ends.1.place has;
           summary_is = λ none. ap summary_text (counts_are here begun.seen seen script does.run new ends.1 events);
-          claim = claimed disk law decls LARGEST_JOURNAL granted begun.seen (begun.is granted).decls begun.starts script seen does.run;
+          claim = law decls LARGEST_JOURNAL script begun.seen seen does.run (begun.is false).decls begun.starts;
         }
 
     -- the script came to a line in which it ended
-    pub ran_broken : (why : WorldStop) → RunsScript disk script old (Err why) new before after → (granted : Bool) → MayBeGranted granted script
-        → ScriptRun (run_setting disk decls LARGEST_JOURNAL granted) begun.seen script [] (Some (stop_of_world why)) last
-    ran_broken why runs granted may =
-        let here = run_setting disk decls LARGEST_JOURNAL granted in
-        let all = runs_at script old (Err why) new before after runs LARGEST_JOURNAL begun.limit_is decls granted begun.seen (begun.is granted) may in
+    pub ran_broken : (why : WorldStop) → RunsScript disk script old (Err why) new before after
+        → ScriptRun (run_setting disk decls LARGEST_JOURNAL false) begun.seen script [] (Some (stop_of_world why)) last
+    ran_broken why runs =
+        let here = run_setting disk decls LARGEST_JOURNAL false in
+        let all = runs_at script old (Err why) new before after runs LARGEST_JOURNAL begun.limit_is decls begun.seen (begun.is false) in
         let seen = all.0 in
         let does = all.1 in
         let ends = all.2 in
@@ -166,20 +167,21 @@ module _ {D : Type 0} (disk : DiskMeaning D) where
           why = ap (λ (s : Stop). Some s) (sym (stop_is why)) ∙ sym (ap (option_map stop_of_end) ends.0);
           disk_is = one_disk new.place seen.journal.disk last ends.1 has;
           summary_is = λ none. absurd cc;
-          claim = claimed disk law decls LARGEST_JOURNAL granted begun.seen (begun.is granted).decls begun.starts script seen does.run;
+          claim = law decls LARGEST_JOURNAL script begun.seen seen does.run (begun.is false).decls begun.starts;
         }
 
   -- the disk is there after a script
   pub script_somewhere : (decls : Decls) (from : D) (old : Scene D) (begun : HasBegun disk decls from LARGEST_JOURNAL old) → (script : List ScriptStep)
       (result : Result (Unit {0}) WorldStop) (new : Scene D) (before after : List ℕ) → RunsScript disk script old result new before after → is_somewhere new.place ≡ true
   script_somewhere decls from old begun script result new before after runs =
-      on result (runs_at script old result new before after runs LARGEST_JOURNAL begun.limit_is decls false begun.seen (begun.is false) (λ wrong. absurd (false≢true wrong)))
+      on result (runs_at script old result new before after runs LARGEST_JOURNAL begun.limit_is decls begun.seen (begun.is false))
     where
       on : (result : Result (Unit {0}) WorldStop)
           → (last : Seen D)
           × (does : RunsInWorld (run_setting disk decls LARGEST_JOURNAL false) script begun.seen old new before after last)
           × MatchResult result
-          (λ done. (does.run.end ≡ None) × IsSeenAs (run_setting disk decls LARGEST_JOURNAL false) last new × IsNotReconciling new.place)
+          (λ done. (does.run.end ≡ None) × IsSeenAs (run_setting disk decls LARGEST_JOURNAL false) last new × IsNotReconciling new.place
+          × KeepsLogs old new does.run.lines)
           (λ why. (does.run.why ≡ Some (end_of_run why)) × HasDisk new.place last.journal.disk)
           → is_somewhere new.place ≡ true
       on (Ok done) all = seen_somewhere (run_setting disk decls LARGEST_JOURNAL false) all.0 new.place all.2.1.place
@@ -201,7 +203,7 @@ module _ {D : Type 0} (disk : DiskMeaning D) where
 
   module _ (goes_on : (first second : Course) (a b c : D) → disk.leads first a b → disk.leads second b c → disk.leads (joined first second) a c)
       (counts : (course : Course) (a b : D) → disk.leads course a b → Counted course.failed (disk.faults a) (disk.faults b))
-      (law : BundleRunsHaveTheHeadline disk) (decls : Decls) (from : D) (old : Scene D) (begun : HasBegun disk decls from LARGEST_JOURNAL old)
+      (law : ReadBackRunsHaveTheHeadline disk) (decls : Decls) (from : D) (old : Scene D) (begun : HasBegun disk decls from LARGEST_JOURNAL old)
       (script : List ScriptStep) (new : Scene D) (text text' : List ℕ) (last : D) (has : HasDisk new.place last) where
     -- the summary was printed, or wasn't
     pub summed_whole : RunsScript disk script old (Ok tt) new text text' → (left left' a b : Option (List ℕ)) (status : Result Done Stop)
@@ -246,4 +248,4 @@ module _ {D : Type 0} (disk : DiskMeaning D) where
 
       fault : SummedRun disk bundle before after (Err ending.JournalFault) → Rose (disk.faults before.disk) (disk.faults after.disk)
       fault run = rose_later (disk.faults before.disk) (disk.faults run.first.journal.disk) (disk.faults after.disk) run.begins.later
-          (script_rose (run_setting disk bundle.decls LARGEST_JOURNAL false) run.first bundle.steps run.summary run.end after.disk (run.ran false (λ wrong. absurd (false≢true wrong))) run.wrote.0)
+          (script_rose (run_setting disk bundle.decls LARGEST_JOURNAL false) run.first bundle.steps run.summary run.end after.disk run.ran run.wrote.0)

@@ -12,7 +12,7 @@ use Rattle.orc_disk.specs.Rows.{Course, joined}
 use Rattle.orc_bundle.specs.declared.scripted.ScriptedBundle.{ScriptedBundle}
 use Rattle.orc_decls.specs.declared.declarations.Decls.{Decls}
 use Rattle.orc_decls.specs.declared.rule.Rule.{Rule}
-use Rattle.orc_runs.specs.Laws.{BundleRunsHaveTheHeadline}
+use Rattle.orc_run_laws.specs.Laws.{ReadBackRunsHaveTheHeadline}
 use Rattle.orc_script.specs.declared.step.ScriptStep.{ScriptStep}
 use Rattle.orc_words.specs.declared.words.Command.{Command}
 use Rattle.orc_words.specs.declared.words.Command.TheVariants.{Check, Run, History, Gen}
@@ -62,7 +62,7 @@ module _ {D : Type 0} (meaning : DiskMeaning D) where
         })
 
     -- what is printed at first could not be written
-    pub nothing_written : BundleRunsHaveTheHeadline meaning → (decls : Decls) (from : D) (world : Scene D) (begun : HasBegun meaning decls from LARGEST_JOURNAL world)
+    pub nothing_written : ReadBackRunsHaveTheHeadline meaning → (decls : Decls) (from : D) (world : Scene D) (begun : HasBegun meaning decls from LARGEST_JOURNAL world)
         (steps : List ScriptStep) (left left' a b : Option (List ℕ)) (text : List ℕ) → Greets world.place text → (last : D) → HasDisk world.place last → TakesFront a b text
         → EndsOver meaning (record { decls = decls; steps = steps }) (record { left = left; held = a; disk = from }) (record { left = left'; held = b; disk = last })
         (Err ending.WriteFault)
@@ -117,7 +117,7 @@ module _ {D : Type 0} (meaning : DiskMeaning D) where
 
       fault : BundleRun meaning bundle before after (Err ending.JournalFault) → Rose (meaning.faults before.disk) (meaning.faults after.disk)
       fault run = rose_later (meaning.faults before.disk) (meaning.faults run.first.journal.disk) (meaning.faults after.disk) run.begins.later
-          (run_rose (run_setting meaning bundle.decls LARGEST_JOURNAL false) run.first run.done run.texts run.end after.disk (run.ran false (λ wrong. absurd (false≢true wrong))) run.wrote.0)
+          (run_rose (run_setting meaning bundle.decls LARGEST_JOURNAL false) run.first run.done run.texts run.end after.disk run.ran run.wrote.0)
 
   -- by the status, where the script of a bundle was run
   by_run : (before after : Outside D) (status : Result Done Stop) → IfErr status IsRunStop

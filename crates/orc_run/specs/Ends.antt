@@ -1,5 +1,5 @@
 -- What a run did with its source, its sink and its disk: what they were before and after it.
-use Rattle.std.specs.Prelude.{◌≡◌, ◌≢◌, ◌⊎◌, ℕ, ◌+◌, ◌≤◌, Bool, true, All, List, [], ◌∷◌, ◌++◌, length, map, Option, IfSome, is_some, is_ok, Result}
+use Rattle.std.specs.Prelude.{◌≡◌, ◌⊎◌, ℕ, ◌+◌, ◌≤◌, true, false, List, [], ◌∷◌, ◌++◌, length, map, Option, IfSome, is_some, is_ok, Result}
 use Rattle.std.specs.declared.option.Option.TheVariants.{None, Some}
 use Rattle.std.specs.declared.result.Result.TheVariants.{Ok, Err}
 use Rattle.std.specs.List.{flat_map}
@@ -15,11 +15,12 @@ use Rattle.orc_disk.specs.Meanings.{DiskMeaning}
 use Rattle.orc_disk.specs.Moments.{LeavesOnly}
 use Rattle.orc_lines.specs.declared.lines.TheConstants.{LARGEST_BUNDLE}
 use Rattle.orc_print.specs.Printed.{recovered_line}
-use Rattle.orc_rules.specs.Journals.{IsReadBack, history_read}
+use Rattle.orc_rules.specs.Journals.{history_read}
 use Rattle.orc_rules.specs.Worlds.{Setting, World}
+use Rattle.orc_run_laws.specs.Reads.{ReadsGiveWhatWasWritten}
 use Rattle.orc_runs.specs.Ends.{EndOfRun, EndOfRun as ended}
 use Rattle.orc_runs.specs.Headline.{Headline}
-use Rattle.orc_runs.specs.Runs.{Run, lines_in}
+use Rattle.orc_runs.specs.Runs.{Run, lines_in, turns_of}
 use Rattle.orc_runs.specs.Starts.{StartsRun}
 use Rattle.orc_script.specs.declared.step.ScriptStep.{ScriptStep}
 use Rattle.orc_script.specs.declared.step.ScriptStep.TheVariants as step
@@ -106,13 +107,9 @@ pub record TookUpToLast (texts : List (List ℕ)) (held now : Option (List ℕ))
   pub took_before : Appends held between (flat_map (λ text. text) before)
   pub took_last : TakesFront between now last
 
--- that reads give what was written may be granted where none of these lines opens the journal again
-abbrev pub MayBeGranted : Bool → List ScriptStep → Type 0
-MayBeGranted granted lines = granted ≡ true → All (λ line. line ≢ step.Recover) lines
-
 -- Each of these lines of a script was done in a world that began as the first one, and the run may have ended in the last
 -- of them: what came, what each line printed, why the run ended, if it did, and the disk that it left. No operation was
--- noted before it. Where reads give what was written, the run has the headline.
+-- noted before it. Where its reads gave what was written, the run has the headline.
 pub record LinesRun {D : Type 0} (here : Setting D) (first : World D) (done : List ScriptStep) (texts : List (List ℕ))
     (end : Option Stop) (disk : D) : Type 0 where
   pub last : World D
@@ -122,11 +119,10 @@ pub record LinesRun {D : Type 0} (here : Setting D) (first : World D) (done : Li
   pub prints : texts ≡ map (λ line. line.text) (lines_in run)
   pub why : end ≡ option_map stop_of_end run.why
   pub disk_is : last.journal.disk ≡ disk
-  pub claim : IsReadBack here.disk here.decls.text here.limit here.granted first.journal.disk
-      → Headline here done first last run
+  pub claim : ReadsGiveWhatWasWritten here.disk first (turns_of run) → Headline here done first last run
 
 -- The script was run from a world on, up to its end or up to a line in which the run ended, and why it did; and this is the
--- disk that it left, and its summary, where it came to its end. Where reads give what was written, the run has the
+-- disk that it left, and its summary, where it came to its end. Where its reads gave what was written, the run has the
 -- headline.
 pub record ScriptRun {D : Type 0} (here : Setting D) (first : World D) (script : List ScriptStep) (summary : List ℕ)
     (end : Option Stop) (disk : D) : Type 0 where
@@ -136,8 +132,7 @@ pub record ScriptRun {D : Type 0} (here : Setting D) (first : World D) (script :
   pub why : end ≡ option_map stop_of_end run.why
   pub disk_is : last.journal.disk ≡ disk
   pub summary_is : end ≡ None → summary ≡ summary_text (counts_of run)
-  pub claim : IsReadBack here.disk here.decls.text here.limit here.granted first.journal.disk
-      → Headline here script first last run
+  pub claim : ReadsGiveWhatWasWritten here.disk first (turns_of run) → Headline here script first last run
 
 -- How the status of such a run fits what its sink took: the summary where the script was run to its end, and else
 -- nothing. Memory may run out for it too.
@@ -150,8 +145,8 @@ WroteSummary before after summary end (Err other) = (end ≡ Some other) × (aft
 module _ {D : Type 0} (meaning : DiskMeaning D) where
   -- A world began over the disk, with these devices and a journal that was opened, or begun. The entries of that, and so
   -- its history, are those of the bytes that the disk gave. Where it gave any, how many calls were recovered is printed.
-  -- (What a recovery reads is what was written where the disk reports what it holds. Over another one it goes on from
-  -- what its reads gave, and nobody says that this was written.)
+  -- (That asks nothing of what later reads give. A recovery goes on from what its reads gave: where the disk reports what
+  -- it holds that is what was written, and over another one nobody says so.)
   pub record BeginsOver (decls : Decls) (disk : D) (first : World D) (greeting : List ℕ) : Type 0 where
     pub starts : StartsRun (run_setting meaning decls LARGEST_JOURNAL true) first
     pub opened : IsOpened meaning decls disk first.journal.synced first.journal.disk
@@ -164,9 +159,9 @@ module _ {D : Type 0} (meaning : DiskMeaning D) where
     pub later : meaning.faults disk ≤ meaning.faults first.journal.disk
 
   -- The script of a bundle was run over the disk, and the sink took what the run printed. A world began; lines were done
-  -- in it, and others not; and so they were by all rules of what comes of a line, over any disk. So they were also where
-  -- it is granted that reads give what was written, unless a line opened the journal again. The run has the headline
-  -- over a disk that reports what it holds, and over another one where that is granted.
+  -- in it, and others not; and so they were by all rules of what comes of a line, over any disk, where a recovery goes on
+  -- from what its reads gave. The run has the headline over a disk that reports what it holds, and over another one where
+  -- each of its own recoveries goes on from what had been written.
   pub record BundleRun (bundle : ScriptedBundle) (before after : Outside D) (status : Result Done Stop) : Type 0 where
     pub first : World D
     pub greeting : List ℕ
@@ -176,8 +171,7 @@ module _ {D : Type 0} (meaning : DiskMeaning D) where
     pub parts : bundle.steps ≡ done ++ rest
     pub texts : List (List ℕ)
     pub end : Option Stop
-    pub ran : (granted : Bool) → MayBeGranted granted done
-        → LinesRun (run_setting meaning bundle.decls LARGEST_JOURNAL granted) first done texts end after.disk
+    pub ran : LinesRun (run_setting meaning bundle.decls LARGEST_JOURNAL false) first done texts end after.disk
     pub wrote : Wrote before.held after.held (greeting ++ flat_map (λ text. text) texts) end status
     pub whole : is_ok status ≡ true → rest ≡ []
     pub unwritten : status ≡ Err ending.WriteFault → TookUpToLast (greeting ∷ texts) before.held after.held
@@ -204,8 +198,8 @@ module _ {D : Type 0} (meaning : DiskMeaning D) where
     pub begins : BeginsOver bundle.decls before.disk first greeting
     pub summary : List ℕ
     pub end : Option Stop
-    pub ran : (granted : Bool) → MayBeGranted granted bundle.steps
-        → ScriptRun (run_setting meaning bundle.decls LARGEST_JOURNAL granted) first bundle.steps summary end after.disk
+    pub ran : ScriptRun (run_setting meaning bundle.decls LARGEST_JOURNAL false) first bundle.steps summary end
+        after.disk
     pub wrote : WroteSummary before.held after.held summary end status
 
   -- how such a run ended, by its status

@@ -17,8 +17,8 @@ use Rattle.orc_decls.specs.declared.declarations.Decls.{Decls}
 use Rattle.orc_run.specs.Opening.{HasHistory, IsOpened}
 use Rattle.orc_runs.specs.Headline.{IsLegalJournal}
 
--- A file tells one history. So a run that begins over a file learns the very history that the claim of an earlier run says
--- is in the file, as it is read or as a crash leaves it.
+-- A file determines one history. So a run that begins over a file learns the very history that the claim of an earlier
+-- run says is in the file, as it is read or as a crash leaves it.
 abbrev pub FileTellsOneHistory : Type 0
 FileTellsOneHistory = (decls : Decls) (file : List ℕ) (learned held : List Call) → HasHistory decls file learned
     → IsLegalJournal decls file held → learned ≡ held

@@ -18,7 +18,7 @@ pub fn is_done_where_nothing_fails<D: Disk>()
     ensures { AreDoneWhereNothingFails D.disk }
 {}
 
-/// A file tells one history: a recovery learns the very history that the clauses on stops and crashes
+/// A file determines one history: a recovery learns the very history that the clauses on stops and crashes
 /// say is in the file.
 pub fn file_tells_one_history()
     ensures { FileTellsOneHistory }

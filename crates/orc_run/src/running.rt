@@ -19,7 +19,7 @@ use crate::{Done, Ended, Stop};
 use orc_disk::Disk;
 use orc_io::{Sink, write_whole};
 use orc_print::Transcript;
-use orc_runs::bundle_runs_have_the_headline;
+use orc_run_laws::read_back_runs_have_the_headline;
 use orc_script::ScriptStep;
 use orc_text::Memory;
 use orc_world::World;
@@ -41,7 +41,7 @@ pub(crate) fn run_script<K: Sink, D: Disk>(
     ensures write { IsErrOf result.status Stop.WriteFault → Rose (K.sink.faults sink.old) (K.sink.faults sink.new) }
     ensures causes { IfErr result.status IsRunStop }
 {
-    bundle_runs_have_the_headline::<D>();
+    read_back_runs_have_the_headline::<D>();
     let text = match greeting(alloc, &world) {
         Ok(text) => text,
         Err(Memory) => return Ended::at(world.into_disk(), Stop::Memory),
@@ -69,7 +69,7 @@ fn run_lines<K: Sink, D: Disk>(
     ensures write { IsErrOf result.status Stop.WriteFault → Rose (K.sink.faults sink.old) (K.sink.faults sink.new) }
     ensures causes { IfErr result.status IsRunStop }
 {
-    bundle_runs_have_the_headline::<D>();
+    read_back_runs_have_the_headline::<D>();
     let mut world = world;
     for step in steps {
         match run_line(alloc, &mut world, step, sink) {

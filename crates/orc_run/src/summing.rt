@@ -30,7 +30,7 @@ use orc_io::{Sink, write_whole};
 use orc_node::Link;
 use orc_print::Transcript;
 use orc_rules::Event;
-use orc_runs::bundle_runs_have_the_headline;
+use orc_run_laws::read_back_runs_have_the_headline;
 use orc_script::ScriptStep;
 use orc_text::Memory;
 use orc_world::World;
@@ -79,7 +79,7 @@ fn sum_run<K: Sink, D: Disk>(
     ensures write { IsErrOf result.status Stop.WriteFault → Rose (K.sink.faults sink.old) (K.sink.faults sink.new) }
     ensures causes { IfErr result.status IsRunStop }
 {
-    bundle_runs_have_the_headline::<D>();
+    read_back_runs_have_the_headline::<D>();
     let mut world = world;
     let mut out = Transcript::new(alloc);
     match world.run_steps(steps, &mut out) {

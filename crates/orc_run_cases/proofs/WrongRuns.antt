@@ -26,7 +26,7 @@ use Rattle.orc_rules.specs.Cells.DeviceRole.{Free, Works, Mends}
 use Rattle.orc_rules.specs.Duties.{duty_order}
 use Rattle.orc_rules.specs.Events.{Comes, DoesAnyway, DoesUnderHub, Steps, Turn}
 use Rattle.orc_rules.specs.Facts.{pending_id}
-use Rattle.orc_rules.specs.Hubs.{Hub, due_on, duty_on, has_met_failure, order_on}
+use Rattle.orc_rules.specs.Hubs.{Hub, duty_on, order_on}
 use Rattle.orc_rules.specs.Invariant.{RoleFacts}
 use Rattle.orc_rules.specs.Journals.{entries_read, history_read}
 use Rattle.orc_rules.specs.Kept.{FitAt, HistoryKept, NetworkKept, StandsAt, ValidAt, heard, mend_at, mends_at, network, network_of, role_of, role_on, works_at}
@@ -43,6 +43,7 @@ use Rattle.orc_rules.specs.declared.event.Event.TheVariants as event
 use Rattle.orc_rules.proofs.Agreeing.{orders_agree}
 use Rattle.orc_rules.proofs.Courses.{order_due}
 use Rattle.orc_rules.proofs.Legality.{read_so}
+use Rattle.orc_rules.proofs.Moving.{due_is}
 use Rattle.orc_rules.proofs.Promises.{cancel_undecided, confirm_decided, pends_known}
 use Rattle.orc_rules.proofs.Turning.{uncut_read}
 use Rattle.orc_worker.specs.Workers.{order_at, worker_order}
@@ -115,13 +116,6 @@ pub has_place : (entries : List Entry) (t : ℕ) → Contains entries (entry.Dec
 has_place entries t at = decided_placed [] entries (record { history = []; place = λ u. None; intents = λ u. None }) t (among_of entries (entry.Decide t) at)
 
 -- what is due
-
-due_unmet : (hub : Hub) (device : ℕ) (o : Op) → due_on hub device ≡ Some o → order_on hub device ≡ Some o
-due_unmet hub device o is = on (has_met_failure hub.mends) refl
-  where
-    on : (b : Bool) → has_met_failure hub.mends ≡ b → order_on hub device ≡ Some o
-    on true e = let both : ◌≡◌ {A = Option Op} None (Some o) = sym (ap (λ (b : Bool). cond b None (order_on hub device)) e) ∙ is in cc
-    on false e = sym (ap (λ (b : Bool). cond b None (order_on hub device)) e) ∙ is
 
 duty_ordered : (duties : List Duty) (device : ℕ) (o : Op) → option_map_or duty_order (slice_get duties device) None ≡ Some o → duty_order (duty_on duties device) ≡ Some o
 duty_ordered duties device o is = on (slice_get duties device) is
@@ -293,7 +287,7 @@ module _ {D : Type 0} (here : Setting D) (kinds : (device : ℕ) → IsOfHub (he
       (cell (over here.decls) (network_of here.decls own.shadow entries (Some hub) turn.before.nodes turn.before.links) device)
       (role_on here.decls own.shadow entries (Some hub) device (turn.before.links device)) t
       (facts here kinds turn.before hub own up device silent (op.Cancel t))
-      (order_due_here here kinds turn.before hub own up device silent (op.Cancel t) (due_unmet hub device (op.Cancel t) due)) in
+      (order_due_here here kinds turn.before hub own up device silent (op.Cancel t) (due_is hub device (op.Cancel t) due)) in
       let placed = has_place entries t decided in
       let both : ◌≡◌ {A = Option ℕ} None (Some placed.0) = sym none ∙ placed.1 in cc
 
@@ -305,7 +299,7 @@ module _ {D : Type 0} (here : Setting D) (kinds : (device : ℕ) → IsOfHub (he
       (cell (over here.decls) (network_of here.decls own.shadow entries (Some hub) turn.before.nodes turn.before.links) device)
       (role_on here.decls own.shadow entries (Some hub) device (turn.before.links device)) t
       (facts here kinds turn.before hub own up device silent (op.Confirm t))
-      (order_due_here here kinds turn.before hub own up device silent (op.Confirm t) (due_unmet hub device (op.Confirm t) due)) in
+      (order_due_here here kinds turn.before hub own up device silent (op.Confirm t) (due_is hub device (op.Confirm t) due)) in
       subst (λ (l : List Entry). Contains l (entry.Decide t)) (uncut_read turn.before.journal (history.hub hub up).0) (is_decided entries t some.0 some.1)
 
   -- what a device runs
@@ -317,14 +311,14 @@ module _ {D : Type 0} (here : Setting D) (kinds : (device : ℕ) → IsOfHub (he
       on : (b : Bool) → nat_eq d device ≡ b → (o : Op) × (order_on hub device ≡ Some o) × ((world.links device).unheard ≡ None)
       on true e =
           let same = eqb-true d device e in
-          (o, subst (λ (x : ℕ). order_on hub x ≡ Some o) same (due_unmet hub d o due), subst (λ (x : ℕ). (world.links x).unheard ≡ None) same unheard)
+          (o, subst (λ (x : ℕ). order_on hub x ≡ Some o) same (due_is hub d o due), subst (λ (x : ℕ). (world.links x).unheard ≡ None) same unheard)
       on false e = absurd (differs (ap (λ (b : Bool). (cond b (way_node (here.kinds d) (world.nodes d) (world.links d).session o happened) (world.nodes device)).running) e))
   does_change world hub meant row next (DoesUnderHub.leaves_unsent d changes due unheard) device differs = on (nat_eq d device) refl
     where
       on : (b : Bool) → nat_eq d device ≡ b → (o : Op) × (order_on hub device ≡ Some o) × ((world.links device).unheard ≡ None)
       on true e =
           let same = eqb-true d device e in
-          (op.Edit changes, subst (λ (x : ℕ). order_on hub x ≡ Some (op.Edit changes)) same (due_unmet hub d (op.Edit changes) due), subst (λ (x : ℕ). (world.links x).unheard ≡ None) same unheard)
+          (op.Edit changes, subst (λ (x : ℕ). order_on hub x ≡ Some (op.Edit changes)) same (due_is hub d (op.Edit changes) due), subst (λ (x : ℕ). (world.links x).unheard ≡ None) same unheard)
       on false e = absurd (differs (ap (λ (b : Bool). (cond b (world.nodes d) (world.nodes device)).running) e))
   does_change world hub meant row next DoesUnderHub.stops device differs = absurd (differs refl)
   does_change world hub meant row next does device differs = absurd (differs refl)

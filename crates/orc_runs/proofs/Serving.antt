@@ -1,11 +1,11 @@
 -- What a hub that is up keeps of those who asked: each open call waits or is under way, each transaction that isn't over has
 -- its workers, and one that is over holds nothing.
-use Rattle.std.proofs.Common.{[], ◌≡◌, ◌⊎◌, inl, inr, ⊎_elim, ℕ, ◌+◌, ◌<◌, ◌≤◌, Bool, true, false, cond, not, ◌&&◌, ◌||◌, nat_eq, nat_lt, Option, Some, None, List, ◌∷◌, ◌++◌, map, length, get_or, refl, sym, ap, subst, ◌∙◌, arith, ltb-true, is_some, eq-eqb, eqb-true, ltb-false, zero, suc, filter}
+use Rattle.std.proofs.Common.{[], ◌≡◌, ◌⊎◌, inl, inr, ⊎_elim, ℕ, ◌+◌, ◌<◌, ◌≤◌, Bool, true, false, cond, not, ◌&&◌, ◌||◌, nat_eq, nat_lt, Option, Some, None, List, ◌∷◌, ◌++◌, map, length, get_or, refl, sym, ap, subst, ◌∙◌, arith, ltb-true, eq-eqb, eqb-true, ltb-false, zero, suc, filter}
 use Rattle.std.specs.Prelude.{position, slice_get, slice_set}
 use Rattle.std.specs.List.{list_any}
 use Rattle.std.specs.Cmp.Lexicographic.{bytes_decides}
 use Rattle.std.proofs.lemmas.Bool.{false≢true}
-use Rattle.std.specs.Option.{option_map}
+use Rattle.std.specs.Option.{option_map, option_map_or}
 use Rattle.std.proofs.lemmas.Option.{same_Some, slice_get-get_or, slice_get-map}
 use Rattle.std.proofs.lemmas.List.Quantifiers.{position-Some}
 use Rattle.std.proofs.lemmas.List.Sums.{fails_before_first}
@@ -21,7 +21,7 @@ use Rattle.orc_worker.specs.declared.stage.Stage.TheVariants as stage
 use Rattle.orc_worker.specs.declared.worker.Worker.{Worker}
 use Rattle.orc_device.specs.Operations.{is_ok, is_resolved}
 use Rattle.orc_rules.specs.Admissions.{transaction_begun, started, without}
-use Rattle.orc_rules.specs.Asked.{open_of, answered_at, answered_one, is_of, last_at, new_slot, slot_of, slot_set, with_answer, with_open}
+use Rattle.orc_rules.specs.Asked.{answered_at, answered_one, is_of, is_open_at, last_at, new_slot, slot_of, slot_set, with_answer, with_open}
 use Rattle.orc_rules.specs.Courses.{agrees}
 use Rattle.orc_rules.specs.Duties.{duty_told, duty_took, is_over_for, is_over_on}
 use Rattle.orc_rules.specs.Hubs.{with_changed, duty_on}
@@ -145,25 +145,28 @@ module _ {X : Type 0} (p : X → Bool) where
           let past = none _ (length xs) was in
           false≢true (sym (fails_before_first p xs a y (omega (arith, less, past))) ∙ ap p (sym same) ∙ behind.1)
 
--- with a slot that is set closed, nobody more asks
-closed_asks : (asked : List Asked) (waiting : List Waiting) (active : List Transaction) (call : Call) (place : Option ℕ) (last : Option Answer) → EachOpenAsks asked waiting active
-    → EachOpenAsks (slot_set asked call place last false) waiting active
-closed_asks asked waiting active call None last own q one at is_open = ⊎_elim
-    (λ old. own q one old is_open)
-    (λ new. absurd (false≢true (ap (λ (a : Asked). a.is_open) new.1 ∙ is_open)))
-    (push_cases asked (new_slot call last false) q one at)
-closed_asks asked waiting active call (Some place) last own q one at is_open = ⊎_elim
-    (λ same. absurd (false≢true (ap (λ (a : Asked). a.is_open) (set_here asked place (new_slot call last false) one (ap (slice_get (slice_set asked place (new_slot call last false))) same ∙ at)) ∙ is_open)))
-    (λ apart. own q one (sym (set_other place q asked (new_slot call last false) apart) ∙ at) is_open)
-    (same_place place q)
-
+-- Nobody more asks where a call is answered at once: a new slot is closed, and one that is there is open only where it was.
 pub answer_asks : (asked : List Asked) (waiting : List Waiting) (active : List Transaction) (call : Call) (said : Answer) → EachOpenAsks asked waiting active
     → EachOpenAsks (with_answer call said asked) waiting active
-answer_asks asked waiting active call said own = on (is_some (open_of asked call.caller))
+answer_asks asked waiting active call said own = on (slot_of asked call)
   where
-    on : (b : Bool) → EachOpenAsks (cond b asked (slot_set asked call (slot_of asked call) (Some said) false)) waiting active
-    on true = own
-    on false = closed_asks asked waiting active call (slot_of asked call) (Some said) own
+    was_open : (place : ℕ) → is_open_at asked (Some place) ≡ true → IsAsking waiting active place
+    was_open place open_now = by (slice_get asked place) refl open_now
+      where
+        by : (o : Option Asked) → slice_get asked place ≡ o → option_map_or (λ (one : Asked). one.is_open) o false ≡ true → IsAsking waiting active place
+        by None e h = absurd (false≢true h)
+        by (Some one) e h = own place one e h
+
+    on : (place : Option ℕ) → EachOpenAsks (slot_set asked call place (Some said) (is_open_at asked place)) waiting active
+    on None q one at is_open = ⊎_elim
+        (λ old. own q one old is_open)
+        (λ new. absurd (false≢true (ap (λ (a : Asked). a.is_open) new.1 ∙ is_open)))
+        (push_cases asked (new_slot call (Some said) false) q one at)
+    on (Some place) q one at is_open = ⊎_elim
+        (λ same. subst (λ (i : ℕ). IsAsking waiting active i) same
+        (was_open place (ap (λ (a : Asked). a.is_open) (set_here asked place (new_slot call (Some said) (is_open_at asked (Some place))) one (ap (slice_get (slice_set asked place (new_slot call (Some said) (is_open_at asked (Some place))))) same ∙ at)) ∙ is_open)))
+        (λ apart. own q one (sym (set_other place q asked (new_slot call (Some said) (is_open_at asked (Some place))) apart) ∙ at) is_open)
+        (same_place place q)
 
 -- a call that comes to wait asks at its place
 more_asks : (waiting : List Waiting) (active : List Transaction) (it : Waiting) (q : ℕ) → IsAsking waiting active q → IsAsking (waiting ++ it ∷ []) active q

@@ -41,7 +41,7 @@ use Rattle.orc_rules.specs.Due.{due_with, is_decision_due, least_due}
 use Rattle.orc_rules.specs.Due.{is_entry_due, lesser_number}
 use Rattle.orc_rules.specs.Duties.{duty_order, duty_outcome, is_over, is_over_for, is_over_on, outcome_on}
 use Rattle.orc_rules.specs.Events.{DoesAnyway, DoesUnderHub, Steps, Turn, mender_freed, way_due}
-use Rattle.orc_rules.specs.Hubs.{Hub, answered, duty_on, has_met_failure, hub_reported, hub_told, order_on}
+use Rattle.orc_rules.specs.Hubs.{Hub, answered, duty_on, has_met_failure, hub_reported, hub_told}
 use Rattle.orc_rules.specs.Invariant.{IsLawful}
 use Rattle.orc_rules.specs.Journals.{entries_read, history_read}
 use Rattle.orc_rules.specs.Kept.{FitAt, HistoryKept, StandsAt, ValidAt}
@@ -63,6 +63,7 @@ use Rattle.orc_rules.proofs.Admitting.{shared_not, started_at, started_other}
 use Rattle.orc_rules.proofs.Entering.{All-at}
 use Rattle.orc_rules.proofs.Moves.{all_left}
 use Rattle.orc_rules.proofs.Moving.{order_is}
+use Rattle.orc_rules.proofs.Reaching.{come_at_rest, due_so}
 use Rattle.orc_rules.proofs.Retiring.{fits_nothing}
 use Rattle.orc_rules.proofs.Slots.{all_so, both_true, outcome_at, outcome_worker, over_on}
 use Rattle.orc_rules.proofs.Tracking.{steps_devices}
@@ -393,7 +394,7 @@ module _ {D : Type 0} (here : Setting D) (are : AreDecls here.decls) (plans : Pl
                 _,
                 up,
                 DoesUnderHub.performs device order.0 way'
-                    (ap (λ (m : Option (Option RecFault)). cond (has_met_failure m) None (order_on hub device)) quiet ∙ order_is hub device ∙ ap duty_order is ∙ order.1) e
+                    (due_so hub device (ap has_met_failure quiet) (come_at_rest hub device quiet) ∙ order_is hub device ∙ ap duty_order is ∙ order.1) e
                     (way_possible (here.kinds device) (world.nodes device) (world.links device).session order.0 (listed_when (kind_of_op order.0) (world.links device).listed)) (inl refl),
               ))
 

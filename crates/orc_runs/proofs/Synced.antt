@@ -34,7 +34,7 @@ use Rattle.orc_runs.specs.Runs.{Run, turns_of}
 use Rattle.orc_runs.proofs.InStep.{set_devices}
 use Rattle.orc_runs.proofs.Lasting.{IsKept, each_in, run_survives}
 
--- what these entries tell has an Intent of this number without its Settled
+-- these entries have an Intent of this number without its Settled
 abbrev pub HasOpenIntent : List Entry → ℕ → Type 0
 HasOpenIntent entries t = (noted : Noted Call) × ((told_by entries).intents t ≡ Some noted)
 

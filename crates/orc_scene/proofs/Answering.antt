@@ -37,7 +37,7 @@ use Rattle.orc_runs.specs.Scripts.{IsCalledFor, IsOf, Part, Part as part, answer
 use Rattle.orc_script.specs.declared.step.ScriptStep.TheVariants as step
 use Rattle.orc_state.specs.Laws.{SnapshotStaysAtFront}
 use Rattle.orc_state.specs.States.{IsSnapshotAt}
-use Rattle.orc_scene.specs.Effects.{ConcludesAnswer, FailsAppend, LetsGo, LetsGoWith, Stops, is_down, is_stopped, place_without}
+use Rattle.orc_scene.specs.inside.Effects.{ConcludesAnswer, FailsAppend, LetsGo, LetsGoWith, Stops, is_down, is_stopped, place_without}
 use Rattle.orc_scene.specs.Courses.{DoesTurn, EndsTurn, HasEvents, MayEndTurn, PrintsMost, event_list, told_in}
 use Rattle.orc_scene.specs.Snapshots.{fronts_of}
 use Rattle.orc_scene.specs.Stands.{IsSeenAs}

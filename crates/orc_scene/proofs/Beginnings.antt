@@ -42,7 +42,8 @@ use Rattle.orc_rules.specs.Worlds.{World as Seen, declared, new_hub, over}
 use Rattle.orc_rules.specs.declared.duty.Duty.TheVariants as duty
 use Rattle.orc_runs.specs.Starts.{StartsRun, cause_at_first, each_stale, link_at_first, node_at_base}
 use Rattle.orc_state.specs.States.{IsSnapshotAt}
-use Rattle.orc_scene.specs.Begins.{HasBegun, IsPlacedOver}
+use Rattle.orc_scene.specs.Begins.{HasBegun}
+use Rattle.orc_scene.specs.inside.Openings.{IsPlacedOver}
 use Rattle.orc_scene.specs.Laws.{SceneIsCarried}
 use Rattle.orc_scene.specs.Snapshots.{fronts_of}
 use Rattle.orc_scene.specs.Stands.{AreNumbered, HasEntry, IsPlaceSeenAs, IsSeenAs, IsNotReconciling, run_setting}

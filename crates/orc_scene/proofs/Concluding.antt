@@ -7,7 +7,8 @@ use Rattle.orc_decls.specs.declared.declarations.Decls.{Decls}
 use Rattle.orc_print.specs.Printed.{answer_line}
 use Rattle.orc_rules.specs.declared.event.Event.{Event}
 use Rattle.orc_text.specs.declared.memory.Memory.{Memory}
-use Rattle.orc_scene.specs.Effects.{ConcludesAnswer, ConcludesCall, PrintsText, SaysAnswer}
+use Rattle.orc_scene.specs.Effects.{PrintsText}
+use Rattle.orc_scene.specs.inside.Effects.{ConcludesAnswer, ConcludesCall, SaysAnswer}
 use Rattle.orc_scene.specs.declared.stop.WorldStop.{WorldStop}
 use Rattle.orc_scene.specs.declared.stop.WorldStop.TheVariants as stop
 use Rattle.orc_scene.specs.declared.scene.Scene.{Scene}

@@ -17,7 +17,8 @@ use Rattle.orc_rules.specs.declared.event.Event.TheVariants as event
 use Rattle.orc_runs.specs.Laws.{RunsAreCarried}
 use Rattle.orc_runs.specs.Runs.{EndsRun}
 use Rattle.orc_runs.specs.Scripts.{Part as part}
-use Rattle.orc_scene.specs.Effects.{PrintsText, Stops, hub_in, place_without}
+use Rattle.orc_scene.specs.Effects.{PrintsText, hub_in}
+use Rattle.orc_scene.specs.inside.Effects.{Stops, place_without}
 use Rattle.orc_scene.specs.Courses.{GoesTurn}
 use Rattle.orc_scene.specs.Stands.{IsPlaceSeenAs, IsSeenAs}
 use Rattle.orc_scene.specs.declared.stop.WorldStop.{WorldStop}

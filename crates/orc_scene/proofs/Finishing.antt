@@ -36,7 +36,8 @@ use Rattle.orc_runs.specs.Serving.{IsRested}
 use Rattle.orc_text.specs.declared.memory.Memory.{Memory}
 use Rattle.orc_state.specs.Laws.{SnapshotStaysAtFront}
 use Rattle.orc_state.specs.States.{IsSnapshotAt}
-use Rattle.orc_scene.specs.Effects.{ConcludesMending, FailsMending, GivesUpMending, LetsGo, PrintsText, full_at, hub_in, is_down, is_stopped, place_without}
+use Rattle.orc_scene.specs.Effects.{PrintsText, hub_in}
+use Rattle.orc_scene.specs.inside.Effects.{ConcludesMending, FailsMending, GivesUpMending, LetsGo, full_at, is_down, is_stopped, place_without}
 use Rattle.orc_scene.specs.Courses.{DoesTurn, EndsTurn, HasEvents, MayEndTurn, MendsDevices, TurnOrEnd}
 use Rattle.orc_scene.specs.Laws.{SceneIsCarried}
 use Rattle.orc_scene.specs.Snapshots.{fronts_of}

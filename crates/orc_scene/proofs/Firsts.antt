@@ -34,7 +34,8 @@ use Rattle.orc_rules.specs.declared.event.Event.TheVariants as event
 use Rattle.orc_runs.specs.Scripts.{Goes, IsOf, NoneOf, Part, Part as part}
 use Rattle.orc_state.specs.Laws.{SnapshotStaysAtFront}
 use Rattle.orc_state.specs.States.{IsSnapshotAt, state_at}
-use Rattle.orc_scene.specs.Effects.{PutsSnapshot, SaysAnswer, hub_in}
+use Rattle.orc_scene.specs.Effects.{hub_in}
+use Rattle.orc_scene.specs.inside.Effects.{PutsSnapshot, SaysAnswer}
 use Rattle.orc_scene.specs.Courses.{DoesParts, DoesTurn, HasEvents, MayEndTurn, RowOrEnd, TurnOrEnd}
 use Rattle.orc_scene.specs.Laws.{SceneIsCarried}
 use Rattle.orc_scene.specs.Snapshots.{fronts_of, is_taken_by, taken_by_others, taken_with}

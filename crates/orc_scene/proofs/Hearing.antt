@@ -38,7 +38,7 @@ use Rattle.orc_rules.specs.Acceptance.{declared_kind}
 use Rattle.orc_rules.specs.Cells.{updated_at}
 use Rattle.orc_rules.specs.Duties.{duty_order, is_busy}
 use Rattle.orc_rules.specs.Events.{Turn, link_behind, performed, unsent, way_due}
-use Rattle.orc_rules.specs.Hubs.{Hub as HubState, due_on, has_met_failure, hub_reported, order_on}
+use Rattle.orc_rules.specs.Hubs.{Hub as HubState, due_on, hub_reported, order_on}
 use Rattle.orc_rules.specs.Journals.{history_read}
 use Rattle.orc_rules.specs.Worlds.{Link, Setting, World as Seen, unheard_of}
 use Rattle.orc_rules.specs.declared.duty.Duty.{Duty}
@@ -46,6 +46,7 @@ use Rattle.orc_rules.specs.declared.duty.Duty.TheVariants as duty
 use Rattle.orc_rules.specs.declared.event.Event.{Event}
 use Rattle.orc_rules.specs.declared.event.Event.TheVariants as event
 use Rattle.orc_rules.proofs.Courses.{order_due}
+use Rattle.orc_rules.proofs.Moving.{due_is}
 use Rattle.orc_rules.proofs.Recording.{either, given_at}
 use Rattle.orc_rules.proofs.Reporting.{get_changed, get_other}
 use Rattle.orc_rules.proofs.Slots.{changed_length}
@@ -53,7 +54,8 @@ use Rattle.orc_runs.specs.Laws.{RunsAreCarried}
 use Rattle.orc_runs.specs.Runs.{EndsRun, operation_of, operation_with}
 use Rattle.orc_runs.specs.Scripts.{IsOf, Part as part}
 use Rattle.orc_state.specs.States.{IsSnapshotAt}
-use Rattle.orc_scene.specs.Effects.{HearsReply, hub_in}
+use Rattle.orc_scene.specs.Effects.{hub_in}
+use Rattle.orc_scene.specs.inside.Effects.{HearsReply}
 use Rattle.orc_scene.specs.Courses.{DoesOperation, HasEvents}
 use Rattle.orc_scene.specs.Snapshots.{fronts_of}
 use Rattle.orc_scene.specs.Stands.{IsCarried, IsPlaceSeenAs, IsSeenAs, IsSoundScene, run_setting}
@@ -202,14 +204,6 @@ noted_more logs device other line ordered within is = on other (either device ot
 
 -- what is ordered
 
--- what is due on a device is what is next for its duty
-ordered_of_due : (hub : HubState) (device : ℕ) (op : Op) → due_on hub device ≡ Some op → order_on hub device ≡ Some op
-ordered_of_due hub device op due = on (has_met_failure hub.mends) due
-  where
-    on : (b : Bool) → (if b then None else order_on hub device) ≡ Some op → order_on hub device ≡ Some op
-    on true e = absurd (none-some op e)
-    on false e = e
-
 mends_busy : (between : Config → Config → ChangeSet) (left : List (ℕ × Bool)) (due : Config) (stage : MendStage) (op : Op) → mend_order between left due stage ≡ Some op → is_mending stage ≡ true
 mends_busy between left due mend_stage.Over op e = cc
 mends_busy between left due stage op e = refl
@@ -221,7 +215,7 @@ busy_of_order (duty.Mends mender) op e = mends_busy differences mender.left mend
 
 -- the reply of a device with an operation due is awaited
 awaited_of_due : (hub : HubState) (device : ℕ) (op : Op) → due_on hub device ≡ Some op → IsTrue (is_awaited hub device)
-awaited_of_due hub device op due = on (slice_get hub.duties device) (ordered_of_due hub device op due)
+awaited_of_due hub device op due = on (slice_get hub.duties device) (due_is hub device op due)
   where
     on : (o : Option Duty) → option_map_or duty_order o None ≡ Some op → option_map_or is_busy o false ≡ true
     on None e = absurd (none-some op e)
@@ -380,7 +374,7 @@ module _ {D : Type 0} (here : Setting D) (carried : RunsAreCarried here) (perfor
       let is_line : ordered device ≡ logged_as op reply ∷ [] =
       ap {B = List Logged} (λ (w : Seen D). operation_with device w (mark_of reply)) first
       ∙ ap (λ (o : Option HubState). option_map_or (λ (h : HubState). option_map_or line (order_on h device) []) o []) (hub_seen here seen old hub device is up within).is
-      ∙ ap (λ (o : Option Op). option_map_or line o []) (ordered_of_due (record_of hub) device op due) in
+      ∙ ap (λ (o : Option Op). option_map_or line o []) (due_is (record_of hub) device op due) in
       ap (λ (l : Links). noted_on l.logs other) links_new ∙ ap (λ (rows : List (List Logged)). noted_on rows other) did.logs_are
       ∙ noted_more old.links.logs device other (logged_as op reply) ordered (log_within here seen old hub device is up within) is_line
 

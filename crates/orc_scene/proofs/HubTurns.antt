@@ -47,7 +47,7 @@ use Rattle.orc_runs.specs.Scripts.{IsCalledFor, IsOf, Part, call_on_way, call_un
 use Rattle.orc_script.specs.declared.step.ScriptStep.TheVariants as step
 use Rattle.orc_state.specs.Laws.{SnapshotStaysAtFront}
 use Rattle.orc_state.specs.States.{IsSnapshotAt}
-use Rattle.orc_scene.specs.Effects.{AnswersCaller, LetsGoWith, Stops, place_without}
+use Rattle.orc_scene.specs.inside.Effects.{AnswersCaller, LetsGoWith, Stops, place_without}
 use Rattle.orc_scene.specs.Courses.{DoesTurn, EndAtLast, EndsTurn, MayEndTurn, PrintsMost, event_list, operations_in, told_in}
 use Rattle.orc_scene.specs.Snapshots.{fronts_of, is_taken_by, taken_by_others}
 use Rattle.orc_scene.specs.Stands.{AreNumbered, AreOnce, HasDisk, IsPlaceSeenAs, IsSeenAs, numbers_of}

@@ -42,10 +42,11 @@ use Rattle.orc_runs.specs.Ends.{EndedBecause, IsIllegal, IsUnfit}
 use Rattle.orc_runs.specs.Laws.{RunsAreCarried}
 use Rattle.orc_state.specs.States.{IsSnapshotAt}
 use Rattle.orc_scene.specs.Courses.{EndsUnopened}
-use Rattle.orc_scene.specs.Openings.{IsStartedAgain, IsUnstartedAgain}
+use Rattle.orc_scene.specs.inside.Openings.{IsStartedAgain, IsUnstartedAgain}
 use Rattle.orc_scene.specs.Snapshots.{fronts_of, is_taken_by}
 use Rattle.orc_scene.specs.Effects.{hub_in}
-use Rattle.orc_scene.specs.Stands.{IsClosed, IsPlaceSeenAs, IsSeenAs, IsSoundScene, IsNotReconciling, run_setting}
+use Rattle.orc_scene.specs.Stands.{IsPlaceSeenAs, IsSeenAs, IsSoundScene, IsNotReconciling, run_setting}
+use Rattle.orc_scene.specs.inside.Effects.{IsClosed}
 use Rattle.orc_scene.specs.RunEnds.{end_of_run, stop_of_opening, stop_of_start}
 use Rattle.orc_scene.specs.declared.snapshots.Taken.{Taken}
 use Rattle.orc_scene.specs.declared.stop.WorldStop.{WorldStop}

@@ -30,7 +30,8 @@ use Rattle.orc_runs.specs.Laws.{RunsAreCarried}
 use Rattle.orc_runs.specs.Scripts.{Part as part}
 use Rattle.orc_state.specs.Laws.{SnapshotStaysAtFront}
 use Rattle.orc_state.specs.States.{IsSnapshotAt}
-use Rattle.orc_scene.specs.Effects.{PutsSnapshot, SaysAnswer, hub_in}
+use Rattle.orc_scene.specs.Effects.{hub_in}
+use Rattle.orc_scene.specs.inside.Effects.{PutsSnapshot, SaysAnswer}
 use Rattle.orc_scene.specs.Courses.{DoesTurn, HasEvents, MayEndTurn}
 use Rattle.orc_scene.specs.Snapshots.{fronts_of, is_taken_by, taken_by_others, taken_with}
 use Rattle.orc_scene.specs.Stands.{HasDisk, IsPlaceSeenAs, IsSeenAs}

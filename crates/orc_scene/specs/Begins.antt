@@ -5,7 +5,6 @@ use Rattle.orc_disk.specs.Meanings.{DiskMeaning}
 use Rattle.orc_disk.specs.Stops.{Stopping}
 use Rattle.orc_hub.specs.declared.hub.Hub.{Hub}
 use Rattle.orc_links.specs.Logs.{noted_on}
-use Rattle.orc_links.specs.declared.links.Links.{Links}
 use Rattle.orc_rules.specs.Worlds.{World as Seen}
 use Rattle.orc_runs.specs.Starts.{StartsRun}
 use Rattle.orc_scene.specs.Openings.{IsStarted, IsUnstarted}
@@ -16,16 +15,6 @@ use Rattle.orc_scene.specs.declared.scene.Place.TheVariants.{Up}
 use Rattle.orc_scene.specs.declared.scene.Scene.{Scene}
 
 module _ {D : Type 0} (disk : DiskMeaning D) (decls : Decls) (from : D) (limit : ℕ) where
-  -- a hub was started over the journal, with these links, and nothing came yet
-  pub record IsPlacedOver (links : Links) (scene : Scene D) : Type 0 where
-    pub hub : Hub (Stopping D)
-    pub place : scene.place ≡ Up hub
-    pub started : IsStarted disk decls from limit hub
-    pub limit_is : scene.limit ≡ limit
-    pub links_are : scene.links ≡ links
-    pub taken : scene.snapshots.taken ≡ []
-    pub events : scene.events.items.items ≡ []
-
   -- A hub was started over the journal, and nothing came yet. The rules see the beginning of a run, whose journal is
   -- what was opened: whether or not it is granted that reads give what was written.
   pub record HasBegun (scene : Scene D) : Type 0 where

@@ -1,5 +1,5 @@
 -- What comes in a call of the scene.
-use Rattle.std.specs.Prelude.{[], ◌≡◌, ◌≤◌, ◌<◌, ◌+◌, ◌⊎◌, vec_len, vec_capacity, ◌++◌, ◌∷◌, ℕ, Bool, true, false, Option, Some, None, List, is_some, length, not, Result, MatchResult}
+use Rattle.std.specs.Prelude.{[], ◌≡◌, ◌≤◌, ◌+◌, ◌⊎◌, vec_len, vec_capacity, ◌++◌, ◌∷◌, ℕ, Bool, true, false, Option, Some, None, List, is_some, length, not, Result, MatchResult}
 use Rattle.std.specs.List.{flat_map, list_all}
 use Rattle.orc_decls.specs.declared.declarations.Decls.{Decls}
 use Rattle.orc_device.specs.declared.reply.Logged.{Logged}
@@ -16,7 +16,7 @@ use Rattle.orc_rules.specs.declared.event.Event.{Event}
 use Rattle.orc_rules.specs.declared.event.Event.TheVariants as event
 use Rattle.orc_runs.specs.Ends.{EndedBecause}
 use Rattle.orc_runs.specs.Runs.{EndsRun, operation_of}
-use Rattle.orc_runs.specs.Scripts.{Goes, IsCalledFor, IsOf, IsStill, NoneOf, Part, Part as part, round, said_in}
+use Rattle.orc_runs.specs.Scripts.{Goes, IsCalledFor, IsOf, NoneOf, Part, Part as part, said_in}
 use Rattle.orc_script.specs.declared.step.ScriptStep.TheVariants as step
 use Rattle.orc_scene.specs.Stands.{HasDisk, IsSeenAs, IsNotReconciling, run_setting}
 use Rattle.orc_scene.specs.RunEnds.{end_of_run}
@@ -166,11 +166,6 @@ module _ {D : Type 0} (here : Setting D) (seen : Seen D) (old new : Scene D) (be
     pub ended : EndsWith here old new turns last
     pub prints : PrintsMost here.decls why before after turns
 
-  -- A row of parts was done, and where nothing came in it `IsSo` holds.
-  pub record DoesRow (parts : List Part) (came : Bool) (IsSo : Type 0) : Type 0 where
-    pub does : DoesParts parts
-    pub quiet : came ≡ false → (does.turns ≡ []) × IsSo
-
   -- Either an event of a part came, or none may.
   abbrev pub MayDoTurn : Part → Bool → Type 0
   MayDoTurn one came = ((came ≡ true) × DoesTurn one) ⊎ ((came ≡ false) × NoneOf here seen one × StaysSame)
@@ -211,25 +206,6 @@ RowOrEnd disk parts old result new before after = InEachView disk old (λ here s
     (λ value. DoesParts here seen old new before after (parts here))
     (λ why. EndsInParts here seen old new before after (parts here) why))
 
--- A call does a row of parts, or the run ends in it. It reports whether anything came; where nothing did `IsSo` holds.
-abbrev pub RowOrQuiet : {D : Type 0} → DiskMeaning D → (Setting D → List Part) → (Setting D → Seen D → Type 0) → Scene D
-    → Result Bool WorldStop → Scene D → List ℕ → List ℕ → Type 0
-RowOrQuiet disk parts IsSo old result new before after = InEachView disk old (λ here seen. MatchResult result
-    (λ came. DoesRow here seen old new before after (parts here) came (IsSo here seen))
-    (λ why. EndsInParts here seen old new before after (parts here) why))
-
--- no operation may come on any device, and none is to be heard
-abbrev pub NoneOrdered : {D : Type 0} → Setting D → Seen D → Type 0
-NoneOrdered here seen =
-    (device : ℕ) → NoneOf here seen (part.Operation device) × NoneOf here seen (part.Hearing device)
-
--- Rounds are done until nothing is left for one, or the run ends.
-abbrev pub SettlesRounds : {D A : Type 0} → DiskMeaning D → Scene D → Result A WorldStop → Scene D → List ℕ → List ℕ
-    → Type 0
-SettlesRounds disk old result new before after = InEachView disk old (λ here seen. MatchResult result
-    (λ value. (does : DoesParts here seen old new before after (part.Rounds ∷ [])) × IsStill here does.next)
-    (λ why. EndsInParts here seen old new before after (part.Rounds ∷ []) why))
-
 -- A reconciliation is begun, and no operation is due on any device, unless it met a failure.
 abbrev pub MendsDevices : {D : Type 0} → Hub D → Type 0
 MendsDevices hub = (is_some hub.mends ≡ true)
@@ -249,15 +225,6 @@ pub record EndsUnopened {D : Type 0} (here : Setting D) (seen : Seen D) (old new
       (end_of_run why)
   pub disk : HasDisk new.place last.journal.disk
   pub events : new.events.items.items ≡ old.events.items.items
-
--- The journal is opened again, and a hub is up, which the rules see; or the run ends.
-abbrev pub OpensAgain : {D : Type 0} → DiskMeaning D → Scene D → Result (Unit {0}) WorldStop → Scene D → Type 0
-OpensAgain {D} disk old result new = InEachView disk old (λ here seen. here.granted ≡ false → MatchResult result
-    (λ done. (next : Seen D)
-    × Comes here (record { before = seen; meant = event.Recover; seen = Some event.Recover; behind = next })
-    × IsSeenAs here next new × IsNotReconciling new.place × (new.limit ≡ old.limit) × (new.links ≡ old.links)
-    × (new.events ≡ old.events))
-    (λ why. EndsUnopened here seen old new why))
 
 -- The controller, which is down, opens its journal again, and how many calls there are is printed; or the run ends.
 abbrev pub RecoversDown : {D : Type 0} → DiskMeaning D → Scene D → Result (Unit {0}) WorldStop → Scene D → List ℕ

@@ -6,3 +6,4 @@ pub mod Laws
 pub mod Effects
 pub mod Openings
 pub mod Begins
+pub mod inside

@@ -1,5 +1,5 @@
 -- How a journal is opened, and a hub started over it.
-use Rattle.std.specs.Prelude.{◌≡◌, ◌⊎◌, ℕ, true, false, List}
+use Rattle.std.specs.Prelude.{◌≡◌, ◌⊎◌, ℕ, List}
 use Rattle.orc_decls.specs.declared.declarations.Decls.{Decls}
 use Rattle.orc_disk.specs.Meanings.{DiskMeaning}
 use Rattle.orc_disk.specs.Stops.{Stopping, inside}
@@ -14,7 +14,6 @@ use Rattle.orc_journal.specs.declared.entry.Entry.{Entry}
 use Rattle.orc_journal.specs.declared.fault.OpenFault.{OpenFault}
 use Rattle.orc_scene.specs.RunEnds.{stop_of_opening, stop_of_start}
 use Rattle.orc_scene.specs.declared.stop.WorldStop.{WorldStop}
-use Rattle.orc_scene.specs.declared.stop.WorldStop.TheVariants as stop
 
 module _ {D : Type 0} (disk : DiskMeaning D) (decls : Decls) (from : D) (limit : ℕ) where
   -- the journal was opened, or begun, and a hub started over it
@@ -25,11 +24,6 @@ module _ {D : Type 0} (disk : DiskMeaning D) (decls : Decls) (from : D) (limit :
     pub sound : IsHub (inside disk) hub entries
     pub started : HasStarted decls journal hub
 
-  -- A hub started over a journal that stood on the disk: it isn't begun anew.
-  pub record IsStartedAgain (hub : Hub (Stopping D)) : Type 0 where
-    pub started : IsStarted hub
-    pub stood : started.journal.fresh ≡ false
-
   -- The journal was refused as it was opened, or it makes no hub.
   pub record IsUnstarted (why : WorldStop) (to : D) : Type 0 where
     pub cause : ((fault : OpenFault) × (last : Stopping D) × (to ≡ last.inner) × (why ≡ stop_of_opening fault)
@@ -38,10 +32,3 @@ module _ {D : Type 0} (disk : DiskMeaning D) (decls : Decls) (from : D) (limit :
         × (to ≡ journal.disk.inner) × (why ≡ stop_of_start fault)
         × HasOpened (inside disk) decls.text limit (unstopped from) journal entries
         × IsStartFault decls entries fault)
-
-  -- The journal was refused as it was opened, or it makes no hub, or the disk gave no byte, on which a journal stood.
-  abbrev pub IsUnstartedAgain : WorldStop → D → Type 0
-  IsUnstartedAgain why to = IsUnstarted why to
-      ⊎ ((journal : OpenJournal (Stopping D)) × (entries : List Entry) × (to ≡ journal.disk.inner)
-      × (why ≡ stop.Damaged 0) × (journal.fresh ≡ true)
-      × HasOpened (inside disk) decls.text limit (unstopped from) journal entries)

@@ -1,11 +1,8 @@
 -- The scene of a run as the world that the rules of a network see.
-use Rattle.std.specs.Prelude.{[], ◌∷◌, ◌≡◌, ◌≢◌, ◌<◌, ◌^◌, ℕ, Bool, true, false, Option, Some, None, List, All, MatchOption, is_some, length, map, suc, IsTrue}
-use Rattle.std.specs.Option.{option_map_or}
-use Rattle.orc_datastore.specs.Snapshots.{Snapshot}
+use Rattle.std.specs.Prelude.{[], ◌∷◌, ◌≡◌, ◌≢◌, ◌<◌, ◌^◌, ℕ, Bool, true, false, Option, Some, None, List, All, MatchOption, is_some, length, map, IsTrue}
 use Rattle.orc_decls.specs.Declarations.{AreDecls}
 use Rattle.orc_decls.specs.declared.declarations.Decls.{Decls}
 use Rattle.orc_disk.specs.Meanings.{DiskMeaning}
-use Rattle.orc_hub.specs.Hubs.{record_of}
 use Rattle.orc_hub_laws.specs.Under.{IsWorldOf}
 use Rattle.orc_links.specs.Networks.{AreLinksOf, link_states, node_states}
 use Rattle.orc_rules.specs.Acceptance.{declared_kind}
@@ -110,13 +107,6 @@ is_somewhere Moved = false
 is_somewhere (Up hub) = true
 is_somewhere (Down disk decls) = true
 is_somewhere (Ended disk) = true
-
--- no hub is up, and the run goes on
-abbrev pub IsClosed : {D : Type 0} → Place D → Type 0
-IsClosed (Down disk decls) = Unit {0}
-IsClosed (Up hub) = ⊥
-IsClosed (Ended disk) = ⊥
-IsClosed Moved = ⊥
 
 -- the disk of the journal is this one
 abbrev pub HasDisk : {D : Type 0} → Place D → D → Type 0

@@ -4,7 +4,8 @@ ghost use Rattle.orc_hub.specs.Admits.{IsNextToAdmit, NoneFits};
 ghost use Rattle.orc_print.specs.Printed.{is_answer_among};
 ghost use Rattle.orc_rules.specs.declared.event.Event.TheVariants as event;
 ghost use Rattle.orc_runs.specs.Scripts.{Part as part};
-ghost use Rattle.orc_scene.specs.Effects.{ConcludesAnswer, ConcludesCall, hub_in};
+ghost use Rattle.orc_scene.specs.Effects.{hub_in};
+ghost use Rattle.orc_scene.specs.inside.Effects.{ConcludesAnswer, ConcludesCall};
 ghost use Rattle.orc_scene.specs.Courses.{HasRoom, TurnOrEnd, TurnOrNone};
 ghost use Rattle.orc_scene.specs.Stands.{IsBetweenLines, decls_in};
 

@@ -1,7 +1,8 @@
 //! Stops and recoveries.
 ghost use Rattle.std.specs.Prelude.{◌≡◌, true, false, MatchOption, OnOk, is_some, length};
 ghost use Rattle.orc_scene.specs.Effects.{armed_place, hub_in};
-ghost use Rattle.orc_scene.specs.Courses.{HasRoom, OpensAgain, RecoversDown, StopsController};
+ghost use Rattle.orc_scene.specs.Courses.{HasRoom, RecoversDown, StopsController};
+ghost use Rattle.orc_scene.specs.inside.Openings.{OpensAgain};
 ghost use Rattle.orc_scene.specs.Stands.{IsSoundScene};
 
 use crate::laws::scene_is_carried;

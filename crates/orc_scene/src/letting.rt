@@ -1,6 +1,6 @@
 //! What becomes of the scene as its hub goes down.
 ghost use Rattle.std.specs.Prelude.{◌≡◌, ◌++◌};
-ghost use Rattle.orc_scene.specs.Effects.{FailsAppend, LetsGo, LetsGoWith, Stops, is_down, is_stopped, place_without};
+ghost use Rattle.orc_scene.specs.inside.Effects.{FailsAppend, LetsGo, LetsGoWith, Stops, is_down, is_stopped, place_without};
 ghost use Rattle.orc_scene.specs.Courses.{HasEvents, HasRoom, event_list};
 ghost use Rattle.orc_scene.specs.declared.stop.WorldStop.TheVariants as why;
 

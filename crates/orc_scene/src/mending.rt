@@ -4,7 +4,8 @@ ghost use Rattle.orc_hub.specs.Hubs.{record_of};
 ghost use Rattle.orc_print.specs.Printed.{is_end_among};
 ghost use Rattle.orc_rules.specs.Worlds.{IsIdle};
 ghost use Rattle.orc_runs.specs.Scripts.{Part as part};
-ghost use Rattle.orc_scene.specs.Effects.{ConcludesMending, FailsMending, GivesUpMending, full_at, hub_in};
+ghost use Rattle.orc_scene.specs.Effects.{hub_in};
+ghost use Rattle.orc_scene.specs.inside.Effects.{ConcludesMending, FailsMending, GivesUpMending, full_at};
 ghost use Rattle.orc_scene.specs.Courses.{HasRoom, MendsDevices, TurnOrEnd};
 ghost use Rattle.orc_scene.specs.Stands.{IsBetweenLines, IsSoundScene, IsNotReconciling, decls_in};
 

@@ -1,7 +1,8 @@
 //! How a scene begins.
 ghost use Rattle.std.specs.Prelude.{◌≡◌, ◌<◌, ◌^◌, IfErr, IfOk, length, map};
 ghost use Rattle.orc_decls.specs.Declarations.{AreDecls, accept_of};
-ghost use Rattle.orc_scene.specs.Begins.{HasBegun, HasNotBegun, IsPlacedOver};
+ghost use Rattle.orc_scene.specs.Begins.{HasBegun, HasNotBegun};
+ghost use Rattle.orc_scene.specs.inside.Openings.{IsPlacedOver};
 ghost use Rattle.orc_scene.specs.Openings.{IsUnstarted};
 
 use crate::events::Events;

@@ -3,7 +3,8 @@ ghost use Rattle.std.specs.Prelude.{◌≡◌, ◌<◌, [], None, Some, IfOk, Is
 ghost use Rattle.orc_hub.specs.Hubs.{record_of};
 ghost use Rattle.orc_hub.specs.Orders.{IsEditDue, is_awaited};
 ghost use Rattle.orc_rules.specs.Hubs.{due_on};
-ghost use Rattle.orc_scene.specs.Effects.{HearsReply, hub_in};
+ghost use Rattle.orc_scene.specs.Effects.{hub_in};
+ghost use Rattle.orc_scene.specs.inside.Effects.{HearsReply};
 ghost use Rattle.orc_scene.specs.Courses.{DoesOperation, EndsAtOnce, HasRoom, InEachView, MayDoOperation};
 ghost use Rattle.orc_scene.specs.Stands.{IsSoundScene};
 

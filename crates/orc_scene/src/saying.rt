@@ -1,7 +1,8 @@
 //! What is said of what came, and room for what is to come.
 ghost use Rattle.std.specs.Prelude.{◌≡◌, ◌+◌, ◌++◌, ◌∷◌, [], ℕ, IfErr, IfOk, IsTrue, MatchOption, OnOk, length};
 ghost use Rattle.orc_print.specs.Printed.{answer_line, is_answer_among};
-ghost use Rattle.orc_scene.specs.Effects.{AnswersCaller, PrintsText};
+ghost use Rattle.orc_scene.specs.Effects.{PrintsText};
+ghost use Rattle.orc_scene.specs.inside.Effects.{AnswersCaller};
 ghost use Rattle.orc_scene.specs.Courses.{HasEvents, HasRoom};
 ghost use Rattle.orc_scene.specs.Stands.{decls_in};
 ghost use Rattle.orc_scene.specs.declared.stop.WorldStop.TheVariants as stop;

@@ -1,8 +1,9 @@
 //! The scene, and what one who looks at it sees.
 ghost use Rattle.std.specs.Prelude.{◌≡◌, true, is_some, MatchOption, Some};
 ghost use Rattle.std.specs.Option.{option_map};
-ghost use Rattle.orc_scene.specs.Effects.{hub_in, place_without};
-ghost use Rattle.orc_scene.specs.Stands.{HasDisk, IsClosed, decls_in, is_somewhere};
+ghost use Rattle.orc_scene.specs.Effects.{hub_in};
+ghost use Rattle.orc_scene.specs.inside.Effects.{IsClosed, place_without};
+ghost use Rattle.orc_scene.specs.Stands.{HasDisk, decls_in, is_somewhere};
 ghost use Rattle.orc_scene.specs.declared.scene.Place.TheVariants.{Down};
 
 use crate::events::Events;

@@ -1,5 +1,5 @@
 //! The snapshots of callers.
-ghost use Rattle.std.specs.Prelude.{◌≡◌, [], is_some, not, OnOk, filter, slice_get};
+ghost use Rattle.std.specs.Prelude.{◌≡◌, [], is_some, not, OnErr, OnOk, filter, slice_get};
 ghost use Rattle.std.specs.List.{find};
 ghost use Rattle.std.specs.Option.{option_map};
 ghost use Rattle.orc_scene.specs.Snapshots.{fronts_of, is_taken_by, taken_by_others, taken_with};
@@ -65,9 +65,11 @@ impl Snapshots {
         self.taken = Row::from_vec(items);
     }
 
-    /// Puts a snapshot of a caller in the place of the one that it has, if it has one.
+    /// Puts a snapshot of a caller in the place of the one that it has, if it has one. Where memory runs out the caller
+    /// has none any more.
     pub fn put(&mut self, alloc: Global, caller: Text, snapshot: Snapshot) -> Result<(), Memory>
-        ensures { OnOk result (self.new.taken ≡ taken_with caller snapshot self.old.taken) }
+        ensures ok { OnOk result (self.new.taken ≡ taken_with caller snapshot self.old.taken) }
+        ensures err { OnErr result (self.new.taken ≡ taken_by_others caller self.old.taken) }
     {
         self.drop_of(alloc, &caller);
         self.taken.push(Taken { caller, snapshot })

@@ -1,7 +1,8 @@
 //! Opening a journal, and starting a hub over it.
 ghost use Rattle.std.specs.Prelude.{◌≡◌, ◌<◌, ◌^◌, IfErr, IfOk, length};
 ghost use Rattle.orc_decls.specs.Declarations.{AreDecls};
-ghost use Rattle.orc_scene.specs.Openings.{IsStarted, IsStartedAgain, IsUnstarted, IsUnstartedAgain};
+ghost use Rattle.orc_scene.specs.Openings.{IsStarted, IsUnstarted};
+ghost use Rattle.orc_scene.specs.inside.Openings.{IsStartedAgain, IsUnstartedAgain};
 
 use crate::stop::{WorldStop, stop_of_opening, stop_of_start};
 use orc_decls::Decls;

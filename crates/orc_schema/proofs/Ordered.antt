@@ -205,7 +205,7 @@ unfolding IsStrictlySortedBy
 climbs_sorted [] h = tt
 climbs_sorted (x ∷ more) h = behind_sorted x more h
 
--- the same over references
+-- the names of the nodes are read through references to them
 pub keys_lent : (ds : List (Bor Draft)) → map (λ (d : Bor Draft). d.now.names) ds ≡ names_of (lent ds)
 keys_lent [] = refl
 keys_lent (d ∷ ds) = ap (λ r. d.now.names ∷ r) (keys_lent ds)

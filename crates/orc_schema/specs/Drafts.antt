@@ -110,7 +110,7 @@ abbrev pub inside_node : Where → Stmt → Where
 inside_node at statement =
     record { above = statement ∷ at.above; owner = at.owner; names = names_at at statement; keys = keys_of statement }
 
--- the same place, for what a grouping defines
+-- where what a grouping defines comes to stand: in the place of the `uses` that names it
 abbrev pub in_grouping : Where → Found → Where
 in_grouping at found = record { above = found.here ∷ found.above; owner = at.owner; names = at.names; keys = at.keys }
 

@@ -56,7 +56,7 @@ schema_line most look drafted = record { names = drafted.names; node = node_of m
 abbrev pub schema_lines : List Draft → List SchemaLine
 schema_lines nodes = map (schema_line chain (node_in nodes)) nodes
 
--- the same in the order of their names
+-- lines in the order of their names: each is put in before the first whose names aren't less
 abbrev pub put_in : SchemaLine → List SchemaLine → List SchemaLine
 put_in line [] = line ∷ []
 put_in line (first ∷ later) = if is_lt (names_cmp first.names line.names)
@@ -73,7 +73,7 @@ plain_table = record { plain = true; lines = [] }
 abbrev pub fault_of : List Stmt → Option SchemaFault
 fault_of modules = option_or (module_fault modules) (first_link_fault (drafts modules))
 
--- each line's names are less than those of the lines behind it
+-- each line's names are less than those of the lines after it
 abbrev pub Ascends : List SchemaLine → Type 0
 Ascends lines = IsStrictlySortedBy names_cmp (map (λ line. line.names) lines)
 
@@ -87,7 +87,7 @@ pub record IsTableOf (nodes : List Draft) (schema : SchemaTable) : Type 0 where
 abbrev pub table_of : List Draft → SchemaTable
 table_of nodes = record { plain = false; lines = in_order (schema_lines nodes) }
 
--- Ok where no fault is due, with the schema of these nodes; else that fault; or want of memory
+-- Ok where no fault is due, with the schema of these nodes; else that fault; or memory runs out
 abbrev pub GivesTable : Option SchemaFault → List Draft → Result SchemaTable SchemaFault → Type 0
 GivesTable due nodes (Ok schema) = (due ≡ None) × IsTableOf nodes schema
 GivesTable due nodes (Err Memory) = Unit {0}
@@ -101,7 +101,7 @@ Builds modules answer = GivesTable (fault_of modules) (drafts modules) answer
 abbrev pub schema_of : List Stmt → Result SchemaTable SchemaFault
 schema_of modules = option_map_or Err (fault_of modules) (Ok (table_of (drafts modules)))
 
--- that, or want of memory
+-- that schema or that fault; or memory runs out
 abbrev pub GivesSchema : Result SchemaTable SchemaFault → Result SchemaTable SchemaFault → Type 0
 GivesSchema due (Ok schema) = due ≡ Ok schema
 GivesSchema due (Err Memory) = Unit {0}
@@ -113,7 +113,7 @@ GivesSchema due (Err fault) = due ≡ Err fault
 abbrev pub is_deep_module : Modules → Stmt → Bool
 is_deep_module modules the_module = is_deeper modules.most modules.all (the_module ∷ []) the_module
 
--- the kind of a leaf or a leaf-list stands behind more leafrefs than are followed
+-- the kind of a leaf or a leaf-list is reached only through more leafrefs than are followed
 abbrev pub is_cut : ℕ → Lookup → Draft → Bool
 is_cut most look drafted = is_some (value_type drafted.node) && not (is_some (end_kind most look drafted))
 

@@ -10,7 +10,7 @@ use Rattle.orc_schema.specs.declared.line.Node.{Node}
 use Rattle.orc_schema.specs.declared.line.Node.TheVariants.{Container, List as ListOf, Leaf}
 use Rattle.orc_schema.specs.Schemas.{SchemaTable, node_at, plain_table, Builds, IsWhole}
 
--- the names down to a node: the first is an identifier behind its module's name, and the later ones are identifiers
+-- the names down to a node: the first is an identifier after its module's name, and the later ones are identifiers
 abbrev pub are_node_names : List (List ℕ) → Bool
 are_node_names [] = false
 are_node_names (first ∷ later) = is_qualified first && list_all is_identifier later

@@ -103,7 +103,7 @@ fn whole_drafts(alloc: Global, modules: &Modules<'_>) -> Result<Row<Draft>, Memo
     }
 }
 
-// The first fault of the leafrefs. Behind a fault `nodes.looks` stands at the faulty node.
+// The first fault of the leafrefs. After a fault `nodes.looks` stands at the faulty node.
 fn first_link_fault(alloc: Global, drafts: &[Draft], nodes: &Nodes<'_>) -> Result<(), SchemaFault>
     requires { IsIndex nodes.now.index.now }
     ensures { Meets (first_some (link_fault nodes.now.chain (look nodes.now)) drafts.now) result }
@@ -168,7 +168,7 @@ fn lines_of(alloc: Global, nodes: &Nodes<'_>) -> Result<Row<SchemaLine>, Memory>
     Ok(lines)
 }
 
-// Whether the kind of a node stands behind more leafrefs than are followed.
+// Whether the kind of a node is reached only through more leafrefs than are followed.
 fn any_cut(alloc: Global, drafts: &[Draft], nodes: &Nodes<'_>) -> Result<bool, Memory>
     requires { IsIndex nodes.now.index.now }
     ensures { IfOk result (λ cut. cut ≡ list_any (is_cut nodes.now.chain (look nodes.now)) drafts.now) }
@@ -267,8 +267,8 @@ fn names_of(alloc: Global, drafts: &[Draft], number: usize) -> Result<Option<Row
 }
 
 /// The names from the top down to the node of this number, from 0 in the order in which the modules
-/// define them: that at which a build of a schema of these modules stands behind the fault of a
-/// leafref. The first of the names has its module's name and a colon in front.
+/// define them: that at which a build of a schema of these modules stands after the fault of a
+/// leafref. The first of the names has its module's name and a colon before it.
 pub fn node_names(
     alloc: Global,
     modules: &[Stmt],
@@ -287,7 +287,8 @@ impl Schema {
     /// The schema of these modules, or their first fault: that of the first faulty statement in the
     /// order of the text, modules in the order given and groupings where they are defined, at one
     /// statement the variant listed first; and then that of the first leafref at fault. A schema of
-    /// more than 1,000,000 nodes wants memory, and so does a leaf behind 1,000 leafrefs or more.
+    /// more than 1,000,000 nodes runs out of memory, and so does a leaf whose kind is reached
+    /// through 1,000 leafrefs or more.
     pub fn build(alloc: Global, modules: &[Stmt]) -> Result<Schema, SchemaFault>
         ensures builds { Builds modules.now result }
         ensures value { GivesSchema (schema_of modules.now) result }
@@ -296,10 +297,10 @@ impl Schema {
         Schema::build_within(alloc, modules, &Looks::new())
     }
 
-    /// The same, where this is what may still be looked at and kept; it has less of both afterwards.
-    /// Where several schemas are built with one `Looks`, what they cost together is bounded. Behind a
-    /// fault it stands where that is: where it has a `node`, at the leafref that is this one of the
-    /// nodes (`node_names`), else at the statement of its `module` and `at`.
+    /// The schema of these modules or their first fault, as `build` gives it, where this is what may still be looked at
+    /// and kept; it has less of both afterwards. Where several schemas are built with one `Looks`, what they cost
+    /// together is bounded. After a fault it stands where that is: where it has a `node`, at the leafref that is this
+    /// one of the nodes (`node_names`), else at the statement of its `module` and `at`.
     pub fn build_within(
         alloc: Global,
         modules: &[Stmt],

@@ -5,7 +5,7 @@ use orc_statements::Reference;
 use orc_text::{Row, Text};
 use orc_value::Kind;
 
-/// A node. `names` are the names from the top down to it, the first behind its module's and a colon.
+/// A node. `names` are the names from the top down to it, the first after its module's name and a colon.
 #[derive(Drop)]
 pub(crate) struct Draft {
     pub(crate) names: Row<Text>,

@@ -52,7 +52,7 @@ fn name_behind(alloc: Global, owner: &str, names: &[Text], name: &str) -> Result
     }
 }
 
-// A name behind its module's and a colon.
+// A name after its module's name and a colon.
 pub(crate) fn qualified(alloc: Global, owner: &str, name: &str) -> Result<Text, Memory>
     ensures { IfOk result (λ made. made ≡ owner.now ++ 58 ∷ name.now) }
 {
@@ -192,7 +192,7 @@ fn key_place(keys: &[Text], stmt: &Stmt) -> Option<usize>
     keys.iter().position(|key| name == key.as_str())
 }
 
-// That place as a number of 32 bits; a list with more keys wants memory.
+// That place as a number of 32 bits; a list with more keys runs out of memory.
 fn key_at(keys: &[Text], stmt: &Stmt) -> Result<Option<u32>, Memory>
     ensures { IfOk result (λ key. key ≡ position (same_text (argument stmt.now)) keys.now) }
 {
@@ -327,7 +327,7 @@ fn bringer_at<'a, 'm>(
 }
 
 // Adds the nodes that the statements below one define, which stand in one another at most `depth`
-// deep; where they are deeper, it wants memory.
+// deep; where they are deeper, it runs out of memory.
 #[cycle(drafts)]
 pub(crate) fn push_drafts<'a, 'm>(
     alloc: Global,

@@ -16,7 +16,7 @@ fn compare(names: &Row<Text>, others: &Row<Text>) -> Ordering
     Ord::cmp(names, others)
 }
 
-// Whether each node's names are less than those of the next one, behind a first one.
+// Whether each node's names are less than those of the next one, after a first one.
 fn ascends_behind(first: &Draft, rest: &[&Draft]) -> bool
     ensures { result ≡ climbs_behind first.now.names (names_of (lent rest.now)) }
 {
@@ -51,7 +51,7 @@ fn references<'a>(alloc: Global, drafts: &'a [Draft]) -> Result<Vec<&'a Draft>, 
     Ok(all)
 }
 
-// The same nodes in the order of their names.
+// Puts nodes in the order of their names.
 fn sorted<'a>(drafts: Vec<&'a Draft>) -> Result<Vec<&'a Draft>, Memory>
     ensures { IfOk result (λ all. IsPermutation (lent drafts.entry.items) (lent all.items)) }
 {
@@ -60,7 +60,7 @@ fn sorted<'a>(drafts: Vec<&'a Draft>) -> Result<Vec<&'a Draft>, Memory>
     Ok(all)
 }
 
-// The nodes in the order of their names. Where two have the same names, it wants memory.
+// The nodes in the order of their names. Where two have the same names, it runs out of memory.
 pub(crate) fn index_of<'a>(alloc: Global, drafts: &'a [Draft]) -> Result<Vec<&'a Draft>, Memory>
     ensures { IfOk result (λ index. IsIndex index.items × IsPermutation drafts.now (lent index.items)) }
 {

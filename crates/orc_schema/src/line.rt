@@ -6,8 +6,8 @@ use orc_text::{Copied, Memory, Row, Text};
 use orc_value::Kind;
 use std::alloc::Global;
 
-/// A node of a schema. `names` are the names from the top down to it, the first behind its module's
-/// and a colon.
+/// A node of a schema. `names` are the names from the top down to it, the first after its module's
+/// name and a colon.
 #[derive(Drop)]
 pub struct SchemaLine {
     pub names: Row<Text>,

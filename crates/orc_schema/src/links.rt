@@ -402,7 +402,7 @@ pub(crate) fn target_at(alloc: Global, draft: &Draft) -> Result<Option<Target>, 
     }
 }
 
-// Whether the kind of a leaf or a leaf-list stands behind more leafrefs than are followed.
+// Whether the kind of a leaf or leaf-list is reached only through more leafrefs than are followed.
 pub(crate) fn is_cut(alloc: Global, nodes: &Nodes<'_>, draft: &Draft) -> Result<bool, Memory>
     requires { IsIndex nodes.now.index.now }
     ensures { IfOk result (λ cut. cut ≡ is_cut nodes.now.chain (look nodes.now) draft.now) }
@@ -413,7 +413,7 @@ pub(crate) fn is_cut(alloc: Global, nodes: &Nodes<'_>, draft: &Draft) -> Result<
     Ok(end_kind(alloc, nodes.chain, nodes, draft)?.is_none())
 }
 
-// The kind of a node's values. Where more leafrefs lead on to one another than may, it wants memory.
+// The kind of a node's values. Where more leafrefs lead on to one another than may, it runs out of memory.
 pub(crate) fn kind_at(alloc: Global, nodes: &Nodes<'_>, draft: &Draft) -> Result<Kind, Memory>
     requires { IsIndex nodes.now.index.now }
     ensures { IfOk result (λ kind. kind ≡ kind_at nodes.now.chain (look nodes.now) draft.now) }

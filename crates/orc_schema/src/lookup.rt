@@ -50,7 +50,7 @@ fn compare_name(names: &[Text], name: &str) -> Ordering
     }
 }
 
-// The order of a node's names and the names of steps with one name behind them.
+// The order of a node's names and the names of steps with one name after them.
 fn compare_below(names: &[Text], steps: &[Step], last: &str) -> Ordering
     ensures { result ≡ names_cmp names.now (path_names steps.now ++ last.now ∷ []) }
 {
@@ -78,7 +78,7 @@ fn line_at<'a>(lines: &'a [SchemaLine], steps: &[Step]) -> Option<&'a SchemaLine
     }
 }
 
-// The node at the names of steps with one name behind them.
+// The node at the names of steps with one name after them.
 fn node_behind<'a>(lines: &'a [SchemaLine], steps: &[Step], name: &str) -> Option<&'a Node>
     requires { Ascends lines.now }
     ensures { option_map (λ node. node.now) result ≡ node_in_lines lines.now (path_names steps.now ++ name.now ∷ []) }
@@ -152,8 +152,8 @@ impl Schema {
         node_behind(self.lines(), steps, name)
     }
 
-    /// The node of these names from the top down, the first behind its module's and a colon, as a
-    /// leafref's target has them. It takes no memory.
+    /// The node of these names from the top down, the first after its module's name and a colon, as
+    /// a leafref's target has them. It takes no memory.
     pub fn node_of_names(&self, names: &[Text]) -> Option<&Node>
         ensures { option_map (λ node. node.now) result ≡ node_at self.now names.now }
     {

@@ -10,10 +10,16 @@ use std::sync::Arc;
 
 /// What may stand in a configuration: one line for each node, in the order of their names. A plain
 /// schema has no line, and every configuration is valid for it. Copies of a schema share its lines.
-#[derive(Drop)]
 pub struct Schema {
     // A plain schema has none.
     lines: Option<Arc<Row<SchemaLine>>>,
+}
+
+// Written out, so that a crate above lets a schema go by one call, and proves nothing of its lines.
+impl Drop for Schema {
+    fn drop(self) {
+        let Schema { lines: _ } = self;
+    }
 }
 
 impl Model for Schema {

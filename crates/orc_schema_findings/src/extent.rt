@@ -2,7 +2,7 @@
 use orc_text::Memory;
 use std::alloc::Global;
 
-/// What stands open after a front of a text that is read up to there.
+/// What stands open after a prefix of a text is read.
 #[derive(Drop)]
 pub(crate) struct Extent {
     /// The byte that ends the first statement, where that has ended.

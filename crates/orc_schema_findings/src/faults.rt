@@ -87,7 +87,7 @@ fn unknown_words(name: &Text, statement: &Stmt) -> &'static str {
     }
 }
 
-// The same for a `type`: its own name, or one that stands below it.
+// What is said of an unknown name in a `type`: the type's own name, or one that stands below it.
 fn unknown_type_words(name: &Text, statement: &Stmt) -> &'static str {
     if !has_argument(statement, name) {
         "is no name of the enumeration that is restricted, or has a prefix that no module of the line has."
@@ -100,7 +100,7 @@ fn unknown_type_words(name: &Text, statement: &Stmt) -> &'static str {
     }
 }
 
-// The same for a `uses`.
+// What is said of an unknown name in a `uses`.
 fn unknown_grouping_words(name: &Text) -> &'static str {
     if has_prefix(name.as_str()) {
         "is no grouping that is known there: the module imports that of the prefix, and the line names both."

@@ -152,7 +152,7 @@ fn push_head(
     Ok(())
 }
 
-// The front of the statement that begins there, as far as its block or the end of its line.
+// The head of the statement that begins there, as far as its block or the end of its line.
 fn head_at(text: &[u8], at: u64) -> &str {
     match usize::try_from(at) {
         Ok(at) => match text.get(at..) {

@@ -3,28 +3,83 @@ use orc_text::{Memory, Text};
 use orc_yang::Stmt;
 use std::alloc::Global;
 
+// The keywords of the statements of RFC 7950 that this profile leaves out wherever they stand.
+const LEFT_OUT: [&str; 30] = [
+    "anydata",
+    "anyxml",
+    "argument",
+    "augment",
+    "base",
+    "belongs-to",
+    "bit",
+    "case",
+    "choice",
+    "deviate",
+    "deviation",
+    "error-app-tag",
+    "extension",
+    "feature",
+    "identity",
+    "if-feature",
+    "include",
+    "input",
+    "modifier",
+    "must",
+    "output",
+    "pattern",
+    "position",
+    "presence",
+    "refine",
+    "require-instance",
+    "submodule",
+    "unique",
+    "when",
+    "yin-element",
+];
+
+// Those of the statements that it has in some places.
+const IN_PROFILE: [&str; 29] = [
+    "module",
+    "yang-version",
+    "namespace",
+    "prefix",
+    "import",
+    "typedef",
+    "grouping",
+    "uses",
+    "container",
+    "list",
+    "leaf",
+    "leaf-list",
+    "config",
+    "key",
+    "min-elements",
+    "max-elements",
+    "ordered-by",
+    "mandatory",
+    "default",
+    "type",
+    "range",
+    "length",
+    "enum",
+    "value",
+    "fraction-digits",
+    "path",
+    "rpc",
+    "action",
+    "notification",
+];
+
 /// Whether a keyword is that of a statement of RFC 7950 that this profile leaves out wherever it stands.
 pub(crate) fn is_left_out(keyword: &str) -> bool {
-    match keyword {
-        "anydata" | "anyxml" | "argument" | "augment" | "base" | "belongs-to" | "bit" => true,
-        "case" | "choice" | "deviate" | "deviation" | "error-app-tag" | "extension" => true,
-        "feature" | "identity" | "if-feature" | "include" | "input" | "modifier" | "must" => true,
-        "output" | "pattern" | "position" | "presence" | "refine" | "require-instance" => true,
-        "submodule" | "unique" | "when" | "yin-element" => true,
-        _ => false,
-    }
+    let words = LEFT_OUT;
+    words.as_slice().iter().any(|word| *word == keyword)
 }
 
 /// Whether a keyword is that of a statement that this profile has in some places.
 pub(crate) fn is_in_profile(keyword: &str) -> bool {
-    match keyword {
-        "module" | "yang-version" | "namespace" | "prefix" | "import" | "typedef" => true,
-        "grouping" | "uses" | "container" | "list" | "leaf" | "leaf-list" | "config" => true,
-        "key" | "min-elements" | "max-elements" | "ordered-by" | "mandatory" | "default" => true,
-        "type" | "range" | "length" | "enum" | "value" | "fraction-digits" | "path" => true,
-        "rpc" | "action" | "notification" => true,
-        _ => false,
-    }
+    let words = IN_PROFILE;
+    words.as_slice().iter().any(|word| *word == keyword)
 }
 
 /// Whether a name is that of a built-in type that this profile leaves out.

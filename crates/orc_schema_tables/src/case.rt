@@ -7,7 +7,7 @@ use orc_yang::parse;
 use std::alloc::Global;
 
 /// A title, the modules below it, and what must come: the listing of their schema, or, where there
-/// is `data`, lines of configurations under it, each behind its answer.
+/// is `data`, lines of configurations under it, each after its answer.
 #[derive(Clone, Copy)]
 pub(crate) struct Case<'a> {
     pub title: &'a str,

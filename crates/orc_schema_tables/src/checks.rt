@@ -2,7 +2,7 @@
 //!
 //! A line is an answer, a bar, and the items of a configuration with semicolons between: a path for an
 //! entry, and a path, ` = ` and a text for a leaf. The answer is `ok`, or the least path at which a rule
-//! is broken and the first rule that is broken there. Behind a further bar stand the rules of a device
+//! is broken and the first rule that is broken there. After a further bar stand the rules of a device
 //! with semicolons between, `max PATH NUMBER` and `forbid PATH = TEXT`, and the answer is `accepted` or
 //! `refused`. Lines without a bar are taken over as they are.
 use orc_check::{

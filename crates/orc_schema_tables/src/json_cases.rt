@@ -256,7 +256,7 @@ fn show_lines<R: Print + AllocGlobal>(
     Ok(())
 }
 
-// The same of the lines of a text, where it is a case.
+// Prints the lines of a text that don't hold, where it is a case, and takes in which do.
 fn show_case<R: Print + AllocGlobal>(
     rt: &R,
     name: &str,

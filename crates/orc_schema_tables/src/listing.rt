@@ -1,8 +1,8 @@
 //! How schemas and their faults are listed.
 //!
-//! A fault is its name and what it names. A schema has a line for each node: its names behind slashes,
-//! and what it is. Behind a list stand its keys, behind it and a leaf-list how many entries it has at
-//! least and at most, behind `=` a default, behind `->` the names to which a leafref leads and how many
+//! A fault is its name and what it names. A schema has a line for each node: its names after slashes,
+//! and what it is. After a list stand its keys, after it and a leaf-list how many entries it has at
+//! least and at most, after `=` a default, after `->` the names to which a leafref leads and how many
 //! of them stand for its own entries. A node that is not found again by its path is marked.
 use crate::found::is_found;
 use orc_schema::{LeafNode, Node, Schema, SchemaFault, SchemaLine, Target};

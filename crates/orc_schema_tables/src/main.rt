@@ -2,9 +2,9 @@
 //! cases hold, and which don't.
 //!
 //! Each word names a file of cases. A case begins with a line `=== TITLE`; below it stand the modules,
-//! a line `---`, and the listing: the schema path by path, or its fault (`listing` says how). Behind a
+//! a line `---`, and the listing: the schema path by path, or its fault (`listing` says how). After a
 //! line `--- data` stand configurations in place of a listing, each with what it breaks (`checks` says
-//! how). Lines in front of the first case say nothing.
+//! how). Lines before the first case say nothing.
 #![tactic(auto)]
 
 mod case;

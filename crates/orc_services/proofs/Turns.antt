@@ -14,7 +14,7 @@ use Rattle.orc_services.specs.Services.{Serving, expansion_at}
 use Rattle.orc_services.specs.Expanded.{ExpandedTo, as_literal, expanded_actions, expanded_by, expanded_action, with_expanded, ExpandsTo}
 use Rattle.orc_services.specs.declared.list.ServiceList.{ServiceList}
 
--- some that are expanded, in front of what later ones come to
+-- some that are expanded, before what later ones come to
 abbrev pub with_actions : List Action → Result (List Action) Answer → Result (List Action) Answer
 with_actions front (Ok actions) = Ok (front ++ actions)
 with_actions front (Err answer) = Err answer
@@ -22,7 +22,7 @@ with_actions front (Err answer) = Err answer
 abbrev pub behind : List Action → List Read → ExpandedTo (List Action) → ExpandedTo (List Action)
 behind front reads later = record { outcome = with_actions front later.outcome; reads = reads ++ later.reads }
 
--- the same, with what was read before the first
+-- what is expanded, and what is left comes to, are what all come to, with what was read before the first
 abbrev pub Stands : Serving → List Read → List Action → List Action → List Read → List Action → Type 0
 Stands s old all front reads left = behind front reads (expanded_actions s left) ≡ behind [] old (expanded_actions s all)
 
@@ -82,7 +82,7 @@ of_list s names id path found it old new outcome is gives =
     subst (λ (o : Option ServiceList). ExpandsTo (as_literal names id (option_map (expansion_at s) (option_map (λ (it : ServiceList). record { path = path; template = template_json it.template }) o))) old new outcome)
     (sym is) gives
 
--- what was read apart, behind what was read before
+-- what was read apart, after what was read before
 pub added_to : (old new read fresh due : List Read) → new ≡ old ++ read → read ≡ fresh ++ due → fresh ≡ [] → new ≡ old ++ due
 added_to old new read fresh due added gave none =
     added ∙ ap (λ (l : List Read). old ++ l) (gave ∙ ap (λ (l : List Read). l ++ due) none)

@@ -48,12 +48,12 @@ expanded_action s (Modify id body) = as_literal s.devices.names id (expansion_of
 expanded_action s (Redeploy id) = as_literal s.devices.names id (expansion_of s id)
 expanded_action s other = record { outcome = Ok other; reads = [] }
 
--- an action in front of what later ones come to
+-- an action before what later ones come to
 abbrev pub with_expanded : Action → Result (List Action) Answer → Result (List Action) Answer
 with_expanded action (Ok actions) = Ok (action ∷ actions)
 with_expanded action (Err answer) = Err answer
 
--- the same with what was read; later ones aren't looked at where it is refused
+-- an action before what later ones come to, with what was read; these aren't looked at where it is refused
 abbrev pub expanded_by : Result Action Answer → List Read → ExpandedTo (List Action) → ExpandedTo (List Action)
 expanded_by (Ok action) reads later =
     record { outcome = with_expanded action later.outcome; reads = reads ++ later.reads }
@@ -65,6 +65,6 @@ expanded_actions s [] = record { outcome = Ok []; reads = [] }
 expanded_actions s (action ∷ actions) =
     expanded_by (expanded_action s action).outcome (expanded_action s action).reads (expanded_actions s actions)
 
--- The answer is the outcome, and its reads stand behind those before.
+-- The answer is the outcome, and its reads come after those before.
 abbrev pub ExpandsTo : {X : Type 0} → ExpandedTo X → List Read → List Read → Result X Answer → Type 0
 ExpandsTo due old new outcome = (outcome ≡ due.outcome) × (new ≡ old ++ due.reads)

@@ -22,7 +22,7 @@ pub record Serving : Type 0 where
   pub devices : DeviceTable
   pub view : Viewed
 
--- the same of a view
+-- what services stand on, with the data and its schema in a view
 abbrev pub serving : List ServiceList → DeviceTable → View → Serving
 serving lists devices view = record {
   lists = lists;

@@ -70,7 +70,7 @@ fn literal(
     }
 }
 
-// The same of the service at a path.
+// The service at a path as a literal one with its expansion's items, or the answer that it can't be expanded.
 fn expand_at(
     alloc: Global,
     lists: &[ServiceList],
@@ -95,7 +95,7 @@ fn expand_at(
     }
 }
 
-// The same of the service of an id.
+// The service of an id as a literal one with its expansion's items, or the answer that it can't be expanded.
 fn expand_service(
     alloc: Global,
     lists: &[ServiceList],
@@ -137,7 +137,7 @@ fn expand_action(
     }
 }
 
-// The same of actions, in their order, or the answer that the first that can't be expanded gets.
+// What actions come to, in their order, or the answer that the first that can't be expanded gets.
 fn expand_all(
     alloc: Global,
     lists: &[ServiceList],
@@ -164,7 +164,7 @@ fn expand_all(
 /// What the actions of a call come to, once its data is done: each that creates, modifies or redeploys
 /// a service is that of a literal one with the items of its expansion on the data. Or the answer is
 /// the first that can't be expanded. What the expansions read is added, also where the answer is a
-/// fault; after want of memory nothing is added. It asks that each item that an action sets fits its
+/// fault; where memory runs out nothing is added. It asks that each item that an action sets fits its
 /// path.
 pub fn expand_actions(
     alloc: Global,

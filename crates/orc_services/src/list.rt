@@ -10,10 +10,19 @@ use orc_text::{Memory, Text};
 use std::alloc::Global;
 
 /// A list of the data, whose last step has no keys, and the template of its entries.
-#[derive(Drop)]
 pub struct ServiceList {
     pub list: Path,
     pub template: Template,
+}
+
+// Written out, so that a crate above lets lists go by one call each.
+impl Drop for ServiceList {
+    fn drop(self) {
+        let ServiceList {
+            list: _,
+            template: _,
+        } = self;
+    }
 }
 
 /// The path that an id is the text of, where it is one.

@@ -26,7 +26,7 @@ use Rattle.orc_state.specs.Checks.{Checks, IsUnread, clash_of, clashes, early, p
 use Rattle.orc_state.specs.States.{IsPlanAt, state_at}
 use Rattle.orc_datastore.specs.Sets.{AreSets, sets_among, sets_between, sets_of}
 
--- the state behind a history, from that behind a front of it on
+-- the state after a history, from that after a prefix of it on
 state_since : (decls : Decls) (history : List Call) (n : ℕ)
     → fold_from decls (state_at decls history n) (drop n history) ≡ state_of decls history
 state_since decls history n =
@@ -99,7 +99,7 @@ module _ (decls : Decls) (history : List Call) (call : Call) (plan : Plan) where
   pub refused_first : (s : Datastore) (answer : Answer) → s ≡ state_of decls history → IsDataAfter decls s call (Err answer) → Checks decls history call plan (Err answer)
   refused_first s answer same found = early answer (subst (λ (x : Datastore). refused_early decls x call ≡ Some answer) same found)
 
--- the same actions, of what the code lends
+-- what the code lends makes the same actions
 pub made_is : (names own : List (List ℕ)) (actions acts : List Action) (left expansions : List (List ℕ × Expansion)) → names ≡ own → actions ≡ acts → left ≡ expansions
     → with_expansions names actions left ≡ with_expansions own acts expansions
 made_is names own actions acts left expansions ns cs es =

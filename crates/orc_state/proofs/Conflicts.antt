@@ -27,7 +27,7 @@ use Rattle.orc_state.specs.inside.Firsts.{AreUntouched, IsAnswerAt, IsFirstIn}
 leaves : (reads : List Read) (s : Datastore) (call : Call) (row : List Write) → AreWritesOf s call row → IsUntouched reads row → LeavesReads reads s call
 leaves reads s call row are untouched written is = All-contains (λ (w : Write). write_touches_any reads w ≡ false) row written untouched (are.whole written is)
 
--- the rows behind a front
+-- the rows after a front
 along_behind : (decls : Decls) (front : ℕ) (s : Datastore) (calls : List Call) (rows : List (List Write)) → AreWritesAlong decls s calls rows
     → AreWritesAlong decls (fold_from decls s (take front calls)) (drop front calls) (drop front rows)
 along_behind decls zero s calls rows h = h
@@ -55,7 +55,7 @@ each_leaves decls reads (suc n) s (call ∷ calls) (row ∷ rows) h untouched = 
   each_leaves decls reads n (after decls s call) calls rows h.1 (λ i r lt at. untouched (suc i) r (omega (arith, lt)) at),
 )
 
--- a place behind a front
+-- a place after a front
 behind_at : {X : Type 0} (front : ℕ) (xs : List X) (i : ℕ) (x : X) → slice_get (drop front xs) i ≡ Some x → slice_get xs (front + i) ≡ Some x
 behind_at zero xs i x h = subst (λ k. slice_get xs k ≡ Some x) (omega arith) h
 behind_at (suc n) [] i x h = let not_so : None ≡ Some x = h in absurd cc

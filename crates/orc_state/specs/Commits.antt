@@ -12,8 +12,8 @@ use Rattle.orc_decls.specs.declared.declarations.Decls.{Decls}
 use Rattle.orc_datastore.specs.declared.plan.Plan.{Plan}
 use Rattle.orc_state.specs.States.{IsStateUnder, State}
 
--- The call is the history's next entry, whose number is told; the state is the one that this history makes, and what
--- the call wrote is kept.
+-- The call is the history's next entry, whose number is returned; the state is the one that this history makes, and
+-- what the call wrote is kept.
 pub record IsCommitted (decls : Decls) (old : State) (call : Call) (number : ℕ) (new : State) : Type 0 where
   pub valid : invalid decls.data_schema (data_after call.actions old.datastore.data) ≡ None
   pub history : new.history ≡ old.history ++ call ∷ []

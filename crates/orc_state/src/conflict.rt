@@ -1,4 +1,4 @@
-//! Which entry behind a front wrote what was read.
+//! Which entry after a front wrote what was read.
 ghost use Rattle.std.specs.Prelude.{◌≡◌, ◌<◌, ◌≤◌, ◌+◌, length, slice_get, IfOk, MatchOption, OnOk};
 ghost use Rattle.orc_state.specs.inside.Firsts.{IsFirstIn, AreUntouched};
 

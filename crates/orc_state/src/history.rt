@@ -1,4 +1,4 @@
-//! The history: the committed calls, in order, and behind them the call that is being committed; each is
+//! The history: the committed calls, in order, and after them the call that is being committed; each is
 //! found by its caller and number.
 ghost use Rattle.std.specs.Prelude.{◌≡◌, ◌++◌, ◌∷◌, [], false, length, take, slice_get, IfOk, MatchOption, OnOk, OnErr, Some};
 ghost use Rattle.std.specs.Option.{option_map_or};
@@ -89,7 +89,7 @@ impl History {
         }
     }
 
-    /// Adds a call behind the others, of which none has its caller and number.
+    /// Adds a call after the others, of which none has its caller and number.
     pub fn push(&mut self, alloc: Global, call: Call) -> Result<(), Memory>
         requires { IsNew self.old call }
         ensures ok { OnOk result (self.new ≡ self.old ++ call ∷ []) }

@@ -16,8 +16,8 @@ pub fn plan_stays_at_front()
     ensures { PlanStaysAtFront }
 {}
 
-/// The answer of a check is one: an entry that wrote what was read, and none that did, exclude one
-/// another, and the first such entry is one.
+/// Whether a check finds a conflict, and with which entry, is one: an entry that wrote what was read,
+/// and none that did, exclude one another, and the first such entry is one.
 pub fn conflict_is_one()
     ensures { ConflictIsOne }
 {}

@@ -59,7 +59,7 @@ fn first_writes(
     Ok(writes)
 }
 
-// The expansions behind the first one.
+// The expansions after the first one.
 fn later(expansions: &[(Text, Expansion)]) -> &[(Text, Expansion)]
     ensures { result.now ≡ drop 1 expansions.now }
 {
@@ -69,7 +69,7 @@ fn later(expansions: &[(Text, Expansion)]) -> &[(Text, Expansion)]
     }
 }
 
-// Adds an action, by the expansions that are left, and gives those behind it.
+// Adds an action, by the expansions that are left, and returns those after it.
 fn push_made<'a>(
     alloc: Global,
     made: &mut Row<Action>,

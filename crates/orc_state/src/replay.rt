@@ -47,7 +47,7 @@ impl State {
 
     /// Plans a call on the present state, checks it and commits it by that plan, as each call of a journal
     /// that is opened; or answers why it isn't committed: it was before, its number is taken, or it is
-    /// refused. After that, and after want of memory, the state is as it was.
+    /// refused. Then, and where memory runs out, the state stays as it was.
     pub fn replay(
         &mut self,
         alloc: Global,
@@ -65,7 +65,7 @@ impl State {
         }
     }
 
-    // The same for a call that is new.
+    // Plans, checks and commits a call that is new, or answers why it isn't committed.
     fn replay_new(
         &mut self,
         alloc: Global,

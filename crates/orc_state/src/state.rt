@@ -33,11 +33,21 @@ use std::mem;
 
 /// The data, the bases of the devices and the living services; the committed calls, which make these;
 /// and what each of the calls wrote.
-#[derive(Drop)]
 pub struct State {
     pub(crate) datastore: Datastore,
     pub(crate) history: History,
     pub(crate) writes: Row<Row<Write>>,
+}
+
+// Written out, so that a crate above lets a state go by one call, and proves nothing of its parts.
+impl Drop for State {
+    fn drop(self) {
+        let State {
+            datastore: _,
+            history: _,
+            writes: _,
+        } = self;
+    }
 }
 
 impl Model for State {
@@ -100,7 +110,7 @@ impl State {
         self.history.as_slice()
     }
 
-    /// A snapshot of the present state, which tells its own front: how many calls are committed.
+    /// A snapshot of the present state, which says its own front: how many calls are committed.
     pub fn snapshot(&self, alloc: Global) -> Result<Snapshot, Memory>
         ensures front { IfOk result (λ snapshot. snapshot.front ≡ length self.now.history) }
         ensures state { IfOk result (IsSnapshotOf self.now.datastore) }
@@ -158,7 +168,7 @@ impl State {
         }
     }
 
-    // The same where the call has no action at fault and the data is valid with it.
+    // What `check` answers where the call has no action at fault and the data is valid with it.
     fn check_reads(
         &self,
         alloc: Global,
@@ -192,7 +202,7 @@ impl State {
         Ok(Answer::Conflict(at.0 as u64 + 1, write.copy(alloc)?))
     }
 
-    // The same where nothing that the plan read was written.
+    // What `check` answers where, besides, nothing that the plan read was written.
     fn check_stores(
         &self,
         alloc: Global,
@@ -218,11 +228,11 @@ impl State {
             .change_sets(alloc, decls, call, made.as_slice())
     }
 
-    /// Commits a call by its plan, and tells the number of its entry; or answers what is broken in the
+    /// Commits a call by its plan, and returns the number of its entry; or answers what is broken in the
     /// data with it. It asks that the call is new, that its plan stands on the present state and that
     /// nothing clashes, which is so of a new call that passes `check`, and of one that passed it before
-    /// calls were committed that fit it. No service is expanded. After a refusal or want of memory the
-    /// state is as it was.
+    /// calls were committed that fit it. No service is expanded. After a refusal, or where memory runs out,
+    /// the state is as it was.
     pub fn commit(
         &mut self,
         alloc: Global,
@@ -242,7 +252,7 @@ impl State {
         }
     }
 
-    // The same where this is the data with the call.
+    // Commits a call as `commit` does, where this is the data with the call.
     pub(crate) fn commit_data(
         &mut self,
         alloc: Global,
@@ -270,7 +280,7 @@ impl State {
         self.commit_made(alloc, decls, call, made.as_slice(), row, next)
     }
 
-    // The same where the call comes to these actions and writes this.
+    // Commits a call as `commit` does, where it comes to these actions and writes this.
     fn commit_made(
         &mut self,
         alloc: Global,

@@ -36,7 +36,7 @@ fn push_services(alloc: Global, row: &mut Row<Write>, services: &[Text]) -> Resu
     Ok(())
 }
 
-/// What a call writes: the paths at which the data behind it differ, looked for inside the targets that its
+/// What a call writes: the paths at which the data after it differ, looked for inside the targets that its
 /// plan holds alone, and the services that it names.
 pub(crate) fn writes(
     alloc: Global,

@@ -21,7 +21,7 @@ or_false : (b : Bool) → (b || false) ≡ b
 or_false true = refl
 or_false false = refl
 
--- a name that is new, in front of the others and behind them
+-- a name that is new, before the others or after them
 either : (is was : Bool) → cond is true was ≡ (was || is)
 either true true = refl
 either true false = refl

@@ -4,7 +4,7 @@ use Rattle.std.specs.Str.{IsUtf8}
 use Rattle.orc_statements.specs.declared.cuts.Mark.{Mark}
 use Rattle.orc_statements.specs.Cuts.{parts}
 
--- `front` stands before the first mark, and `rest`, which is text, behind it
+-- `front` stands before the first mark, and `rest`, which is text, after it
 pub record CutsAt (mark : Mark) (text front rest : List ℕ) : Type 0 where
   pub parts : parts mark text ≡ front ∷ parts mark rest
   pub shorter : length rest < length text

@@ -85,7 +85,7 @@ strange_prefix ms above s = if is_a (codes "path") s && is_leafref_path (argumen
     (find (is_strange ms.all (module_around above)) (reference_names (parts Slash (argument s))))
     else None
 
--- the first fault below `type leafref`, behind these statements
+-- the first fault below `type leafref`, after these statements
 abbrev pub leafref_fault_at : Modules → List Stmt → List Stmt → Stmt → Option SchemaFault
 leafref_fault_at ms above before s = option_or (strange_prefix ms above s)
     (option_map of_type_fault (fault_at Leafref before s))

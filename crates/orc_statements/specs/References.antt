@@ -29,7 +29,7 @@ abbrev pub is_absolute : List (List ℕ) → Bool
 is_absolute [] = false
 is_absolute (part ∷ ps) = length part == 0
 
--- the names of a path, behind what it begins with
+-- the names of a path, after what it begins with
 abbrev pub reference_names : List (List ℕ) → List (List ℕ)
 reference_names ps = if is_absolute ps then drop 1 ps else drop (count_ups ps) ps
 

@@ -35,7 +35,7 @@ fn first_mark(mark: Mark, bytes: &[u8]) -> Option<usize>
     bytes.iter().position(|byte| is_mark(mark, *byte))
 }
 
-/// The texts before the first mark and behind it.
+/// The texts before the first mark and after it.
 pub fn cut(mark: Mark, text: &str) -> Option<(&str, &str)>
     ensures parts { MatchOption result (parts mark text.now ≡ text.now ∷ [])
         (λ cut. CutsAt mark text.now cut.0.now cut.1.now) }

@@ -37,7 +37,7 @@ impl From<Memory> for SchemaFault {
     }
 }
 
-// The same fault of a `type` statement.
+// The fault of a `type` statement as a fault of a schema.
 pub(crate) fn of_type(fault: TypeFault) -> SchemaFault
     ensures { result ≡ of_type_fault fault }
 {

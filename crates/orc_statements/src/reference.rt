@@ -89,7 +89,7 @@ fn is_absolute(parts: &[Text]) -> bool
     }
 }
 
-// The names of a path, behind what it begins with.
+// The names of a path, after what it begins with.
 fn reference_names(parts: &[Text]) -> &[Text]
     ensures { result.now ≡ reference_names parts.now }
 {

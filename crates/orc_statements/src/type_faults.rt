@@ -69,7 +69,7 @@ fn none_below(alloc: Global, stmt: &Stmt) -> Result<(), SchemaFault>
     }
 }
 
-// What is at fault at a `path`, behind others of its block.
+// What is at fault at a `path`, after others of its block.
 fn path_fault(alloc: Global, before: &[Stmt], stmt: &Stmt) -> Result<(), SchemaFault>
     ensures { Meets (option_map of_type_fault (restriction_fault Leafref before.now stmt.now)) result }
 {
@@ -86,7 +86,7 @@ fn path_fault(alloc: Global, before: &[Stmt], stmt: &Stmt) -> Result<(), SchemaF
     none_below(alloc, stmt)
 }
 
-// What is at fault at a statement below a leafref's `type`, behind others of its block.
+// What is at fault at a statement below a leafref's `type`, after others of its block.
 fn below_leafref(alloc: Global, before: &[Stmt], stmt: &Stmt) -> Result<(), SchemaFault>
     ensures { Meets (option_map of_type_fault (fault_at Leafref before.now stmt.now)) result }
 {
@@ -101,7 +101,7 @@ fn below_leafref(alloc: Global, before: &[Stmt], stmt: &Stmt) -> Result<(), Sche
     }
 }
 
-// The same, with the prefixes of its path.
+// What is at fault at a statement below a leafref's `type`; the prefixes of its path count too.
 fn leafref_fault_at<'a, 'm>(
     alloc: Global,
     modules: &Modules<'_>,
@@ -151,7 +151,7 @@ fn whole_leafref_fault<'a, 'm>(
     leafref_fault(alloc, modules, above, stmt.subs.as_slice())
 }
 
-// The same of any `type`.
+// The first fault of any `type`, and below it.
 fn base_fault<'a, 'm>(
     alloc: Global,
     modules: &Modules<'_>,

@@ -94,7 +94,7 @@ fn first_fault_in<'a>(
     first_fault_below(alloc, &*modules, stmt, &Above::Indexed(&block, &Above::Top))
 }
 
-/// The first fault of the modules' statements. Behind a fault `modules.looks` stands at the faulty
+/// The first fault of the modules' statements. After a fault `modules.looks` stands at the faulty
 /// statement, which for one below a `type` is that `type`.
 pub fn first_fault(alloc: Global, modules: &Modules<'_>) -> Result<(), SchemaFault>
     ensures { Meets (first_some (fault_here (modules_of modules.now)) (module_places [] modules.now.all.now)) result }

@@ -47,7 +47,7 @@ one_bound id held next moves before after same few = omega (arith, few, one_coun
 same_id : (id : List ℕ) → is_id id id ≡ true
 same_id id = nat_list_eq_equiv.refl id
 
--- behind its move a service writes exactly what the move brings
+-- after its move a service writes exactly what the move brings
 pub moved_holds : (before after : Store) (id : List ℕ) (held next : List Put) (moves : List Move) (edits : List BaseEdit)
     → moves ≡ record { service = id; old = held; new = next } ∷ [] → IsMoved before moves edits after → Writes after id next
 moved_holds before after id held next moves edits same moved =

@@ -94,7 +94,7 @@ pub(crate) fn bring<L: Ledger>(
     }
 }
 
-// The same for a service that holds nothing.
+// Moves a service that holds nothing to the next items, and gives what changes.
 pub(crate) fn bring_first<L: Ledger>(
     alloc: Global,
     refs: &mut Refs,

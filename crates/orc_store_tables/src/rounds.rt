@@ -78,7 +78,7 @@ fn go_round<L: Ledger>(
     Ok(Rounds { first, later })
 }
 
-// The same, with the steps counted from 0.
+// Makes all moves of a service that writes nothing, with the steps counted from 0.
 fn go_counted<L: Ledger>(
     alloc: Global,
     refs: &mut Refs,

@@ -6,7 +6,7 @@ use std::process::ExitCode;
 use std::rt::Env;
 use std::{env, io};
 
-/// The words that a program was given, behind its own name.
+/// The words that a program was given, after its own name.
 pub fn given_words<R: Env + AllocGlobal>(rt: &R) -> io::Result<env::Args> {
     let mut words = env::args(rt)?;
     let _program = words.next();
@@ -25,7 +25,8 @@ pub fn ended<R: Print>(rt: &R, good: io::Result<bool>) -> ExitCode
     status_of(&good)
 }
 
-/// The same, with why it couldn't be found out on standard error.
+/// The status of a program, as `ended` gives it. Why it couldn't be found out whether all is as it must be is printed
+/// on standard error.
 pub fn ended_apart<R: Eprint>(rt: &R, good: io::Result<bool>) -> ExitCode
     ensures success { exit_status result ≡ 0 ↔ IsOkAnd good IsTrue }
     ensures failure { exit_status result ≤ 1 }

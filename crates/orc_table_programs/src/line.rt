@@ -6,7 +6,7 @@ ghost use Rattle.percent_encoding.specs.Percent.{percent_decode};
 use orc_text::Memory;
 use std::alloc::Global;
 
-/// The first word, and what stands behind the space, which is the empty text where there is none.
+/// The first word, and what stands after the space, which is the empty text where there is none.
 pub fn first_word(line: &str) -> (&str, &str)
     ensures first { result.0.now ≡ before_first (λ byte. byte == 32) line.now }
     ensures rest { result.1.now ≡ after_first (λ byte. byte == 32) line.now }

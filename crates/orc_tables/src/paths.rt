@@ -2,7 +2,7 @@
 //! digits stand for a byte.
 //!
 //! - `path TEXT`: it is read as a path, which is written so again, has as many bytes, is equal to its copy, and stands
-//!   behind the path of the line `path` before
+//!   after the path of the `path` line before it
 //! - `nopath N TEXT`, `noname N TEXT`: it is refused as a path or a name, at byte N
 //! - `name TEXT`: it is read as a name, which is so again
 //! - `entry LIST PATH`, `noentry LIST PATH`: the path is one of an entry of the list, or not
@@ -46,7 +46,7 @@ impl Paths {
         }
     }
 
-    // Whether the path is one, and stands behind the last.
+    // Whether the path is one, and stands after the last one.
     fn is_next(&mut self, text: &str) -> Result<bool, Undone> {
         let text = text_in(self.alloc, text)?;
         let path = Path::parse(self.alloc, text.as_str())?;

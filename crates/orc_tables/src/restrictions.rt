@@ -17,7 +17,7 @@ pub(crate) fn is_typed(alloc: Global, given: &str, expected: &str) -> Result<boo
     }
 }
 
-// Whether a text is a default of the type that the statements in front of it make, with this
+// Whether a text is a default of the type that the statements before it make, with this
 // canonical text, or `none`.
 pub(crate) fn is_default(alloc: Global, given: &str, expected: &str) -> Result<bool, Memory> {
     let (statements, text) = given.rsplit_once('|').unwrap_or((given, ""));
@@ -27,7 +27,7 @@ pub(crate) fn is_default(alloc: Global, given: &str, expected: &str) -> Result<b
     }
 }
 
-// The same of a type.
+// Whether a text is a default of a type, with this canonical text, or `none`.
 fn is_default_of(alloc: Global, kind: &Kind, text: &str, expected: &str) -> Result<bool, Memory> {
     match default_of(alloc, kind, text)? {
         Some(canonical) => Ok(text_of(alloc, expected)? == Some(canonical)),
@@ -52,7 +52,7 @@ fn made(alloc: Global, given: &str) -> Result<Option<Result<LeafType, TypeFault>
     }
 }
 
-// The same of statements that were parsed.
+// What parsed statements make, where the first names a built-in type.
 fn made_of(alloc: Global, list: &[Stmt]) -> Result<Option<Result<LeafType, TypeFault>>, Memory> {
     let Some((first, others)) = list.split_first() else {
         return Ok(None);

@@ -196,7 +196,7 @@ impl Trees {
     }
 }
 
-// Adds an item behind the others.
+// Adds an item after the others.
 fn add(shown: &mut String, alloc: Global, path: &Path, item: &Item) -> Result<(), Undone> {
     if !shown.is_empty() {
         shown.push_str(", ")?;

@@ -17,7 +17,7 @@ struct Typed {
     text: Text,
 }
 
-// The type that is named first, as a copy of it that must be equal, and the text behind.
+// The type that is named first, as a copy of it that must be equal, and the text after it.
 fn read_typed(alloc: Global, given: &str) -> Result<Option<Typed>, Memory> {
     let (name, text) = given.split_once('|').unwrap_or((given, ""));
     match (copy_of(alloc, name)?, text_of(alloc, text)?) {

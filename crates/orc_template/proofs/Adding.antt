@@ -30,7 +30,7 @@ gathers_none due reads fault.Memory h = tt
 pub adds_none : {T : Type 0} (answer : Result T ExpandFault) (old read new : List Read) (r : Result T ExpandFault) → r ≡ Err fault.Memory → new ≡ old → AddsReads answer old read new r
 adds_none answer old read new r is h = subst (AddsReads answer old read new) (sym is) h
 
--- the reads come behind those that were there
+-- the reads come after those that were there
 pub adds_expansion : (due : Result Expanding Failed) (old read new : List Read) (answer result : Result Expansion ExpandFault)
     → FindsExpansion due read (parts_result answer) → AddsReads answer old read new result → AnswersExpansion due old new (parts_result result)
 adds_expansion due old read new answer (Ok x) finds adds =

@@ -1,4 +1,4 @@
--- One thing behind another, as the code does them; and the answer with its reads.
+-- One thing after another, as the code does them; and the answer with its reads.
 use Rattle.std.proofs.Common.{◌≡◌, ℕ, List, [], ◌++◌, map, Result, Ok, Err, refl, ap, ◌∙◌}
 use Rattle.std.specs.FinMap.{empty}
 use Rattle.serde_json.specs.Data.{Data}
@@ -24,7 +24,7 @@ begins readers devices instance template v blocks start are written reads =
     ∙ ap (λ (w : List Config). blocks_expanded (record { readers = readers; view = v; devices = devices }) instance 1 (blocks_inside template) (record { written = w; reads = start.reads })) written
     ∙ ap (λ (rs : List Read). blocks_expanded (record { readers = readers; view = v; devices = devices }) instance 1 (blocks_inside template) (record { written = map (λ name. empty) devices.names; reads = rs })) reads
 
--- the reads come behind those that were there
+-- the reads come after those that were there
 pub answered : (due : Result Expanding Failed) (old read new : List Read) (result : Result (List (ℕ × List Put)) ExpandFault)
     → FindsExpansion due read result → new ≡ old ++ read → (result ≡ Err fault.Memory → ⊥) → AnswersExpansion due old new result
 answered due old read new (Ok parts) finds is some = (finds.0, finds.1, finds.2, is ∙ ap (λ x. old ++ x) finds.3)

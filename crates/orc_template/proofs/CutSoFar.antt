@@ -19,7 +19,7 @@ use Rattle.orc_template.proofs.Doubled.{no_brace, character_doubled, scalars_app
 abbrev doubled : List ℕ → List ℕ
 doubled text = flat_map brace_doubled text
 
--- what stands behind the parts so far
+-- what stands after the parts so far
 abbrev stage_text : Stage → List ℕ → List ℕ
 stage_text stages.Written text = doubled text
 stage_text stages.Opened text = doubled text ++ 123 ∷ []
@@ -102,7 +102,7 @@ module _ (parts : List Part) (text : List ℕ) (c : ℕ) (scalar : IsScalar c) (
           subst (IsCut ((string_written parts ++ doubled text) ++ encode_utf8 c)) same
           (record { parts = are; text = utf8_more is; so_far = ap (λ x. string_written parts ++ x) (other_doubled text c e k) ∙ sym (append_assoc (string_written parts) (doubled text) (encode_utf8 c)) })
 
-  -- behind a brace of what is written, a second one
+  -- after a brace of what is written, a second one
   twice : (b : ℕ) → encode_utf8 c ≡ b ∷ [] → brace_doubled b ≡ b ∷ b ∷ [] → IsUtf8 text
       → IsCut ((string_written parts ++ (doubled text ++ b ∷ [])) ++ encode_utf8 c) (record { parts = parts; text = text ++ encode_utf8 c; stage = stages.Written })
   twice b bytes doubles is = record {
@@ -184,7 +184,7 @@ module _ (parts : List Part) (text : List ℕ) (c : ℕ) (scalar : IsScalar c) (
             so_far = sym (append_assoc (string_written parts) (123 ∷ text) (encode_utf8 c));
           })
 
-  -- behind a closing brace of what is written
+  -- after a closing brace of what is written
   closed_goes : IsUtf8 text → cut_closed (record { parts = parts; text = text; stage = stages.Closed }) c ≡ Some next → IsCut ((string_written parts ++ (doubled text ++ 125 ∷ [])) ++ encode_utf8 c) next
   closed_goes is h = on (c == 125) refl h
     where

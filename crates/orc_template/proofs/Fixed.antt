@@ -59,7 +59,7 @@ module _ (v w : Viewed) (shapes : (parent : List PathStep) (name : List ℕ) →
   shares : (reads : List Read) → Shared reads → Shares v w reads
   shares reads h = record { shapes = shapes; read = h }
 
-  -- what was done behind these reads: it reads more, and is the same where all its reads are shared
+  -- what was done after these reads: it reads more, and is the same where all its reads are shared
   record Fixed {R : Type 0} (reads_of : R → List Read) (first : List Read) (p q : R) : Type 0 where
     longer : Longer first (reads_of p)
     same : Shared (reads_of p) → q ≡ p
@@ -71,7 +71,7 @@ module _ (v w : Viewed) (shapes : (parent : List PathStep) (name : List ℕ) →
   front_shared : (first reads : List Read) → Longer first reads → Shared reads → Shared first
   front_shared first reads longer h = All-front (SharesRead v w) first longer.0 (subst Shared longer.1 h)
 
-  -- one thing behind another
+  -- one thing after another
   joins : (first next : List Read) → Longer first next → {R : Type 0} (reads_of : R → List Read) (p q total : R)
       → Fixed reads_of next p q → (Shared next → total ≡ q) → Fixed reads_of first p total
   joins first next longer reads_of p q total more is = record {

@@ -1,4 +1,4 @@
--- One thing behind another, as the code does them: what stands behind, and what is handed on.
+-- One thing after another, as the code does them: what stands afterwards, and what is handed on.
 use Rattle.std.proofs.Common.{◌≡◌, ℕ, ◌++◌, List, Option, Some, Result, Ok, Err, slice_set, sym, ap, ◌∙◌}
 use Rattle.std.specs.Prelude.{IsErrAnd}
 use Rattle.std.proofs.lemmas.Result.{err_from_is_err_and}
@@ -28,7 +28,7 @@ module _ {X Y : Type 0} (first : Done X) (more : X → List Read → Done Y) (re
       let p = err_from_is_err_and r is in
       rw (p.1, p.2) (does_err h does)
 
--- the same as a whole of which this is what is left
+-- an answer of what is left is one of the whole that equals it
 pub does_so : {X : Type 0} (left whole : Done X) (reads : List Read) (r : Result X Halt) → left ≡ whole → Does left reads r → Does whole reads r
 does_so left whole reads (Ok x) is h = sym is ∙ h
 does_so left whole reads (Err (halt.Rule rule)) is h = sym is ∙ h
@@ -40,7 +40,7 @@ does_value value reads (Ok x) h = ap (λ v. done v reads) h
 does_value value reads (Err (halt.Rule rule)) h = ap (λ v. done v reads) h
 does_value value reads (Err halt.Memory) h = tt
 
--- a value of what was done in front
+-- a value of what was done before
 pub does_then_value : {X Y : Type 0} (first : Done X) (give : X → Result Y ℕ) (reads : List Read) (x : X) (r : Result Y Halt) → Does first reads (Ok x)
     → GivesValue (give x) r → Does (then_done first (λ y. done (give y))) reads r
 does_then_value first give reads x r before h =
@@ -54,7 +54,7 @@ does_one found read old new texts r found_is is h =
     (ap (λ o. done (one_found o) new) (sym found_is) ∙ ap (λ xs. done (one_found found) xs) is) (does_value (one_found (Some texts)) new r h)
 
 -- Items
--- the same as a whole of which this is what is left
+-- an answer of what is left to write is one of the whole that equals it
 pub writes_so : (left whole : Result Writing Ended) (new : Writing) (r : Result (Unit {0}) Halt) → left ≡ whole → Writes left new r → Writes whole new r
 writes_so left whole new (Ok x) is h = sym is ∙ h
 writes_so left whole new (Err (halt.Rule rule)) is h = sym is ∙ h

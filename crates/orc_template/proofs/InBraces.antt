@@ -122,7 +122,7 @@ text_begins (Where front key term) role alone h =
     (begins_append ((text ++ codes "[") ++ key) (codes "=") (begins_append (text ++ codes "[") key (begins_append text (codes "[") (text_begins front Front refl named.0)))))
 text_begins (Quoted text) role alone h = absurd (false≢true (sym alone ∙ (and_parts (is_term role) (is_quotable text) h).0))
 
--- The same of characters
+-- Where the bytes of a text have no closing brace, its characters have none either.
 
 brace_alone : (b c : ℕ) → b < 128 → (c == b) ≡ true → encode_utf8 c ≡ b ∷ []
 brace_alone b c low is = ap encode_utf8 (eqb-true c b is) ∙ encode_ascii b low

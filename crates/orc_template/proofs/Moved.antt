@@ -81,7 +81,7 @@ block_moved g k n d here e =
     next : n + k + 1 ≡ n + 1 + k
     next = omega arith
 
--- a block that stands behind so many others, by its answer under the first of their numbers
+-- a block that stands after so many others, by its answer under the first of their numbers
 pub behind_so : (k : ℕ) (due : Result Expanding Failed) (new : Expanding) (answer r : Result (Unit {0}) ExpandFault) → Expands due new answer → IsBehind k answer r → Expands (moved k due) new r
 behind_so k due new answer (Ok x) h is = ap (moved k) (subst (Expands due new) is h)
 behind_so k due new answer (Err (fault.At number rule)) h is =

@@ -13,7 +13,7 @@ use Rattle.orc_schema.specs.declared.line.Node.{Node}
 use Rattle.orc_schema.specs.declared.line.Node.TheVariants.{Container, List as ListOf, Leaf, LeafList}
 use Rattle.orc_typed.specs.Typed.{are_canonical_steps, carries, each_step, has_canonical_keys, is_canonical_value, is_carried, is_typed, stand, stands_at, step_kinds}
 
--- what is so of each step of a path is so of each step of a front
+-- what is so of each step of a path is so of each step of a prefix
 front_steps : (test : List (List ℕ) → PathStep → Bool) (above : List (List ℕ)) (n : ℕ) (steps : List PathStep)
     → each_step test above steps ≡ true → each_step test above (take n steps) ≡ true
 front_steps test above zero steps h = refl

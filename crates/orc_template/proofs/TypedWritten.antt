@@ -111,7 +111,7 @@ lexical_one k text t h = on (is_long_value text) h
 plain_one : (k : Kind) (d : Data) (t : List ℕ) → fitted (canon_of_json k d) ≡ Ok t → IsOne k t
 plain_one k d t h = let found = fitted_one (canon_of_json k d) t h in (json_again k d t found.0, found.1, found.2)
 
--- what was done in front gave something
+-- what was done before gave something
 then_value : {X Y : Type 0} (v : Result X ℕ) (reads : List Read) (more : X → List Read → Done Y) (y : Y) → (then_by v reads more).value ≡ Ok y
     → (x : X) × (v ≡ Ok x) × ((more x reads).value ≡ Ok y)
 then_value (Ok x) reads more y h = (x, refl, h)
@@ -201,7 +201,7 @@ no_key None h = refl
 no_key (Some x) h = let never : ⊥ = cc in absurd never
 
 module _ (s : SchemaTable) where
-  -- a step behind others, of a node with these keys
+  -- a step after others, of a node with these keys
   module _ (at : List PathStep) (name : List ℕ) (keys : List (List ℕ)) (n : Node) (is : node_below s at name ≡ Some n) where
     abbrev kinds : List (Option Kind)
     kinds = step_kinds s (path_names at ++ name ∷ []) n

@@ -6,7 +6,7 @@ use Rattle.std.specs.Cmp.Lexicographic.{slice_cmp}
 use Rattle.serde_json.specs.Data.{Data, null, boolean, number, string, array, object, Items, no_items, item, Members, no_members, member}
 use Rattle.serde_json.specs.Find.{get, as_str}
 
--- no block, or a block with its JSON, the blocks inside it, and those behind it
+-- no block, or a block with its JSON, the blocks inside it, and those after it
 pub data Blocks : Type 0 where
   no_block : Blocks
   block : Data → Blocks → Blocks → Blocks

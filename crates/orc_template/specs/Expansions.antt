@@ -40,7 +40,7 @@ abbrev pub fails : {X : Type 0} → ℕ → Result X Ended → Result X Failed
 fails number (Ok value) = Ok value
 fails number (Err ended) = Err (record { block = number; rule = ended.rule; reads = ended.reads })
 
--- one thing behind another
+-- one thing after another
 abbrev pub go_further : {X Y : Type 0} → Result X Failed → (X → Result Y Failed) → Result Y Failed
 go_further (Ok value) more = more value
 go_further (Err failed) more = Err failed
@@ -197,7 +197,7 @@ abbrev pub device_parts : ℕ → List Config → List (ℕ × List Put)
 device_parts number [] = []
 device_parts number (config ∷ later) = device_part number (entries config) ++ device_parts (number + 1) later
 
--- The answer of an expansion: what is written, or the first fault; the reads are added, and want of memory adds none.
+-- The answer of an expansion: what is written, or the first fault; the reads are added, and none where memory runs out.
 abbrev pub AnswersExpansion : Result Expanding Failed → List Read → List Read
     → Result (List (ℕ × List Put)) ExpandFault → Type 0
 AnswersExpansion due old new (Ok parts) =
@@ -207,7 +207,7 @@ AnswersExpansion due old new (Err (At number rule)) =
     (reads : List Read) × (due ≡ Err (record { block = number; rule = rule; reads = reads })) × (new ≡ old ++ reads)
 AnswersExpansion due old new (Err Memory) = new ≡ old
 
--- The same of what is written on each device, by the devices' numbers.
+-- The answer with what is written on each device, by the devices' numbers, or the first fault; the reads are added.
 abbrev pub AnswersWriting : Result Expanding Failed → List Read → List Read → Result (List Config) ExpandFault → Type 0
 AnswersWriting due old new (Ok trees) =
     (expanding : Expanding) × (due ≡ Ok expanding) × (trees ≡ expanding.written) × (new ≡ old ++ expanding.reads)

@@ -47,7 +47,7 @@ own_faults place block_number json =
     member_faults block_number json
     ++ expression_faults place block_number json (block_node place (text_of_member (codes "for") json))
 
--- all faults of blocks, numbered in the order of the text from `first` on, also of those behind one at fault
+-- all faults of blocks, numbered in the order of the text from `first` on, also of those after one at fault
 abbrev pub faults_of_blocks : Site → ℕ → Blocks → List TemplateFault
 faults_of_blocks place first no_block = []
 faults_of_blocks place first (block json inner later) =

@@ -38,8 +38,8 @@ abbrev pub AreParts : List Part → Type 0
 AreParts [] = Unit {0}
 AreParts (part ∷ later) = IsPart part × AreParts later
 
--- Plain texts beside one another are one. So one plain text, which may be empty, stands in front of each expression,
--- and one behind the last: here with a plain text in front of all parts.
+-- Plain texts beside one another are one. So one plain text, which may be empty, stands before each expression,
+-- and one after the last: here with a plain text before all parts.
 abbrev pub joined_behind : List ℕ → List Part → List Part
 joined_behind front [] = Written front ∷ []
 joined_behind front (Written text ∷ later) = joined_behind (front ++ text) later

@@ -9,8 +9,8 @@ use Rattle.orc_template.specs.declared.strings.Stage.{Stage}
 use Rattle.orc_template.specs.declared.strings.Stage.TheVariants as stages
 use Rattle.orc_template.specs.declared.strings.Cutter.{Cutter}
 
--- A string is cut character by character. A cutter has the parts in front, the text of the next one so far, and where
--- it stands: in what is written, behind an opening brace there, in braces, or behind a closing brace of what is
+-- A string is cut character by character. A cutter has the finished parts, the text of the next one so far, and where
+-- it stands: in what is written, after an opening brace there, in braces, or after a closing brace of what is
 -- written.
 abbrev pub kept_on : Cutter → ℕ → Stage → Cutter
 kept_on cutter character stage =

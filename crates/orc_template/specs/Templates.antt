@@ -83,7 +83,7 @@ abbrev pub string_resolves : Site → List ℕ → Bool
 string_resolves place text = option_map_or (list_all (part_resolves place)) (cut_parts text) false
 
 abbrev mutual
-  -- the same of each string in a JSON value, but for the names of members
+  -- each string in a JSON value, but for the names of members, is one whose expressions lead to nodes
   pub data_resolves : Site → Data → Bool
   data_resolves place null = true
   data_resolves place (boolean truth) = true
@@ -141,7 +141,7 @@ abbrev pub template_fault : Site → Data → Option TemplateFault
 template_fault place json = if is_template json then blocks_fault place 1 (blocks_inside json) else Some (BadMember 0)
 
 -- The answer for bytes: their JSON, where it is a template of the list, or its first fault, or that they are no JSON;
--- want of memory is free.
+-- nothing is said where memory runs out.
 abbrev pub ReadsTemplate : Site → List ℕ → Result Data TemplateFault → Type 0
 ReadsTemplate place bytes (Ok template) = IsJson bytes template × (template_fault place template ≡ None)
 ReadsTemplate place bytes (Err NotJson) = IsNoJson bytes

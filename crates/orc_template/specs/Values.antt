@@ -38,7 +38,7 @@ pub record Done (X : Type 0) : Type 0 where
 abbrev pub done : {X : Type 0} → Result X ℕ → List Read → Done X
 done value reads = record { value = value; reads = reads }
 
--- one thing behind another: where the first broke a rule, nothing is done behind it
+-- one thing after another: where the first broke a rule, nothing is done after it
 abbrev pub then_by : {X Y : Type 0} → Result X ℕ → List Read → (X → List Read → Done Y) → Done Y
 then_by (Ok value) reads more = more value reads
 then_by (Err rule) reads more = done (Err rule) reads
@@ -69,7 +69,7 @@ abbrev pub part_done : Scene → Part → List Read → Done (List ℕ)
 part_done scene (Written text) reads = done (Ok text) reads
 part_done scene (Braced text) reads = expression_done scene (scene.readers.expression text) reads
 
--- the texts of parts, one behind another, behind a text
+-- the texts of parts, one after another, appended to a text
 abbrev pub parts_done : Scene → List ℕ → List Part → List Read → Done (List ℕ)
 parts_done scene front [] reads = done (Ok front) reads
 parts_done scene front (part ∷ later) reads =
@@ -114,7 +114,7 @@ key_value scene (Some kind) (Some value) reads = value_done scene kind value rea
 abbrev pub key_done : Scene → SchemaTable → List (List ℕ) → Data → List ℕ → List Read → Done (List ℕ)
 key_done scene schema names entry key reads = key_value scene (key_kind schema names key) (get key entry) reads
 
--- the texts of the keys of an entry, in their order, behind some
+-- the texts of the keys of an entry, in their order, after some others
 abbrev pub more_keys : Scene → SchemaTable → List (List ℕ) → Data → List (List ℕ) → List (List ℕ) → List Read
     → Done (List (List ℕ))
 more_keys scene schema names entry front [] reads = done (Ok front) reads
@@ -129,13 +129,13 @@ keys_done scene schema names entry (key ∷ later) reads = more_keys scene schem
 
 -- Answers -------------------------------------------------------------------------------------------------------------
 
--- The answer is what was given, and the reads are those so far; want of memory is free.
+-- The answer is what was given, and the reads are those so far; nothing is said where memory runs out.
 abbrev pub Does : {X : Type 0} → Done X → List Read → Result X Halt → Type 0
 Does due new (Ok value) = due ≡ done (Ok value) new
 Does due new (Err (Rule rule)) = due ≡ done (Err rule) new
 Does due new (Err Memory) = Unit {0}
 
--- the same, where nothing is read
+-- The answer is what was given, where nothing is read; nothing is said where memory runs out.
 abbrev pub GivesValue : {X : Type 0} → Result X ℕ → Result X Halt → Type 0
 GivesValue due (Ok value) = due ≡ Ok value
 GivesValue due (Err (Rule rule)) = due ≡ Err rule

@@ -33,12 +33,12 @@ pub record Ended : Type 0 where
 abbrev pub ends : {X : Type 0} → ℕ → List Read → Result X Ended
 ends rule reads = Err (record { rule = rule; reads = reads })
 
--- one thing behind another
+-- one thing after another
 abbrev pub go_on : {X Y : Type 0} → Result X Ended → (X → Result Y Ended) → Result Y Ended
 go_on (Ok value) more = more value
 go_on (Err ended) more = Err ended
 
--- what was done in front
+-- what was done before
 abbrev pub with_value : {X : Type 0} → Result X ℕ → List Read → Config → (X → Writing → Result Writing Ended)
     → Result Writing Ended
 with_value (Ok value) reads tree more = more value (record { tree = tree; reads = record { reads = reads } })
@@ -125,7 +125,7 @@ member_done scene schema keys at name json inside entries writing =
 
 abbrev mutual
   -- The JSON object of the root, of a container or of an entry at a path. `keys` are the names of the keys that an
-  -- entry of a list has in it, of which its path tells. Members are done in the order of the bytes of their names, in
+  -- entry of a list has in it, as its path says. Members are done in the order of the bytes of their names, in
   -- which a JSON object has them here.
   pub object_done : Scene → SchemaTable → List (List ℕ) → List PathStep → Data → Writing → Result Writing Ended
   object_done scene schema keys at null writing = bad_leaf writing
@@ -170,7 +170,7 @@ abbrev mutual
       entry_written scene schema at name keys (object pairs)
       (λ entry. members_done scene schema keys entry pairs) writing
 
--- The answer is the writing behind, or the rule with what was read; want of memory is free.
+-- The answer is the writing afterwards, or the rule with what was read; nothing is said where memory runs out.
 abbrev pub Writes : Result Writing Ended → Writing → Result Unit Halt → Type 0
 Writes due new (Ok _) = due ≡ Ok new
 Writes due new (Err (Rule rule)) = due ≡ ends rule new.reads.reads

@@ -49,7 +49,7 @@ pub(crate) fn more(number: u32, count: u32) -> Result<u32, Memory>
     }
 }
 
-/// The number of the block behind one with so many inside.
+/// The number of the block after one with so many inside.
 pub(crate) fn number_behind(number: u32, inside: u32) -> Result<u32, Memory>
     ensures { IfOk result (λ next. next ≡ number + 1 + inside) }
 {

@@ -210,7 +210,7 @@ fn value_resolves<V: DataView>(
     }
 }
 
-// The same of items.
+// Whether each string in these items of an array is such a string.
 #[cycle(resolving)]
 fn items_resolve<V: DataView>(
     alloc: Global,
@@ -229,7 +229,7 @@ fn items_resolve<V: DataView>(
     Ok(true)
 }
 
-// The same of members.
+// Whether each string in the members of an object is such a string.
 #[cycle(resolving)]
 fn members_resolve<V: DataView>(
     alloc: Global,

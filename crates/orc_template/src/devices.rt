@@ -13,11 +13,21 @@ use std::marker::Model;
 
 /// The declared devices: their names, in the order of their numbers from 0 on, the schemas, and for
 /// each device the place of its schema. The names differ, and each has a place.
-#[derive(Drop)]
 pub struct Devices {
     pub names: Row<Text>,
     pub schemas: Row<Schema>,
     pub of: Row<u32>,
+}
+
+// Written out, so that a crate above lets devices go by one call.
+impl Drop for Devices {
+    fn drop(self) {
+        let Devices {
+            names: _,
+            schemas: _,
+            of: _,
+        } = self;
+    }
 }
 
 impl Model for Devices {

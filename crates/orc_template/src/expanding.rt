@@ -345,8 +345,8 @@ fn do_block<V: DataView>(
     }
 }
 
-// The answer of a block behind others, which was done under the first number of these: its fault is
-// numbered behind theirs. So blocks are counted only where there is a fault.
+// The answer of a block after others, which was done under the first number of these: its fault is
+// numbered after theirs. So blocks are counted only where there is a fault.
 fn behind(front: &[Value], answer: Result<(), ExpandFault>) -> Result<(), ExpandFault>
     ensures { IsBehind (block_count (blocks_of (items_view front.now))) answer result }
 {

@@ -28,7 +28,7 @@ impl Expansion {
 
     /// The expansion of what is written on each device, in the order of the devices' numbers from 0
     /// on: the items of each tree that has some, in path order. More trees than there are numbers of
-    /// devices is want of memory.
+    /// devices count as running out of memory.
     pub fn gathered(alloc: Global, written: &[Tree]) -> Result<Expansion, Memory>
         ensures { IfOk result (λ expansion. expansion.parts ≡ device_parts 0 written.now) }
     {

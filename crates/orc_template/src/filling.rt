@@ -84,7 +84,7 @@ fn push_text(text: &mut String, more: &Text) -> Result<(), Memory>
     Ok(())
 }
 
-// The texts of parts, one behind another.
+// The texts of parts, one after another.
 fn parts_text<V: DataView>(
     alloc: Global,
     view: &V,

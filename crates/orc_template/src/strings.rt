@@ -13,7 +13,7 @@ pub(crate) enum Part {
     Braced(Text),
 }
 
-/// Where a cutter stands: in what is written, behind an opening brace there, in braces, or behind a
+/// Where a cutter stands: in what is written, after an opening brace there, in braces, or after a
 /// closing brace of what is written.
 #[derive(Clone, Copy)]
 pub(crate) enum Stage {
@@ -23,7 +23,7 @@ pub(crate) enum Stage {
     Closed,
 }
 
-/// A string that is cut into its parts: those in front, what came of the next one, and where the
+/// A string that is cut into its parts: those that are finished, what came of the next one, and where the
 /// cutter stands.
 #[derive(Drop)]
 pub(crate) struct Cutter {
@@ -102,7 +102,7 @@ impl Cutter {
         Ok(true)
     }
 
-    // Takes the character behind an opening brace.
+    // Takes the character after an opening brace.
     fn take_opened(&mut self, alloc: Global, character: char) -> Result<bool, Memory>
         ensures { Cuts (cut_opened self.old character) self.new result }
     {
@@ -114,7 +114,7 @@ impl Cutter {
         self.take_braced(alloc, character)
     }
 
-    // Takes the character behind a closing brace.
+    // Takes the character after a closing brace.
     fn take_closed(&mut self, character: char) -> Result<bool, Memory>
         ensures { Cuts (cut_closed self.old character) self.new result }
     {

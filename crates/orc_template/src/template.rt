@@ -27,10 +27,17 @@ use std::alloc::Global;
 use std::marker::Model;
 
 /// A template: the text of a JSON value, whose strings hold expressions.
-#[derive(Drop)]
 pub struct Template {
     text: Row<u8>,
     json: Value,
+}
+
+// Written out, so that a crate above lets a template go by one call, and proves nothing of its JSON
+// value.
+impl Drop for Template {
+    fn drop(self) {
+        let Template { text: _, json: _ } = self;
+    }
 }
 
 impl Model for Template {
@@ -83,7 +90,7 @@ impl Template {
         Template::read_bytes(alloc, bytes, schema, list)
     }
 
-    // The same, where texts are read byte by byte.
+    // The template that `read` answers, where texts are read byte by byte.
     fn read_bytes(
         alloc: Global,
         bytes: &[u8],
@@ -239,7 +246,7 @@ impl Template {
 
     /// What the template writes for an instance of its list, or the first fault: each block in the
     /// order of the text, at its context or, with `for`, at each of its nodes. What was read is
-    /// added, also where the answer is a fault; after want of memory nothing is added.
+    /// added, also where the answer is a fault; where memory runs out nothing is added.
     pub fn expand<V: DataView>(
         &self,
         alloc: Global,

@@ -15,7 +15,7 @@ use orc_tree::Tree;
 use orc_yang::parse;
 use std::alloc::Global;
 
-/// The state of a table behind its lines so far. The devices are r1 and r2, which have the schema of
+/// The state of a table after its lines so far. The devices are r1 and r2, which have the schema of
 /// the devices' modules, and q, which is plain.
 #[derive(Drop)]
 pub(crate) struct Bench {

@@ -133,7 +133,7 @@ pub(crate) fn push_actions(
     out: &mut String,
     answer: Result<Row<Action>, Answer>,
 ) -> Result<(), Memory> {
-    match answer {
+    match &answer {
         Ok(actions) => {
             for action in actions.as_slice() {
                 push_action(alloc, out, action)?;
@@ -144,7 +144,7 @@ pub(crate) fn push_actions(
             out.push_str("    ")?;
             out.push_str(name.as_str())?;
             out.push_str("\n")?;
-            push_fault(alloc, out, block, rule)
+            push_fault(alloc, out, *block, *rule)
         }
         Err(_) => Err(Memory),
     }

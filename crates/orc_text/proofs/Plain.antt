@@ -24,7 +24,7 @@ plain_from xs u h = is_plain_text-utf8 xs u ∙ h
 pub is_plain_text-nil : is_plain_text [] ≡ true
 is_plain_text-nil = plain_from [] IsUtf8-nil (ap (list_all is_plain_character) chars-nil)
 
--- two texts behind one another
+-- two texts, one after the other
 pub is_plain_text-append : (xs ys : List ℕ) → is_plain_text xs ≡ true → is_plain_text ys ≡ true → is_plain_text (xs ++ ys) ≡ true
 is_plain_text-append xs ys h k =
     let left = plain_parts xs h in

@@ -6,7 +6,7 @@ use std::alloc::Global;
 
 /// A value of which an equal one can be made. It lets a `Row` of any such values be copied.
 pub trait Copied {
-    /// An equal value, or want of memory.
+    /// An equal value, unless memory runs out.
     fn copied(&self, alloc: Global) -> Result<Self, Memory>
         ensures { IfOk result (λ copy. copy ≡ self.now) };
 }

@@ -14,7 +14,7 @@ pub trait Counted {
         ensures { result ≡ capped (length (spelling self.now)) };
 }
 
-/// How many bytes values have that stand one behind another.
+/// How many bytes the values have, one after another.
 pub fn total_count<T: Counted>(items: &[T]) -> u64
     ensures { result ≡ capped (length (flat_map T.spelling items.now)) }
 {

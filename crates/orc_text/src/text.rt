@@ -100,7 +100,7 @@ impl Text {
         }
     }
 
-    /// Adds a character at the end. After want of memory the text is as it was.
+    /// Adds a character at the end. If memory runs out, the text is as it was.
     pub fn push(&mut self, character: char) -> Result<(), Memory>
         ensures ok { OnOk result (self.new ≡ self.old ++ encode_utf8 character) }
         ensures err { OnErr result (self.new ≡ self.old) }

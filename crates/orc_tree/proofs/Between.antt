@@ -44,7 +44,7 @@ prefix_between (s ∷ ss) (t ∷ ts) (u ∷ us) h a b =
 unlike : (o : Ordering) → o ≡ Less → o ≡ Equal → ⊥
 unlike o l e = cc
 
--- a path that ends in keys is a way of those that go on behind it
+-- a path that ends in keys is a way of those that go on after it
 pub is_way : (w r : List PathStep) → is_prefix w r ≡ true → path_cmp w r ≡ Less → ends_in_keys w ≡ true → IsWay w r
 is_way w r h l k =
     let more = is_prefix_rest w r h in
@@ -89,7 +89,7 @@ either w p r no_tie no_way = on (path_cmp w r) (path_cmp p r) refl refl
 absent_here : (o : Option Item) → is_none o ≡ true → is_some o ≡ true → ⊥
 absent_here o n s = cc
 
--- no row stands from a missing entry up to a path that goes on behind it
+-- no row stands from a missing entry up to a path that goes on after it
 pub missing_gap : (w p : List PathStep) (rows : Rows) → is_sorted path_cmp rows ≡ true → IsConfig (map_of rows) → ends_in_keys w ≡ true → is_prefix w p ≡ true
     → is_none (find path_cmp w rows) ≡ true → none_between w p rows ≡ true
 missing_gap w p rows s config keyed before none =

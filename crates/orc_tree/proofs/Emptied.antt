@@ -27,7 +27,7 @@ empty_chapters cs are = (
     on [] are none = refl
     on (c ∷ cs) are none = absurd (some_row c cs are.laid none)
 
--- the test whether there is a chapter tells whether there is an item
+-- the test whether there is a chapter says whether there is an item
 pub empty_where : (cs : Chapters) (m : Config) (b : Bool) → AreChapters cs → chapters_map cs ≡ m → b ≡ (length cs == 0) → (IsTrue b ↔ (m ≡ empty))
 empty_where cs m b are view test = (
   λ t. sym view ∙ (empty_chapters cs are).0 (nil_from_length cs (eqb-true (length cs) 0 (sym test ∙ t))),

@@ -23,7 +23,7 @@ use Rattle.orc_tree.proofs.Maps.{Rows}
 use Rattle.orc_tree.proofs.Pieces.{gt_is, below_less, put_piece}
 use Rattle.orc_tree.proofs.Paged.{rows_of-at}
 
--- each of the paths stands behind the rows in front and before those behind
+-- each of the paths stands after the first rows and before the last ones
 abbrev AreWithin : Rows → Rows → List (List PathStep) → Type 0
 AreWithin front behind ws = All (λ w. (above_all w front ≡ true) × (below_all path_cmp w behind ≡ true)) ws
 

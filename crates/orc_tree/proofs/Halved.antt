@@ -9,7 +9,7 @@ use Rattle.orc_tree.specs.inside.Places.{IsPartFor, above_all, starts_behind}
 use Rattle.orc_tree.proofs.Maps.{Rows}
 use Rattle.orc_tree.proofs.Paged.{HaveRows, behind_part, before_part}
 
--- the rows of the parts below `low` come before the path, and those from `high` on behind it
+-- the rows of the parts below `low` come before the path, and those from `high` on after it
 pub record IsHalved {E : Type 0} (rows : E → Rows) (path : List PathStep) (parts : List E) (low high : ℕ) : Type 0 where
   pub order : low < high
   pub within : high ≤ length parts

@@ -37,7 +37,7 @@ same_tail x y xs ys e = cc
 no_push : {X : Type 0} (xs : List X) (x : X) → [] ≡ xs ++ x ∷ [] → ⊥
 no_push xs x e = omega (arith, ap length e, length-append xs (x ∷ []))
 
--- Going on from the front's steps
+-- Going on from the first steps
 
 and_assoc : (a b c : Bool) → (a && (b && c)) ≡ ((a && b) && c)
 and_assoc true b c = refl
@@ -111,7 +111,7 @@ list_before [] h = absurd (false≢true h)
 list_before (s ∷ []) h = ap (λ o. ordering_then o Equal) (step_before_keys s h)
 list_before (s ∷ t ∷ ss) h = then_equal _ _ (tied_itself step_cmp_total s) ∙ list_before (t ∷ ss) h
 
--- an entry of a list stands behind the list's path
+-- an entry of a list stands after the list's path
 pub entry_behind : (list p : List PathStep) → is_entry_of list p ≡ true → path_cmp list p ≡ Less
 entry_behind list p h =
     let is = (is_entry_of_decides list p).0 h in

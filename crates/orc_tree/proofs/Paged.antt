@@ -24,7 +24,7 @@ use Rattle.orc_tree.proofs.Pieces.{lt_is, below_less, above_greater, sorted_behi
 abbrev pub Pages : Type 0
 Pages = List (Arc Page Global)
 
--- a part whose first row comes behind the path
+-- a part whose first row comes after the path
 starts_less : (q : List PathStep) (part rest : Rows) → is_sorted path_cmp (part ++ rest) ≡ true → starts_behind q part ≡ true → below_all path_cmp q (part ++ rest) ≡ true
 starts_less q [] rest s h = absurd (false≢true h)
 starts_less q (row ∷ part) rest s h =
@@ -107,7 +107,7 @@ module _ {E : Type 0} (f : E → Rows) where
   pub IsPartFor-like : (q r : List PathStep) (ps qs : List E) (i : ℕ) → r ≡ q → qs ≡ ps → IsPartFor f r qs i → IsPartFor f q ps i
   IsPartFor-like q r ps qs i same is for = subst (λ (x : List E). IsPartFor f q x i) is (subst (λ (x : List PathStep). IsPartFor f x qs i) same for)
 
-  -- two parts that stand behind one another, cut out of the others
+  -- two parts that stand next to each other, cut out of the others
   pub rows_of-two : (ps : List E) (i : ℕ) (p q : E) → i + 1 < length ps → p ≡ get_or ps i p → q ≡ get_or ps (i + 1) q
       → flat_map f (take i ps) ++ ((f p ++ f q) ++ flat_map f (drop (i + 2) ps)) ≡ flat_map f ps
   rows_of-two ps i p q l is next =

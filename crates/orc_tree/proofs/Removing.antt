@@ -63,7 +63,7 @@ kept_before p (row ∷ rows) h =
     let parts = and_parts (is_gt (path_cmp p row.0)) (above_all p rows) h in
     and_from _ _ (not_taken (is_removed_with p row.0) (λ t. false≢true (sym (taken_behind p row.0 t) ∙ parts.0))) (kept_before p rows parts.1)
 
--- what a path takes it takes together: where it leaves one behind it, it leaves those further behind
+-- what a path takes it takes together: where it leaves one after it, it leaves those further on
 taken_between : (p r q : List PathStep) → path_cmp p r ≡ Less → path_cmp r q ≡ Less → is_removed_with p q ≡ true → is_removed_with p r ≡ true
 taken_between p r q a b h = on (ends_in_keys p) h
   where
@@ -107,7 +107,7 @@ module _ {E : Type 0} (f : E → Rows) where
       rows_of-cut f ps i
       ∙ ap (λ (r : Rows). flat_map f (take i ps) ++ r) (ap (λ (qs : List E). flat_map f qs) (drop_split ps i end order) ∙ rows_of-append f (slice_range ps i end) (drop end ps))
 
-  -- the rows before a path's part and those behind what it takes stay
+  -- the rows before a path's part and those after what it takes stay
   pub kept_span : (p : List PathStep) (ps : List E) (i end : ℕ) → above_all p (flat_map f (take i ps)) ≡ true → all_kept p (flat_map f (drop end ps)) ≡ true → i ≤ end
       → kept_of p (flat_map f ps) ≡ flat_map f (take i ps) ++ (kept_of p (flat_map f (slice_range ps i end)) ++ flat_map f (drop end ps))
   kept_span p ps i end before behind order =

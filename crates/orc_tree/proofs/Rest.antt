@@ -25,7 +25,7 @@ pub rest_entries : (list : List PathStep) (whole rest : Rows) → IsRestFor list
 rest_entries list whole rest is =
     sym (ap (entries_of list) is.parts ∙ entries_of-append list is.front rest ∙ ap (λ x. x ++ entries_of list rest) (no_entries-before list is.front is.before))
 
--- the rest of a part, and the parts behind it
+-- the rest of a part, and the parts after it
 pub rest_in_part : {E : Type 0} (f : E → Rows) (q : List PathStep) (ps : List E) (i : ℕ) (p : E) (rest behind : Rows) → IsPartFor f q ps i → p ≡ get_or ps i p
     → IsRestFor q (f p) rest → behind ≡ flat_map f (drop (suc i) ps) → IsRestFor q (flat_map f ps) (rest ++ behind)
 rest_in_part f q ps i p rest behind for is inner tail =

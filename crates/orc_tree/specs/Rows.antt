@@ -10,7 +10,7 @@ pub record IsRowOf {V : Type 0} (path : List PathStep) (rows : List (List PathSt
   pub within : at < length rows
   pub here : HoldsAt (λ row. row.0 ≡ path) rows at
 
--- the rows up to there come before the path, and those from there on behind it
+-- the rows up to there come before the path, and those from there on after it
 pub record IsPlaceOf {V : Type 0} (path : List PathStep) (rows : List (List PathStep × V)) (at : ℕ) : Type 0 where
   pub within : at ≤ length rows
   pub before : AllWithin (λ row. path_cmp path row.0 ≡ Greater) rows 0 at

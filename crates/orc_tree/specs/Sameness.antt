@@ -15,7 +15,7 @@ equal_items Entry (Leaf text) = false
 equal_items (Leaf text) Entry = false
 equal_items (Leaf text) (Leaf other) = pointwise nat_eq text other
 
--- the same path, with the same item
+-- both rows have one path and one item
 abbrev pub equal_rows : List PathStep × Item → List PathStep × Item → Bool
 equal_rows row other = pointwise step_eq row.0 other.0 && equal_items row.1 other.1
 

@@ -109,12 +109,12 @@ fn applied_to(alloc: Global, tree: &Tree, changes: &[Change]) -> Result<Tree, Me
     let mut new = tree.copy(alloc)?;
     drop_each(&mut new, changes)?;
     put_each(alloc, &mut new, changes)?;
-    // What is read of a tree tells that it is a configuration.
+    // What is read of a tree says that it is a configuration.
     let _chapters = new.chapters();
     Ok(new)
 }
 
-// Applies changes to a tree. After want of memory it is as it was.
+// Applies changes to a tree. Where memory runs out, it is as it was.
 pub(crate) fn apply_to(alloc: Global, tree: &mut Tree, set: &ChangeSet) -> Result<(), Memory>
     requires fits { IsTrue (list_all change_fits set.now.changes) }
     ensures ok { OnOk result (tree.new ≡ applied set.now.changes tree.old) }

@@ -14,14 +14,14 @@ pub struct Chapter {
     pub pages: Row<Arc<Page>>,
 }
 
-// The chapters of a tree, which stand behind one owner that its copies share.
+// The chapters of a tree, held by one owner that its copies share.
 #[derive(Debug, Drop)]
 pub(crate) struct ChapterList {
     pub(crate) chapters: Vec<Arc<Chapter>>,
 }
 
 // Makes a chapter that has other holders a copy of its own, so that it may be changed. It costs a
-// counter for each of its pages. After want of memory it is as it was.
+// counter for each of its pages. Where memory runs out, it is as it was.
 pub(crate) fn own_chapter(alloc: Global, chapter: &mut Arc<Chapter>) -> Result<(), Memory>
     requires { AreSized (chapter_pages chapter.old) }
     ensures rows { chapter_rows chapter.new ≡ chapter_rows chapter.old }

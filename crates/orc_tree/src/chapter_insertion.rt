@@ -15,7 +15,7 @@ use std::alloc::Global;
 use std::mem;
 use std::sync::Arc;
 
-// Puts entries and an item into a chapter. After want of memory its rows are as they were.
+// Puts entries and an item into a chapter. Where memory runs out, its rows are as they were.
 fn put_into(
     chapter: &mut Arc<Chapter>,
     alloc: Global,
@@ -38,12 +38,12 @@ fn put_into(
             chapter.pages = Row::from_vec(pages);
             done
         }
-        // No chapter has another holder behind `own_chapter`.
+        // No chapter has another holder after `own_chapter`.
         None => Err(Memory),
     }
 }
 
-// Puts entries and an item into the chapter in which the path belongs. After want of memory the
+// Puts entries and an item into the chapter in which the path belongs. Where memory runs out, the
 // rows are as they were.
 fn put_at(
     chapters: &mut Vec<Arc<Chapter>>,
@@ -65,7 +65,7 @@ fn put_at(
     put_into(&mut chapters[at], alloc, missing, path, item)
 }
 
-// Makes the first chapter, of entries and an item, where there is none. After want of memory there
+// Makes the first chapter, of entries and an item, where there is none. Where memory runs out, there
 // is none.
 fn put_first(
     chapters: &mut Vec<Arc<Chapter>>,
@@ -87,7 +87,7 @@ fn put_first(
     push_chapter(chapters, alloc, pages)
 }
 
-// Puts entries and an item into the chapters. After want of memory the rows are as they were.
+// Puts entries and an item into the chapters. Where memory runs out, the rows are as they were.
 pub(crate) fn put_in_chapters(
     chapters: &mut Vec<Arc<Chapter>>,
     missing: Vec<Path>,

@@ -15,8 +15,8 @@ use std::alloc::Global;
 use std::mem;
 use std::sync::Arc;
 
-// Takes the path and what is below it out of a chapter, and says whether no page is left. After
-// want of memory its rows are as they were.
+// Takes the path and what is below it out of a chapter, and says whether no page is left. Where
+// memory runs out, its rows are as they were.
 fn remove_within(chapter: &mut Chapter, alloc: Global, path: &Path) -> Result<bool, Memory>
     requires sorted { AreInOrder chapter.old.pages }
     requires sized { AreSized chapter.old.pages }
@@ -32,7 +32,8 @@ fn remove_within(chapter: &mut Chapter, alloc: Global, path: &Path) -> Result<bo
     Ok(chapter.pages.is_empty())
 }
 
-// The same behind the owner of the chapter.
+// Takes the path and what is below it out of a chapter that other owners may share, which is copied
+// where they do, and says whether no page is left.
 fn remove_from(chapter: &mut Arc<Chapter>, alloc: Global, path: &Path) -> Result<bool, Memory>
     requires sorted { AreInOrder (chapter_pages chapter.old) }
     requires sized { AreSized (chapter_pages chapter.old) }
@@ -44,7 +45,7 @@ fn remove_from(chapter: &mut Arc<Chapter>, alloc: Global, path: &Path) -> Result
     own_chapter(alloc, chapter)?;
     match Arc::get_mut(chapter) {
         Some(chapter) => remove_within(chapter, alloc, path),
-        // No chapter has another holder behind `own_chapter`.
+        // No chapter has another holder after `own_chapter`.
         None => Err(Memory),
     }
 }
@@ -60,7 +61,7 @@ fn first_taken(pages: &[Arc<Page>], path: &Path) -> bool
     }
 }
 
-// The first chapter behind a path's own whose rows all stay where the path is removed.
+// The first chapter after a path's own whose rows all stay where the path is removed.
 fn end_of_run(chapters: &[Arc<Chapter>], at: usize, path: &Path) -> usize
     requires place { IsChapterFor path.now chapters.now at }
     requires sorted { AreChaptersInOrder chapters.now }
@@ -98,7 +99,7 @@ fn remove_at_chapter(chapters: &mut Vec<Arc<Chapter>>, at: usize, path: &Path) -
 }
 
 // Takes the path and what is below it out of the chapters from its own one up to the first one
-// whose rows all stay. After want of memory the rows are as they were.
+// whose rows all stay. Where memory runs out, the rows are as they were.
 fn remove_run(
     chapters: &mut Vec<Arc<Chapter>>,
     at: usize,
@@ -124,7 +125,7 @@ fn remove_run(
 }
 
 // Takes the path and what is below it out of the chapters, and joins what is left where it is
-// little. After want of memory the rows are as they were.
+// little. Where memory runs out, the rows are as they were.
 pub(crate) fn remove_in_chapters(
     chapters: &mut Vec<Arc<Chapter>>,
     path: &Path,

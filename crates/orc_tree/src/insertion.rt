@@ -40,7 +40,7 @@ fn pages_of(alloc: Global, rows: Vec<(Path, Item)>) -> Result<Vec<Arc<Page>>, Me
     Ok(pages)
 }
 
-// Lays rows out in the place of some pages. After want of memory the pages are as they were.
+// Lays rows out in the place of some pages. Where memory runs out, the pages are as they were.
 pub(crate) fn replace(
     pages: &mut Vec<Arc<Page>>,
     from: usize,
@@ -77,7 +77,7 @@ fn put_among(
     Ok(())
 }
 
-// Puts entries and an item into a page. After want of memory its rows are as they were.
+// Puts entries and an item into a page. Where memory runs out, its rows are as they were.
 fn put_within(
     page: &mut Arc<Page>,
     alloc: Global,
@@ -98,13 +98,13 @@ fn put_within(
             page.rows = Row::from_vec(rows);
             put
         }
-        // No page has another holder behind `own`.
+        // No page has another holder after `own`.
         None => Err(Memory),
     }
 }
 
-// Lays rows out in the place of some pages, with entries and an item put into them. After want of
-// memory the pages are as they were.
+// Lays rows out in the place of some pages, with entries and an item put into them. Where memory runs
+// out, the pages are as they were.
 fn put_apart(
     pages: &mut Vec<Arc<Page>>,
     from: usize,
@@ -128,7 +128,7 @@ fn put_apart(
 }
 
 // Puts entries and an item into the page in which the path belongs. It changes the page where
-// there is room, and else lays its rows out anew. After want of memory the rows are as they were.
+// there is room, and else lays its rows out anew. Where memory runs out, the rows are as they were.
 fn put_at(
     pages: &mut Vec<Arc<Page>>,
     at: usize,
@@ -152,8 +152,8 @@ fn put_at(
     put_apart(pages, at, at + 1, rows, missing, path, item)
 }
 
-// Moves the rows of a page behind the first `LAID_ROWS` to another page, which has none. After want
-// of memory the rows are as they were.
+// Moves the rows of a page after the first `LAID_ROWS` to another page, which has none. Where memory
+// runs out, the rows are as they were.
 fn move_behind(page: &mut Page, behind: &mut Page, alloc: Global) -> Result<(), Memory>
     requires { LAID_ROWS ≤ length page.old.rows }
     ensures ok { OnOk result (page.new.rows ++ behind.new.rows ≡ page.old.rows) }
@@ -167,7 +167,8 @@ fn move_behind(page: &mut Page, behind: &mut Page, alloc: Global) -> Result<(), 
     Ok(())
 }
 
-// The same behind owners of the pages.
+// Moves the rows after the first `LAID_ROWS` of a page that other owners may share, which is copied
+// where they do, to another page, which has none.
 fn part(page: &mut Arc<Page>, behind: &mut Arc<Page>, alloc: Global) -> Result<(), Memory>
     requires { LAID_ROWS ≤ length (page_rows page.old) }
     ensures ok { OnOk result (page_rows page.new ++ page_rows behind.new ≡ page_rows page.old) }
@@ -184,7 +185,7 @@ fn part(page: &mut Arc<Page>, behind: &mut Arc<Page>, alloc: Global) -> Result<(
     }
 }
 
-// Splits a full page in two. After want of memory the rows are as they were.
+// Splits a full page in two. Where memory runs out, the rows are as they were.
 fn split(pages: &mut Vec<Arc<Page>>, at: usize) -> Result<(), Memory>
     requires within { at < length pages.old.items }
     requires full { HoldsAt (λ page. length (page_rows page) ≡ PAGE_ROWS) pages.old.items at }
@@ -205,7 +206,7 @@ fn split(pages: &mut Vec<Arc<Page>>, at: usize) -> Result<(), Memory>
 }
 
 // The page in which the row of the path of these steps stands, or else would, once it was split
-// where it was full. After want of memory the rows are as they were.
+// where it was full. Where memory runs out, the rows are as they were.
 fn page_with_room(pages: &mut Vec<Arc<Page>>, steps: &[Step]) -> Result<usize, Memory>
     requires sorted { AreInOrder pages.old.items }
     requires sized { AreSized pages.old.items }
@@ -222,7 +223,7 @@ fn page_with_room(pages: &mut Vec<Arc<Page>>, steps: &[Step]) -> Result<usize, M
     Ok(page_for(pages.as_slice(), steps))
 }
 
-// Puts entries and an item into the pages. After want of memory the rows are as they were.
+// Puts entries and an item into the pages. Where memory runs out, the rows are as they were.
 pub(crate) fn put(
     pages: &mut Vec<Arc<Page>>,
     missing: Vec<Path>,

@@ -16,7 +16,7 @@ const LAID_PAGES: usize = 48;
 // How many pages two neighbouring chapters have at most that become one after a removal.
 const JOINED_PAGES: usize = 16;
 
-// Adds a chapter of these pages at the end, where there are any. After want of memory the chapters
+// Adds a chapter of these pages at the end, where there are any. Where memory runs out, the chapters
 // are as they were.
 pub(crate) fn push_chapter(
     chapters: &mut Vec<Arc<Chapter>>,
@@ -70,7 +70,7 @@ fn chapters_of(
     Ok(chapters)
 }
 
-// Lays pages out in the place of some chapters. After want of memory the chapters are as they were.
+// Lays pages out in the place of some chapters. Where memory runs out, the chapters are as they were.
 pub(crate) fn replace_chapters(
     chapters: &mut Vec<Arc<Chapter>>,
     from: usize,
@@ -105,7 +105,7 @@ pub(crate) fn share_run(alloc: Global, chapters: &[Arc<Chapter>]) -> Result<Vec<
     Ok(shared)
 }
 
-// Lays the pages of some chapters out anew. After want of memory the chapters are as they were.
+// Lays the pages of some chapters out anew. Where memory runs out, the chapters are as they were.
 fn lay_anew(chapters: &mut Vec<Arc<Chapter>>, from: usize, to: usize) -> Result<(), Memory>
     requires order { from ≤ to }
     requires within { to ≤ vec_len chapters.old }

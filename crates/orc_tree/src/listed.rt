@@ -53,7 +53,7 @@ fn is_own(list: &Option<Arc<ChapterList>>) -> bool {
     }
 }
 
-// Makes a list that has other holders, or is none, one of its own. After want of memory it is as it
+// Makes a list that has other holders, or is none, one of its own. Where memory runs out, it is as it
 // was.
 fn own_list(list: &mut Option<Arc<ChapterList>>, alloc: Global) -> Result<(), Memory>
     requires { AreLaid (listed list.old) }
@@ -86,7 +86,7 @@ fn put_owned(
 {
     match Arc::get_mut(list) {
         Some(list) => put_in_chapters(&mut list.chapters, missing, path, item),
-        // No list has another holder behind `own_list`.
+        // No list has another holder after `own_list`.
         None => Err(Memory),
     }
 }
@@ -102,13 +102,13 @@ fn remove_owned(list: &mut Arc<ChapterList>, path: &Path) -> Result<(), Memory>
 {
     match Arc::get_mut(list) {
         Some(list) => remove_in_chapters(&mut list.chapters, path),
-        // No list has another holder behind `own_list`.
+        // No list has another holder after `own_list`.
         None => Err(Memory),
     }
 }
 
 // Puts entries and an item into the chapters of a list, which is copied where it has other holders.
-// After want of memory the rows are as they were.
+// Where memory runs out, the rows are as they were.
 pub(crate) fn put_shared(
     list: &mut Option<Arc<ChapterList>>,
     alloc: Global,
@@ -132,7 +132,7 @@ pub(crate) fn put_shared(
 }
 
 // Takes a path and what is below it out of the chapters of a list, which is copied where it has other
-// holders. After want of memory the rows are as they were.
+// holders. Where memory runs out, the rows are as they were.
 pub(crate) fn remove_shared(
     list: &mut Option<Arc<ChapterList>>,
     alloc: Global,

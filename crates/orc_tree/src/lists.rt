@@ -27,7 +27,7 @@ fn is_under(front: &[Step], last: &Step, path: &[Step]) -> bool
     path.starts_with(front) && step.node == last.node
 }
 
-// Whether a path stands behind the list of these steps and behind all that is below it.
+// Whether a path stands after the list of these steps and after all that is below it.
 fn is_past(front: &[Step], last: &Step, list: &Path, path: &Path) -> bool
     ensures { result ≡ is_past front.now last.now.node list.now path.now }
 {

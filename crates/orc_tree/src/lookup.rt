@@ -12,7 +12,7 @@ use crate::sorted::{order, search};
 use orc_path::{Item, Path, Step};
 use std::sync::Arc;
 
-// Whether the first of some rows comes behind the path of these steps.
+// Whether the first of some rows comes after the path of these steps.
 fn starts_behind(rows: &[(Path, Item)], steps: &[Step]) -> bool
     ensures { result ≡ starts_behind steps.now rows.now }
 {
@@ -66,7 +66,7 @@ fn item_among<'a>(pages: &'a [Arc<Page>], steps: &[Step]) -> Option<&'a Item>
     item_in(pages[page_for(pages, steps)].rows.as_slice(), steps)
 }
 
-// Whether the first row of pages comes behind the path of these steps.
+// Whether the first row of pages comes after the path of these steps.
 fn first_behind(pages: &[Arc<Page>], steps: &[Step]) -> bool
     requires { AreSized pages.now }
     ensures { result ≡ starts_behind steps.now (rows_of pages.now) }

@@ -57,8 +57,8 @@ pub(crate) fn copy_rows(alloc: Global, rows: &[(Path, Item)]) -> Result<Vec<(Pat
     Ok(copies)
 }
 
-// Makes a page that has other holders a copy of its own, so that it may be changed. After want of
-// memory it is as it was.
+// Makes a page that has other holders a copy of its own, so that it may be changed. Where memory runs
+// out, it is as it was.
 pub(crate) fn own(alloc: Global, page: &mut Arc<Page>) -> Result<(), Memory>
     ensures { page_rows page.new ≡ page_rows page.old }
 {

@@ -76,7 +76,7 @@ fn copy_kept(alloc: Global, pages: &[Arc<Page>], path: &Path) -> Result<Vec<(Pat
     Ok(kept)
 }
 
-// Takes the path and what is below it out of a page. After want of memory its rows are as they
+// Takes the path and what is below it out of a page. Where memory runs out, its rows are as they
 // were.
 fn drop_within(page: &mut Arc<Page>, alloc: Global, path: &Path) -> Result<(), Memory>
     ensures ok { OnOk result (page_rows page.new ≡ kept_of path.now (page_rows page.old)) }
@@ -90,7 +90,7 @@ fn drop_within(page: &mut Arc<Page>, alloc: Global, path: &Path) -> Result<(), M
             page.rows = Row::from_vec(rows);
             Ok(())
         }
-        // No page has another holder behind `own`.
+        // No page has another holder after `own`.
         None => Err(Memory),
     }
 }
@@ -105,7 +105,7 @@ pub(crate) fn starts_taken(rows: &[(Path, Item)], path: &Path) -> bool
     }
 }
 
-// The first page behind a path's own whose rows all stay where the path is removed.
+// The first page after a path's own whose rows all stay where the path is removed.
 fn end_of(pages: &[Arc<Page>], at: usize, path: &Path) -> usize
     requires page { IsPageFor path.now pages.now at }
     requires sorted { AreInOrder pages.now }
@@ -145,7 +145,7 @@ fn remove_at(pages: &mut Vec<Arc<Page>>, at: usize, path: &Path) -> Result<(), M
 }
 
 // Takes the path and what is below it out of the pages from its own one up to the first one whose
-// rows all stay. After want of memory the rows are as they were.
+// rows all stay. Where memory runs out, the rows are as they were.
 fn remove_among(
     pages: &mut Vec<Arc<Page>>,
     at: usize,
@@ -168,7 +168,7 @@ fn remove_among(
     replace(pages, at, end, rows)
 }
 
-// Lays a page and the next one out as one page, where they have few rows. After want of memory they
+// Lays a page and the next one out as one page, where they have few rows. Where memory runs out, they
 // stay two.
 fn join_next(pages: &mut Vec<Arc<Page>>, at: usize) -> Result<(), Memory>
     requires { AreSized pages.old.items }
@@ -201,7 +201,7 @@ fn join_around(pages: &mut Vec<Arc<Page>>, at: usize)
 }
 
 // Takes the path and what is below it out of the pages, and joins what is left where it is little.
-// After want of memory the rows are as they were.
+// Where memory runs out, the rows are as they were.
 pub(crate) fn remove(pages: &mut Vec<Arc<Page>>, path: &Path) -> Result<(), Memory>
     requires sorted { AreInOrder pages.old.items }
     requires sized { AreSized pages.old.items }

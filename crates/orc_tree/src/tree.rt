@@ -27,10 +27,18 @@ use std::sync::Arc;
 /// A configuration: a finite map from paths to items in which every entry on the way to a path is
 /// present. Its rows stand in pages, and these in chapters, both of which copies of the tree share
 /// until one of them changes.
-#[derive(Debug, Drop)]
+#[derive(Debug)]
 pub struct Tree {
     alloc: Global,
     list: Option<Arc<ChapterList>>,
+}
+
+// Written out, so that a crate above lets a tree go by one call, and proves nothing of chapters and
+// pages.
+impl Drop for Tree {
+    fn drop(self) {
+        let Tree { alloc: _, list: _ } = self;
+    }
 }
 
 impl Model for Tree {
@@ -66,7 +74,7 @@ impl Tree {
 
     /// Sets the item at a path, and adds the entries on its way that are missing. It costs a search
     /// for each entry on the way and an edit of one page. Where copies hold the list of chapters,
-    /// the chapter or the page, these are copied first. After want of memory the tree is as it was.
+    /// the chapter or the page, these are copied first. Where memory runs out, the tree is as it was.
     pub fn set(&mut self, path: Path, item: Item) -> Result<(), Memory>
         requires fits { IsTrue (fits path item) }
         ensures ok { OnOk result (self.new ≡ put_item self.old path item) }
@@ -78,7 +86,7 @@ impl Tree {
     }
 
     /// Removes a path that ends in keys with all below it, or else that one leaf. It costs a search
-    /// and an edit of the pages that it touches. After want of memory the tree is as it was.
+    /// and an edit of the pages that it touches. Where memory runs out, the tree is as it was.
     pub fn remove(&mut self, path: &Path) -> Result<(), Memory>
         ensures ok { OnOk result (self.new ≡ drop_item self.old path.now) }
         ensures err { OnErr result (self.new ≡ self.old) }
@@ -89,7 +97,7 @@ impl Tree {
 
     /// Sets each item of another tree, so that this one is overlaid with it. It costs a list of the
     /// chapters, and for each of the other tree's items a copy, a search and an edit of one page.
-    /// After want of memory the tree is as it was.
+    /// Where memory runs out, the tree is as it was.
     pub fn overlay_with(&mut self, top: &Tree) -> Result<(), Memory>
         ensures ok { OnOk result (self.new ≡ overlay top.now self.old) }
         ensures err { OnErr result (self.new ≡ self.old) }
@@ -103,7 +111,7 @@ impl Tree {
 
     /// Applies changes: first the removals among them, and then what they put, each item with the
     /// entries on its way that are missing. It costs a list of the chapters, and for each change what
-    /// `remove` or `set` costs. After want of memory the tree is as it was.
+    /// `remove` or `set` costs. Where memory runs out, the tree is as it was.
     pub fn apply(&mut self, set: &ChangeSet) -> Result<(), Memory>
         requires fits { IsTrue (list_all change_fits set.now.changes) }
         ensures ok { OnOk result (self.new ≡ applied set.now.changes self.old) }

@@ -127,7 +127,7 @@ fn count_rows(pages: &[Arc<Page>]) -> u64
     count
 }
 
-// The same of chapters.
+// How many rows chapters have, or the largest 64-bit number where they have more.
 pub(crate) fn count_all(chapters: &[Arc<Chapter>]) -> u64
     ensures { result ≡ capped (length (chapters_rows chapters.now)) }
 {

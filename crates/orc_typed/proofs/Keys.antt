@@ -1,4 +1,4 @@
--- Keys behind others.
+-- Keys after others.
 use Rattle.std.proofs.Common.{◌≡◌, ℕ, suc, ◌≤◌, ◌==◌, Bool, true, false, ◌&&◌, List, [], ◌∷◌, ◌++◌, length, map, refl, sym, ap, ◌∙◌, append_assoc, arith}
 use Rattle.std.specs.Prelude.{Option, Some, None, option_map, option_and_then}
 use Rattle.std.proofs.lemmas.Bool.{true≢false}
@@ -6,7 +6,7 @@ use Rattle.std.proofs.lemmas.Bool.Decides.{nat_tests}
 use Rattle.orc_value.specs.declared.kind.Kind.{Kind}
 use Rattle.orc_typed.specs.Typed.{canonical_text, canonical_keys, is_canonical_text, are_canonical_keys}
 
--- a text that was read, in front of the later ones
+-- a text that was read, before the later ones
 behind : (done : List (List ℕ)) (text : List ℕ) (later : Option (List (List ℕ)))
     → option_map (λ rest. (done ++ text ∷ []) ++ rest) later ≡ option_map (λ rest. done ++ rest) (option_map (λ rest. text ∷ rest) later)
 behind done text None = refl

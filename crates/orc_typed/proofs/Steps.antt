@@ -13,7 +13,7 @@ and_behind : (a b c : Bool) → (a && (b && c)) ≡ ((a && b) && c)
 and_behind true b c = refl
 and_behind false b c = refl
 
--- the last step is looked at behind all the others
+-- the last step is looked at after all the others
 pub each_step-push : (test : List (List ℕ) → PathStep → Bool) (above : List (List ℕ)) (front : List PathStep) (last : PathStep)
     → each_step test above (front ++ last ∷ []) ≡ (each_step test above front && test (above ++ path_names (front ++ last ∷ [])) last)
 each_step-push test above [] last = and_true (test (above ++ last.node ∷ []) last)
@@ -23,7 +23,7 @@ each_step-push test above (step ∷ later) last =
     ∙ and_behind (test names step) (each_step test names later) (test (names ++ path_names (later ++ last ∷ [])) last)
     ∙ ap (λ ns. (test names step && each_step test names later) && test ns last) (append_assoc above (step.node ∷ []) (path_names (later ++ last ∷ [])))
 
--- the first step goes in front of what stands in front of the last
+-- the first step goes before what stands before the last
 swap : (first : Option PathStep) (between : Option (List PathStep)) (last : Option PathStep)
     → option_and_then (λ f. option_map (λ rest. f ∷ rest) (option_and_then (λ done. option_map (λ l. done ++ l ∷ []) last) between)) first
     ≡ option_and_then (λ done. option_map (λ l. done ++ l ∷ []) last) (option_and_then (λ f. option_map (λ rest. f ∷ rest) between) first)

@@ -24,7 +24,7 @@ fn canonical_text(alloc: Global, kind: Option<&Kind>, text: &Text) -> Result<Opt
     }
 }
 
-// Further keys of an entry of the list at these steps, behind those that are done.
+// Further keys of an entry of the list at these steps, after those that are done.
 fn with_keys(
     alloc: Global,
     schema: &Schema,

@@ -6,7 +6,7 @@ use Rattle.std.specs.Prelude.{map}
 use Rattle.std.specs.List.{slice_split}
 use Rattle.orc_types.specs.Ranges.{Range, is_bar, all_of, part_of, parts_of}
 
--- what was read, in front of what is still to be read
+-- what was read, before what is still to be read
 abbrev pub behind : {X : Type 0} → List X → Option (List X) → Option (List X)
 behind front rest = option_map (λ more. front ++ more) rest
 

@@ -20,7 +20,7 @@ or_none : {X : Type 0} (o : Option X) → o ≡ option_or o None
 or_none None = refl
 or_none (Some x) = refl
 
--- what is put where nothing was goes behind what was
+-- what is put where nothing was comes after what was there
 pub put_behind : {X : Type 0} (old new : List ℕ → Option X) (name q : List ℕ) (v : X) → old name ≡ None → new q ≡ cond (same_text name q) (Some v) (old q) → new q ≡ option_or (old q) (cond (same_text name q) (Some v) None)
 put_behind old new name q v none put = put ∙ by (same_text name q) refl
   where
@@ -114,7 +114,7 @@ pub top_more : (es : List EnumName) (e : EnumName) → higher (greatest_of es) e
 top_more [] e = refl
 top_more (x ∷ es) e = ap Some (sym (greatest_more x.value es e))
 
--- one behind it is the next
+-- the value after the greatest is the next one
 pub next_behind : (es : List EnumName) → one_behind (greatest_of es) ≡ next_value es
 next_behind [] = refl
 next_behind (e ∷ es) = refl

@@ -29,7 +29,7 @@ test_is : (t : Bool) → not t ≡ false → t ≡ true
 test_is true h = refl
 test_is false h = absurd (false≢true (sym h))
 
--- what stands behind an ASCII character is text
+-- what stands after an ASCII character is text
 behind-utf8 : (c : ℕ) (bs : List ℕ) → c < 128 → IsUtf8 bs → position_or_len (is_char c) bs < length bs → IsUtf8 (after_first (is_char c) bs)
 behind-utf8 c bs ascii text h =
     let i = position_or_len (is_char c) bs in
@@ -68,7 +68,7 @@ pub split-first : (c : ℕ) (bs : List ℕ) (r : Parts) → c < 128 → IsSplitO
 split-first c bs None ascii h = tt
 split-first c bs (Some x) ascii h = let cut = split_once_first c bs (Some x) h ascii in (cut.1, cut.2)
 
--- what stands behind a dot that is first
+-- what stands after a dot that is first
 other_first : (b : ℕ) (bs : List ℕ) → ((rest : List ℕ) → b ∷ bs ≢ 46 ∷ rest) → b ≢ 46
 other_first b bs h same = h bs (ap (λ (x : ℕ). x ∷ bs) same)
 

@@ -1,4 +1,4 @@
--- A range of the base type that ends in front of a range can't hold it.
+-- A range of the base type that ends before a range can't hold it.
 use Rattle.std.proofs.Common.{◌≡◌, ℕ, zero, suc, ℤ, Bool, true, false, List, [], ◌∷◌, refl, sym, ap, ◌∙◌, arith}
 use Rattle.std.specs.Prelude.{◌&&◌, ◌||◌, int_le, int_lt, take, drop}
 use Rattle.std.specs.List.{list_all}
@@ -18,7 +18,7 @@ too_low b r low proper = no_more (int_le b.0 r.0) (int_le r.1 b.1) (short b.1 r.
     no_more true q is = is
     no_more false q is = refl
 
--- so those behind such ones alone are looked at
+-- so only those after such ones are looked at
 pub behind : (base : List Range) (at : ℕ) (r : Range) → list_all (ends_before r.0) (take at base) ≡ true → int_le r.0 r.1 ≡ true → lies_within (drop at base) r ≡ lies_within base r
 behind base zero r low proper = refl
 behind [] (suc at) r low proper = refl

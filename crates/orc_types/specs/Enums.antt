@@ -32,8 +32,8 @@ abbrev pub next_value : List EnumName → ℤ
 next_value [] = pos 0
 next_value (enum ∷ enums) = greatest enum.value enums +ℤ pos 1
 
--- The value of an enum without `value`, behind these: a derived enumeration, whose base has the names `base`, keeps
--- the base's value; in another one it is the next.
+-- The value of an enum without `value`, after these: a derived enumeration, whose base has the names `base`, keeps the
+-- base's value; in another one it is the next.
 abbrev pub own_value : Option (List EnumName) → List EnumName → List ℕ → Option ℤ
 own_value None before name = only_if is_int32 (next_value before)
 own_value (Some base) before name = option_map (λ enum. enum.value) (find (has_name name) base)
@@ -42,12 +42,12 @@ own_value (Some base) before name = option_map (λ enum. enum.value) (find (has_
 abbrev pub given_value : Stmt → ℤ
 given_value statement = unwrap_or (int32_of (argument statement)) (pos 0)
 
--- the value of an enum behind these
+-- the value of an enum after these
 abbrev pub enum_value : Option (List EnumName) → List EnumName → Stmt → ℤ
 enum_value base before statement = option_map_or given_value (first_of (codes "value") (subs statement))
     (unwrap_or (own_value base before (argument statement)) (pos 0))
 
--- an enum behind these
+-- an enum after these
 abbrev pub add_enum : Option (List EnumName) → List EnumName → Stmt → List EnumName
 add_enum base before statement = if is_a (codes "enum") statement
     then before ++ record { name = argument statement; value = enum_value base before statement } ∷ [] else before
@@ -66,8 +66,8 @@ abbrev pub is_valued : Option (List EnumName) → List EnumName → Stmt → Boo
 is_valued base before statement =
     has (codes "value") (subs statement) || is_some (own_value base before (argument statement))
 
--- what is at fault at an `enum` behind these: a new name in a derived enumeration, a name twice, a name out of form,
--- or no value that is left for it
+-- what is at fault at an `enum` after these: a new name in a derived enumeration, a name twice, a name out of form, or
+-- no value that is left for it
 abbrev pub name_fault : Option (List EnumName) → List EnumName → Stmt → Option TypeFault
 name_fault base before statement = if is_new base (argument statement) then Some (Unknown (argument statement))
     else (if list_any (has_name (argument statement)) before then Some (Duplicate (argument statement))
@@ -86,7 +86,7 @@ number_fault base before name statement (Some number) = if list_any (has_value n
     then Some (Duplicate (argument statement))
     else (if keeps base name number then None else Some (BadArgument (keyword statement)))
 
--- what is at fault at a statement below an `enum`, behind others: only one `value` may stand there
+-- what is at fault at a statement below an `enum`, after others: only one `value` may stand there
 abbrev pub value_fault : Option (List EnumName) → List EnumName → List ℕ → List Stmt → Stmt → Option TypeFault
 value_fault base before name earlier statement = if is_idle (keyword statement) then None
     else (if not (is_a (codes "value") statement) then Some (Unsupported (keyword statement))

@@ -17,7 +17,7 @@ starts_with_zero (byte ∷ later) = byte == 48
 abbrev pub is_count : List ℕ → Bool
 is_count text = is_numeral text && (length text == 1 || not (starts_with_zero text))
 
--- integer-value: such digits, alone or behind `-`
+-- integer-value: such digits, alone or after `-`
 abbrev pub is_whole : List ℕ → Bool
 is_whole text = is_count (if starts_with_minus text then drop 1 text else text)
 

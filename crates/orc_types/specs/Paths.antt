@@ -11,7 +11,7 @@ is_step_mark = is_char 47
 abbrev pub is_colon : ℕ → Bool
 is_colon = is_char 58
 
--- node-identifier: an identifier, alone or behind a prefix and a colon
+-- node-identifier: an identifier, alone or after a prefix and a colon
 abbrev pub is_reference : List ℕ → Bool
 is_reference text = if is_some (position is_colon text)
     then is_identifier (before_first is_colon text) && is_identifier (after_first is_colon text)

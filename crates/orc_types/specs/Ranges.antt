@@ -34,7 +34,7 @@ range_between (Some low) (Some high) = if int_le low high then Some (low, high) 
 abbrev pub range_up_to : Range → List ℕ → List ℕ → Option Range
 range_up_to ends low high = range_between (bound_of ends (trim low)) (bound_of ends (trim high))
 
--- what stands behind a dot that is first
+-- what stands after a dot that is first
 abbrev pub behind_dot : List ℕ → Option (List ℕ)
 behind_dot [] = None
 behind_dot (byte ∷ later) = if is_dot byte then Some later else None
@@ -66,7 +66,7 @@ is_plain byte = byte == 9 || byte == 10 || byte == 13 || nat_le 32 byte && nat_l
 abbrev pub is_trimmed : List ℕ → Bool
 is_trimmed text = length (trim text) == length text
 
--- each part begins behind the end of the one before
+-- each part begins after the end of the one before
 abbrev pub ascend_behind : ℤ → List Range → Bool
 ascend_behind high [] = true
 ascend_behind high (range ∷ later) = int_lt high range.0 && ascend_behind range.1 later

@@ -1,5 +1,5 @@
 -- What this crate gives to the builder of a schema, who knows what the name of a `type` statement stands for, a
--- built-in type (`built_in`) or the type of a typedef, and wants to know what the whole statement makes of it.
+-- built-in type (`built_in`) or the type of a typedef, and asks what the whole statement makes of it.
 --
 --     built_in name            the built-in type of a name of RFC 7950, or none
 --     is_left_out name         a built-in type of RFC 7950 that this profile does not have
@@ -16,7 +16,7 @@
 -- enumeration's names, which a derived enumeration keeps, and with the path of a leafref as its text.
 --
 -- A fault is at the first faulty statement in the order of the text, the `type` statement first; at one statement the
--- variant of `TypeFault` that is listed first counts. What is not told here: that the name is known, that only one
+-- variant of `TypeFault` that is listed first counts. What is not checked here: that the name is known, that only one
 -- `type` stands below a leaf, and whether a leafref's path leads anywhere.
 --
 -- Each type has one statement that may restrict it, and no other may stand below `type`:
@@ -24,8 +24,8 @@
 --     integer                  range                  parts as in `narrowed`
 --     string                   length                 parts as in `narrowed_lengths`
 --     enumeration              enum, any number       names and values as in `enums_of`; derived: a subset
---     decimal64                fraction-digits        1 to 18, wanted; derived: nothing
---     leafref                  path                   a form as in `is_leafref_path`, wanted; derived: nothing
+--     decimal64                fraction-digits        1 to 18, required; derived: nothing
+--     leafref                  path                   a form as in `is_leafref_path`, required; derived: nothing
 --     boolean, empty           nothing
 use Rattle.std.specs.Prelude.{ℕ, ◌≡◌, Bool, true, false, not, map, List, [], ◌∷◌, ◌++◌, Option, Some, None, Result, Ok, Err, codes, is_some, unwrap_or, option_map, if◌then◌else◌}
 use Rattle.std.specs.Option.{option_or}
@@ -67,7 +67,7 @@ abbrev pub may_stand : List ℕ → Option (List ℕ) → Bool
 may_stand word None = false
 may_stand word (Some allowed) = same_text word allowed
 
--- the statement that a built-in type wants
+-- the statement that a built-in type needs
 abbrev pub wanted : Base → Option (List ℕ)
 wanted (Known leaf_type) = None
 wanted base = restriction base
@@ -93,13 +93,13 @@ argument_fits Decimal64 text = is_some (fraction_digits_of text)
 argument_fits Enumeration text = true
 argument_fits Leafref text = is_leafref_path text
 
--- what is at fault at the one restriction of a type and below it, behind other statements
+-- what is at fault at the one restriction of a type and below it, after other statements
 abbrev pub restriction_fault : Base → List Stmt → Stmt → Option TypeFault
 restriction_fault base before statement = if has (keyword statement) before then Some (Duplicate (keyword statement))
     else (if argument_fits base (argument statement) then none_below statement
     else Some (BadArgument (keyword statement)))
 
--- what is at fault at a statement below `type` and below that one, behind others
+-- what is at fault at a statement below `type` and below that one, after others
 abbrev pub fault_at : Base → List Stmt → Stmt → Option TypeFault
 fault_at base before statement = if is_idle (keyword statement) then None
     else (if not (may_stand (keyword statement) (restriction base)) then Some (Unsupported (keyword statement))
@@ -113,7 +113,7 @@ first_fault base before [] = None
 first_fault base before (statement ∷ later) =
     option_or (fault_at base before statement) (first_fault base (before ++ statement ∷ []) later)
 
--- what is at fault at `type` itself: it lacks what its base wants
+-- what is at fault at `type` itself: it lacks what its base needs
 abbrev pub lacks : Option (List ℕ) → List Stmt → Bool
 lacks None statements = false
 lacks (Some word) statements = not (has word statements)
@@ -173,13 +173,13 @@ unfoldable pub type_of : Base → Stmt → Result LeafType TypeFault
 type_of base statement = fault_or (type_fault base statement)
     (made base (enums_of (enumerated base) (subs statement)) (subs statement))
 
--- that type or that fault; or want of memory
+-- that type or that fault; or memory runs out
 abbrev pub GivesType : Result LeafType TypeFault → Result LeafType TypeFault → Type 0
 GivesType verdict (Ok leaf_type) = verdict ≡ Ok leaf_type
 GivesType verdict (Err Memory) = Unit {0}
 GivesType verdict (Err fault) = verdict ≡ Err fault
 
--- the type of a leaf's values, where it is told without another leaf
+-- the type of a leaf's values, where it is known without another leaf
 abbrev pub kind_of : LeafType → Option Kind
 kind_of (Int int_kind) = Some (kind.Int int_kind)
 kind_of (Decimal digits) = Some (kind.Decimal digits)

@@ -4,7 +4,7 @@ ghost use Rattle.std.specs.List.{slice_split, position, before_first, after_firs
 ghost use Rattle.orc_types.specs.Texts.{is_char};
 ghost use Rattle.orc_types.specs.inside.Cuts.{SplitsAt};
 
-// The texts before the first such character, which is ASCII, and behind it.
+// The texts before the first such character, which is ASCII, and after it.
 pub(crate) fn split_at(text: &str, separator: char) -> Option<(&str, &str)>
     requires { separator < 128 }
     ensures parts { MatchOption result (slice_split (is_char separator) text.now ≡ text.now ∷ [])

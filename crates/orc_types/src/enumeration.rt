@@ -44,7 +44,7 @@ fn higher(greatest: Option<i32>, value: i32) -> Option<i32>
     }
 }
 
-// The value behind the greatest, where it has 32 bits.
+// The value after the greatest, where it has 32 bits.
 fn value_behind(greatest: Option<i32>) -> Option<i32>
     ensures { result ≡ value_behind greatest }
 {
@@ -87,7 +87,7 @@ impl<'m> Enums<'m> {
         self.values.has(value)
     }
 
-    /// The value behind the enums, where it has 32 bits.
+    /// The value after the enums, where it has 32 bits.
     #[tactic(auto, using(crate::proofs::Running::next_behind))]
     pub(crate) fn next(&self) -> Option<i32>
         ensures { result ≡ own_value None self.now [] }

@@ -22,7 +22,7 @@ fn is_enum_name(name: &str) -> bool
     !name.is_empty() && is_trimmed(name)
 }
 
-// The value of a name without `value`, behind others.
+// The value of a name without `value`, after others.
 fn own_value(base: &Inherited, before: &Enums, name: &str) -> Option<i32>
     ensures { result ≡ own_value base.now before.now name.now }
 {
@@ -32,7 +32,7 @@ fn own_value(base: &Inherited, before: &Enums, name: &str) -> Option<i32>
     }
 }
 
-// The value of an enum, behind others.
+// The value of an enum, after others.
 fn enum_value(base: &Inherited, before: &Enums, stmt: &Stmt) -> i32
     ensures { result ≡ enum_value base.now before.now stmt.now }
 {
@@ -69,14 +69,14 @@ fn is_new(base: &Inherited, name: &str) -> bool
     }
 }
 
-// Whether a value is given or left for an enum, behind others.
+// Whether a value is given or left for an enum, after others.
 fn is_valued(base: &Inherited, before: &Enums, stmt: &Stmt) -> bool
     ensures { result ≡ is_valued base.now before.now stmt.now }
 {
     has("value", stmt.subs.as_slice()) || own_value(base, before, argument(stmt)).is_some()
 }
 
-// What is at fault at an `enum`, behind others.
+// What is at fault at an `enum`, after others.
 fn name_fault(alloc: Global, base: &Inherited, before: &Enums, stmt: &Stmt) -> Result<(), TypeFault>
     ensures { Meets (name_fault base.now before.now stmt.now) result }
 {
@@ -129,7 +129,7 @@ fn number_fault(
     }
 }
 
-// What is at fault at a statement below an `enum`, behind others of its block.
+// What is at fault at a statement below an `enum`, after others of its block.
 fn value_fault(
     alloc: Global,
     base: &Inherited,

@@ -27,7 +27,7 @@ pub fn is_count(text: &[u8]) -> bool
     is_numeral(text) && (text.len() == 1 || !matches!(text, [b'0', ..]))
 }
 
-// Whether there are such digits, alone or behind `-` or `+`.
+// Whether there are such digits, alone or after `-` or `+`.
 pub(crate) fn is_signed_count(text: &[u8]) -> bool
     ensures { result ≡ is_count (without_leading_sign text.now) }
 {
@@ -37,7 +37,7 @@ pub(crate) fn is_signed_count(text: &[u8]) -> bool
     }
 }
 
-// Whether there are such digits, alone or behind `-`.
+// Whether there are such digits, alone or after `-`.
 fn is_whole(text: &[u8]) -> bool
     ensures { result ≡ is_whole text.now }
 {

@@ -6,7 +6,7 @@ ghost use Rattle.orc_types.specs.Paths.{is_step_mark, is_reference, are_names, l
 use crate::cuts::split_at;
 use orc_path::is_identifier;
 
-/// Whether the text is an identifier, alone or behind a prefix and a colon, as names of types are.
+/// Whether the text is an identifier, alone or after a prefix and a colon, as names of types are.
 pub fn is_reference(text: &str) -> bool
     ensures { result ≡ is_reference text.now }
 {
@@ -51,8 +51,8 @@ fn leads_down(text: &str) -> bool
     rest != ".." && is_reference(rest)
 }
 
-/// Whether the text has the form of a leafref's path: `/` and names, or `../` once or more and names,
-/// each an identifier, alone or behind a prefix. Predicates are none of it.
+/// Whether the text has the form of a leafref's path: `/` and names, or `../` once or more and names, each an
+/// identifier, alone or after a prefix. Predicates are none of it.
 pub fn is_leafref_path(text: &str) -> bool
     ensures { result ≡ is_leafref_path text.now }
 {

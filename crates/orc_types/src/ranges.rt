@@ -35,7 +35,7 @@ fn range_between(low: Option<i128>, high: Option<i128>) -> Option<(i128, i128)>
     }
 }
 
-// What stands behind a dot that is first.
+// What stands after a dot that is first.
 fn behind_dot(text: &str) -> Option<&str>
     ensures { option_map (λ rest. rest.now) result ≡ behind_dot text.now }
 {
@@ -102,7 +102,7 @@ pub(crate) fn is_trimmed(text: &str) -> bool
     text.trim().len() == text.len()
 }
 
-// Whether each range begins behind the end of the one before.
+// Whether each range begins after the end of the one before.
 fn ascend(ranges: &[(i128, i128)]) -> bool
     ensures { result ≡ ascend ranges.now }
 {
@@ -138,7 +138,7 @@ fn still_before(base: &[(i128, i128)], at: usize, low: i128, next: i128) -> usiz
     if next < low { 0 } else { at }
 }
 
-// The same and those behind them that end before the number, too.
+// The first ranges of the base type that end before a number, of which so many are known to do so.
 fn all_before(base: &[(i128, i128)], from: usize, low: i128) -> usize
     requires within { from ≤ length base.now }
     requires before { list_all (ends_before low) (take from base.now) ≡ true }

@@ -32,7 +32,7 @@ fn restriction_of(known: &LeafType) -> Option<&'static str>
     }
 }
 
-// The same of what a name stands for.
+// The statement that may restrict what a name stands for.
 fn restriction(base: &Base) -> Option<&'static str>
     ensures { option_map (λ word. word.now) result ≡ restriction base.now }
 {
@@ -54,7 +54,7 @@ fn may_stand(word: &str, base: &Base) -> bool
     }
 }
 
-// Whether the base wants a statement that isn't there.
+// Whether the base needs a statement that isn't there.
 fn lacks(base: &Base, stmts: &[Stmt]) -> bool
     ensures { result ≡ lacks (wanted base.now) stmts.now }
 {
@@ -81,7 +81,7 @@ fn restricts(alloc: Global, known: &LeafType, text: &str) -> Result<bool, Memory
     }
 }
 
-// The same of what a name stands for.
+// Whether an argument may restrict what a name stands for.
 fn argument_fits(alloc: Global, base: &Base, text: &str) -> Result<bool, Memory>
     ensures { IfOk result (λ fit. fit ≡ argument_fits base.now text.now) }
 {
@@ -93,7 +93,7 @@ fn argument_fits(alloc: Global, base: &Base, text: &str) -> Result<bool, Memory>
     }
 }
 
-// What is at fault at the restriction of a type and below it, behind others of its block.
+// What is at fault at the restriction of a type and below it, after others of its block.
 fn restriction_fault(
     alloc: Global,
     base: &Base,
@@ -115,7 +115,7 @@ fn restriction_fault(
     }
 }
 
-// What is at fault at a statement below `type`, behind others of its block, which have these enums.
+// What is at fault at a statement below `type`, after others of its block, which have these enums.
 fn fault_at(
     alloc: Global,
     base: &Base,

@@ -14,7 +14,7 @@ pub struct EnumName {
 }
 
 /// The type of a leaf.
-#[derive(Debug, PartialEq, Eq, Drop)]
+#[derive(Debug, PartialEq, Eq)]
 pub enum LeafType {
     /// An integer.
     Int(IntKind),
@@ -32,17 +32,44 @@ pub enum LeafType {
     Leafref(Text),
 }
 
+// Written out, so that a crate above lets a type go by one call, and not by one for each type.
+impl Drop for LeafType {
+    fn drop(self) {
+        match self {
+            LeafType::Int(_) => {}
+            LeafType::Decimal(_) => {}
+            LeafType::Str(_) => {}
+            LeafType::Bool => {}
+            LeafType::Enum(_) => {}
+            LeafType::Empty => {}
+            LeafType::Leafref(_) => {}
+        }
+    }
+}
+
 /// What the name of a type stands for, before the statements below `type`.
-#[derive(Debug, PartialEq, Eq, Drop)]
+#[derive(Debug, PartialEq, Eq)]
 pub enum Base {
     /// A type that may be used as it is.
     Known(LeafType),
-    /// The built-in type that wants `fraction-digits`.
+    /// The built-in type that needs `fraction-digits`.
     Decimal64,
-    /// The built-in type that wants `enum`.
+    /// The built-in type that needs `enum`.
     Enumeration,
-    /// The built-in type that wants `path`.
+    /// The built-in type that needs `path`.
     Leafref,
+}
+
+// Written out for the same reason.
+impl Drop for Base {
+    fn drop(self) {
+        match self {
+            Base::Known(_) => {}
+            Base::Decimal64 => {}
+            Base::Enumeration => {}
+            Base::Leafref => {}
+        }
+    }
 }
 
 impl EnumName {

@@ -16,7 +16,7 @@ use Rattle.orc_value.specs.Decimals.{is_fraction_digits, is_decimal, is_scalable
 use Rattle.orc_value.proofs.IntegerLaws.{has_integer-abs, admitted-yes, and_left}
 use Rattle.orc_value.proofs.RoundTrips.{int_value-int_text, decimal_value-decimal_text}
 
--- the number behind a canonical text
+-- the number that a canonical text stands for
 abbrev IsTextOf : (ℤ → List ℕ) → (ℤ → Bool) → Option ℤ → List ℕ → Type 0
 IsTextOf text_of has o t = (z : ℤ) × (o ≡ Some z) × (has z ≡ true) × (t ≡ text_of z)
 
@@ -121,6 +121,6 @@ gives_text-Decides text (Ok t) =
     (λ yes. ap Ok (test.0 yes), λ e. test.1 (cc))
 gives_text-Decides text (Err rule) = (λ wrong. absurd (false≢true wrong), λ e. cc)
 
--- the test tells what it says
+-- the test decides what it says
 pub is_canonical-Decides : (kind : Kind) (text : List ℕ) → Decides (is_canonical kind text) (canon_of kind text ≡ Ok text)
 is_canonical-Decides kind text = gives_text-Decides text (canon_of kind text)

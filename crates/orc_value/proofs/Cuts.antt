@@ -12,7 +12,7 @@ use Rattle.orc_value.specs.inside.Scaled.{are_zeros, units}
 use Rattle.orc_value.proofs.IntegerLaws.{and_right}
 use Rattle.orc_value.proofs.Scales.{scaled-is, is_scalable-yes, is_scalable-no}
 
--- the text is cut into these digits before and behind its point
+-- the text is cut into these digits before and after its point
 pub record IsCut (n : ℕ) (text whole fraction : List ℕ) : Type 0 where
   pub least : 1 ≤ n
   pub most : n ≤ 18
@@ -39,7 +39,7 @@ no_test : (b : Bool) (k : ℕ) → is_some (cond b (Some k) None) ≡ false → 
 no_test true k h = absurd (false≢true (sym h))
 no_test false k h = refl
 
--- without a point nothing stands behind it
+-- without a point nothing stands after it
 pub after_first-none : (xs : List ℕ) → is_some (position is_point xs) ≡ false → after_first is_point xs ≡ []
 after_first-none xs h =
     let k = position_or_len is_point xs in

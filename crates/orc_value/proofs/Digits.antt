@@ -54,7 +54,7 @@ pub wrong_last : (n : ℕ) (text front : List ℕ) → 0 < length text → decim
 wrong_last n text front some digits last e =
     last (snoc_same (take (length text - 1) text) front (get_or text (length text - 1) 0) (48 + n % 10) (sym (snoc_of text some) ∙ (e ∙ digits))).1
 
--- the front of each number's digits
+-- the digits of each number: a prefix, and then its last digit
 pub decimal-ends : (n : ℕ) → n < 2 ^ 64 → (front : List ℕ) × (decimal n ≡ front ++ (48 + n % 10) ∷ [])
 decimal-ends n fits = ⊎_elim (λ small. ([], decimal-one n small)) (λ large. (decimal (n / 10), decimal_step n large fits)) (cases_lt n 10)
 

@@ -77,7 +77,7 @@ module _ {X : Type 0} (le : X → X → Bool) (trans : (a b c : X) → le a b �
       let later = and_right (not (le l r.1)) (list_all (λ r. not (le l r.1)) rs) all in
       or_none (holds z r) (list_any (λ r. le r.0 z && le z r.1) rs) (and_not (le r.0 z) (le z r.1) (below l z r.1 up (not_false (le l r.1) first))) (none_before l z rs up later)
 
-  -- what stands before a range and behind it
+  -- what stands before a range and after it
   pub record AreApart (front : List (X × X)) (middle : X × X) (back : List (X × X)) : Type 0 where
     pub front_apart : stand_apart le front ≡ true
     pub before : list_all (λ r. not (le middle.0 r.1)) front ≡ true

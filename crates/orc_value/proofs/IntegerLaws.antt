@@ -88,7 +88,7 @@ read_large kind bs refused numeral =
     let has_not : has_integer kind v ≡ false = not_true (has_integer kind v) (λ has. refused (IsNumeral-from (without_leading_sign bs) numeral, fits_signed_from_abs w128 v (within (unsigned_abs v) (has_integer-abs kind v has)))) in
     sym (admitted-no (has_integer kind) (int_value bs) v (int_value-numeral bs numeral) has_not)
 
--- what `parse` refused breaks RANGE where it is digits behind a sign or none, and else LEXICAL
+-- what `parse` refused breaks RANGE where it is digits, after a sign or without one, and else LEXICAL
 pub read_none : (kind : IntKind) (bs : List ℕ) (rule : ℕ) → ¬ (IsNumeral 10 (without_leading_sign bs) × FitsSigned w128 (signed_digits_value 10 bs))
     → rule ≡ cond (is_numeral (without_leading_sign bs)) 2 1 → Err rule ≡ admitted (has_integer kind) (int_value bs)
 read_none kind bs rule refused is = by (is_numeral (without_leading_sign bs)) refl

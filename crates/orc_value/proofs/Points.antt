@@ -18,7 +18,7 @@ use Rattle.orc_value.proofs.IntegerLaws.{numerals, and_left, and_right}
 pub digit_no_point : (d : ℕ) → is_ascii_digit d ≡ true → is_point d ≡ false
 digit_no_point d h = grind (arith, nat_tests)
 
--- the first point stands behind the digits
+-- the first point stands after the digits
 pub position_or_len-digits : (ds f : List ℕ) → all_digits ds ≡ true → position_or_len is_point (ds ++ 46 ∷ f) ≡ length ds
 position_or_len-digits [] f h = refl
 position_or_len-digits (d ∷ ds) f h =
@@ -53,7 +53,7 @@ some_test : (b : Bool) (k : ℕ) → is_some (cond b (Some k) None) ≡ true →
 some_test true k h = refl
 some_test false k h = h
 
--- the first point, between what stands before it and behind it
+-- the first point, between what stands before it and after it
 pub cut_at_point : (text : List ℕ) → is_some (position is_point text) ≡ true → text ≡ before_first is_point text ++ 46 ∷ after_first is_point text
 cut_at_point text h =
     let k = position_or_len is_point text in
@@ -76,7 +76,7 @@ pub cut_none : (text ds f : List ℕ) → all_digits ds ≡ true → is_some (po
 cut_none text ds f digits none e =
     false≢true (sym none ∙ (ap (λ (t : List ℕ). is_some (position is_point t)) e ∙ position-digits ds f digits))
 
--- the same of two tests that read the two parts
+-- once these digits stand before the point, a test of what stands after it decides whether the text is made of both
 pub cut_test : (text before after ds f : List ℕ) (r : Bool) → all_digits ds ≡ true → is_some (position is_point text) ≡ true
     → before ≡ before_first is_point text → after ≡ after_first is_point text → before ≡ ds → IsTrue r ↔ (after ≡ f)
     → IsTrue r ↔ (text ≡ ds ++ 46 ∷ f)

@@ -45,7 +45,7 @@ without_leading_sign-digit d ds h =
     let pick : Bool → Bool → List ℕ = λ m p. cond m ds (drop (cond p 1 0) (d ∷ ds)) in
     ap (λ (m : Bool). pick m (eqb d 43)) plain.0 ∙ ap (λ (p : Bool). pick false p) plain.1
 
--- behind the sign of a number stands what begins with a digit
+-- after the sign of a number stands what begins with a digit
 pub without_leading_sign-sign_text : (z : ℤ) (d : ℕ) (ds : List ℕ) → is_ascii_digit d ≡ true → without_leading_sign (sign_text z ++ d ∷ ds) ≡ d ∷ ds
 without_leading_sign-sign_text (pos n) d ds h =
     ap (λ (sign : List ℕ). without_leading_sign (sign ++ d ∷ ds)) (sign_text-pos n) ∙ without_leading_sign-digit d ds h
@@ -90,7 +90,7 @@ int_value-int_text z small =
     ∙ (ap (λ (v : ℕ). Some (signed (int_lt z (pos 0)) v)) (decimal_is_IsNumeral m small).1
     ∙ ap Some (signed-unsigned_abs z))))
 
--- ---- the digits behind the point
+-- ---- the digits after the point
 
 -- the digits write r over ten to the power of n
 pub record IsFraction (n r : ℕ) (ds : List ℕ) : Type 0 where
@@ -175,7 +175,7 @@ fraction_text-is_numeral n r least below = numeral_step n r below (eqb r 0) refl
         let long : 0 < length (fraction_digits n r) = omega (arith, ap length step) in
         some_digits (fraction_digits n r) long (ap all_digits (sym same) ∙ digits)
 
--- the whole digits and those behind the point write the number
+-- the whole digits and those after the point write the number
 units-places : (n m : ℕ) (f : List ℕ) → m < 2 ^ 64 → IsFraction n (m % 10 ^ n) f → units n (decimal (m / 10 ^ n)) f ≡ m
 units-places n m f small fraction =
     let w = decimal (m / 10 ^ n) in

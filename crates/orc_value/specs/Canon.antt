@@ -72,7 +72,7 @@ SameValue Boolean a b = a ≡ b
 SameValue (Enum names) a b = a ≡ b
 SameValue Empty a b = a ≡ b
 
--- the answer is this text or this rule; want of memory comes only where there is a text
+-- the answer is this text or this rule; memory runs out only where there is a text
 abbrev pub Answers : Result (List ℕ) ℕ → Result (List ℕ) ValueFault → Type 0
 Answers verdict (Ok text) = verdict ≡ Ok text
 Answers verdict (Err (BadValue rule)) = verdict ≡ Err rule

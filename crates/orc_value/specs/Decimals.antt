@@ -13,7 +13,7 @@ is_point c = c == 46
 abbrev pub whole_of : List ℕ → List ℕ
 whole_of text = before_first is_point (without_leading_sign text)
 
--- the digits behind the point, none where there is no point
+-- the digits after the point, none where there is no point
 abbrev pub fraction_of : List ℕ → List ℕ
 fraction_of text = after_first is_point (without_leading_sign text)
 
@@ -28,8 +28,8 @@ is_decimal text = is_numeral (whole_of text) && (is_numeral (fraction_of text) |
 abbrev pub is_fraction_digits : ℕ → Bool
 is_fraction_digits n = nat_le 1 n && nat_le n 18
 
--- Digits before a point and behind it write the number of all these digits over ten to the power of how many
--- stand behind it. It has n fraction digits where it is whole, once it is multiplied by ten to the power of n.
+-- Digits before a point and after it write the number of all these digits over ten to the power of how many stand after
+-- it. It has n fraction digits where it is whole, once it is multiplied by ten to the power of n.
 abbrev pub is_scalable : ℕ → List ℕ → List ℕ → Bool
 is_scalable n whole fraction = digits_value 10 (whole ++ fraction) * 10 ^ n % 10 ^ length fraction == 0
 

@@ -22,6 +22,6 @@ is_64_bit z = int_le (negsuc 0x7FFF_FFFF_FFFF_FFFF) z && int_le z (pos 0xFFFF_FF
 abbrev pub has_integer : IntKind → ℤ → Bool
 has_integer kind z = is_64_bit z && in_ranges kind.ranges z
 
--- the canonical text of an integer: its decimal digits, behind `-` where it is below 0
+-- the canonical text of an integer: its decimal digits, after `-` where it is below 0
 abbrev pub int_text : ℤ → List ℕ
 int_text z = sign_text z ++ decimal (unsigned_abs z)

@@ -19,7 +19,7 @@ fn place_of_point(text: &[u8]) -> Option<usize>
     text.iter().position(|byte| *byte == b'.')
 }
 
-// The parts before the first point and behind it.
+// The parts before the first point and after it.
 fn split_at_point(text: &[u8]) -> Option<(&[u8], &[u8])>
     ensures point { is_some result ≡ is_some (position is_point text.now) }
     ensures parts { IfSome result (λ parts. (parts.0.now ≡ before_first is_point text.now)
@@ -31,8 +31,8 @@ fn split_at_point(text: &[u8]) -> Option<(&[u8], &[u8])>
     }
 }
 
-// The digits before the point and behind it, where the text is digits with a point among them or
-// none.
+// The digits before the point and after it, where the text is digits with a point among them or
+// without one.
 fn decimal_parts(text: &[u8]) -> Option<(&[u8], &[u8])>
     ensures parts { IfSome result (λ parts. (parts.0.now ≡ before_first is_point text.now)
         × (parts.1.now ≡ after_first is_point text.now)) }
@@ -64,7 +64,7 @@ fn power_of_ten(exponent: u8) -> u64
     10u64.pow(u32::from(exponent))
 }
 
-// The digits up to this many places, and those behind them.
+// The digits up to this many places, and those after them.
 fn split_at_place(places: u8, fraction: &[u8]) -> (&[u8], &[u8])
     ensures near { result.0.now ≡ take places fraction.now }
     ensures far { result.1.now ≡ drop places fraction.now }

@@ -7,7 +7,7 @@ ghost use Rattle.orc_value.specs.Numerals.{is_numeral, all_digits};
 
 use orc_text::{Memory, Text};
 
-// What stands behind a leading sign.
+// What stands after a leading sign.
 pub(crate) fn without_sign(text: &[u8]) -> &[u8]
     ensures { result.now ≡ without_leading_sign text.now }
 {
@@ -39,7 +39,7 @@ fn with_digit(number: u64, digit: u8) -> Option<u64>
     number.checked_mul(10)?.checked_add(u64::from(digit - b'0'))
 }
 
-// The number that the digits write behind those of `start`, where it has 64 bits.
+// The number that the digits write after those of `start`, where it has 64 bits.
 pub(crate) fn read_on(start: u64, digits: &[u8]) -> Option<u64>
     requires { IsTrue (all_digits digits.now) }
     ensures { SomeIff result (digits_value_after 10 start digits.now < 2 ^ 64)

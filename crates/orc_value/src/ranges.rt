@@ -7,7 +7,7 @@ use std::alloc::Global;
 use std::marker::Model;
 
 /// Ranges of numbers, each a least and a greatest one: none is empty, and each ends below those
-/// behind it.
+/// after it.
 #[derive(Debug, PartialEq, Eq, Drop)]
 pub struct Ranges {
     ranges: Row<(i128, i128)>,
@@ -27,7 +27,7 @@ impl Model for Ranges {
 }
 
 /// Ranges of lengths, each a least and a greatest one: none is empty, and each ends below those
-/// behind it.
+/// after it.
 #[derive(Debug, PartialEq, Eq, Drop)]
 pub struct Lengths {
     ranges: Row<(u64, u64)>,

@@ -7,7 +7,7 @@ ghost use Rattle.orc_value.specs.Canon.{in_lengths, same_text};
 
 use crate::{Lengths, Names, Ranges};
 
-// The one in the middle, with those before it and those behind it.
+// The one in the middle, with those before it and those after it.
 fn halves<T>(items: &[T]) -> Option<(&[T], &T, &[T])>
     ensures { MatchOption result (items.now ≡ [])
         (λ parts. items.now ≡ parts.0.now ++ parts.1.now ∷ parts.2.now) }

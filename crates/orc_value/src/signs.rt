@@ -19,7 +19,7 @@ pub(crate) fn push_sign(text: &mut Text, number: i128) -> Result<(), Memory>
     if number < 0 { text.push('-') } else { Ok(()) }
 }
 
-// What stands behind that sign.
+// What stands after that sign.
 pub(crate) fn after_sign(text: &[u8], number: i128) -> Option<&[u8]>
     ensures { MatchOption result ((rest : List ℕ) → text.now ≢ sign_text number ++ rest)
         (λ rest. text.now ≡ sign_text number ++ rest.now) }

@@ -18,7 +18,7 @@ preparing t set = OpenSession ∷ LockRunning ∷ LockCandidate ∷ Edit set ∷
 abbrev pub ending : ℕ → Bool → List Op
 ending t commit = (if commit then Confirm t else Cancel t) ∷ UnlockCandidate ∷ UnlockRunning ∷ CloseSession ∷ []
 
--- an operation that is due, in front of later ones
+-- an operation that is due, before later ones
 abbrev pub asked_first : Option Op → List Op → List Op
 asked_first None later = []
 asked_first (Some op) later = op ∷ later

@@ -1,8 +1,8 @@
 //! A worker: what a transaction does on one of its devices, operation by operation.
 //!
 //! It opens a session, locks, edits, validates and commits to be confirmed; then it waits for the
-//! decision, and confirms or cancels. `next` is the operation due, `took` takes its reply and tells
-//! an outcome or a fault, `go` tells the decision.
+//! decision, and confirms or cancels. `next` is the operation due, `took` takes its reply and reports
+//! an outcome or a fault, `go` gives it the decision.
 #![tactic(auto)]
 
 mod laws;

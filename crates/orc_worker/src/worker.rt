@@ -89,7 +89,7 @@ impl Worker {
         report
     }
 
-    /// Tells the decision, for which the worker waits.
+    /// Gives the worker the decision that it waits for.
     pub fn go(&mut self, commit: bool)
         requires { IsTrue (is_waiting self.old.stage) }
         ensures { self.new ≡ worker_told self.old commit }

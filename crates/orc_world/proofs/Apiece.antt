@@ -13,14 +13,15 @@ use Rattle.orc_links.specs.Networks.{absent_link, heard_link}
 use Rattle.orc_node.specs.LinkStates.{LinkState}
 use Rattle.orc_rules.specs.Duties.{duty_order}
 use Rattle.orc_rules.specs.Events.{DoesUnderHub, Steps, Turn, seen_failing}
-use Rattle.orc_rules.specs.Hubs.{Hub, due_on, has_met_failure, order_on}
+use Rattle.orc_rules.specs.Hubs.{Hub, due_on, has_come_to, has_met_failure, order_on}
 use Rattle.orc_rules.specs.Worlds.{Link, Setting, World as Seen, declared}
 use Rattle.orc_rules.specs.declared.duty.Duty.{Duty}
 use Rattle.orc_rules.specs.declared.event.Event.{Event}
 use Rattle.orc_rules.specs.declared.event.Event.TheVariants as event
 use Rattle.orc_runs.specs.Scripts.{Goes, IsOf, NoneOf, Part, Part as part, said}
 use Rattle.orc_script.specs.declared.step.ScriptStep.TheVariants as step
-use Rattle.orc_scene.specs.Courses.{DoesOperation, DoesParts, DoesRow, EndsInParts, MayDoOperation, NoneOrdered, PrintsTold, told_in}
+use Rattle.orc_scene.specs.Courses.{DoesOperation, DoesParts, EndsInParts, MayDoOperation, PrintsTold, told_in}
+use Rattle.orc_world.specs.inside.Rows.{DoesRow, NoneOrdered}
 use Rattle.orc_hub.specs.Hubs.{record_of}
 use Rattle.orc_scene.specs.Stands.{IsPlaceSeenAs, IsSeenAs}
 use Rattle.orc_scene.specs.declared.scene.Place.{Place}
@@ -167,11 +168,12 @@ module _ {D : Type 0} (here : Setting D) where
       no_due hub up =
           let sized : length hub.duties ≡ length here.decls.names = sized_there here seen world.place is.place hub up in
           let none : order_on hub device ≡ None = ap (λ (o : Option Duty). option_map_or duty_order o None) (slice_get_past hub.duties device (subst (λ (n : ℕ). n ≤ device) (sym sized) past)) in
-          on (has_met_failure hub.mends) none
+          on (has_met_failure hub.mends) (has_come_to hub device) none
         where
-          on : (b : Bool) → order_on hub device ≡ None → (if b then None else order_on hub device) ≡ None
-          on true none = refl
-          on false none = none
+          on : (met come : Bool) → order_on hub device ≡ None → (if met then None else if come then order_on hub device else None) ≡ None
+          on true come none = refl
+          on false true none = none
+          on false false none = refl
 
       none_due : NoneOf here seen (part.Operation device)
       none_due one of (inl (hub, row, next, up, does)) = under_none here seen hub device (no_due hub up) one row next of does

@@ -12,7 +12,8 @@ use Rattle.orc_rules.specs.declared.event.Event.{Event}
 use Rattle.orc_rules.specs.declared.event.Event.TheVariants as event
 use Rattle.orc_runs.specs.Scripts.{IsOf, IsStill, NoneOf, Part, Part as part, comes_again, round}
 use Rattle.orc_runs.specs.Serving.{IsRested}
-use Rattle.orc_scene.specs.Courses.{DoesOperation, DoesParts, DoesRow, DoesTurn, EndsAtOnce, EndsInParts, InEachView, MayDoOperation, MayDoTurn, MayEndTurn, NoneOrdered, PrintsMost, RowOrEnd, RowOrQuiet, SettlesRounds, StaysSame}
+use Rattle.orc_scene.specs.Courses.{DoesOperation, DoesParts, DoesTurn, EndsAtOnce, EndsInParts, InEachView, MayDoOperation, MayDoTurn, MayEndTurn, PrintsMost, RowOrEnd, StaysSame}
+use Rattle.orc_world.specs.inside.Rows.{DoesRow, NoneOrdered, RowOrQuiet, SettlesRounds}
 use Rattle.orc_scene.specs.Laws.{SceneIsCarried}
 use Rattle.orc_scene.specs.Stands.{IsBetweenLines, IsSeenAs, IsSoundScene, run_setting}
 use Rattle.orc_scene.specs.declared.stop.WorldStop.{WorldStop}

@@ -15,7 +15,8 @@ use Rattle.orc_runs.specs.Scripts.{Goes, IsOf, IsStill, NoneOf, Part, Part as pa
 use Rattle.orc_script.specs.declared.step.ScriptStep.TheVariants as step
 use Rattle.orc_text.specs.declared.memory.Memory.{Memory}
 use Rattle.orc_scene.specs.Effects.{PrintsText, hub_in}
-use Rattle.orc_scene.specs.Courses.{DoesParts, RowOrEnd, SettlesRounds}
+use Rattle.orc_scene.specs.Courses.{DoesParts, RowOrEnd}
+use Rattle.orc_world.specs.inside.Rows.{SettlesRounds}
 use Rattle.orc_world.specs.Lines.{DoesLine, EndsInLine, IsLineCall}
 use Rattle.orc_scene.specs.Stands.{IsPlaceSeenAs, IsSeenAs, IsNotReconciling, run_setting}
 use Rattle.orc_scene.specs.declared.stop.WorldStop.{WorldStop}

@@ -19,7 +19,7 @@ use Rattle.orc_script.specs.declared.step.ScriptStep.{ScriptStep}
 use Rattle.orc_script.specs.declared.step.ScriptStep.TheVariants as step
 use Rattle.orc_scene.specs.Courses.{event_list, events_in, operations_in}
 use Rattle.orc_world.specs.Lines.{DoesLine, EndsInLine, IsLineCall, MayRecover}
-use Rattle.orc_world.specs.Scripts.{GoesOnAfter, RunsInWorld, RunsScript, TakesAnyLine}
+use Rattle.orc_world.specs.Scripts.{GoesOnAfter, KeepsLogs, RunsInWorld, RunsScript, TakesAnyLine}
 use Rattle.orc_scene.specs.Stands.{HasDisk, IsSeenAs, decls_in, run_setting}
 use Rattle.orc_scene.specs.RunEnds.{end_of_run}
 use Rattle.orc_scene.specs.declared.stop.WorldStop.{WorldStop}
@@ -98,7 +98,7 @@ module _ {D : Type 0} (here : Setting D) where
     pub limit : middle.limit ≡ old.limit
     pub events : middle.events.items.items ≡ old.events.items.items ++ events_in (flat_map (λ line. line.turns) lines)
     pub printed : now ≡ before ++ flat_map (λ line. line.text) lines
-    pub noted : (device : ℕ) → noted_on middle.links.logs device ≡ logged device (noted_on old.links.logs device) lines
+    pub noted : KeepsLogs old middle lines
     pub logs : PrintLogs here.decls.names (λ device. noted_on old.links.logs device) lines
 
   module _ (seen : Seen D) (old : Scene D) (before : List ℕ) where
@@ -198,7 +198,8 @@ module _ {D : Type 0} (here : Setting D) where
 
     -- all lines were done
     pub lines_whole : (script : List ScriptStep) (middle : Scene D) (now : List ℕ) (so : LinesSoFar seen old before script middle now)
-        → (last : Seen D) × (does : RunsInWorld here script seen old middle before now last) × ((does.run.end ≡ None) × IsSeenAs here last middle)
+        → (last : Seen D) × (does : RunsInWorld here script seen old middle before now last)
+        × ((does.run.end ≡ None) × IsSeenAs here last middle × KeepsLogs old middle does.run.lines)
     lines_whole script middle now so = (
       so.last,
       record {
@@ -221,7 +222,7 @@ module _ {D : Type 0} (here : Setting D) where
         events = so.events ∙ ap (λ (l : List (LineDone D)). old.events.items.items ++ events_in (flat_map (λ x. x.turns) l)) (sym (append-nil so.lines));
         printed = so.printed ∙ ap (λ (l : List (LineDone D)). before ++ flat_map (λ x. x.text) l) (sym (append-nil so.lines));
       },
-      (refl, so.is),
+      (refl, so.is, so.noted),
     )
 
 -- the lines of a script that were done so far
@@ -299,4 +300,4 @@ module _ {D : Type 0} (disk : DiskMeaning D) (whole : List ScriptStep) (old : Sc
   script_whole middle now so = λ decls granted seen is recovers.
       (let here : Setting D = run_setting disk decls old.limit granted in
       let all = lines_whole here seen old before whole middle now (so.lines decls granted seen is recovers) in
-      (all.0, all.1, (all.2.0, all.2.1, so.takes.3)))
+      (all.0, all.1, (all.2.0, all.2.1, so.takes.3, all.2.2)))

@@ -22,7 +22,7 @@ use Rattle.orc_runs.specs.Scripts.{Goes, Part, Shows, line_parts, set_by}
 use Rattle.orc_script.specs.declared.step.ScriptStep.{ScriptStep}
 use Rattle.orc_script.specs.declared.step.ScriptStep.TheVariants as step
 use Rattle.orc_world.specs.Lines.{DoesLine}
-use Rattle.orc_world.specs.Shown.{ShowsDevice}
+use Rattle.orc_world.specs.inside.Shown.{ShowsDevice}
 use Rattle.orc_scene.specs.Stands.{IsSeenAs, IsNotReconciling}
 use Rattle.orc_scene.specs.declared.scene.Scene.{Scene}
 use Rattle.orc_world.proofs.Allowed.{allowed_there}

@@ -7,7 +7,8 @@ use Rattle.orc_rules.specs.Worlds.{Setting, World as Seen}
 use Rattle.orc_rules.specs.declared.event.Event.{Event}
 use Rattle.orc_runs.specs.Ends.{EndedBecause}
 use Rattle.orc_runs.specs.Scripts.{Goes, IsOf, NoneOf, Part, comes_again}
-use Rattle.orc_scene.specs.Courses.{DoesOperation, DoesParts, DoesRow, DoesTurn, EndsAtOnce, EndsInParts, EndsTurn, GoesThrough, PrintsTold, StaysSame}
+use Rattle.orc_scene.specs.Courses.{DoesOperation, DoesParts, DoesTurn, EndsAtOnce, EndsInParts, EndsTurn, GoesThrough, PrintsTold, StaysSame}
+use Rattle.orc_world.specs.inside.Rows.{DoesRow}
 use Rattle.orc_scene.specs.Stands.{IsSeenAs}
 use Rattle.orc_scene.specs.RunEnds.{end_of_run}
 use Rattle.orc_scene.specs.declared.stop.WorldStop.{WorldStop}

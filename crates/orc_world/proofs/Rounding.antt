@@ -4,7 +4,8 @@ use Rattle.std.specs.List.{flat_map}
 use Rattle.orc_rules.specs.Events.{Turn}
 use Rattle.orc_rules.specs.Worlds.{Setting, World as Seen, declared}
 use Rattle.orc_runs.specs.Scripts.{Goes, IsStill, NoneOf, Part, Part as part, round}
-use Rattle.orc_scene.specs.Courses.{DoesParts, DoesRow, EndsInParts, GoesThrough, NoneOrdered, PrintsTold, told_in}
+use Rattle.orc_scene.specs.Courses.{DoesParts, EndsInParts, GoesThrough, PrintsTold, told_in}
+use Rattle.orc_world.specs.inside.Rows.{DoesRow, NoneOrdered}
 use Rattle.orc_scene.specs.Stands.{IsSeenAs}
 use Rattle.orc_scene.specs.RunEnds.{end_of_run}
 use Rattle.orc_scene.specs.declared.stop.WorldStop.{WorldStop}

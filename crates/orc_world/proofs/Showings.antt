@@ -33,7 +33,7 @@ use Rattle.orc_script.specs.declared.step.ScriptStep.{ScriptStep}
 use Rattle.orc_script.specs.declared.step.ScriptStep.TheVariants as step
 use Rattle.orc_scene.specs.Effects.{PrintsText, hub_in}
 use Rattle.orc_world.specs.Lines.{DoesLine, EndsInLine}
-use Rattle.orc_world.specs.Shown.{ShowsJsonOf, ShowsLogOf, ShowsMetaOf}
+use Rattle.orc_world.specs.inside.Shown.{ShowsJsonOf, ShowsLogOf, ShowsMetaOf}
 use Rattle.orc_scene.specs.Stands.{IsPlaceSeenAs, IsSeenAs, IsSoundScene, IsNotReconciling, decls_in, run_setting}
 use Rattle.orc_scene.specs.declared.stop.WorldStop.{WorldStop}
 use Rattle.orc_scene.specs.declared.scene.Place.{Place}

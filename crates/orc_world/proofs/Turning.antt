@@ -10,7 +10,8 @@ use Rattle.orc_runs.specs.Runs.{is_log}
 use Rattle.orc_runs.specs.Scripts.{Goes, NoneOf, Part, Part as part, Shows, comes_again, line_parts, set_by}
 use Rattle.orc_script.specs.declared.step.ScriptStep.{ScriptStep}
 use Rattle.orc_script.specs.declared.step.ScriptStep.TheVariants as step
-use Rattle.orc_scene.specs.Courses.{DoesParts, MayDoTurn, RowOrEnd, RowOrQuiet, TurnOrNone}
+use Rattle.orc_scene.specs.Courses.{DoesParts, MayDoTurn, RowOrEnd, TurnOrNone}
+use Rattle.orc_world.specs.inside.Rows.{RowOrQuiet}
 use Rattle.orc_scene.specs.Laws.{SceneIsCarried}
 use Rattle.orc_world.specs.Lines.{IsLineCall}
 use Rattle.orc_scene.specs.Stands.{IsBetweenLines, run_setting}

@@ -1,9 +1,10 @@
 -- After all operations of each device none is due there.
-use Rattle.std.proofs.Common.{[], ◌≡◌, ◌<◌, ◌+◌, ◌&&◌, ◌⊎◌, inl, inr, ℕ, zero, suc, Bool, true, false, not, cond, Option, Some, None, List, ◌∷◌, ◌++◌, length, map, refl, sym, ap, subst, ◌∙◌, arith}
-use Rattle.std.specs.Prelude.{MatchOption, is_some, slice_get}
+use Rattle.std.proofs.Common.{[], ◌≡◌, ◌<◌, ◌+◌, ◌⊎◌, inl, inr, ℕ, zero, suc, Bool, true, false, not, cond, Option, Some, None, List, ◌∷◌, ◌++◌, length, map, refl, sym, ap, subst, ◌∙◌, arith}
+use Rattle.std.specs.Prelude.{MatchOption, is_some, take}
 use Rattle.std.specs.List.{list_all, range_with_len}
 use Rattle.std.specs.Option.{option_map, option_map_or, option_or}
 use Rattle.std.proofs.lemmas.Bool.{cases_lt, false≢true}
+use Rattle.std.proofs.lemmas.List.{take_all}
 use Rattle.std.proofs.lemmas.Option.{none-some, same_Some}
 use Rattle.orc_call.specs.declared.answer.RecFault.{RecFault}
 use Rattle.orc_device.specs.Links.{Possible, Way as way, is_stranded, way_reply}
@@ -25,12 +26,14 @@ use Rattle.orc_recover.specs.declared.stage.MendStage.{MendStage}
 use Rattle.orc_recover.specs.declared.stage.MendStage.TheVariants as mending
 use Rattle.orc_rules.specs.Duties.{duty_order, is_busy}
 use Rattle.orc_rules.specs.Events.{DoesAnyway, DoesUnderHub, Steps, Turn, way_due}
-use Rattle.orc_rules.specs.Hubs.{Hub, has_met_failure, hub_reported, order_on}
+use Rattle.orc_rules.specs.Hubs.{Hub, duty_on, has_come_to, has_met_failure, hub_reported, order_on}
 use Rattle.orc_rules.specs.Worlds.{Setting, World as Seen, declared}
 use Rattle.orc_rules.specs.declared.duty.Duty.{Duty}
 use Rattle.orc_rules.specs.declared.duty.Duty.TheVariants as duty
 use Rattle.orc_rules.specs.declared.event.Event.{Event}
 use Rattle.orc_rules.specs.declared.event.Event.TheVariants as event
+use Rattle.orc_rules.proofs.Moving.{order_is}
+use Rattle.orc_rules.proofs.Reaching.{come_past, due_so, none_before}
 use Rattle.orc_rules.proofs.Reporting.{get_other}
 use Rattle.orc_runs.specs.Scripts.{Goes, IsOf, NoneOf, Part, Part as part, comes_again}
 use Rattle.orc_worker.specs.Workers.{is_due, order_at}
@@ -163,6 +166,14 @@ below_kept hub after below stays so = record {
   none = λ unmet device less. stays.others device less ∙ so.none (stays.unmet unmet) device less;
 }
 
+-- where nothing is next on the first so many devices, nothing is left to do there
+none_busy : (hub : Hub) (below : ℕ) → ((device : ℕ) → device < below → order_on hub device ≡ None) → list_all (λ one. not (is_busy one)) (take below hub.duties) ≡ true
+none_busy hub below none = none_before hub.duties below (λ device less. busy_none (duty_on hub.duties device) (sym (order_is hub device) ∙ none device less))
+
+-- and the reconciliation has come to the next one
+come_next : (hub : Hub) (device : ℕ) → ((other : ℕ) → other < device → order_on hub other ≡ None) → has_come_to hub device ≡ true
+come_next hub device none = come_past hub device (none_busy hub device none)
+
 module _ {D : Type 0} (here : Setting D) where
   -- an operation of a device, or its report, under a hub
   record LeadsTo (hub : Hub) (device : ℕ) (next : Seen D) : Type 0 where
@@ -204,9 +215,10 @@ module _ {D : Type 0} (here : Setting D) where
   operates old new meant seen device hub up is (Steps.unopened _ down recover stays same) = absurd (subst (IsOf (part.Operations device)) recover is)
   operates old new meant seen device hub up is (Steps.recovers _ down recover opens same) = absurd (subst (IsOf (part.Operations device)) recover is)
 
-  -- where none may come any more on a device, none is due there
-  none_there : (world : Seen D) (hub : Hub) (device : ℕ) → world.hub ≡ Some hub → NoneOf here world (part.Operations device) → has_met_failure hub.mends ≡ false → order_on hub device ≡ None
-  none_there world hub device up none unmet = on (world.links device).unheard refl
+  -- where none may come any more on a device that the reconciliation has come to, none is next there
+  none_there : (world : Seen D) (hub : Hub) (device : ℕ) → world.hub ≡ Some hub → NoneOf here world (part.Operations device) → has_met_failure hub.mends ≡ false → has_come_to hub device ≡ true
+      → order_on hub device ≡ None
+  none_there world hub device up none unmet come = on (world.links device).unheard refl
     where
       due : (world.links device).unheard ≡ None → (o : Option Op) → order_on hub device ≡ o → order_on hub device ≡ None
       due e None is = is
@@ -218,7 +230,7 @@ module _ {D : Type 0} (here : Setting D) where
             [],
             _,
             up,
-            DoesUnderHub.performs device one happened (ap (λ (b : Bool). cond b None (order_on hub device)) unmet ∙ is) e
+            DoesUnderHub.performs device one happened (due_so hub device unmet come ∙ is) e
                 (way_possible (here.kinds device) (world.nodes device) (world.links device).session one (listed_when (kind_of_op one) (world.links device).listed)) (inl refl),
           )))
 
@@ -241,7 +253,7 @@ module _ {D : Type 0} (here : Setting D) where
 
       by : has_met_failure hub.mends ≡ false → (other : ℕ) → (other < device) ⊎ (other ≡ device) → order_on hub other ≡ None
       by unmet other (inl less) = so.none unmet other less
-      by unmet other (inr is) = subst (λ (d : ℕ). order_on hub d ≡ None) (sym is) (none_there world hub device up none unmet)
+      by unmet other (inr is) = subst (λ (d : ℕ). order_on hub d ≡ None) (sym is) (none_there world hub device up none unmet (come_next hub device (so.none unmet)))
 
   -- after all operations of a row of devices
   record EndsBelow (below : ℕ) (last : Seen D) : Type 0 where
@@ -272,26 +284,6 @@ module _ {D : Type 0} (here : Setting D) where
   goes_below parts world turns last (Goes.still later _ _ _ still goes) first count is hub up so =
       let row : HeadsRow part.Rounds later first count = heads part.Rounds later first count is in absurd (let wrong : part.Rounds ≡ part.Operations first = row.head in cc)
 
--- where it is so of each
-all_so : (P : Duty → Bool) (duties : List Duty) (f : (place : ℕ) (one : Duty) → slice_get duties place ≡ Some one → P one ≡ true) → list_all P duties ≡ true
-all_so P [] f = refl
-all_so P (one ∷ duties) f = first_then (P one) (f zero one refl) (all_so P duties (λ place x is. f (suc place) x is))
-  where
-    first_then : (b : Bool) → b ≡ true → list_all P duties ≡ true → (b && list_all P duties) ≡ true
-    first_then true is rest = rest
-    first_then false is rest = absurd (false≢true is)
-
-place_within : {X : Type 0} (xs : List X) (place : ℕ) (x : X) → slice_get xs place ≡ Some x → place < length xs
-place_within [] place x is = absurd (none-some x is)
-place_within (y ∷ xs) zero x is = omega arith
-place_within (y ∷ xs) (suc place) x is = let below : place < length xs = place_within xs place x is in omega (arith, below)
-
-none_busy : (hub : Hub) (below : ℕ) → length hub.duties ≡ below → ((device : ℕ) → device < below → order_on hub device ≡ None) → list_all (λ one. not (is_busy one)) hub.duties ≡ true
-none_busy hub below sized none = all_so (λ one. not (is_busy one)) hub.duties (λ place one is.
-    (let less : place < below = subst (λ (n : ℕ). place < n) sized (place_within hub.duties place one is) in
-    let idle : duty_order one ≡ None = sym (ap (λ (o : Option Duty). option_map_or duty_order o None) is) ∙ none place less in
-    ap not (busy_none one idle)))
-
 -- after the operations of all devices nothing is due on any, unless a failure was met
 pub devices_mended : {D : Type 0} (disk : DiskMeaning D) (old new : Scene D) → IsSoundScene disk old → MatchOption (hub_in old.place) ⊥ (λ hub. is_some hub.mends ≡ true)
     → RowOrEnd disk (λ here. map part.Operations (declared here.decls)) old (done tt) new [] [] → MatchOption (hub_in new.place) ⊥ MendsDevices
@@ -311,7 +303,11 @@ devices_mended {D = D} disk old new sound begun each =
             let same : record_of own ≡ ends.hub = same_Some (record_of own) ends.hub (sym is.is ∙ ends.up) in
             let at : MendsBelow (record_of own) (0 + length here.decls.names) = subst (λ (h : Hub). MendsBelow h (0 + length here.decls.names)) (sym same) ends.so in
             let so : MendsBelow (record_of own) (length here.decls.names) = subst (λ (n : ℕ). MendsBelow (record_of own) n) (omega arith) at in
-            (so.begun, λ unmet. none_busy (record_of own) (length here.decls.names) (sized_there here next (Up own) is (record_of own) is.is) (so.none unmet))
+            let sized : length (record_of own).duties ≡ length here.decls.names = sized_there here next (Up own) is (record_of own) is.is in (
+              so.begun,
+              λ unmet. subst (λ (l : List Duty). list_all (λ one. not (is_busy one)) l ≡ true) (take_all (length here.decls.names) (record_of own).duties (omega (arith, sized)))
+                  (none_busy (record_of own) (length here.decls.names) (so.none unmet)),
+            )
         there here next (Down disk decls) is ends = absurd (none-some ends.hub (sym is.0 ∙ ends.up))
         there here next (Ended disk) is ends = absurd is
         there here next Moved is ends = absurd is

@@ -1,3 +1,3 @@
 pub mod Lines
-pub mod Shown
 pub mod Scripts
+pub mod inside

@@ -4,7 +4,7 @@ use Rattle.orc_decls.specs.declared.declarations.Decls.{Decls}
 use Rattle.orc_disk.specs.Meanings.{DiskMeaning}
 use Rattle.orc_links.specs.Logs.{noted_on}
 use Rattle.orc_rules.specs.Worlds.{Setting, World as Seen}
-use Rattle.orc_runs.specs.Runs.{Run, text_in, turns_of}
+use Rattle.orc_runs.specs.Runs.{LineDone, Run, logged, text_in, turns_of}
 use Rattle.orc_script.specs.declared.step.ScriptStep.{ScriptStep}
 use Rattle.orc_script.specs.declared.step.ScriptStep.TheVariants as step
 use Rattle.orc_scene.specs.Courses.{events_in}
@@ -32,6 +32,12 @@ pub record RunsInWorld {D : Type 0} (here : Setting D) (script : List ScriptStep
   pub events : new.events.items.items ≡ old.events.items.items ++ events_in (turns_of run)
   pub printed : after ≡ before ++ text_in run
 
+-- The log of each device holds the operations since it was printed last: where these lines didn't print it, those also
+-- that were noted before them.
+abbrev pub KeepsLogs : {D : Type 0} → Scene D → Scene D → List (LineDone D) → Type 0
+KeepsLogs old new lines =
+    (device : ℕ) → noted_on new.links.logs device ≡ logged device (noted_on old.links.logs device) lines
+
 -- What `run_steps` does. Where no recovery is in the script it may be granted that a journal reads what was written.
 abbrev pub RunsScript : {D : Type 0} → DiskMeaning D → List ScriptStep → Scene D → Result (Unit {0}) WorldStop → Scene D
     → List ℕ → List ℕ → Type 0
@@ -42,5 +48,5 @@ RunsScript {D} disk script old result new before after = (decls : Decls) (grante
     × (does : RunsInWorld (run_setting disk decls old.limit granted) script seen old new before after last)
     × MatchResult result
     (λ done. (does.run.end ≡ None) × IsSeenAs (run_setting disk decls old.limit granted) last new
-    × IsNotReconciling new.place)
+    × IsNotReconciling new.place × KeepsLogs old new does.run.lines)
     (λ why. (does.run.why ≡ Some (end_of_run why)) × HasDisk new.place last.journal.disk)

@@ -2,7 +2,7 @@
 ghost use Rattle.std.specs.Prelude.{◌∷◌, []};
 ghost use Rattle.orc_call.specs.declared.call.Call.{Call};
 ghost use Rattle.orc_runs.specs.Scripts.{Part as part, NoneOf};
-ghost use Rattle.orc_scene.specs.Courses.{RowOrQuiet};
+ghost use Rattle.orc_world.specs.inside.Rows.{RowOrQuiet};
 ghost use Rattle.orc_world.specs.Lines.{IsLineCall};
 ghost use Rattle.orc_scene.specs.Stands.{Allows, IsBetweenLines};
 ghost use Rattle.orc_script.specs.declared.step.ScriptStep.TheVariants as step;

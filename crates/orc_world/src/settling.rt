@@ -3,7 +3,7 @@ ghost use Rattle.std.specs.Prelude.{◌≡◌, ◌∷◌, ◌||◌, [], OnOk, le
 ghost use Rattle.std.specs.List.{flat_map};
 ghost use Rattle.orc_rules.specs.Worlds.{declared};
 ghost use Rattle.orc_runs.specs.Scripts.{IsStill, NoneOf, Part as part, round};
-ghost use Rattle.orc_scene.specs.Courses.{NoneOrdered, RowOrQuiet, SettlesRounds};
+ghost use Rattle.orc_world.specs.inside.Rows.{NoneOrdered, RowOrQuiet, SettlesRounds};
 ghost use Rattle.orc_world.specs.Lines.{IsLineCall};
 ghost use Rattle.orc_scene.specs.Stands.{Allows, IsBetweenLines, IsSoundScene, IsNotReconciling};
 ghost use Rattle.orc_script.specs.declared.step.ScriptStep.TheVariants as step;

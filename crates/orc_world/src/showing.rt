@@ -3,7 +3,7 @@ ghost use Rattle.std.specs.Prelude.{◌≡◌, ◌<◌, IfOk, MatchOption, codes
 ghost use Rattle.orc_print.specs.Printed.{data_text, history_text};
 ghost use Rattle.orc_scene.specs.Effects.{hub_in};
 ghost use Rattle.orc_world.specs.Lines.{IsLineCall};
-ghost use Rattle.orc_world.specs.Shown.{ShowsDevice, ShowsJsonOf, ShowsLogOf, ShowsMetaOf};
+ghost use Rattle.orc_world.specs.inside.Shown.{ShowsDevice, ShowsJsonOf, ShowsLogOf, ShowsMetaOf};
 ghost use Rattle.orc_scene.specs.Stands.{Allows, IsBetweenLines, IsSoundScene};
 ghost use Rattle.orc_script.specs.declared.step.ScriptStep.TheVariants as step;
 

@@ -18,7 +18,7 @@ use Rattle.orc_yang.specs.Machine.{Head, Spot, Between, Keyed, Worded, Strung, J
 use Rattle.orc_yang.proofs.GapWays.{Answer, at_work, from, onward, step_is, line, comment, piece, gap}
 
 module _ (done : List Stmt) (frames : List Frame) (end : ℕ) where
-  -- what ends a heading: behind it stands the `;` or the `{` of this keyword and argument
+  -- what ends a heading: after it stands the `;` or the `{` of this keyword and argument
   pub record Ends (w : Work) (h : Head) (a : Option (List ℕ)) : Type 0 where
     pub semicolon : (x : Character) → feed_work w Semicolon (at_work done frames end w) x ≡ leaf (at_work done frames end w) h a
     pub brace : (x : Character) → feed_work w OpenBrace (at_work done frames end w) x ≡ enter (at_work done frames end w) h a x
@@ -137,7 +137,7 @@ module _ (done : List Stmt) (frames : List Frame) (end : ℕ) where
   reworded : (l : grammar.Last) (h : Head) (ys : List Character) (a a' : List ℕ) → a ≡ a' → from done frames end ys (word_work l h a) ≡ from done frames end ys (word_work l h a')
   reworded l h ys a a' e = ap (λ q. from done frames end ys (word_work l h q)) e
 
-  -- behind an unquoted string
+  -- after an unquoted string
   abbrev Worked : Answer → Head → List ℕ → List Character → Type 0
   Worked answer h a ys = (l : grammar.Last) × (answer ≡ from done frames end ys (word_work l h a))
 
@@ -184,7 +184,7 @@ module _ (done : List Stmt) (frames : List Frame) (end : ℕ) where
       let r = word (grammar.last_of k) h (encode_utf8 x.code) d in
       (r.0, begin_word k h x e d ∙ r.1)
 
-  -- what stands behind an unquoted string ends it
+  -- what stands after an unquoted string ends it
   abbrev Ended : List Character → Type 0
   Ended [] = ⊥
   Ended (y ∷ ys) = Of grammar.ends_word y
@@ -314,7 +314,7 @@ restart frames end ys done done' e = ap (λ q. from q frames end ys (Gap Between
 opened : (b : Bool) (answer : Fed) (fault : Fed) → b ≡ true → cond b answer fault ≡ answer
 opened b answer fault e = ap (λ q. cond q answer fault) e
 
--- statements, of which the first is read behind `done` and inside of `frames`
+-- statements, of which the first is read after `done` and inside of `frames`
 statements : (done : List Stmt) (frames : List Frame) (end : ℕ) {n : ℕ} {xs ys : List Character} {list : List Stmt} → n ≡ length frames → grammar.Statements n xs list ys
     → from done frames end xs (Gap Between) ≡ from (done ++ list) frames end ys (Gap Between)
 statements done frames end q (grammar.Statements.none {n} {xs}) = restart frames end xs done (done ++ []) (sym (append-nil done))

@@ -42,7 +42,7 @@ came_more front s t w c e = record {
       ∙ ap (λ m. run (placed m (next_column c w.column) rest) t end) (sym q)));
 }
 
--- what an accepted end says of the front
+-- what an accepted end says of the prefix
 pub begins_by : (front : List ℕ) (s : Machine) → Came front s → (cs more : List ℕ) (list : List Stmt) → all_scalars more ≡ true
     → ((at column end : ℕ) → run (placed at column (cs ++ more)) s end ≡ Ok list) → CanOpen (front ++ cs)
 begins_by front s w cs more list q h =
@@ -102,7 +102,7 @@ module _ (front : List ℕ) (done : List Stmt) (frames : List Frame) where
   ungrouped : (P : List ℕ → Type 0) (cs ds : List ℕ) → P (front ++ (cs ++ ds)) → P ((front ++ cs) ++ ds)
   ungrouped P cs ds p = subst P (sym (append_assoc front cs ds)) p
 
-  -- from the work behind the first slash
+  -- from the work after the first slash
   takes_slashed : (v : Work) (spot : Spot) (o : ℕ) → Came (front ++ 47 ∷ []) (S done frames v)
       → ((x : Character) → feed_work v Star (S done frames v) x ≡ Ok (S done frames (InBlock spot o None)))
       → ((x : Character) → feed_work v CloseBrace (S done frames v) x ≡ Err (BadToken x.at))
@@ -128,7 +128,7 @@ module _ (front : List ℕ) (done : List Stmt) (frames : List Frame) where
   pub takes_second : (h : Head) → Came front (S done frames (InSecond h)) → TakesComment front
   takes_second h w = takes_slashed (Slashed (Keyed h) _) (Keyed h) _ (came_more front _ _ w 47 refl) (λ x. refl) (λ x. refl)
 
-  -- only behind a backslash in a double-quoted string
+  -- only after a backslash in a double-quoted string
   pub escaping : (h : Head) (a : List ℕ) (o column : ℕ) (raw : List ℕ) → Came front (S done frames (BehindBackslash h a o column raw None)) → IsEscaping front
   escaping h a o column raw w = (can_follow front _ _ w 110 refl refl, can_follow front _ _ w 34 refl refl, stops_doomed front _ _ w 97 _ refl refl)
 

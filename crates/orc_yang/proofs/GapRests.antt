@@ -26,7 +26,7 @@ module _ (done : List Stmt) (frames : List Frame) (list : List Stmt) where
   abbrev pub End : Head → Option (List ℕ) → List Character → Type 0
   End = Ending done frames list
 
-  -- `;` and `{` behind a heading
+  -- `;` and `{` after a heading
   pub back_leaf : (h : Head) (a : Option (List ℕ)) (w : Work) {x : Character} {xs : List Character} → Is Semicolon x → RestFed list xs (leaf (S w) h a) → End h a (x ∷ xs)
   back_leaf h a w e r = Ending.semicolon e r
 
@@ -39,7 +39,7 @@ module _ (done : List Stmt) (frames : List Frame) (list : List Stmt) where
       let d = deep (nat_lt (length frames) 32) (record { work = Gap Between; done = []; frames = framed (S w) h a ∷ frames }) x xs r in
       Ending.brace e d.0 d.1
 
-  -- a piece of a gap in front
+  -- a piece of a gap before the rest
   tail_piece : {xs ys : List Character} → Piece xs ys → Tail done frames list ys → Tail done frames list xs
   tail_piece p t = record { more = t.more; rest = t.rest; body = Statements.gap p t.body; closed = t.closed }
 
@@ -70,7 +70,7 @@ module _ (done : List Stmt) (frames : List Frame) (list : List Stmt) where
       let C : List Stmt → Type 0 = λ d. Closed fs (ended f d ++ t.more) t.rest list in
       record { more = []; rest = x ∷ xs; body = Statements.none; closed = (x, xs, t.more, t.rest, refl, e, t.body, subst C (sym (append-nil done)) t.closed) }
 
-  -- a statement in front
+  -- a statement before the rest
   tail_statement : {x : Character} {xs ys : List Character} {h : Head} {a : Option (List ℕ)} → h.at ≡ x.at → Heading (x ∷ xs) h.keyword a ys → End h a ys → Tail done frames list (x ∷ xs)
   tail_statement {x} {xs} {h = h} {a = a} q d (Ending.semicolon {e} {ys} is t) =
       let st : ℕ → Stmt = λ at. statement h.keyword a [] at in

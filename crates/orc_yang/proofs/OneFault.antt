@@ -36,7 +36,7 @@ one_stop P s (x ∷ front) (y ∷ other) after rest c d e p p' n n' =
     one_stop (λ l. P (x ∷ l)) (λ xs ys. s (x ∷ xs) ys) front other after rest c d r p (subst (λ z. P (z ∷ other)) (sym q) p') n (λ h. n' (subst (λ z. P (z ∷ (other ++ d ∷ []))) q h)) in
     (ap (λ z. z ∷ front) q ∙ ap (λ l. y ∷ l) w.0, w.1)
 
--- behind a backslash of a string, no `;` can follow
+-- after a backslash of a string, no `;` can follow
 closes_no_escape : (front : List ℕ) (done : List Stmt) (frames : List Frame) (w : Work) → pending w ≡ None → Came front (S done frames w) → IsEscaping front → CanFollow front 59 → ⊥
 closes_no_escape front done frames (BehindBackslash h a o column raw None) q c e b = stops_doomed front _ _ c 59 _ refl refl b
 closes_no_escape front done frames (BehindBackslash h a o column raw (Some f)) q c e b = cc

@@ -1,4 +1,4 @@
--- The strings and comments that are open behind a front of a text.
+-- The strings and comments that are open after a prefix of a text.
 use Rattle.std.proofs.Common.{◌≡◌, ℕ, ◌||◌, Bool, true, false, List, [], ◌∷◌, ◌++◌, length, Option, Some, None, Ok, Err, refl, sym, ap, ◌∙◌, subst, append_assoc}
 use Rattle.std.specs.Str.{encode_utf8_all}
 use Rattle.orc_yang.specs.declared.character.Sort.{Sort}
@@ -12,8 +12,8 @@ use Rattle.orc_yang.specs.Faults.{TakesString, TakesComment, ends_single, ends_d
 use Rattle.orc_yang.specs.Machine.{Work, Slashed, InBlock, BehindStar, Lone, InSingle, InDouble, BehindBackslash, Fed}
 use Rattle.orc_yang.proofs.Viable.{pending}
 
--- an open string between such quotes, with the opening one in this place: whether it ends is told by `begins` of what is
--- behind that quote, and by `ends` of what is still to come
+-- an open string between such quotes, with the opening one in this place: `begins` says of what stands after that quote
+-- whether the string ends, and `ends` says so of what is still to come
 pub record OpenQuoted (quotes : Sort) (begins ends : List ℕ → Bool) (front : List ℕ) (o : ℕ) : Type 0 where
   pub before : List ℕ
   pub inner : List ℕ
@@ -28,11 +28,11 @@ pub record OpenQuoted (quotes : Sort) (begins ends : List ℕ → Bool) (front :
 abbrev pub OpenSingle : List ℕ → ℕ → Type 0
 OpenSingle front o = OpenQuoted SingleQuote ends_single ends_single front o
 
--- a double-quoted one, behind a backslash or not
+-- a double-quoted one, after a backslash or not
 abbrev pub OpenDouble : Bool → List ℕ → ℕ → Type 0
 OpenDouble b front o = OpenQuoted DoubleQuote (ends_double false) (ends_double b) front o
 
--- the same of a comment, behind a `*` or not
+-- an open comment, after a `*` or not, with its opening slash in this place
 pub record OpenComment (b : Bool) (front : List ℕ) (o : ℕ) : Type 0 where
   pub before : List ℕ
   pub inner : List ℕ
@@ -64,7 +64,7 @@ Opened front (InDouble h a o column raw p) = OpenDouble false front o
 Opened front (BehindBackslash h a o column raw p) = OpenDouble true front o
 Opened front _ = Unit {0}
 
--- the meaning of a fault that the machine finds, which is no want of memory
+-- the meaning of a fault that the machine finds, which is never that memory runs out
 abbrev pub Found : List ℕ → YangFault → Type 0
 Found text Memory = ⊥
 Found text (NotUtf8 at) = ⊥

@@ -33,7 +33,7 @@ parsed_bytes bytes n =
 abbrev fails : YangFault → Result (List Stmt) YangFault
 fails f = Err f
 
--- the longest front up to m that is a text
+-- the longest prefix up to m that is a text
 record Longest (bytes : List ℕ) (m n : ℕ) : Type 0 where
   pub front : IsUtf8 (take n bytes)
   pub longest : (k : ℕ) → n < k → k ≤ m → ¬ (IsUtf8 (take k bytes))
@@ -60,7 +60,7 @@ longest_to : (bytes : List ℕ) (m : ℕ) → Longest bytes m (valid_len_up_to b
 longest_to bytes zero = record { front = ([], (refl, refl)); longest = λ k p q. absurd (omega (arith, p, q)); within = omega arith }
 longest_to bytes (suc m) = longest_more bytes m (valid_len_up_to bytes m) (is_utf8 (take (suc m) bytes)) refl (longest_to bytes m)
 
--- bytes that are no text are one up to the length of their longest front that is
+-- bytes that are no text are one up to the length of their longest prefix that is
 pub valid_up_to : (bytes : List ℕ) → ¬ (IsUtf8 bytes) → IsValidUpTo bytes (utf8_valid_len bytes)
 unfolding utf8_valid_len
 valid_up_to bytes no_text =

@@ -60,7 +60,7 @@ module _ (cs : List ℕ) (n c at len column end : ℕ) (found : (n < length cs) 
       let P : Result (List Stmt) YangFault → Type 0 = λ a. FailsWith a fault in
       subst P (sym (one s) ∙ h) (fails_on fault _ (λ t. run (placed (at + len) (next_column c column) (drop (n + 1) cs)) t end) f)
 
-  -- a step that wants memory, and one behind which it is wanted
+  -- a step that may take memory, and one after which some step may
   pub wants_here : (s : Machine) → MayTake s.work s.frames (sort_of c) → RunMayTake (placed at column (drop n cs)) s
   wants_here s h = let P : List ℕ → Type 0 = λ r. RunMayTake (placed at column r) s in subst P (sym here) (inl h)
 

@@ -1,4 +1,4 @@
--- What the grammar has behind each work of the machine.
+-- What the grammar has after each work of the machine.
 use Rattle.std.proofs.Common.{◌≡◌, ℕ, Bool, true, false, nat_lt, List, [], ◌∷◌, ◌++◌, length, Option, Some, None, Ok, Err}
 use Rattle.std.specs.Char.{encode_utf8}
 use Rattle.orc_yang.specs.declared.character.Sort.TheVariants.{Semicolon, OpenBrace, CloseBrace, Slash, Plus, Colon, Start}
@@ -11,7 +11,7 @@ use Rattle.orc_yang.specs.Grammar as grammar
 use Rattle.orc_yang.specs.Grammar.{Is, Of, Line, Comment, Piece, Letters, Keyword, Word, Unquoted, Single, Double, Quoted, Joined, Heading, Statements}
 use Rattle.orc_yang.specs.Machine.{Head, Spot, Between, Keyed, Worded, Strung, Joining, Work, Gap, Slashed, InLine, InBlock, BehindStar, InKeyword, BehindColon, InSecond, Lone, WordSlash, WordStar, InWord, InSingle, InDouble, BehindBackslash, Fed, ended}
 
--- behind the statements of a block: the end of the text, or the closing brace and the rest of the block around
+-- after the statements of a block: the end of the text, or the closing brace and the rest of the block around
 abbrev pub Closed : List Frame → List Stmt → List Character → List Stmt → Type 0
 Closed [] d ys list = (ys ≡ []) × (list ≡ d)
 Closed (f ∷ fs) d ys list = (c : Character) × (zs : List Character) × (more : List Stmt) × (us : List Character)
@@ -25,33 +25,33 @@ pub record Tail (done : List Stmt) (frames : List Frame) (list : List Stmt) (xs 
   pub closed : Closed frames (done ++ more) rest list
 
 module _ (done : List Stmt) (frames : List Frame) (list : List Stmt) where
-  -- behind a heading
+  -- after a heading
   pub data Ending (h : Head) (a : Option (List ℕ)) : List Character → Type 0 where
     semicolon : {e : Character} {ys : List Character} → Is Semicolon e → Tail (done ++ statement h.keyword a [] h.at ∷ []) frames list ys → Ending h a (e ∷ ys)
     brace : {o : Character} {ys : List Character} → Is OpenBrace o → nat_lt (length frames) 32 ≡ true
         → Tail [] (record { keyword = h.keyword; argument = a; at = h.at; before = done } ∷ frames) list ys → Ending h a (o ∷ ys)
 
-  -- behind an unquoted argument
+  -- after an unquoted argument
   pub data Argued (h : Head) (a : List ℕ) : List Character → Type 0 where
     argued : {xs ys : List Character} → grammar.Gap xs ys → Ending h (Some a) ys → Argued h a xs
 
-  -- behind a quoted string
+  -- after a quoted string
   pub data Stringed (h : Head) (a : List ℕ) : List Character → Type 0 where
     last : {xs ys : List Character} → grammar.Gap xs ys → Ending h (Some a) ys → Stringed h a xs
     joined : {p : Character} {xs zs us vs ws : List Character} {t : List ℕ} → grammar.Gap xs (p ∷ zs) → Is Plus p → grammar.Gap zs us → Joined us t vs → grammar.Gap vs ws
         → Ending h (Some (a ++ t)) ws → Stringed h a xs
 
-  -- behind a plus
+  -- after a plus
   pub data Plussed (h : Head) (a : List ℕ) : List Character → Type 0 where
     plussed : {xs us vs ws : List Character} {t : List ℕ} → grammar.Gap xs us → Joined us t vs → grammar.Gap vs ws → Ending h (Some (a ++ t)) ws → Plussed h a xs
 
-  -- behind a keyword and a gap
+  -- after a keyword and a gap
   pub data AfterKey (h : Head) : List Character → Type 0 where
     bare : {xs ys : List Character} → grammar.Gap xs ys → Ending h None ys → AfterKey h xs
     word : {xs us vs ws : List Character} {a : List ℕ} → grammar.Gap xs us → Unquoted us a vs → grammar.Gap vs ws → Ending h (Some a) ws → AfterKey h xs
     strings : {xs us vs ws : List Character} {a : List ℕ} → grammar.Gap xs us → Joined us a vs → grammar.Gap vs ws → Ending h (Some a) ws → AfterKey h xs
 
-  -- behind a keyword
+  -- after a keyword
   pub data KeyEnd (h : Head) : List Character → Type 0 where
     bare : {xs ys : List Character} → grammar.Gap xs ys → Ending h None ys → KeyEnd h xs
     parted : {xs ys : List Character} → Piece xs ys → AfterKey h ys → KeyEnd h xs
@@ -124,7 +124,7 @@ module _ (done : List Stmt) (frames : List Frame) (list : List Stmt) where
   Rest (InDouble h a o column raw p) xs = (p ≡ None) × DoubleRest h a column raw xs
   Rest (BehindBackslash h a o column raw p) xs = (p ≡ None) × EscapeRest h a column raw xs
 
--- the rest behind a step
+-- the rest after a step
 abbrev pub RestFed : List Stmt → List Character → Fed → Type 0
 RestFed list xs (Ok s) = Rest s.done s.frames list s.work xs
 RestFed list xs (Err fault) = ⊥

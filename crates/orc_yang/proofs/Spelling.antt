@@ -57,7 +57,7 @@ found_all items (Err fault) bytes end u h = tt
 pub fault_in : (bytes : List ℕ) → IsUtf8 bytes → (f : YangFault) → answer bytes (length bytes) ≡ Err f → (text : List ℕ) × (all_scalars text ≡ true) × (encode_utf8_all text ≡ bytes) × Found text f
 fault_in bytes u f e = (chars bytes, scalars_of bytes u, spelled bytes u, fault_of (chars bytes) (length bytes) (ap length (sym (spelled bytes u))) f e)
 
--- the answer wants memory
+-- reading these bytes may take memory
 abbrev pub Wanting : List ℕ → Type 0
 Wanting bytes = RunMayTake (placed 0 1 (chars bytes)) start
 

@@ -18,7 +18,7 @@ use Rattle.orc_yang.proofs.Complete.{complete}
 use Rattle.orc_yang.proofs.Viable.{pending}
 use Rattle.orc_yang.proofs.Faults.{character, Came, came_nil, came_more, stops_err, stops_doomed, can_follow, doomed, S}
 
--- A front that can begin a text brings the machine to a state without a fault.
+-- A prefix that can begin a text brings the machine to a state without a fault.
 pub record Comes (front : List ℕ) : Type 0 where
   pub state : Machine
   pub came : Came front state
@@ -126,11 +126,11 @@ module _ (front : List ℕ) (done : List Stmt) (frames : List Frame) where
       let q : front ++ 47 ∷ 42 ∷ 42 ∷ 47 ∷ [] ≡ (((front ++ 47 ∷ []) ++ 42 ∷ []) ++ 42 ∷ []) ++ 47 ∷ [] = simp append_assoc in
       let P : List ℕ → Type 0 = λ l. CanOpen l in subst P q t.0
 
-  -- a brace behind a slash
+  -- a brace after a slash
   braced : (u : Work) (t : Machine) (w : Came (front ++ 47 ∷ []) (S done frames u)) → feed (S done frames u) (character (length (encode_utf8_all (front ++ 47 ∷ []))) w.column 125) ≡ Ok t → pending t.work ≡ None → CanOpen (front ++ 47 ∷ 125 ∷ [])
   braced u t w e q = let P : List ℕ → Type 0 = λ l. CanOpen l in subst P (append_assoc front (47 ∷ []) (125 ∷ [])) (can_follow (front ++ 47 ∷ []) (S done frames u) t w 125 e q)
 
-  -- behind a `*` of a comment, a slash ends the comment
+  -- after a `*` of a comment, a slash ends the comment
   star_spot : (spot : Spot) (o : ℕ) → C (BehindStar spot o None) → TakesComment front → ⊥
   star_spot Between o w t = stops_err (front ++ 47 ∷ []) _ (came_more front _ _ w 47 refl) 42 _ refl (two t)
   star_spot (Keyed h) o w t =

@@ -1,4 +1,4 @@
--- Memory is wanted only behind white space and comments, where a keyword begins.
+-- Memory is taken only after white space and comments, where a keyword begins.
 use Rattle.std.proofs.Common.{◌≡◌, ℕ, Bool, true, false, ◌⊎◌, inl, inr, List, [], ◌∷◌, Option, Some, None, Ok, refl, sym, ap, ◌∙◌, subst, arith}
 use Rattle.orc_yang.specs.declared.character.Sort.{Sort}
 use Rattle.orc_yang.specs.declared.character.Sort.TheVariants.{LineFeed, Blank, Slash, Star, Start, Forbidden}
@@ -20,7 +20,7 @@ Ahead xs = (x : Character) × (rest : List Character) × grammar.Gap xs (x ∷ r
 ahead : {xs ys : List Character} → Piece xs ys → Ahead ys → Ahead xs
 ahead piece a = (a.0, a.1, grammar.Gap.more piece a.2, a.3)
 
--- the same behind a comment that is read to its end
+-- a comment that is read to its end, white space and comments, and then the first character of a keyword
 abbrev pub BehindLine : List Character → Type 0
 BehindLine xs = (ys : List Character) × Line xs ys × Ahead ys
 

@@ -24,7 +24,7 @@ CanGoOn front more = CanOpen (front ++ more)
 abbrev pub CanFollow : List ℕ → ℕ → Type 0
 CanFollow front c = CanOpen (front ++ c ∷ [])
 
--- The characters by which the places in a text are told apart.
+-- The characters that distinguish the places in a text.
 abbrev pub double_quote : ℕ
 double_quote = 34
 
@@ -47,7 +47,7 @@ closing_brace = 125
 abbrev pub two_bytes : ℕ
 two_bytes = 128
 
--- Behind a backslash of a double-quoted string: `n` and `"` can follow, but `a` can't.
+-- After a backslash of a double-quoted string: `n` and `"` can follow, but `a` can't.
 abbrev pub IsEscaping : List ℕ → Type 0
 IsEscaping front = CanFollow front letter_n × CanFollow front double_quote × ¬ CanFollow front letter_a
 
@@ -89,26 +89,26 @@ abbrev pub is_slash : Sort → Bool
 is_slash Slash = true
 is_slash _ = false
 
--- behind an opening single quote: the closing one comes
+-- after an opening single quote: the closing one comes
 abbrev pub ends_single : List ℕ → Bool
 ends_single [] = false
 ends_single (c ∷ cs) = is_quote (sort_of c) || ends_single cs
 
--- behind an opening double quote, or behind a backslash in the string: the closing one comes
+-- after an opening double quote, or after a backslash in the string: the closing one comes
 abbrev pub ends_double : Bool → List ℕ → Bool
 ends_double true [] = false
 ends_double false [] = false
 ends_double true (c ∷ cs) = ends_double false cs
 ends_double false (c ∷ cs) = is_double_quote (sort_of c) || ends_double (is_backslash (sort_of c)) cs
 
--- behind `/*`, or behind a `*` in the comment: `*/` comes
+-- after `/*`, or after a `*` in the comment: `*/` comes
 abbrev pub ends_comment : Bool → List ℕ → Bool
 ends_comment true [] = false
 ends_comment false [] = false
 ends_comment true (c ∷ cs) = is_slash (sort_of c) || ends_comment (is_star (sort_of c)) cs
 ends_comment false (c ∷ cs) = ends_comment (is_star (sort_of c)) cs
 
--- A single-quoted string begins behind these characters, and has no end in those that follow.
+-- A single-quoted string begins after these characters, and has no end in those that follow.
 abbrev pub IsUnclosedSingle : List ℕ → List ℕ → Type 0
 IsUnclosedSingle front rest = (quote : ℕ) × (after : List ℕ) × (rest ≡ quote ∷ after) × (sort_of quote ≡ SingleQuote)
     × TakesString front × (ends_single after ≡ false)
@@ -123,7 +123,7 @@ abbrev pub IsUnclosedComment : List ℕ → List ℕ → Type 0
 IsUnclosedComment front rest = (slash star : ℕ) × (after : List ℕ) × (rest ≡ slash ∷ star ∷ after)
     × (sort_of slash ≡ Slash) × (sort_of star ≡ Star) × TakesComment front × (ends_comment false after ≡ false)
 
--- A string or a comment begins behind these characters, and has no end in those that follow.
+-- A string or a comment begins after these characters, and has no end in those that follow.
 abbrev pub IsUnclosed : List ℕ → List ℕ → Type 0
 IsUnclosed front rest =
     IsUnclosedSingle front rest ⊎ (IsUnclosedDouble front rest ⊎ IsUnclosedComment front rest)

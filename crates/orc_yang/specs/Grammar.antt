@@ -36,7 +36,7 @@ in_comment Star = false
 in_comment Forbidden = false
 in_comment _ = true
 
--- may stand behind a `*` in a comment, and is neither `*` nor `/`
+-- may stand after a `*` in a comment, and is neither `*` nor `/`
 abbrev pub behind_star : Sort → Bool
 behind_star Slash = false
 behind_star k = in_comment k
@@ -94,13 +94,13 @@ in_double Backslash = false
 in_double Forbidden = false
 in_double _ = true
 
--- behind `//`: to the end of the line, or of the text
+-- after `//`: to the end of the line, or of the text
 pub data Line : List Character → List Character → Type 0 where
   at_end : Line [] []
   at_feed : {x : Character} {xs : List Character} → Is LineFeed x → Line (x ∷ xs) xs
   more : {x : Character} {xs ys : List Character} → Of in_line x → Line xs ys → Line (x ∷ xs) ys
 
--- behind `/*`: to the first `*/`; the flag says that a `*` stands before
+-- after `/*`: to the first `*/`; the flag says that a `*` stands before
 pub data Comment : Bool → List Character → List Character → Type 0 where
   ends : {x : Character} {xs : List Character} → Is Slash x → Comment true (x ∷ xs) xs
   star : {b : Bool} {x : Character} {xs ys : List Character} → Is Star x → Comment true xs ys → Comment b (x ∷ xs) ys
@@ -119,7 +119,7 @@ pub data Gap : List Character → List Character → Type 0 where
   none : {xs : List Character} → Gap xs xs
   more : {xs ys zs : List Character} → Piece xs ys → Gap ys zs → Gap xs zs
 
--- the characters of an identifier behind its first (RFC 7950 section 6.2)
+-- the characters of an identifier after its first (RFC 7950 section 6.2)
 pub data Letters : List Character → List ℕ → List Character → Type 0 where
   none : {xs : List Character} → Letters xs [] xs
   more : {x : Character} {xs ys : List Character} {k : List ℕ} → Of in_identifier x → Letters xs k ys
@@ -133,7 +133,7 @@ pub data Keyword : List Character → List ℕ → List Character → Type 0 whe
       → Is Colon c → Is Start y → Letters ys k zs
       → Keyword (x ∷ xs) (encode_utf8 x.code ++ (p ++ (encode_utf8 c.code ++ (encode_utf8 y.code ++ k)))) zs
 
--- the characters of an unquoted string behind this one
+-- the characters of an unquoted string after this one
 pub data Word : Last → List Character → List ℕ → List Character → Type 0 where
   ends : {l : Last} {x : Character} {xs : List Character} → Of ends_word x → Word l (x ∷ xs) [] (x ∷ xs)
   more : {l : Last} {x : Character} {xs ys : List Character} {w : List ℕ} → Of in_word x → Of (makes_no_mark l) x
@@ -145,13 +145,13 @@ pub data Unquoted : List Character → List ℕ → List Character → Type 0 wh
   word : {x : Character} {xs ys : List Character} {w : List ℕ} → Of in_word x
       → Word (last_of (sort_of x.code)) xs w ys → Unquoted (x ∷ xs) (encode_utf8 x.code ++ w) ys
 
--- behind an opening single quote: to the closing one
+-- after an opening single quote: to the closing one
 pub data Single : List Character → List ℕ → List Character → Type 0 where
   ends : {x : Character} {xs : List Character} → Is SingleQuote x → Single (x ∷ xs) [] xs
   more : {x : Character} {xs ys : List Character} {t : List ℕ} → Of in_single x → Single xs t ys
       → Single (x ∷ xs) (encode_utf8 x.code ++ t) ys
 
--- behind an opening double quote: the characters to the closing one
+-- after an opening double quote: the characters to the closing one
 pub data Double : List Character → List ℕ → List Character → Type 0 where
   ends : {x : Character} {xs : List Character} → Is DoubleQuote x → Double (x ∷ xs) [] xs
   more : {x : Character} {xs ys : List Character} {r : List ℕ} → Of in_double x → Double xs r ys

@@ -13,13 +13,13 @@ abbrev pub GoesFirst : List ℕ → YangFault → Type 0
 GoesFirst bytes fault = (front rest : List ℕ) → all_scalars (front ++ rest) ≡ true
     → encode_utf8_all (front ++ rest) ≡ bytes → IsUnclosed front rest → fault ≡ OpenString (byte_count front)
 
--- Bytes have one fault at most that is no want of memory.
+-- Bytes have one fault at most, apart from running out of memory.
 abbrev pub HasOneFault : Type 0
 HasOneFault = (bytes : List ℕ) (fault other : YangFault) → IsFault bytes fault → IsFault bytes other
     → GoesFirst bytes fault → GoesFirst bytes other → fault ≢ Memory → other ≢ Memory → fault ≡ other
 
 -- Bytes are parsed as statements exactly where they are the text of these; else as their fault, which no other goes
--- before, and which is no want of memory.
+-- before, and which is never that memory runs out.
 pub record FollowsGrammar : Type 0 where
   pub statements : (bytes : List ℕ) (list : List Stmt) → (statements_of bytes ≡ Ok list) ↔ IsTextOf bytes list
   pub fault : (bytes : List ℕ) (fault : YangFault) → statements_of bytes ≡ Err fault → IsFault bytes fault

@@ -24,8 +24,8 @@ abbrev pub without_trailing : List ℕ → List ℕ
 without_trailing [] = []
 without_trailing (c ∷ cs) = if is_space c && ends_line cs then without_trailing cs else c ∷ without_trailing cs
 
--- Without the spaces and tabs behind a line break up to a column, of which `left` columns are left
--- here; a tab is eight spaces.
+-- Without the spaces and tabs after a line break up to a column, of which `left` columns are left here; a tab is eight
+-- spaces.
 abbrev pub unindented : ℕ → ℕ → List ℕ → List ℕ
 unindented column left [] = []
 unindented column left (c ∷ cs) = if c == 10 then c ∷ unindented column column cs
@@ -41,7 +41,7 @@ is_escape c = c == 110 || c == 116 || c == 34 || c == 92
 abbrev pub escaped : ℕ → ℕ
 escaped c = if c == 110 then 10 else (if c == 116 then 9 else c)
 
--- each backslash, with the character behind it, read as what the two stand for
+-- each backslash, with the character after it, read as what the two stand for
 abbrev pub unescaped : Bool → List ℕ → List ℕ
 unescaped true [] = []
 unescaped false [] = []

@@ -5,7 +5,7 @@ use Rattle.orc_yang.specs.declared.statement.Stmt.{Stmt}
 use Rattle.orc_yang.specs.declared.character.Character.{Character}
 use Rattle.orc_yang.specs.Grammar.{Statements}
 
--- the column behind a character: a line feed begins a line, and a tab counts as eight columns
+-- the column after a character: a line feed begins a line, and a tab counts as eight columns
 abbrev pub next_column : ℕ → ℕ → ℕ
 next_column c column = if c == 10 then 1 else (if c == 9 then column + 8 else column + 1)
 

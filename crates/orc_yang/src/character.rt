@@ -1,4 +1,4 @@
-//! The characters of a text, and the sorts that the grammar tells apart.
+//! The characters of a text, and the sorts that the grammar distinguishes.
 ghost use Rattle.std.specs.Prelude.{◌≡◌};
 ghost use Rattle.orc_yang.specs.Sorts.{sort_of, other_sort};
 

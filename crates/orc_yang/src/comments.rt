@@ -19,7 +19,7 @@ impl Parser {
         Ok(())
     }
 
-    // Behind a slash that must begin a comment.
+    // After a slash that must begin a comment.
     pub(crate) fn slashed(&mut self, sort: Sort, x: Character) -> Result<(), YangFault>
         ensures step { Mirrors (slashed sort (spot self.old) self.old.opened (view self.old) x) (view self.new) result }
         ensures memory { ¬ IsErrOf result YangFault.Memory }
@@ -74,7 +74,7 @@ impl Parser {
         }
     }
 
-    // The same, behind a `*`.
+    // In a comment in `/*` and `*/`, after a `*`.
     pub(crate) fn block_star(&mut self, sort: Sort, x: Character) -> Result<(), YangFault>
         ensures step { Mirrors
             (feed_star sort (spot self.old) self.old.opened self.old.pending (view self.old) x)

@@ -47,7 +47,7 @@ impl Parser {
         Ok(())
     }
 
-    // In a keyword, behind its colon.
+    // In a keyword, after its colon.
     pub(crate) fn colon(&mut self, sort: Sort, x: Character) -> Result<(), YangFault>
         ensures { Mirrors (feed_colon sort (head_of self.old) (view self.old) x) (view self.new) result }
     {
@@ -57,7 +57,7 @@ impl Parser {
         }
     }
 
-    // In a keyword, behind its prefix.
+    // In a keyword, after its prefix.
     pub(crate) fn second(
         &mut self,
         alloc: Global,
@@ -72,7 +72,7 @@ impl Parser {
         }
     }
 
-    // The first character behind a keyword.
+    // The first character after a keyword.
     pub(crate) fn end_keyword(
         &mut self,
         alloc: Global,

@@ -1,8 +1,8 @@
 //! Laws of faults and of parsing. Each function does nothing: its contract is the law.
 ghost use Rattle.orc_yang.specs.Laws.{HasOneFault, FollowsGrammar};
 
-/// Bytes have one fault at most, apart from want of memory, where a string or a comment without end
-/// goes before what is at fault in it.
+/// Bytes have one fault at most, apart from running out of memory, where a string or a comment
+/// without end goes before what is at fault in it.
 pub fn has_one_fault()
     ensures { HasOneFault }
 {}

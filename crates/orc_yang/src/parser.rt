@@ -16,13 +16,13 @@ use std::mem;
 pub(crate) enum Spot {
     // Between two statements.
     Between,
-    // Behind a keyword.
+    // After a keyword.
     Keyed,
-    // Behind an unquoted argument.
+    // After an unquoted argument.
     Worded,
-    // Behind a quoted string.
+    // After a quoted string.
     Strung,
-    // Behind a plus.
+    // After a plus.
     Joining,
 }
 
@@ -37,19 +37,19 @@ pub(crate) enum Mode {
     Line,
     // A comment in `/*` and `*/`.
     Block,
-    // The same, behind a `*` in it.
+    // A comment in `/*` and `*/`, after a `*` in it.
     BlockStar,
     // A keyword up to a colon.
     First,
-    // A keyword, behind its colon.
+    // A keyword, after its colon.
     Colon,
-    // A keyword behind its prefix.
+    // A keyword, after its prefix.
     Second,
-    // An unquoted string or a comment, behind the slash that begins either.
+    // An unquoted string or a comment, after the slash that begins either.
     Lone,
-    // An unquoted string, behind a slash in it.
+    // An unquoted string, after a slash in it.
     WordSlash,
-    // An unquoted string, behind a `*` in it.
+    // An unquoted string, after a `*` in it.
     WordStar,
     // An unquoted string.
     Word,
@@ -57,7 +57,7 @@ pub(crate) enum Mode {
     Single,
     // A double-quoted string.
     Double,
-    // A double-quoted string, behind a backslash in it.
+    // A double-quoted string, after a backslash in it.
     Escape,
 }
 

@@ -17,12 +17,12 @@ pub(crate) struct Value {
     pub escaped: bool,
     // Whether a space or a tab was taken last.
     pub blank: bool,
-    // Whether that one, and those behind it, stand before a line break.
+    // Whether that one, and those after it, stand before a line break.
     pub trailing: bool,
 }
 
-// The argument with the value of a double-quoted string behind it: trailing blanks are dropped first,
-// then the indentation up to the column of the opening quote, and escapes are read afterwards.
+// The argument with the value of a double-quoted string after it: trailing blanks are dropped first, then the
+// indentation up to the column of the opening quote, and escapes are read afterwards.
 #[tactic(auto, unfolding(crate::specs::Quoted::string_value))]
 pub(crate) fn with_value(
     alloc: Global,
@@ -92,7 +92,7 @@ fn escape(c: char) -> char
 }
 
 impl Value {
-    // Takes the next character, behind which these follow.
+    // Takes the next character, after which these follow.
     fn take(&mut self, column: u128, c: char, rest: &[char]) -> Result<(), Memory>
         requires { KnowsBlanks self.old (c ∷ rest.now) }
         ensures value { OnOk result
@@ -112,7 +112,7 @@ impl Value {
         }
     }
 
-    // Whether a space or a tab that is taken, behind which these follow, stands before a line break.
+    // Whether a space or a tab that is taken, after which these follow, stands before a line break.
     fn is_trailing(&self, rest: &[char]) -> bool
         requires { self.now.blank ≡ true → self.now.trailing ≡ ends_line rest.now }
         ensures { result ≡ ends_line rest.now }
@@ -161,7 +161,7 @@ impl Value {
         Ok(())
     }
 
-    // Adds a character, or what it stands for behind a backslash.
+    // Adds a character, or what it stands for after a backslash.
     fn add(&mut self, c: char) -> Result<(), Memory>
         ensures value { OnOk result ((rest : List ℕ)
             → spelled_with self.new rest ≡ spelled_with self.old (c ∷ rest)) }

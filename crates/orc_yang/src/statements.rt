@@ -61,7 +61,7 @@ fn read(alloc: Global, text: &str) -> Result<Vec<Stmt>, YangFault>
     parser.finish(end)
 }
 
-// The column behind a character: a line break begins a line, and a tab counts as eight columns.
+// The column after a character: a line break begins a line, and a tab counts as eight columns.
 fn next_column(code: char, column: u128) -> u128
     requires { column < 2 ^ 100 }
     ensures { result ≡ next_column code column }

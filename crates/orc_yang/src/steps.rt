@@ -87,7 +87,7 @@ impl Parser {
         }
     }
 
-    // Behind a keyword.
+    // After a keyword.
     pub(crate) fn keyed(&mut self, alloc: Global, sort: Sort, x: Character) -> Result<(), YangFault>
         ensures { Mirrors (keyed sort (head_of self.old) (view self.old) x) (view self.new) result }
     {
@@ -114,7 +114,7 @@ impl Parser {
         }
     }
 
-    // Behind an unquoted argument.
+    // After an unquoted argument.
     pub(crate) fn worded(
         &mut self,
         alloc: Global,
@@ -133,7 +133,7 @@ impl Parser {
         }
     }
 
-    // Behind a quoted string.
+    // After a quoted string.
     pub(crate) fn strung(
         &mut self,
         alloc: Global,
@@ -157,7 +157,7 @@ impl Parser {
         }
     }
 
-    // Behind a plus.
+    // After a plus.
     pub(crate) fn joining(
         &mut self,
         alloc: Global,

@@ -31,7 +31,7 @@ impl Parser {
         Ok(())
     }
 
-    // Behind a slash that begins an argument or a comment.
+    // After a slash that begins an argument or a comment.
     pub(crate) fn lone(&mut self, alloc: Global, sort: Sort, x: Character) -> Result<(), YangFault>
         ensures { Mirrors
             (lone sort (head_of self.old) self.old.argument self.old.opened (view self.old) x)
@@ -46,7 +46,7 @@ impl Parser {
         }
     }
 
-    // In an unquoted string, behind a slash.
+    // In an unquoted string, after a slash.
     pub(crate) fn word_slash(
         &mut self,
         alloc: Global,
@@ -63,7 +63,7 @@ impl Parser {
         }
     }
 
-    // In an unquoted string, behind a `*`.
+    // In an unquoted string, after a `*`.
     pub(crate) fn word_star(
         &mut self,
         alloc: Global,
@@ -230,7 +230,7 @@ impl Parser {
         Ok(())
     }
 
-    // In a double-quoted string, behind a backslash.
+    // In a double-quoted string, after a backslash.
     pub(crate) fn escape(&mut self, x: Character) -> Result<(), YangFault>
         ensures { Mirrors
             (feed_backslash (head_of self.old) self.old.argument

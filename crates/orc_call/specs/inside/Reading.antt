@@ -1,4 +1,4 @@
--- Reading a value from the front of the bytes: what is read, and what stands where no value is.
+-- Reading a value from the start of the bytes: what is read, and what stands where no value is.
 use Rattle.std.specs.Prelude.{◌≡◌, ℕ, ◌<◌, ◌≤◌, List, [], ◌∷◌, ◌++◌, length, take, Option, Result, Ok, Err}
 use Rattle.std.specs.declared.option.Option.TheVariants.{None, Some}
 use Rattle.std.specs.List.{flat_map}
@@ -31,7 +31,7 @@ pub record IsWhole {X : Type 0} (g : Grammar X) (bytes : List ℕ) (x : X) (rest
   pub lawful : AreLawful (g.fields x)
   pub parts : bytes ≡ spelled (g.fields x) ++ rest
 
--- so many bytes are left behind the last field that some value has there, and no value has all its fields there
+-- so many bytes are left after the last field that some value has there, and no value has all its fields there
 pub record IsStuck {X : Type 0} (g : Grammar X) (bytes : List ℕ) (left : ℕ) : Type 0 where
   pub begins : (x : X) × (count : ℕ) × (rest : List ℕ) × BeginsWith g bytes x count rest × (length rest ≡ left)
   pub no_further : (x : X) (count : ℕ) (rest : List ℕ) → BeginsWith g bytes x count rest
@@ -41,7 +41,7 @@ abbrev pub ReadFails : {X : Type 0} → Grammar X → List ℕ → Stuck → Typ
 ReadFails g bytes (Bad left) = IsStuck g bytes left
 ReadFails g bytes Memory = Unit {0}
 
--- what a function returned was read from the front of the bytes
+-- what a function returned was read from the start of the bytes
 abbrev pub ReadsFront : {X : Type 0} → Grammar X → List ℕ → Result (X × Bor (List ℕ)) Stuck → Type 0
 ReadsFront g bytes (Ok read) = IsWhole g bytes read.0 read.1.now
 ReadsFront g bytes (Err stuck) = ReadFails g bytes stuck
@@ -54,7 +54,7 @@ one field = record { has = λ _. Unit {0}; fields = λ x. field x ∷ [] }
 abbrev pub any : {X : Type 0} → (X → List Field) → Grammar X
 any fields = record { has = λ _. Unit {0}; fields = fields }
 
--- so many puts, behind a path where there is one
+-- so many puts, after a path where there is one
 abbrev pub puts : Option (List PathStep) → ℕ → Grammar (List Put)
 puts before count = record { has = λ xs. length xs ≡ count; fields = puts_fields before }
 
@@ -83,7 +83,7 @@ device_path = any (λ read. a_text read.0 ∷ a_path None read.1 ∷ [])
 abbrev pub kind : Grammar ℕ
 kind = record { has = λ byte. (1 ≤ byte) × (byte ≤ 9); fields = λ byte. a_kind byte ∷ [] }
 
--- the actions of a kind, behind its byte
+-- the actions of a kind, after its byte
 abbrev pub content : ℕ → Grammar Action
 content byte = record { has = λ action. action_kind action ≡ byte; fields = content_fields }
 

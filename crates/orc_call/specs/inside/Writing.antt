@@ -5,7 +5,7 @@ use Rattle.orc_call.specs.declared.call.Put.{Put}
 use Rattle.orc_call.specs.declared.call.DevicePut.{DevicePut}
 use Rattle.orc_call.specs.Fields.{IsText, IsItem}
 
--- where all went well, these bytes stand behind the old ones
+-- where all went well, these bytes stand after the old ones
 abbrev pub Adds : {X E : Type 0} → Result X E → List ℕ → List ℕ → List ℕ → Type 0
 Adds result old new bytes = OnOk result (new ≡ old ++ bytes)
 

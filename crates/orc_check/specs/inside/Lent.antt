@@ -13,7 +13,7 @@ use Rattle.orc_check.specs.Validity.{Breach, behind, goes_down, plain_steps, tar
 abbrev pub keyed_step : Keyed → PathStep
 keyed_step entry = record { node = entry.name.now; keys = entry.key.now ∷ [] }
 
--- steps without keys, and behind them an entry or none
+-- steps without keys, and after them an entry or none
 abbrev pub end_steps : List (List ℕ) → Option Keyed → List PathStep
 end_steps names None = plain_steps names
 end_steps names (Some entry) = plain_steps names ++ keyed_step entry ∷ []
@@ -21,7 +21,7 @@ end_steps names (Some entry) = plain_steps names ++ keyed_step entry ∷ []
 abbrev pub spot_path : Spot → List PathStep
 spot_path spot = spot.steps.now ++ end_steps spot.names.now spot.entry
 
--- the names behind those of a place, where their node is reached from there
+-- the names after those of a place, where their node is reached from there
 abbrev pub reached_names : SchemaTable → List PathStep → List (List ℕ) → Option (List (List ℕ))
 reached_names s place names = option_and_then
     (λ later. if goes_down s (path_names place) later then Some later else None) (behind place names)

@@ -28,14 +28,14 @@ enters (list ∷ []) path = is_alone list path
 enters (list ∷ next ∷ later) [] = false
 enters (list ∷ next ∷ later) (step ∷ rest) = step_eq list step && enters (next ∷ later) rest
 
--- a path goes on from the front of a list's by a step of its last name
+-- a path goes on from the steps above a list by a step of the list's last name
 abbrev pub goes_on : List PathStep → List PathStep → Bool
 goes_on [] path = false
 goes_on (list ∷ []) path = is_named path list.node
 goes_on (list ∷ next ∷ later) [] = false
 goes_on (list ∷ next ∷ later) (step ∷ rest) = step_eq list step && goes_on (next ∷ later) rest
 
--- the first of the rows stands behind the list and all that is below it
+-- the first of the rows stands after the list and all that is below it
 abbrev pub is_past : List PathStep → List (List PathStep × Item) → Bool
 is_past list [] = false
 is_past list (row ∷ rows) = is_lt (path_cmp list row.0) && not (goes_on list row.0)

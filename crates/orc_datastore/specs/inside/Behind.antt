@@ -1,4 +1,4 @@
--- The data behind a call.
+-- The data after a call.
 use Rattle.std.specs.Prelude.{◌==◌, ℕ, List, [], ◌∷◌, Bool, true, false}
 use Rattle.orc_path.specs.Configurations.{Config}
 use Rattle.orc_call.specs.declared.call.Action.{Action}
@@ -20,7 +20,7 @@ is_on_data (Set put) = true
 is_on_data (Unset path) = true
 is_on_data other = false
 
--- the state with these data, behind expanded actions
+-- the state with these data, after expanded actions
 abbrev pub changed_by : List (List ℕ) → List Action → Config → Datastore → Datastore
 changed_by names actions config state = record {
   «data» = config;

@@ -1,4 +1,4 @@
--- The stores that a state keeps for its devices, and what they are behind the actions of a call.
+-- The stores that a state keeps for its devices, and what they are after the actions of a call.
 use Rattle.std.specs.Prelude.{◌≡◌, ℕ, List, [], ◌∷◌, map, length, slice_get, All, IsTrue, Option, Result}
 use Rattle.std.specs.declared.option.Option.TheVariants.{None, Some}
 use Rattle.std.specs.declared.result.Result.TheVariants.{Ok, Err}
@@ -48,7 +48,7 @@ ComesTo store moves edits device (Err answer) =
     (path : List PathStep) × (other : List ℕ) × (answer ≡ Clash device path other)
     × ClashesAt (writes_after moves (written_by store)) moves path other
 
--- the store is that of a device behind actions, and its base the device's base behind them
+-- the store is that of a device after actions, and its base the device's base after them
 pub record IsBehind (names : List (List ℕ)) (live : List Service) (actions : List Action) (device : ℕ) (base : Config)
     (store : Store) : Type 0 where
   pub edited : store.base ≡ fold (base_step (name_of names device)) base actions
@@ -64,17 +64,17 @@ abbrev pub clash_on : List (List ℕ) → List Service → List Action → ℕ �
 clash_on names live actions device =
     let behind = live_after names actions live in clash_at behind (touched actions behind) device
 
--- the store behind actions, or the clash that they meet on the device
+-- the store after actions, or the clash that they meet on the device
 abbrev pub IsStoreBehind : List (List ℕ) → List Service → List Action → ℕ → Store → Result Store Answer → Type 0
 IsStoreBehind names live actions device store (Ok new) = IsBehind names live actions device store.base new
 IsStoreBehind names live actions device store (Err answer) = clash_on names live actions device ≡ Some answer
 
--- the store that a device has behind a change of it, or without one
+-- the store that a device has after a change of it, or without one
 abbrev pub picked : Store → Option Store → Store
 picked store None = store
 picked store (Some new) = new
 
--- the same as a change of the store, or none
+-- the store after actions as a change of it, or none, or the clash that they meet on the device
 abbrev pub IsChangeOf : List (List ℕ) → List Service → List Action → ℕ → Store → Result (Option Store) Answer → Type 0
 IsChangeOf names live actions device store (Ok change) =
     IsBehind names live actions device store.base (picked store change)

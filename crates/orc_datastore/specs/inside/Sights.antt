@@ -108,7 +108,7 @@ planned_by decls known front actions (Ok made) reads = Ok (record {
 })
 planned_by decls known front actions (Err answer) reads = Err answer
 
--- the same on the data behind them
+-- the plan of actions on the data after them, or why there is none
 abbrev pub planned_known : Decls → Config → ℕ → List Action → Config → Result Plan Answer
 planned_known decls known front actions config =
     let due = expanded_actions (serving_on decls config) actions in

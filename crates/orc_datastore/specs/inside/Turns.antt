@@ -45,7 +45,7 @@ abbrev pub comers : Turn → List Service
 comers (Comes service) = service ∷ []
 comers (Goes id) = []
 
--- each of these services has a name that none of the living ones has, nor one of those in front of it
+-- each of these services has a name that none of the living ones has, nor one of those before it
 abbrev pub AreFresh : List Service → List Service → Type 0
 AreFresh live [] = Unit {0}
 AreFresh live (service ∷ services) = (lives live service.id ≡ false) × AreFresh (live ++ service ∷ []) services

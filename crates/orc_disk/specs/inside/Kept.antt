@@ -5,7 +5,7 @@ use Rattle.orc_disk.specs.declared.history.Change.{Change}
 use Rattle.orc_disk.specs.declared.history.TheConstants.{CHANGE_ROOM}
 use Rattle.orc_disk.specs.declared.history.Change.TheVariants.{Write, Sync}
 
--- the changes that are stored so, behind earlier ones, the newest first
+-- the changes that are stored so, after earlier ones, the newest first
 abbrev pub changes_of : List FileChange → List Change → List ℕ → List FileChange
 changes_of before [] bytes = before
 changes_of before (Write at len ∷ stored) bytes =

@@ -21,7 +21,7 @@ Counted-trans false y a b c p q = record {
   rose = λ f. grind (arith, p.later, q.rose f);
 }
 
--- the same of both counts and of what reads gave
+-- a row of no operations leaves both counts and what reads gave as they were
 pub Tallied-refl : (faults ops : ℕ) (heard : List (ℕ × List ℕ))
     → Tallied (row 0 false) faults faults (capped ops) (capped ops) heard heard
 Tallied-refl faults ops heard =

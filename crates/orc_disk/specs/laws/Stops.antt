@@ -144,7 +144,7 @@ sum_rose_first f g s t p q = grind (arith, p, q)
 sum_rose_second : (f g s t : ℕ) → f ≤ g → Rose s t → Rose (capped (f + s)) (capped (g + t))
 sum_rose_second f g s t p q = grind (arith, p, q)
 
--- its count tells of failed operations where that of the disk inside does
+-- its count reports failed operations where that of the disk inside does
 pub Led-counts : {D : Type 0} (disk : DiskMeaning D)
     → ((course : Course) (a b : D)
     → disk.leads course a b → Counted course.failed (disk.faults a) (disk.faults b))
@@ -160,7 +160,7 @@ Led-counts disk counts course a b p =
           (p.cause e);
     }
 
--- it tells what reads gave where the disk inside does
+-- it reports what reads gave where the disk inside does
 pub Led-tells : {D : Type 0} (disk : DiskMeaning D)
     → ((course : Course) (a b : D) → disk.leads course a b → disk.heard b ≡ disk.heard a ++ course.gave)
     → (course : Course) (a b : Stopping D)

@@ -6,7 +6,7 @@ use Rattle.std.proofs.lemmas.List.{take-take, drop-drop, drop-take, take_all, dr
 use Rattle.orc_disk.specs.Files.{written}
 use Rattle.orc_disk.specs.Torn.{Torn}
 
--- lists that agree behind a place agree there in their fronts
+-- lists that agree after a place have prefixes that agree there
 pub drop-take_same : (i j : ℕ) (xs ys : List ℕ) → drop i xs ≡ drop i ys → drop i (take j xs) ≡ drop i (take j ys)
 drop-take_same i j xs ys same = ⊎_elim inside beyond (cases_lt i j)
   where
@@ -24,7 +24,7 @@ drop-take_same i j xs ys same = ⊎_elim inside beyond (cases_lt i j)
         drop_all i (take j xs) (omega (arith, le, length-take j xs))
         ∙ sym (drop_all i (take j ys) (omega (arith, le, length-take j ys)))
 
--- more bytes behind the end
+-- more bytes after the end
 pub Torn-append : (at n : ℕ) (file more : List ℕ) → Torn at n file (file ++ more)
 Torn-append at n file more =
     let kept : take (length file) (file ++ more) ≡ file = take_at file more (length file) refl in

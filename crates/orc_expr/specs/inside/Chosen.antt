@@ -1,4 +1,4 @@
--- What was chosen by the first predicates of a step, in front of what the later ones choose.
+-- What was chosen by the first predicates of a step, before what the later ones choose.
 use Rattle.std.specs.Prelude.{ℕ, List, ◌++◌}
 use Rattle.orc_expr.specs.declared.read.Read.{Read}
 use Rattle.orc_expr.specs.declared.step.Choice.{Choice}

@@ -10,7 +10,7 @@ use Rattle.orc_expr.specs.declared.step.Reached.TheVariants.{Context, Given}
 use Rattle.orc_expr.specs.declared.following.Waiting.{Waiting}
 use Rattle.orc_expr.specs.declared.following.Following.{Following}
 
--- how far an expression was followed: the brackets that are open, the innermost last, and what stands behind them
+-- how far an expression was followed: the brackets that are open, the innermost last, and what stands after them
 pub record Way : Type 0 where
   pub outer : List Waiting
   pub now : Reached
@@ -21,7 +21,7 @@ way_of following = record { outer = following.outer.items; now = following.now }
 abbrev pub onto_way : Waiting → Way → Way
 onto_way first way = record way { outer = first ∷ way.outer }
 
--- behind a closing bracket: what stands behind the innermost bracket is the term of a predicate
+-- after a closing bracket: what stands after the innermost bracket is the term of a predicate
 abbrev pub way_closed : Viewed → List PathStep → List Waiting → Reached → Way
 way_closed view here [] now = record { outer = []; now = now }
 way_closed view here (last ∷ []) now = record { outer = []; now = ask last.front last.key (texts_at view here now) }

@@ -11,7 +11,7 @@ use Rattle.orc_expr.specs.declared.mode.Mode.{Mode}
 use Rattle.orc_expr.specs.declared.mode.Mode.TheVariants as mode
 use Rattle.orc_expr.specs.declared.reader.Reader.{Reader}
 
--- where a reader stands, with what it has of the expression behind the last open bracket
+-- where a reader stands, with what it has of the expression after the last open bracket
 pub data Place : Type 0 where
   Begin : Place
   Dot : Place
@@ -47,7 +47,7 @@ pub record Reading : Type 0 where
 abbrev pub at : Reading → Place → Option Reading
 at r place = Some (record r { place = place })
 
--- behind a term, a closing bracket
+-- after a term, a closing bracket
 abbrev pub closing : Reading → Expression → Option Reading
 closing r e =
     if r.depth == 0 then None else
@@ -57,13 +57,13 @@ closing r e =
       place = ClosedAt (closed r.outer e).now;
     })
 
--- behind an expression that ends: a closing bracket, or the space in front of a test
+-- after an expression that ends: a closing bracket, or the space before a test
 abbrev pub ended : Reading → Expression → ℕ → Option Reading
 ended r e b =
     if b == 93 then closing r e else
     if b == 32 then (if r.conditional && (r.depth == 0) then at r (Spaced e) else None) else None
 
--- behind an expression that a step or a predicate may stand behind
+-- after an expression that a step or a predicate may follow
 abbrev pub goes_on : Reading → Expression → ℕ → Option Reading
 goes_on r e b =
     if b == 91 then at r (OpenAt e) else
@@ -128,11 +128,11 @@ feed_at (InTest e differs text) r b =
     in_quotes r (InTest e differs (text ++ b ∷ [])) (Tested e differs text) b
 feed_at (Tested e differs text) r b = None
 
--- the reading behind a byte, where one may stand
+-- the reading after a byte, where one may stand
 abbrev pub feed : Reading → ℕ → Option Reading
 feed r b = feed_at r.place r b
 
--- the reading behind bytes, where each of them may stand
+-- the reading after bytes, where each of them may stand
 abbrev pub feed_all : Reading → List ℕ → Option Reading
 feed_all r [] = Some r
 feed_all r (b ∷ bs) = option_and_then (λ next. feed_all next bs) (feed r b)
@@ -211,11 +211,11 @@ reading_of r = record {
 abbrev pub Fed : {E : Type 0} → Option Reading → Reader → Result Bool E → Type 0
 Fed next new result = IfOk result (λ taken. MatchBool taken (next ≡ Some (reading_of new)) (next ≡ None))
 
--- an expression that a step or a predicate may stand behind
+-- an expression that a step or a predicate may follow
 abbrev pub IsFront : Expression → Type 0
 IsFront e = IsTrue (is_role Front e)
 
--- a test stands behind an expression, in a condition and in no bracket
+-- a test stands after an expression, in a condition and in no bracket
 pub record IsTested (e : Expression) (quoted : List ℕ) (depth : ℕ) (conditional : Bool) : Type 0 where
   pub whole : IsTrue (is_role Whole e)
   pub text : IsTrue (is_quotable quoted)
@@ -248,7 +248,7 @@ FitsAt (SignSpace e differs) depth conditional = IsTested e [] depth conditional
 FitsAt (InTest e differs text) depth conditional = IsTested e text depth conditional
 FitsAt (Tested e differs text) depth conditional = IsTested e text depth conditional
 
--- each bracket stands behind an expression, and its key is a name
+-- each bracket stands after an expression, and its key is a name
 abbrev pub FitBrackets : List Bracket → Type 0
 FitBrackets [] = Unit {0}
 FitBrackets (bracket ∷ outer) =
@@ -259,7 +259,7 @@ pub record Fits (r : Reading) : Type 0 where
   pub brackets : FitBrackets r.outer
   pub parts : FitsAt r.place r.depth r.conditional
 
--- the same of a step that takes no memory
+-- whether a byte was taken by a step that takes no memory: this is then the next reading
 abbrev pub Went : Option Reading → Reader → Bool → Type 0
 Went next new taken = MatchBool taken (next ≡ Some (reading_of new)) (next ≡ None)
 

@@ -10,7 +10,7 @@ use Rattle.orc_expr.specs.declared.resolving.Led.TheVariants as led
 use Rattle.orc_expr.specs.declared.resolving.Pending.{Pending}
 use Rattle.orc_expr.specs.declared.resolving.Resolving.{Resolving}
 
--- how far an expression was resolved: the brackets that are open, the innermost last, and what stands behind them
+-- how far an expression was resolved: the brackets that are open, the innermost last, and what stands after them
 pub record Trail : Type 0 where
   pub outer : List Pending
   pub now : Option Led
@@ -21,7 +21,7 @@ trail_of resolving = record { outer = resolving.outer.items; now = resolving.now
 abbrev pub onto_trail : Pending → Trail → Trail
 onto_trail first trail = record trail { outer = first ∷ trail.outer }
 
--- behind a closing bracket: what stands behind the innermost bracket is the term of a predicate
+-- after a closing bracket: what stands after the innermost bracket is the term of a predicate
 abbrev pub trail_closed : Shapes → List PathStep → List Pending → Option Led → Trail
 trail_closed shapes here [] now = record { outer = []; now = now }
 trail_closed shapes here (last ∷ []) now =

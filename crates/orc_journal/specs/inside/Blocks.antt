@@ -24,7 +24,7 @@ pub record IsBlock (block : List ℕ) (entry : Entry) : Type 0 where
 abbrev pub WhereIsBlock : List ℕ → (Entry → Type 0) → Type 0
 WhereIsBlock block P = (entry : Entry) → IsBlock block entry → P entry
 
--- at this place, behind the ending gate, these bytes put an entry and a closed gate behind it
+-- at this place, after the ending gate, these bytes put an entry and a closed gate after it
 pub record PutsEntry (content : Option (List ℕ)) (at : ℕ) (block decls : List ℕ) (entries : List Entry) (entry : Entry)
     : Type 0 where
   pub file : IfSome content (λ file. IsGated file decls entries)
@@ -39,14 +39,14 @@ WherePuts content at block P =
     → P decls entries entry
 
 module _ {D : Type 0} (disk : DiskMeaning D) where
-  -- Of a write and its sync one failed, behind so many that were done. Where that is the write, none came before it,
+  -- Of a write and its sync one failed, after so many that were done. Where that is the write, none came before it,
   -- and where it is the sync, the bytes are there.
   pub record IsPutShort (at : ℕ) (bytes : List ℕ) (old new : D) (done : ℕ) : Type 0 where
     pub cut : done ≡ 0 → disk.cut at bytes old new
     pub put : done ≡ 1 → disk.content new ≡ option_map (written at bytes) (disk.content old)
     pub syncing : done ≡ 1 → FailsToSync disk 1 old new
 
-  -- The entry was put with a closed gate behind it, and then the write failed that opens the gate before it.
+  -- The entry was put with a closed gate after it, and then the write failed that opens the gate before it.
   pub record IsOpenedShort (at : ℕ) (block : List ℕ) (old new : D) : Type 0 where
     pub before : D
     pub ran : disk.leads (row 2 false) old before
@@ -58,7 +58,7 @@ module _ {D : Type 0} (disk : DiskMeaning D) where
         (λ file. IsGated file decls (entries ++ entry ∷ [])))
     pub cut : disk.cut (at - 1) (OPEN ∷ []) before new
 
-  -- Of the four writes and syncs of an append one failed, behind so many that were done.
+  -- Of the four writes and syncs of an append one failed, after so many that were done.
   pub record IsAppendedShort (at : ℕ) (block : List ℕ) (old new : D) (done : ℕ) : Type 0 where
     pub left : WherePuts (disk.content old) at block (λ decls entries entry.
         IfSome (disk.content new) (IsLeftBehind done decls entries entry))

@@ -1,4 +1,4 @@
--- What stands at the front of bytes.
+-- What bytes begin with.
 use Rattle.std.specs.Prelude.{◌≡◌, ℕ, ◌<◌, ◌^◌, List, [], ◌∷◌, ◌++◌, length, take, All, IsTrue}
 use Rattle.std.specs.Int.{w16, w32, w64, to_be_bytes}
 use Rattle.std.specs.List.{flat_map}
@@ -10,7 +10,7 @@ use Rattle.orc_journal.specs.inside.Stages.{AreStages}
 use Rattle.orc_journal.specs.declared.order.Stages.{Stages}
 use Rattle.orc_journal.specs.declared.entry.Entry.{Entry}
 
--- the bytes don't begin with this front
+-- the bytes don't begin with this prefix
 abbrev pub BeginsOtherwise : List ℕ → List ℕ → Type 0
 BeginsOtherwise bytes front = (rest : List ℕ) → bytes ≡ front ++ rest → ⊥
 
@@ -23,12 +23,12 @@ pub record HasEntry (bytes : List ℕ) (entry : Entry) (rest : List ℕ) : Type 
 abbrev pub HasNoEntry : List ℕ → Type 0
 HasNoEntry bytes = (entry : Entry) (rest : List ℕ) → HasEntry bytes entry rest → ⊥
 
--- the bytes begin with no such entry that may stand behind these
+-- the bytes begin with no such entry that may stand after these
 abbrev pub HasNoNext : List Entry → List ℕ → Type 0
 HasNoNext before bytes =
     (entry : Entry) (rest : List ℕ) → HasEntry bytes entry rest → IsTrue (follows before entry) → ⊥
 
--- they begin with one, behind which these entries are read; the rest follows, and the stages are known
+-- they begin with one, after which these entries are read; the rest follows, and the stages are known
 pub record HasNext (before : List Entry) (bytes : List ℕ) (after : List Entry) (rest : List ℕ) (stages : Stages)
     : Type 0 where
   pub entry : Entry
@@ -78,7 +78,7 @@ pub record HasCall (bytes : List ℕ) (call : Call) (rest : List ℕ) : Type 0 w
 abbrev pub HasNoCall : List ℕ → Type 0
 HasNoCall bytes = (call : Call) (rest : List ℕ) → HasCall bytes call rest → ⊥
 
--- the bytes are the numbers of devices, behind their count
+-- the bytes are the numbers of devices, after their count
 pub record HasDevices (bytes devices : List ℕ) : Type 0 where
   pub lawful : AreDevices devices
   pub parts : bytes ≡ devices_bytes devices

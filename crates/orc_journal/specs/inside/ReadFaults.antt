@@ -8,14 +8,14 @@ use Rattle.orc_journal.specs.declared.fault.OpenFault.TheVariants.{Foreign, NotJ
 use Rattle.orc_journal.specs.declared.reading.ReadFault.{ReadFault}
 use Rattle.orc_journal.specs.declared.reading.ReadFault.TheVariants as read
 
--- the cause of each fault of bytes; want of memory is free
+-- the cause of each fault of bytes; running out of memory is free
 abbrev pub IsReadFault : List ℕ → List ℕ → ReadFault → Type 0
 IsReadFault file decls read.NotJournal = IsNotJournal file
 IsReadFault file decls (read.Foreign at) = IsForeign file decls at
 IsReadFault file decls (read.Damaged at) = IsDamaged file decls at
 IsReadFault file decls read.Memory = Unit {0}
 
--- a fault of reading the disk, or want of memory
+-- a fault of reading the disk, or running out of memory
 abbrev pub IsDiskFault : {D : Type 0} → DiskMeaning D → D → D → OpenFault → Type 0
 IsDiskFault disk old new (Foreign at) = ⊥
 IsDiskFault disk old new NotJournal = ⊥

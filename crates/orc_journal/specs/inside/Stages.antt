@@ -6,6 +6,6 @@ use Rattle.orc_journal.specs.Orders.{stage_of}
 use Rattle.orc_journal.specs.declared.entry.Entry.{Entry}
 use Rattle.orc_journal.specs.declared.order.Stages.{Stages}
 
--- what is known of each transaction is its stage behind these entries
+-- what is known of each transaction is its stage after these entries
 abbrev pub AreStages : Stages → List Entry → Type 0
 AreStages stages entries = (t : ℕ) → get nat_cmp stages.by_number t ≡ stage_of t entries

@@ -24,7 +24,7 @@ module _ {D : Type 0} (disk : DiskMeaning D) where
     pub other : (fault ≡ DiskFault → ⊥) → LedBy disk 0 old new
     pub failed : fault ≡ DiskFault → FailsBefore disk 1 1 old new
 
-  -- where it is one of the disk, an operation failed before so many writes and syncs were done, and a read behind fewer
+  -- where it is one of the disk, an operation failed before so many writes and syncs were done, and a read after fewer
   -- than `reads`
   abbrev pub FailsAfter : ℕ → ℕ → D → D → OpenFault → Type 0
   FailsAfter most reads old new fault = fault ≡ DiskFault → FailsBefore disk most reads old new
@@ -33,7 +33,7 @@ module _ {D : Type 0} (disk : DiskMeaning D) where
   abbrev pub IsUntouched : D → D → OpenFault → Type 0
   IsUntouched old new fault = (fault ≡ DiskFault → ⊥) → new ≡ old
 
-  -- One read more gave a piece behind the bytes before, and there may be more unless it is empty.
+  -- One read more gave a piece after the bytes before, and there may be more unless it is empty.
   pub record HeardPiece (old new : D) (before after : List ℕ) (more : Bool) : Type 0 where
     pub piece : List ℕ
     pub grows : after ≡ before ++ piece
@@ -61,7 +61,7 @@ module _ {D : Type 0} (disk : DiskMeaning D) where
     pub behind : Unchanged disk synced new
     pub course : LedBy disk (syncs disk looked) old new
 
-  -- it was not, since memory could not be had behind the sync
+  -- it was not, since memory could not be had after the sync
   pub record HasGivenUp (old new : D) : Type 0 where
     pub synced : D
     pub looked : WasSynced disk old synced

@@ -1,4 +1,4 @@
--- Rows in front of others that go on with the same name, or with the same step, behind some steps; and what is built
+-- How many rows at the start go on with the same name, or with the same step, after some steps; and what is built
 -- of rows that have a JSON value. These serve clauses of the writer's own.
 use Rattle.std.specs.Prelude.{ℕ, ◌≡◌, ◌≤◌, ◌+◌, ◌++◌, ◌∷◌, Bool, false, List, [], Option, Some, None, max, length, slice_get, nat_eq, T, if◌then◌else◌, IsTrue}
 use Rattle.std.specs.FinMap.{is_sorted}
@@ -21,19 +21,19 @@ both_steps same None other = false
 both_steps same (Some step) None = false
 both_steps same (Some step) (Some other) = same step other
 
--- two rows have one name, or one step, behind so many steps
+-- two rows have one name, or one step, after so many steps
 abbrev pub same_name : ℕ → Row → Row → Bool
 same_name n row other = both_steps (λ a b. pointwise nat_eq a.node b.node) (slice_get row.0 n) (slice_get other.0 n)
 
 abbrev pub same_step : ℕ → Row → Row → Bool
 same_step n row other = both_steps step_eq (slice_get row.0 n) (slice_get other.0 n)
 
--- how many in front pass a test
+-- how many rows from the first on pass a test
 abbrev pub passing : (Row → Bool) → Rows → ℕ
 passing f [] = 0
 passing f (row ∷ rows) = if f row then passing f rows + 1 else 0
 
--- the first row, and how many behind it are like it
+-- the first row, and how many after it are like it
 abbrev pub front : (Row → Row → Bool) → Rows → ℕ
 front same [] = 0
 front same (row ∷ rows) = passing (same row) rows + 1
@@ -53,7 +53,7 @@ pub record AreLaid (bound : ℕ) (rows : Rows) : Type 0 where
   pub short : longest rows ≤ bound
 
 -- What is built, where the rows have a JSON value: the one that they have. `left` is how many steps their paths may
--- have behind those in front.
+-- have after the first ones.
 abbrev pub MakesMembers : SchemaTable → ℕ → List PathStep → Rows → Members → Type 0
 MakesMembers s left at rows made = (bound : ℕ) → AreLaid bound rows → bound ≤ length at + left
     → (keys : List (List ℕ)) (ms : Members) → AreMembers s keys at rows ms → made ≡ ms

@@ -10,7 +10,7 @@ use Rattle.orc_path.specs.declared.mode.Mode.{Mode}
 use Rattle.orc_path.specs.declared.mode.Mode.TheVariants.{Start, Slash, Module, Colon, Inside, Next, Key, Escape, Closed}
 use Rattle.orc_path.specs.declared.reader.Reader.{Reader}
 
--- the byte that this one means behind a backslash
+-- the byte that this one means after a backslash
 abbrev pub unescape : ℕ → Option ℕ
 unescape b =
     if b == 92 then Some 92 else
@@ -29,7 +29,7 @@ abbrev pub is_raw : ℕ → Bool
 is_raw b =
     is_key_byte b && not (b == 92) && not (b == 93) && not (b == 32) && not (b == 9) && not (b == 10) && not (b == 13)
 
--- the mode behind a byte of a name
+-- the mode after a byte of a name
 abbrev pub name_mode : Mode → ℕ → Option Mode
 name_mode Slash b = if is_name_start b then Some Module else None
 name_mode Module b = if b == 58 then Some Colon else if is_name_byte b then Some Module else None
@@ -61,7 +61,7 @@ present_step r = record { node = r.node; keys = r.keys }
 abbrev pub feed_start : Reader → ℕ → Option Reader
 feed_start r b = if b == 47 then Some (record r { mode = Slash }) else None
 
--- behind a name or a key: a further key, or a further step
+-- after a name or a key: a further key, or a further step
 abbrev pub feed_end : Reader → ℕ → Option Reader
 feed_end r b =
     if b == 91 then Some (record r { mode = Key; key = [] }) else
@@ -75,7 +75,7 @@ feed_key r b =
     if b == 92 then Some (record r { mode = Escape }) else
     if is_raw b then Some (record r { key = r.key ++ b ∷ [] }) else None
 
--- behind a backslash
+-- after a backslash
 abbrev pub feed_escape : Reader → ℕ → Option Reader
 feed_escape r b = option_map (λ c. record r { mode = Key; key = r.key ++ c ∷ [] }) (unescape b)
 
@@ -91,7 +91,7 @@ feed_mark Module r b = None
 feed_mark Colon r b = None
 feed_mark Next r b = None
 
--- the reader behind a byte, where one may stand
+-- the reader after a byte, where that byte may come
 abbrev pub feed_at : Mode → Reader → ℕ → Option Reader
 feed_at mode r b =
     option_map_or (λ next. Some (record r { mode = next; node = r.node ++ b ∷ [] }))
@@ -100,16 +100,16 @@ feed_at mode r b =
 abbrev pub feed : Reader → ℕ → Option Reader
 feed r b = feed_at r.mode r b
 
--- the reader behind bytes, where each of them may stand
+-- the reader after bytes, where each of them may come
 abbrev pub feed_all : Reader → List ℕ → Option Reader
 feed_all r [] = Some r
 feed_all r (b ∷ bs) = option_and_then (λ next. feed_all next bs) (feed r b)
 
--- the reader behind a character, where it is plain and its bytes may stand
+-- the reader after a character, where it is plain and its bytes may come
 abbrev pub feed_character : Reader → ℕ → Option Reader
 feed_character r c = if is_plain_character c then feed_all r (encode_utf8 c) else None
 
--- the mode behind a byte that is none of a name
+-- the mode after a byte that is not part of a name
 abbrev pub end_mode : ℕ → Option Mode
 end_mode b = if b == 91 then Some Key else if b == 47 then Some Next else None
 
@@ -130,7 +130,7 @@ mark_mode Module b = None
 mark_mode Colon b = None
 mark_mode Next b = None
 
--- the mode behind a byte, where one may stand
+-- the mode after a byte, where that byte may come
 abbrev pub next_mode : Mode → ℕ → Option Mode
 next_mode mode b = option_map_or (λ next. Some next) (name_mode mode b) (mark_mode mode b)
 

@@ -4,7 +4,7 @@ use Rattle.std.specs.declared.option.Option.TheVariants.{None, Some}
 use Rattle.std.specs.Option.{option_map, option_map_or}
 use Rattle.orc_path.specs.declared.value.ValueReader.{ValueReader}
 
--- the byte that this one means behind a backslash in the text of a value
+-- the byte that this one means after a backslash in the text of a value
 abbrev pub value_unescape : ℕ → Option ℕ
 value_unescape byte =
     if byte == 92 then Some 92 else
@@ -20,7 +20,7 @@ is_never_raw byte = (byte == 9) || (byte == 10) || (byte == 13)
 abbrev pub led_by : ℕ → Option (List ℕ) → Option (List ℕ)
 led_by byte rest = option_map (λ bytes. byte ∷ bytes) rest
 
--- the byte that is meant behind a backslash, and then others
+-- the byte that is meant after a backslash, and then others
 abbrev pub led_by_meant : Option ℕ → Option (List ℕ) → Option (List ℕ)
 led_by_meant meant rest = option_map_or (λ byte. led_by byte rest) meant None
 
@@ -32,11 +32,11 @@ unescaped (byte ∷ next ∷ rest) =
     if byte == 92 then led_by_meant (value_unescape next) (unescaped rest) else
     if is_never_raw byte then None else led_by byte (unescaped (next ∷ rest))
 
--- bytes in front of others
+-- bytes before others
 abbrev pub led : List ℕ → Option (List ℕ) → Option (List ℕ)
 led bytes rest = option_map (λ more. bytes ++ more) rest
 
--- what is left means, where a backslash stands in front of it or not
+-- what is left means, where a backslash stands before it or not
 abbrev pub behind : Bool → List ℕ → Option (List ℕ)
 behind is_escaped rest = unescaped (if is_escaped then 92 ∷ rest else rest)
 
@@ -44,7 +44,7 @@ behind is_escaped rest = unescaped (if is_escaped then 92 ∷ rest else rest)
 abbrev pub ahead : ValueReader → List ℕ → Option (List ℕ)
 ahead r rest = led r.value (behind r.is_escaped rest)
 
--- a character may come next exactly where there is an answer, which says whether a backslash stands behind it
+-- a character may come next exactly where there is an answer, which says whether what follows it is after a backslash
 abbrev pub MayCome : Bool → ℕ → Option Bool → Type 0
 MayCome is_escaped c next = (rest : List ℕ)
     → is_some (behind is_escaped (encode_utf8 c ++ rest))

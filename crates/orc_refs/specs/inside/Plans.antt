@@ -78,7 +78,7 @@ pub record IsFirstClash (backs : Backs) (tree base : Config) (moves : List Move)
   pub before : (q : List PathStep) → IsSome (find path_cmp q es) → path_cmp q p ≡ Less
       → all_bring moves q (due backs tree base moves q) ≡ true
 
--- a clash names the first such path and the rival there; want of memory has no cause
+-- a clash names the first such path and the rival there; running out of memory has no cause
 abbrev pub HasCause
     : Backs → Config → Config → List Move → List (List PathStep × Unit {0}) → RefsFault → Type 0
 HasCause backs tree base moves es (Clash p other) =
@@ -90,7 +90,7 @@ abbrev pub planned_store : Store → Config → List Change → List (List PathS
 planned_store store base changes rows =
     record { base = base; tree = applied changes store.tree; backs = with_rows rows store.backs }
 
--- What a plan is: services then write what the moves say, the store behind it is one where its tree is a configuration,
+-- What a plan is: services then write what the moves say, the store after it is one where its tree is a configuration,
 -- and its changes are exactly where the two trees differ, and fit.
 pub record IsPlanned (before : Store) (base : Config) (moves : List Move) (changes : List Change)
     (rows : List (List PathStep × List (List ℕ))) : Type 0 where

@@ -80,13 +80,13 @@ pub record AreRacked (racks : List (Arc Rack Global)) : Type 0 where
 abbrev pub all_before : List PathStep → List (List PathStep × List (List ℕ)) → Bool
 all_before path rows = list_all (λ row. is_gt (path_cmp path row.0)) rows
 
--- the first of the rows comes behind the path
+-- the first of the rows comes after the path
 abbrev pub starts_behind : List PathStep → List (List PathStep × List (List ℕ)) → Bool
 starts_behind path [] = false
 starts_behind path (row ∷ rows) = is_lt (path_cmp path row.0)
 
 -- Of parts, which have rows (shelves, racks): the rows of the parts before that one come before the path, and those of
--- the parts after it behind the path.
+-- the parts after it come after the path.
 pub record IsPartFor {X : Type 0} (rows : X → List (List PathStep × List (List ℕ))) (path : List PathStep)
     (parts : List X) (at : ℕ) : Type 0 where
   pub within : at < length parts

@@ -1,4 +1,4 @@
--- What of a configuration is looked at behind a change of a valid one.
+-- What of a configuration is looked at after a change of a valid one.
 use Rattle.std.specs.Prelude.{ℕ, zero, suc, Bool, false, ◌&&◌, ◌||◌, nat_lt, List, [], ◌++◌, length, take, Option, is_none, is_some, if◌then◌else◌}
 use Rattle.std.specs.List.{find, flat_map}
 use Rattle.std.specs.Option.{option_map_or}
@@ -71,6 +71,6 @@ abbrev pub target_breaches : SchemaTable → Config → Config → Target → Li
 target_breaches s old new target = flat_map (came_breaches s old new) (rows_inside new target)
     ++ flat_map (went_breaches s new) (rows_inside old target)
 
--- what is looked at behind a change inside targets
+-- what is looked at after a change inside targets
 abbrev pub change_breaches : SchemaTable → Config → Config → List Target → List Breach
 change_breaches s old new targets = flat_map (target_breaches s old new) targets

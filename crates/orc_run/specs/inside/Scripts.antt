@@ -1,5 +1,5 @@
 -- How a script is run line by line, and what the sink takes.
-use Rattle.std.specs.Prelude.{◌≡◌, ◌⊎◌, ℕ, true, List, [], ◌++◌, length, map, Bool, Option, Result, MatchOption, is_ok, if◌then◌else◌}
+use Rattle.std.specs.Prelude.{◌≡◌, ◌⊎◌, ℕ, true, false, List, [], ◌++◌, length, map, Option, Result, MatchOption, is_ok, if◌then◌else◌}
 use Rattle.std.specs.declared.result.Result.TheVariants.{Ok, Err}
 use Rattle.std.specs.List.{flat_map}
 use Rattle.std.specs.Io.KnownBytes.{Appends}
@@ -20,7 +20,7 @@ use Rattle.orc_scene.specs.declared.stop.WorldStop.{WorldStop}
 use Rattle.orc_scene.specs.declared.stop.WorldStop.TheVariants as stop
 use Rattle.orc_scene.specs.declared.scene.Place.{Place}
 use Rattle.orc_scene.specs.declared.scene.Scene.{Scene}
-use Rattle.orc_run.specs.Ends.{EndsOver, LinesRun, MayBeGranted, Outside, TookUpToLast, Wrote}
+use Rattle.orc_run.specs.Ends.{EndsOver, LinesRun, Outside, TookUpToLast, Wrote}
 use Rattle.orc_run.specs.declared.opening.TheConstants.{LARGEST_JOURNAL}
 use Rattle.orc_run.specs.declared.stop.Done.{Done}
 use Rattle.orc_run.specs.declared.stop.Stop.{Stop}
@@ -57,7 +57,7 @@ module _ {D : Type 0} (disk : DiskMeaning D) where
   -- the rules see a world as it begins, and no operation is noted yet
   pub record IsFirst (decls : Decls) (first : Seen D) (world : Scene D) : Type 0 where
     pub starts : StartsRun (run_setting disk decls LARGEST_JOURNAL true) first
-    pub is : (granted : Bool) → IsSeenAs (run_setting disk decls LARGEST_JOURNAL granted) first world
+    pub is : IsSeenAs (run_setting disk decls LARGEST_JOURNAL false) first world
     pub limit_is : world.limit ≡ LARGEST_JOURNAL
     pub unmended : IsNotReconciling world.place
     pub noted : (device : ℕ) → noted_on world.links.logs device ≡ []
@@ -71,8 +71,7 @@ module _ {D : Type 0} (disk : DiskMeaning D) where
     pub parts : steps ≡ done ++ rest
     pub texts : List (List ℕ)
     pub end : Option Stop
-    pub ran : (granted : Bool) → MayBeGranted granted done
-        → LinesRun (run_setting disk decls LARGEST_JOURNAL granted) first done texts end last
+    pub ran : LinesRun (run_setting disk decls LARGEST_JOURNAL false) first done texts end last
     pub wrote : Wrote held held' (flat_map (λ text. text) texts) end status
     pub whole : is_ok status ≡ true → rest ≡ []
     pub unwritten : status ≡ Err ending.WriteFault → TookUpToLast texts held held'
@@ -104,8 +103,8 @@ pub record HasDone {D : Type 0} (here : Setting D) (first : Seen D) (done : List
   pub noted : (device : ℕ) → noted_on world.links.logs device ≡ logged device [] lines
   pub logs : PrintLogs here.decls.names (λ device. []) lines
 
--- lines were done from a world on, whatever is granted
-abbrev pub HasDoneInEach : {D : Type 0} → DiskMeaning D → Decls → Seen D → List ScriptStep → List (List ℕ) → Scene D
+-- lines were done from a world on, over any disk
+abbrev pub HasDoneOver : {D : Type 0} → DiskMeaning D → Decls → Seen D → List ScriptStep → List (List ℕ) → Scene D
     → Type 0
-HasDoneInEach disk decls first lines texts world = (granted : Bool) → MayBeGranted granted lines
-    → HasDone (run_setting disk decls LARGEST_JOURNAL granted) first lines texts world
+HasDoneOver disk decls first lines texts world =
+    HasDone (run_setting disk decls LARGEST_JOURNAL false) first lines texts world

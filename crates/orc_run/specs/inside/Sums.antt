@@ -26,7 +26,7 @@ abbrev pub counted : ℕ → ℕ → ℕ → ℕ → RunCounts
 counted calls committed entries items =
     record { calls = calls; committed = committed; entries = entries; items = items }
 
--- the same as of a run
+-- the counts of a run: its calls, the committed ones, the entries and the items
 abbrev pub counts_in : {D : Type 0} → List ScriptStep → Scene D → RunCounts
 counts_in steps world = record {
   calls = capped (count_by is_call_line steps);

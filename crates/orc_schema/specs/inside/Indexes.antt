@@ -13,14 +13,14 @@ lent ds = map (λ d. d.now) ds
 abbrev pub names_of : List Draft → List (List (List ℕ))
 names_of ds = map (λ d. d.names) ds
 
--- each node's names are less than those of the nodes behind it
+-- each node's names are less than those of the nodes after it
 abbrev pub IsIndex : List (Bor Draft) → Type 0
 IsIndex ds = IsStrictlySortedBy names_cmp (names_of (lent ds))
 
 abbrev pub look : declared.Nodes → Lookup
 look nodes = node_in (lent nodes.index.now)
 
--- each names are less than those behind them
+-- each node's names are less than those after them
 abbrev pub climbs_behind : List (List ℕ) → List (List (List ℕ)) → Bool
 climbs_behind last [] = true
 climbs_behind last (names ∷ more) = is_lt (names_cmp last names) && climbs_behind names more

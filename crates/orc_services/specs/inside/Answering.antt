@@ -6,7 +6,7 @@ use Rattle.orc_template.specs.Expansions.{Expanding, Failed}
 use Rattle.orc_services.specs.declared.actions.Expanded.{Expanded}
 use Rattle.orc_services.specs.declared.actions.Expanded.TheVariants.{Written, Fault}
 
--- what an expansion gave, and its reads behind those before
+-- what an expansion gave, and its reads after those before
 abbrev pub Expands : Result Expanding Failed → List Read → List Read → Expanded → Type 0
 Expands due old new (Written trees) =
     (e : Expanding) × (due ≡ Ok e) × (trees ≡ e.written) × (new ≡ old ++ e.reads)

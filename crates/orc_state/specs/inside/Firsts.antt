@@ -26,7 +26,7 @@ abbrev pub IsWriteAt : List (List Write) → ℕ × ℕ → Type 0
 IsWriteAt rows at =
     (row : List Write) × (slice_get rows at.0 ≡ Some row) × (write : Write) × (slice_get row at.1 ≡ Some write)
 
--- the answer tells it, with the number of the row's entry
+-- the answer reports it, with the number of the row's entry
 abbrev pub IsAnswerAt : List (List Write) → ℕ × ℕ → Answer → Type 0
 IsAnswerAt rows at answer =
     (row : List Write) × (slice_get rows at.0 ≡ Some row) × (write : Write) × (slice_get row at.1 ≡ Some write)

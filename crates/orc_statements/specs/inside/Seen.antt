@@ -15,6 +15,6 @@ HasToo before name now = (q : List ℕ) → is_seen now q ≡ cond (same_text na
 abbrev pub HasAllToo : List (List ℕ) → List (List ℕ) → List (List ℕ) → Type 0
 HasAllToo before more now = (q : List ℕ) → is_seen now q ≡ (is_seen before q || contains_text more q)
 
--- the same names, however often each stands there
+-- both have the same names, however often each stands there
 abbrev pub HasSame : List (List ℕ) → List (List ℕ) → Type 0
 HasSame seen names = (name : List ℕ) → is_seen seen name ≡ contains_text names name

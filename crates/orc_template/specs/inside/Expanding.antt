@@ -22,13 +22,13 @@ use Rattle.orc_template.specs.declared.fault.ExpandFault.TheVariants as fault
 abbrev pub expanding_of : Expanding → Expanded
 expanding_of e = record { written = e.written.items; reads = e.reads.reads }
 
--- the answer is what stands behind, or the rule with what was read
+-- the answer is what stands afterwards, or the rule with what was read
 abbrev pub Stops : Result Expanded Ended → Expanded → Result Unit Halt → Type 0
 Stops due new (Ok _) = due ≡ Ok new
 Stops due new (Err (halt.Rule rule)) = due ≡ ends rule new.reads
 Stops due new (Err halt.Memory) = Unit {0}
 
--- the same with the block
+-- the answer is what stands afterwards, or the block and the rule with what was read
 abbrev pub Expands : Result Expanded Failed → Expanded → Result Unit ExpandFault → Type 0
 Expands due new (Ok _) = due ≡ Ok new
 Expands due new (Err (fault.At number rule)) =
@@ -41,8 +41,8 @@ numbered number (Ok x) = Ok x
 numbered number (Err (halt.Rule rule)) = Err (fault.At number rule)
 numbered number (Err halt.Memory) = Err fault.Memory
 
--- An answer of a block that stands behind so many others and was done under the first number of these: its number is
--- behind theirs; want of memory is free.
+-- An answer of a block that stands after so many others and was done under the first number of these: its number is
+-- after theirs; nothing is said where memory runs out.
 abbrev pub IsBehind : ℕ → Result Unit ExpandFault → Result Unit ExpandFault → Type 0
 IsBehind count answer (Ok x) = answer ≡ Ok x
 IsBehind count answer (Err (fault.At number rule)) =
@@ -68,7 +68,7 @@ each_in g here n d each e =
 abbrev pub block_in : Ground → List PathStep → ℕ → Data → Expanded → Result Expanded Failed
 block_in g here n d e = block_expanded g here n d (inner g n d) e
 
--- the answer of an expansion that begins with no reads; after want of memory they are whatever they came to
+-- the answer of an expansion that begins with no reads; where memory runs out they are whatever they came to
 abbrev pub FindsExpansion : Result Expanded Failed → List Read → Result (List (ℕ × List Put)) ExpandFault → Type 0
 FindsExpansion due new (Ok parts) =
     (e : Expanded) × (due ≡ Ok e) × (parts ≡ device_parts 0 e.written) × (new ≡ e.reads)
@@ -76,14 +76,14 @@ FindsExpansion due new (Err (fault.At number rule)) =
     due ≡ Err (record { block = number; rule = rule; reads = new })
 FindsExpansion due new (Err fault.Memory) = Unit {0}
 
--- the same of what is written
+-- the answer, with what is written on each device, of an expansion that begins with no reads
 abbrev pub FindsWriting : Result Expanded Failed → List Read → Result (List Config) ExpandFault → Type 0
 FindsWriting due new (Ok trees) = due ≡ Ok (record { written = trees; reads = new })
 FindsWriting due new (Err (fault.At number rule)) =
     due ≡ Err (record { block = number; rule = rule; reads = new })
 FindsWriting due new (Err fault.Memory) = Unit {0}
 
--- what was answered, once its reads are added; want of memory adds none
+-- what was answered, once its reads are added; none are added where memory runs out
 abbrev pub AddsReads : {T : Type 0} → Result T ExpandFault → List Read → List Read → List Read
     → Result T ExpandFault → Type 0
 AddsReads answer old read new (Ok x) = (answer ≡ Ok x) × (new ≡ old ++ read)

@@ -8,13 +8,13 @@ use Rattle.orc_path.specs.Order.{path_cmp, step_eq}
 use Rattle.orc_path.specs.Configurations.{is_entry_of}
 use Rattle.orc_path.specs.declared.item.Item.{Item}
 
--- a path goes on from the front's steps by a step of the name
+-- a path goes on from these steps by a step of the name
 abbrev pub is_under : List PathStep → List ℕ → List PathStep → Bool
 is_under front name [] = false
 is_under [] name (step ∷ rest) = pointwise nat_eq step.node name
 is_under (first ∷ front) name (step ∷ rest) = step_eq first step && is_under front name rest
 
--- a path comes behind a list's and doesn't go on from it
+-- a path comes after a list's and doesn't go on from it
 abbrev pub is_past : List PathStep → List ℕ → List PathStep → List PathStep → Bool
 is_past front name list path = is_lt (path_cmp list path) && not (is_under front name path)
 

@@ -40,12 +40,12 @@ pub record AreChapters (chapters : List (Arc Chapter Global)) : Type 0 where
 abbrev pub above_all : List PathStep → List (List PathStep × Item) → Bool
 above_all path rows = list_all (λ row. is_gt (path_cmp path row.0)) rows
 
--- the first of the rows comes behind the path
+-- the first of the rows comes after the path
 abbrev pub starts_behind : List PathStep → List (List PathStep × Item) → Bool
 starts_behind path [] = false
 starts_behind path (row ∷ rows) = is_lt (path_cmp path row.0)
 
--- the rows of the parts before that one come before the path, and those of the parts after it behind the path
+-- the rows of the parts before that one come before the path, and those of the parts after it come after the path
 pub record IsPartFor
     {E : Type 0} (rows : E → List (List PathStep × Item)) (path : List PathStep) (parts : List E) (at : ℕ)
     : Type 0 where
@@ -61,7 +61,7 @@ IsPageFor path pages at = IsPartFor page_rows path pages at
 abbrev pub IsChapterFor : List PathStep → List (Arc Chapter Global) → ℕ → Type 0
 IsChapterFor path chapters at = IsPartFor chapter_rows path chapters at
 
--- the rest of the rows, in front of which only rows stand that come before the path
+-- the rest of the rows, before which only rows stand that come before the path
 pub record IsRestFor (path : List PathStep) (whole rest : List (List PathStep × Item)) : Type 0 where
   pub front : List (List PathStep × Item)
   pub parts : whole ≡ front ++ rest

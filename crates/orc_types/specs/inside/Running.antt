@@ -37,7 +37,7 @@ abbrev pub higher : Option ℤ → ℤ → Option ℤ
 higher None value = Some value
 higher (Some high) value = Some (if int_lt high value then value else high)
 
--- the value behind the greatest, where it has 32 bits
+-- the value after the greatest, where it has 32 bits
 abbrev pub one_behind : Option ℤ → ℤ
 one_behind None = pos 0
 one_behind (Some high) = high +ℤ pos 1

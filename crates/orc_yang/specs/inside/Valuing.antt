@@ -16,6 +16,6 @@ lined_with column value rest = spelled_with value (unindented column value.left 
 abbrev pub valued_with : ℕ → Value → List ℕ → List ℕ
 valued_with column value rest = lined_with column value (without_trailing rest)
 
--- behind a blank it is known whether a line break comes behind the blanks
+-- after a blank it is known whether a line break comes after the blanks
 abbrev pub KnowsBlanks : Value → List ℕ → Type 0
 KnowsBlanks value rest = value.blank ≡ true → value.trailing ≡ ends_line rest

@@ -4,7 +4,7 @@ use Rattle.orc_datastore.specs.inside.Placed.{AreNoted, HasNames, HasRoom, fille
 use Rattle.orc_datastore.specs.inside.Turns.{AreFresh}
 use Rattle.orc_datastore.proofs.living.put_all.Given as goal
 
--- those that are left can still be put in, and behind those in slots they are all
+-- those that are left can still be put in, and those in slots followed by them are all
 abbrev pub invariant-loop-service : goal.invariant-loop-service
 invariant-loop-service l = record {
   noted : AreNoted l.slots.items l.places;

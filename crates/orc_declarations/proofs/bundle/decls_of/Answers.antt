@@ -7,11 +7,11 @@ use Rattle.orc_declarations.proofs.bundle.decls_of.Goals as goal
 
 pub returns-clause-decls : goal.returns-clause-decls
 returns-clause-decls c =
-    let made : c.of_parts.result ≡ record (decls_with c.in_ok-text.text c.args.declared) { schemas = c.in_ok-table.table.schemas; table = c.in_ok-table.table } = c.of_parts.ensures in
+    let made : c.into_decls.result ≡ record (decls_with c.in_ok-text.text c.args.declared) { schemas = c.in_ok-table.table.schemas; table = c.in_ok-table.table } = c.into_decls.ensures in
     made ∙ with_parts c.args.declared c.args.text.now c.in_ok-text.text c.in_ok-table.table c.in_ok-text.ensures c.in_ok-table.ensures.table
 
 pub returns-clause-lawful : goal.returns-clause-lawful
 returns-clause-lawful c = λ opens.
-    let made : c.of_parts.result ≡ record (decls_with c.in_ok-text.text c.args.declared) { schemas = c.in_ok-table.table.schemas; table = c.in_ok-table.table } = c.of_parts.ensures in
+    let made : c.into_decls.result ≡ record (decls_with c.in_ok-text.text c.args.declared) { schemas = c.in_ok-table.table.schemas; table = c.in_ok-table.table } = c.into_decls.ensures in
     subst AreDecls (sym (made ∙ with_parts c.args.declared c.args.text.now c.in_ok-text.text c.in_ok-table.table c.in_ok-text.ensures c.in_ok-table.ensures.table))
     (lawful_decls c.args.declared c.args.text.now c.args.declared.names c.requires opens refl c.in_ok-table.ensures.distinct)

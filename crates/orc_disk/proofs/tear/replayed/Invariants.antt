@@ -3,7 +3,7 @@ use Rattle.orc_disk.specs.History.{content_of, synced_of, IsImage}
 use Rattle.orc_disk.specs.inside.Kept.{changes_of, written_count}
 use Rattle.orc_disk.proofs.tear.replayed.Given as goal
 
--- both files are those of the changes so far, and the bytes of the later ones stand behind
+-- both files are those of the changes so far, and the bytes of the later ones stand after theirs
 abbrev pub invariant-loop-change : goal.invariant-loop-change
 invariant-loop-change l =
     let so_far = take l.change-index l.changes in

@@ -22,7 +22,7 @@ loop-next-preserved c =
     let later = into_iter_items c.next.new.self in
     let rest : into_iter_items l.next-iterator ≡ next ∷ later = search rules in
     let keys_are : c.push.new.self ≡ l.keys ++ text ∷ [] = search rules in
-    let reads_are : c.append.new.self ≡ l.reads ++ next.given.reads = search rules in
+    let reads_are : c.only_given.new.reads ≡ l.reads ++ next.given.reads = search rules in
     let one : only_of next.given.found ≡ only.One text = search rules in
     ap₂ (λ k r. chosen_behind k r (chosen later)) keys_are reads_are
     ∙ sym (chosen_more l.keys l.reads next later text one)

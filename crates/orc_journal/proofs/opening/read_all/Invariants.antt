@@ -1,4 +1,4 @@
--- What was read so far is the front of what the disk holds, and nothing changed.
+-- What was read so far is a prefix of what the disk holds, and nothing changed.
 use Rattle.std.proofs.Common.{◌^◌, ◌-◌, IfSome, vec_len}
 use Rattle.orc_disk.specs.Moments.{Unchanged}
 use Rattle.orc_journal.specs.inside.Fronts.{IsFront}

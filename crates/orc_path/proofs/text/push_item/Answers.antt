@@ -9,7 +9,7 @@ use Rattle.orc_path.specs.declared.item.Item.TheVariants.{Leaf}
 use Rattle.orc_path.proofs.Fronts.{front_behind}
 use Rattle.orc_path.proofs.text.push_item.Goals as goal
 
--- the path was written, and then a front of what stands behind it
+-- the path was written, and then a prefix of what stands after it
 pub returns-in-Leaf-clause-err : goal.returns-in-Leaf-clause-err
 returns-in-Leaf-clause-err c =
     let before = string_bytes c.args.out.now in

@@ -6,7 +6,7 @@ use Rattle.orc_path.specs.Order.{path_cmp}
 use Rattle.orc_refs.specs.inside.Shelves.{all_before}
 use Rattle.orc_refs.proofs.part.part_for.Given as goal
 
--- the rows of the parts below `low` come before the path, and those from `high` on behind it
+-- the rows of the parts below `low` come before the path, and those from `high` on after it
 abbrev pub invariant-loop-low : goal.invariant-loop-low
 invariant-loop-low g l = record {
   order : l.low < l.high;

@@ -4,7 +4,7 @@ use Rattle.orc_path.specs.Order.{path_cmp}
 use Rattle.orc_refs.specs.inside.Shelves.{back_rows}
 use Rattle.orc_refs.proofs.shelf.place_of.Given as goal
 
--- the rows below `low` come before the path, and those from `high` on behind it
+-- the rows below `low` come before the path, and those from `high` on after it
 abbrev pub invariant-loop-low : goal.invariant-loop-low
 invariant-loop-low l = record {
   order : l.low ≤ l.high;

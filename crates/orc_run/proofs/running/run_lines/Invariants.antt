@@ -4,7 +4,7 @@ use Rattle.orc_decls.specs.declared.declarations.Decls.{Decls}
 use Rattle.orc_rules.specs.Worlds.{World as Seen}
 use Rattle.orc_world.specs.Scripts.{TakesAnyLine}
 use Rattle.orc_scene.specs.Stands.{decls_in}
-use Rattle.orc_run.specs.inside.Scripts.{HasDoneInEach, IsFirst}
+use Rattle.orc_run.specs.inside.Scripts.{HasDoneOver, IsFirst}
 use Rattle.orc_run.proofs.Writing.{all_of}
 use Rattle.orc_run.proofs.running.run_lines.Given as goal
 
@@ -21,5 +21,5 @@ invariant-loop-step g l =
       texts : List (List ℕ);
       took : Appends (held l.fn.sink) (held l.sink) (all_of texts);
       each : (decls : Decls) (first : Seen g.row.D.Denot) → IsFirst disk decls first l.fn.world.scene
-          → HasDoneInEach disk decls first (take l.step-index l.steps) texts l.world.scene;
+          → HasDoneOver disk decls first (take l.step-index l.steps) texts l.world.scene;
     }

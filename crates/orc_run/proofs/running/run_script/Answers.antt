@@ -24,7 +24,7 @@ returns-then-is_err-clause-ends g c decls from begun left left' =
     subst (TakesFront (held c.args.sink.now) (held c.write_whole.new.sink)) c.as_slice.ensures.value (err_of c.write_whole.result (sym c.is_err.ensures.value ∙ c.if-is_err.true) c.write_whole.ensures.err) in
     subst (λ (e : Ended g.row.D.Denot). EndsOver g.D.Disk.disk (record { decls = decls; steps = c.args.steps.now })
     (record { left = left; held = held c.args.sink.now; disk = from }) (record { left = left'; held = held c.write_whole.new.sink; disk = e.disk }) e.status) (sym c.at-then-is_err.ensures)
-    (nothing_written g.D.Disk.disk law.goes_on law.counts c.bundle_runs_have_the_headline.ensures decls from c.args.world.scene begun c.args.steps.now left left'
+    (nothing_written g.D.Disk.disk law.goes_on law.counts c.read_back_runs_have_the_headline.ensures decls from c.args.world.scene begun c.args.steps.now left left'
     (held c.args.sink.now) (held c.write_whole.new.sink) c.in-Ok.text.items c.in-Ok.ensures c.into_disk-then-is_err.result c.into_disk-then-is_err.ensures took)
 
 pub returns-clause-ends : goal.returns-clause-ends

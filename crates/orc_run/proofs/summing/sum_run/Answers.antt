@@ -21,7 +21,7 @@ returns-in-Ok-clause-ends g c decls from begun left left' =
     let law = g.met.D.Disk in
     let d = g.D.Disk.disk in
     let held = g.K.Sink.sink.held in
-    summed_whole d law.goes_on law.counts c.bundle_runs_have_the_headline.ensures decls from c.args.world.scene begun c.args.steps.now c.run_steps.new.self.scene c.new-out.result c.run_steps.new.out
+    summed_whole d law.goes_on law.counts c.read_back_runs_have_the_headline.ensures decls from c.args.world.scene begun c.args.steps.now c.run_steps.new.self.scene c.new-out.result c.run_steps.new.out
     c.sum_up.result.disk c.sum_up.ensures.disk
     c.in-Ok.ensures.script
     left left' (held c.args.sink.now) (held c.sum_up.new.sink) c.sum_up.result.status c.sum_up.ensures.wrote
@@ -35,7 +35,7 @@ returns-clause-ends g c decls from begun left left' =
     (record { left = left; held = held c.args.sink.now; disk = from }) (record { left = left'; held = held c.args.sink.now; disk = e.disk }) e.status) (sym c.at.ensures)
     (subst (λ (s : Stop). EndsSummed d (record { decls = decls; steps = c.args.steps.now })
     (record { left = left; held = held c.args.sink.now; disk = from }) (record { left = left'; held = held c.args.sink.now; disk = c.into_disk.result }) (Err s)) (sym c.stop_of_world.ensures)
-    (summed_broken d law.goes_on law.counts c.bundle_runs_have_the_headline.ensures decls from c.args.world.scene begun c.args.steps.now c.run_steps.new.self.scene c.new-out.result c.run_steps.new.out
+    (summed_broken d law.goes_on law.counts c.read_back_runs_have_the_headline.ensures decls from c.args.world.scene begun c.args.steps.now c.run_steps.new.self.scene c.new-out.result c.run_steps.new.out
     c.into_disk.result c.into_disk.ensures c.in-Err.why
     c.in-Err.ensures.script
     left left' (held c.args.sink.now)))

@@ -8,7 +8,7 @@ use Rattle.orc_template.specs.inside.Expanding.{expanding_of, inner, each_in}
 use Rattle.orc_template.proofs.Moved.{front_count}
 use Rattle.orc_template.proofs.expanding.+blocks.Given as goal
 
--- the blocks behind those that were done
+-- the blocks after those that were done
 abbrev pub invariant-do_blocks-loop-at : goal.invariant-do_blocks-loop-at
 invariant-do_blocks-loop-at g l =
     blocks_expanded (ground (g.V.DataView.viewed l.fn.view) l.fn.devices) l.fn.here (l.fn.first + front_count l.fn.blocks l.at) (blocks_of (items_view (drop l.at l.fn.blocks))) (expanding_of l.expanding)

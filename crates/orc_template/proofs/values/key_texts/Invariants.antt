@@ -8,7 +8,7 @@ use Rattle.orc_template.specs.Values.{more_keys}
 use Rattle.orc_template.specs.inside.Machine.{scene}
 use Rattle.orc_template.proofs.values.key_texts.Given as goal
 
--- the keys that are left, behind those so far
+-- the keys that are left, after those so far
 abbrev pub invariant-loop-name : goal.invariant-loop-name
 invariant-loop-name g l =
     (more_keys (scene (g.V.DataView.viewed l.view) l.here) l.schema (path_names l.list) (view l.entry) l.keys (drop l.name-index l.names) l.reads.reads

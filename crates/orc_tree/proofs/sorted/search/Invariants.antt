@@ -3,7 +3,7 @@ use Rattle.std.specs.List.{AllWithin}
 use Rattle.orc_path.specs.Order.{path_cmp}
 use Rattle.orc_tree.proofs.sorted.search.Given as goal
 
--- the rows below `low` come before the path, and those from `high` on behind it
+-- the rows below `low` come before the path, and those from `high` on after it
 abbrev pub invariant-loop-low : goal.invariant-loop-low
 invariant-loop-low g l = record {
   order : l.low ≤ l.high;

@@ -6,7 +6,7 @@ use Rattle.orc_yang.specs.inside.View.{view}
 use Rattle.orc_yang.specs.inside.Wanting.{RunMayTake}
 use Rattle.orc_yang.proofs.statements.read.Given as goal
 
--- the rest, read on from here, gives what the whole gives, and wants memory where the whole does
+-- the rest, read on from here, gives what the whole gives, and takes memory where the whole does
 abbrev pub invariant-loop-code : goal.invariant-loop-code
 invariant-loop-code l = record {
   place : l.at + length (encode_utf8_all (drop (length l.yielded) (chars l.text))) ≡ length l.text;

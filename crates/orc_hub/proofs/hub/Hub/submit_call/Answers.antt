@@ -1,11 +1,12 @@
 use Rattle.std.proofs.Common.{sym, ◌∙◌}
-use Rattle.orc_hub.proofs.Submissions.{busy_is, queued_number}
+use Rattle.orc_hub.proofs.Submissions.{busy_is, down_is}
 use Rattle.orc_hub.proofs.hub.Hub.submit_call.Goals as goal
 
-pub returns-in-Some-clause-submits : goal.returns-in-Some-clause-submits
-returns-in-Some-clause-submits g c =
-    busy_is c.args.self.now c.args.call c.args.front c.args.plan c.if-self.false c.in-Some.number (sym c.open_of.ensures ∙ c.in-Some.is)
+pub returns-then-self : goal.returns-then-self
+returns-then-self g c =
+    down_is c.args.self.now c.args.call c.args.front c.args.plan c.if-self.true c.answer_with.result c.answer_with.new.self c.answer_with.ensures
 
-pub returns-in-None-clause-number : goal.returns-in-None-clause-number
-returns-in-None-clause-number g c =
-    queued_number g.D.Disk.disk c.args.self.now c.args.call c.args.front c.args.plan c.submit_closed.result c.submit_closed.new.self c.submit_closed.ensures
+pub returns-in-Some : goal.returns-in-Some
+returns-in-Some g c =
+    busy_is c.args.self.now c.args.call c.args.front c.args.plan c.if-self.false c.in-Some.number (sym c.open_of.ensures ∙ c.in-Some.is)
+    c.answer_busy.result c.answer_busy.new.self c.answer_busy.ensures

@@ -1,5 +1,5 @@
 use Rattle.std.proofs.Common.{ap, sym, ◌∙◌}
-use Rattle.orc_scene.specs.Effects.{place_without}
+use Rattle.orc_scene.specs.inside.Effects.{place_without}
 use Rattle.orc_scene.proofs.scene.Place.without_hub.Goals as goal
 
 pub returns-in-Up : goal.returns-in-Up

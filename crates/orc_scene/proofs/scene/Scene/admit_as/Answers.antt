@@ -5,7 +5,7 @@ use Rattle.orc_print.specs.Printed.{is_answer_among}
 use Rattle.orc_rules.specs.Acceptance.{declared_kind}
 use Rattle.orc_rules.specs.declared.event.Event.TheVariants as event
 use Rattle.std.specs.Prelude.{Some}
-use Rattle.orc_scene.specs.Effects.{ConcludesAnswer}
+use Rattle.orc_scene.specs.inside.Effects.{ConcludesAnswer}
 use Rattle.orc_scene.specs.Stands.{IsNotReconciling, run_setting}
 use Rattle.orc_scene.specs.declared.scene.Place.TheVariants.{Up}
 use Rattle.orc_scene.proofs.Answering.{admission_answers, admission_begins, admission_comes, admission_full, as_declared}

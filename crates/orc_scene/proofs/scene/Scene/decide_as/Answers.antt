@@ -5,7 +5,7 @@ use Rattle.orc_print.specs.Printed.{is_answer_among}
 use Rattle.orc_rules.specs.Acceptance.{declared_kind}
 use Rattle.orc_rules.specs.Due.{least_due}
 use Rattle.orc_rules.specs.declared.event.Event.TheVariants as event
-use Rattle.orc_scene.specs.Effects.{ConcludesAnswer}
+use Rattle.orc_scene.specs.inside.Effects.{ConcludesAnswer}
 use Rattle.orc_scene.specs.Stands.{run_setting}
 use Rattle.orc_scene.specs.declared.scene.Place.TheVariants.{Up}
 use Rattle.orc_scene.proofs.Answering.{as_declared, decision_answers, decision_breaks, decision_comes, decision_full, decision_settles}

@@ -1,5 +1,5 @@
 use Rattle.std.proofs.Common.{ap, ◌∙◌}
-use Rattle.orc_scene.specs.Effects.{place_without}
+use Rattle.orc_scene.specs.inside.Effects.{place_without}
 use Rattle.orc_scene.proofs.scene.Scene.let_place_go.Goals as goal
 
 pub returns : goal.returns

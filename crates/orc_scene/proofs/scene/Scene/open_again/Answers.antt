@@ -1,7 +1,8 @@
 use Rattle.std.proofs.Common.{ap, is_some, subst, sym, ◌∙◌}
 use Rattle.orc_rules.specs.Acceptance.{declared_kind}
 use Rattle.orc_scene.specs.Effects.{hub_in}
-use Rattle.orc_scene.specs.Stands.{IsClosed, run_setting}
+use Rattle.orc_scene.specs.Stands.{run_setting}
+use Rattle.orc_scene.specs.inside.Effects.{IsClosed}
 use Rattle.orc_scene.proofs.Reopened.{closed_there, decls_down, ends_into, opened_into}
 use Rattle.orc_scene.proofs.scene.Scene.open_again.Goals as goal
 

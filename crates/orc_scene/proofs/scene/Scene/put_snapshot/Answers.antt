@@ -8,7 +8,7 @@ returns-in-Ok g c = (
   c.keep.ensures.kept.place,
   c.keep.ensures.kept.links,
   (
-    ap (λ s. s.taken) c.keep.ensures.kept.snapshots ∙ c.in-Ok.ensures,
+    ap (λ s. s.taken) c.keep.ensures.kept.snapshots ∙ c.in-Ok.ensures.ok,
     c.keep.ensures.kept.events_are ∙ ap (λ (n : ℕ). c.args.self.now.events.items.items ++ event.Begin c.args.named n ∷ []) c.front-front.ensures,
   ),
   tt,

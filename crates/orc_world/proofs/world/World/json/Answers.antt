@@ -2,7 +2,7 @@ use Rattle.std.proofs.Common.{refl, length, nat_lt, not}
 use Rattle.orc_decls.specs.Calls.{schema_named}
 use Rattle.orc_decls.specs.Devices.{name_of}
 use Rattle.orc_script.specs.declared.step.ScriptStep.TheVariants as step
-use Rattle.orc_world.specs.Shown.{ShowsJsonOf}
+use Rattle.orc_world.specs.inside.Shown.{ShowsJsonOf}
 use Rattle.orc_scene.specs.Stands.{decls_in, run_setting}
 use Rattle.orc_world.proofs.Showings.{allowed_first, json_line}
 use Rattle.orc_world.proofs.Allowed.{device_within}

@@ -1,7 +1,7 @@
 use Rattle.std.proofs.Common.{refl, ap}
 use Rattle.orc_links.specs.declared.links.Links.{Links}
 use Rattle.orc_script.specs.declared.step.ScriptStep.TheVariants as step
-use Rattle.orc_world.specs.Shown.{ShowsLogOf}
+use Rattle.orc_world.specs.inside.Shown.{ShowsLogOf}
 use Rattle.orc_scene.specs.Stands.{run_setting}
 use Rattle.orc_scene.specs.declared.scene.Scene.{Scene}
 use Rattle.orc_world.proofs.Showings.{log_line, log_within, said_so}

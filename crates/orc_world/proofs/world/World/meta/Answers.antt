@@ -3,7 +3,7 @@ use Rattle.orc_decls.specs.Calls.{schema_named}
 use Rattle.orc_decls.specs.Devices.{name_of}
 use Rattle.orc_script.specs.Places.{is_node_path}
 use Rattle.orc_script.specs.declared.step.ScriptStep.TheVariants as step
-use Rattle.orc_world.specs.Shown.{ShowsMetaOf}
+use Rattle.orc_world.specs.inside.Shown.{ShowsMetaOf}
 use Rattle.orc_scene.specs.Stands.{decls_in, run_setting}
 use Rattle.orc_world.proofs.Showings.{allowed_first, meta_line}
 use Rattle.orc_world.proofs.Allowed.{device_within}

@@ -1,6 +1,6 @@
 use Rattle.std.proofs.Common.{ℕ, [], arith, Bool, ◌+◌, ◌<◌, ◌∙◌, subst, sym}
 use Rattle.orc_rules.specs.Worlds.{declared}
-use Rattle.orc_scene.specs.Courses.{NoneOrdered}
+use Rattle.orc_world.specs.inside.Rows.{NoneOrdered}
 use Rattle.orc_world.proofs.Lasted.{EachInEach, each_ended, each_last, each_more, no_device_yet, operations_of, row_between}
 use Rattle.orc_world.proofs.Resting.{each_none}
 use Rattle.orc_world.proofs.world.World.perform_each.Goals as goal

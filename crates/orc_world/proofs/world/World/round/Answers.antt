@@ -1,6 +1,6 @@
 use Rattle.std.proofs.Common.{[], ◌∷◌, Bool, refl, subst, sym}
 use Rattle.orc_runs.specs.Scripts.{IsStill, NoneOf, Part as part, round as round_parts}
-use Rattle.orc_scene.specs.Courses.{NoneOrdered, RowOrQuiet}
+use Rattle.orc_world.specs.inside.Rows.{NoneOrdered, RowOrQuiet}
 use Rattle.orc_rules.specs.Worlds.{declared}
 use Rattle.orc_scene.proofs.Lasted.{went}
 use Rattle.orc_world.proofs.Lasted.{operations_of, round_ended_first, round_ended_second, round_ended_third, round_whole, row_between}

@@ -1,6 +1,6 @@
 use Rattle.std.proofs.Common.{refl}
 use Rattle.orc_script.specs.declared.step.ScriptStep.TheVariants as step
-use Rattle.orc_world.specs.Shown.{ShowsDevice}
+use Rattle.orc_world.specs.inside.Shown.{ShowsDevice}
 use Rattle.orc_scene.specs.Stands.{run_setting}
 use Rattle.orc_world.proofs.Looks.{show_line}
 use Rattle.orc_world.proofs.Showings.{said_line}

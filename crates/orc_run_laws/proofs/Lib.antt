@@ -1,0 +1,4 @@
+mod Among
+mod Granting
+mod Claims
+mod Recovering

@@ -1,0 +1,3 @@
+-- What functions within the crate do.
+pub mod Effects
+pub mod Openings

@@ -1,0 +1,3 @@
+-- What functions within the crate do.
+pub mod Rows
+pub mod Shown
