@@ -4,10 +4,12 @@
 
 mod file;
 mod gates;
+mod script;
 mod sentences;
 
 use crate::file::{is_on_disk, journal_file, probe, remove};
 use crate::gates::{Before, bytes_after_end, entries_before};
+use crate::script::open_call;
 use crate::sentences::sentence;
 use orc_disk::{Disk, FileDisk, MemDisk};
 use orc_explain::explanation;
@@ -135,6 +137,9 @@ fn run<D: Disk>(
     if reads_bundle(command) && source.is_all() {
         report_repeated(rt, &ended, source.kept());
     }
+    if does_script(command, &ended) && source.is_all() {
+        report_open(rt, source.kept());
+    }
     let status = match &ended {
         Ok(_) => ExitCode::from(status(&ended)),
         Err(Stop::Bundle { line, rule }) => {
@@ -165,6 +170,11 @@ fn reads_bundle(command: &Command) -> bool {
         Command::Gen { .. } => false,
         _ => true,
     }
+}
+
+// Whether the script of a bundle that was read was done to its end.
+fn does_script(command: &Command, ended: &Result<Done, Stop>) -> bool {
+    matches!(command, Command::Run) && ended.is_ok()
 }
 
 // Whether the journal was opened, as far as the end of the run shows that.
@@ -200,6 +210,16 @@ fn report_repeated<R: Eprint + AllocGlobal>(rt: &R, ended: &Result<Done, Stop>, 
         for words in found.as_slice() {
             let _ = eprintln!(rt; "{}", words.as_str());
         }
+    }
+}
+
+// Writes which call of a bundle nothing brings to its answer.
+fn report_open<R: Eprint>(rt: &R, bundle: &[u8]) {
+    if let Some(line) = open_call(bundle) {
+        let _ = eprintln!(rt;
+            "No line `settle` or `decide` follows the call of line {line}: unless it was refused at once, it has no \
+             answer, and isn't done."
+        );
     }
 }
 

@@ -1,0 +1,29 @@
+//! What the text of a bundle shows of its script.
+use std::str::from_utf8;
+
+/// The line, counted from 1, of the last call of a script, where none that may bring it to its answer follows: neither
+/// `settle` nor `decide`.
+pub(crate) fn open_call(bundle: &[u8]) -> Option<u64> {
+    match from_utf8(bundle) {
+        Ok(text) => last_open(text),
+        Err(_) => None,
+    }
+}
+
+// The same of a text.
+fn last_open(bundle: &str) -> Option<u64> {
+    let mut number: u64 = 0;
+    let mut in_script = false;
+    let mut open = None;
+    for line in bundle.lines() {
+        number = number.saturating_add(1);
+        if line == "script" {
+            in_script = true;
+        } else if line == "settle" || line == "decide" {
+            open = None;
+        } else if in_script && line.starts_with("call ") {
+            open = Some(number);
+        }
+    }
+    open
+}
