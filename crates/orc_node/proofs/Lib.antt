@@ -1,3 +1,4 @@
+mod Changes
 mod Edits
 mod Listed
 mod Performing

@@ -4,10 +4,13 @@
 //! eight. `tick` lets time pass, `restart` restarts it. A `Link` over a node is a `Device`: it has a
 //! session of its own, and fails where `fail_next` says so. Only an edit and a look at running take
 //! memory: trees are moved, and one that equals running is held as a flag. That a node
-//! accepts what it runs and what it may come back to is a law of the crate of runs.
+//! accepts what it runs and what it may come back to is a law of the crate of runs. An edit of a
+//! candidate that is known to be accepted judges what it made by what it changed; where that took
+//! more memory than there was, the next operation that asks looks at the whole tree, without any.
 #![tactic(auto)]
 
 mod fitting;
+mod judging;
 mod laws;
 mod link;
 mod listing;

@@ -17,6 +17,8 @@ use std::marker::Model;
 pub(crate) struct Pending {
     /// The tree before it, or None where that equals running.
     pub(crate) kept: Option<Tree>,
+    /// Whether the tree before it is accepted, where that is known.
+    pub(crate) verdict: Option<bool>,
     pub(crate) id: u64,
     pub(crate) left: u32,
     pub(crate) by: u32,
@@ -31,7 +33,9 @@ pub struct Node {
     pub(crate) running: Tree,
     // None where it equals running.
     pub(crate) candidate: Option<Tree>,
-    // Whether candidate is accepted, where that was looked at.
+    // Whether running is accepted, where that is known.
+    pub(crate) running_verdict: Option<bool>,
+    // Whether candidate is accepted, where that is known.
     pub(crate) verdict: Option<bool>,
     pub(crate) running_lock: Option<u32>,
     pub(crate) candidate_lock: Option<u32>,
@@ -45,7 +49,7 @@ impl Model for Node {
     ghost use Rattle.orc_node.specs.Nodes.{AcceptingNode};
     ghost use Rattle.orc_check.specs.Acceptance.{accepts};
     ghost use Rattle.orc_node.specs.Held.{or_running, pending_of};
-    ghost use Rattle.orc_node.specs.inside.Held.{IsKnown};
+    ghost use Rattle.orc_node.specs.inside.Held.{IsKnown, IsKeptKnown};
     ghost use Rattle.orc_path.specs.Codes.{config_code};
     ghost use Rattle.std.specs.Coded.{codes};
 
@@ -67,7 +71,9 @@ impl Model for Node {
     } };
 
     ghost invariant = { λ node. (length node.live.items ≤ 8)
-        × IsKnown node.verdict (accepts node.accept (or_running node.candidate node.running)) };
+        × IsKnown node.verdict (accepts node.accept (or_running node.candidate node.running))
+        × IsKnown node.running_verdict (accepts node.accept node.running)
+        × IsKeptKnown node.accept node.running node.pending };
 }
 
 /// Why a node can't be had.
@@ -93,6 +99,7 @@ impl Node {
             accept,
             running: base,
             candidate: None,
+            running_verdict: Some(true),
             verdict: Some(true),
             running_lock: None,
             candidate_lock: None,

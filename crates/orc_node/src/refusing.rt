@@ -1,12 +1,12 @@
 //! What an operation is refused for.
-ghost use Rattle.std.specs.Prelude.{◌≡◌, not, nat_eq};
+ghost use Rattle.std.specs.Prelude.{◌≡◌, None, not, nat_eq};
 ghost use Rattle.std.specs.Option.{option_map};
-ghost use Rattle.orc_device.specs.Nodes.{is_held_by_session, is_held_by_other, is_pending_by_other, is_pending_under, is_locked_by_other, denied, op_refusal};
+ghost use Rattle.orc_device.specs.Nodes.{is_held_by_session, is_held_by_other, is_pending_by_other, is_pending_under, is_locked_by_other, denied, op_refusal, refuse};
 ghost use Rattle.orc_tree.specs.Sameness.{equal_configs};
 ghost use Rattle.orc_check.specs.Acceptance.{accepts};
 ghost use Rattle.orc_node.specs.Kinds.{device_kind};
 ghost use Rattle.orc_node.specs.inside.Held.{is_by_other, is_under};
-ghost use Rattle.orc_device.specs.declared.op.Op.TheVariants.{Edit, CommitConfirmed, Confirm};
+ghost use Rattle.orc_device.specs.declared.op.Op.TheVariants.{Edit, Commit, CommitConfirmed, Confirm};
 
 use crate::fitting::set_stands;
 use crate::node::{Node, Pending};
@@ -60,6 +60,13 @@ fn is_under(pending: Option<&Pending>, id: u64) -> bool
         Some(commit) => commit.id == id,
         None => false,
     }
+}
+
+// The tag, where this is a cause for it.
+fn refused(is_cause: bool, tag: Tag) -> Option<Tag>
+    ensures { result ≡ refuse is_cause tag None }
+{
+    if is_cause { Some(tag) } else { None }
 }
 
 impl Node {
@@ -158,74 +165,47 @@ impl Node {
         }
     }
 
+    // The first cause for which a commit is refused.
+    fn commit_denied(&self, session: u32) -> Option<Tag>
+        ensures { result ≡ denied (device_kind self.now.accept) self.now.state session Commit }
+    {
+        if self.is_locked_by_other(session) || self.pending.is_some() {
+            Some(Tag::InUse)
+        } else {
+            refused(!self.is_accepted(), Tag::OperationFailed)
+        }
+    }
+
     // The first cause for which an operation of a live session is refused.
     fn denied(&self, session: u32, op: &Op) -> Option<Tag>
         ensures { result ≡ denied (device_kind self.now.accept) self.now.state session op.now }
     {
         match op {
-            Op::LockRunning => {
-                if self.running_lock.is_some() || self.is_pending_by_other(session) {
-                    Some(Tag::LockDenied)
-                } else {
-                    None
-                }
-            }
-            Op::LockCandidate => {
-                if self.candidate_lock.is_some() || !self.is_clean() {
-                    Some(Tag::LockDenied)
-                } else {
-                    None
-                }
-            }
+            Op::LockRunning => refused(
+                self.running_lock.is_some() || self.is_pending_by_other(session),
+                Tag::LockDenied,
+            ),
+            Op::LockCandidate => refused(
+                self.candidate_lock.is_some() || !self.is_clean(),
+                Tag::LockDenied,
+            ),
             Op::Edit(set) => self.edit_denied(session, set),
-            Op::Validate => {
-                if self.is_accepted() {
-                    None
-                } else {
-                    Some(Tag::OperationFailed)
-                }
-            }
+            Op::Validate => refused(!self.is_accepted(), Tag::OperationFailed),
             Op::CommitConfirmed(id, seconds) => self.commit_confirmed_denied(
                 session, *id, *seconds,
             ),
-            Op::Commit => {
-                if self.is_locked_by_other(session) || self.pending.is_some() {
-                    Some(Tag::InUse)
-                } else if !self.is_accepted() {
-                    Some(Tag::OperationFailed)
-                } else {
-                    None
-                }
-            }
+            Op::Commit => self.commit_denied(session),
             Op::Confirm(id) => self.confirm_denied(session, *id),
-            Op::Cancel(id) => {
-                if self.is_pending_under(*id) {
-                    None
-                } else {
-                    Some(Tag::InvalidValue)
-                }
-            }
-            Op::Discard => {
-                if is_held_by_other(self.candidate_lock, session) {
-                    Some(Tag::InUse)
-                } else {
-                    None
-                }
-            }
-            Op::UnlockCandidate => {
-                if is_held_by_session(self.candidate_lock, session) {
-                    None
-                } else {
-                    Some(Tag::OperationFailed)
-                }
-            }
-            Op::UnlockRunning => {
-                if is_held_by_session(self.running_lock, session) {
-                    None
-                } else {
-                    Some(Tag::OperationFailed)
-                }
-            }
+            Op::Cancel(id) => refused(!self.is_pending_under(*id), Tag::InvalidValue),
+            Op::Discard => refused(is_held_by_other(self.candidate_lock, session), Tag::InUse),
+            Op::UnlockCandidate => refused(
+                !is_held_by_session(self.candidate_lock, session),
+                Tag::OperationFailed,
+            ),
+            Op::UnlockRunning => refused(
+                !is_held_by_session(self.running_lock, session),
+                Tag::OperationFailed,
+            ),
             Op::OpenSession | Op::CloseSession | Op::GetRunning => None,
         }
     }

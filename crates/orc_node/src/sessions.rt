@@ -3,7 +3,7 @@ ghost use Rattle.std.specs.Prelude.{◌≡◌, ◌≤◌, not, nat_eq, length, i
 ghost use Rattle.std.specs.List.{filter};
 ghost use Rattle.orc_device.specs.Nodes.{freed, session_ended, next_session, least_of, roomy, session_begun, dropped, is_held, is_held_by_session};
 ghost use Rattle.orc_node.specs.Nodes.{with_state};
-ghost use Rattle.orc_node.specs.inside.Held.{unless, unless_known};
+ghost use Rattle.orc_node.specs.inside.Held.{unless, known_unless};
 
 use crate::node::Node;
 use crate::refusing::is_held_by_session;
@@ -27,11 +27,11 @@ fn unless(cause: bool, tree: Option<Tree>) -> Option<Tree>
     if cause { None } else { tree }
 }
 
-// What is known of a tree, where it stays.
-fn unless_known(cause: bool, verdict: Option<bool>) -> Option<bool>
-    ensures { result ≡ unless_known cause verdict }
+// What is known of candidate, which becomes running where there is a cause.
+fn known_unless(cause: bool, running: Option<bool>, candidate: Option<bool>) -> Option<bool>
+    ensures { result ≡ known_unless cause running candidate }
 {
-    if cause { None } else { verdict }
+    if cause { running } else { candidate }
 }
 
 fn end_number(live: &mut ArrayVec<u32, 8>, session: u32)
@@ -68,7 +68,7 @@ impl Node {
         let holds = is_held_by_session(self.candidate_lock, session);
         let candidate = self.candidate.take();
         self.candidate = unless(holds, candidate);
-        self.verdict = unless_known(holds, self.verdict);
+        self.verdict = known_unless(holds, self.running_verdict, self.verdict);
         self.running_lock = freed(self.running_lock, session);
         self.candidate_lock = freed(self.candidate_lock, session);
         end_number(&mut self.live, session);
@@ -106,7 +106,7 @@ impl Node {
         let held = self.candidate_lock.is_some();
         let candidate = self.candidate.take();
         self.candidate = unless(held, candidate);
-        self.verdict = unless_known(held, self.verdict);
+        self.verdict = known_unless(held, self.running_verdict, self.verdict);
         self.running_lock = None;
         self.candidate_lock = None;
         self.live.clear();

@@ -2,12 +2,14 @@
 ghost use Rattle.std.specs.Prelude.{◌≡◌, OnOk, OnErr, IsTrue, None, Some};
 ghost use Rattle.std.specs.List.{list_all};
 ghost use Rattle.orc_tree.specs.Changes.{applied, change_fits};
+ghost use Rattle.orc_check.specs.Acceptance.{accepts};
 ghost use Rattle.orc_device.specs.Nodes.{kept_tree, reverted};
 ghost use Rattle.orc_node.specs.Kinds.{set_stands};
 ghost use Rattle.orc_node.specs.Nodes.{AcceptingNode, with_state};
 ghost use Rattle.orc_node.specs.Held.{or_running};
-ghost use Rattle.orc_node.specs.inside.Held.{with_kept};
+ghost use Rattle.orc_node.specs.inside.Held.{IsKnown, with_kept};
 
+use crate::judging::judged;
 use crate::node::{Node, Pending};
 use orc_text::Memory;
 use orc_tree::{ChangeSet, Tree};
@@ -20,9 +22,16 @@ fn with_kept(pending: Option<Pending>, before: Tree) -> Option<Pending>
     match pending {
         None => None,
         Some(commit) => {
-            let Pending { kept, id, left, by } = commit;
+            let Pending {
+                kept,
+                verdict,
+                id,
+                left,
+                by,
+            } = commit;
             Some(Pending {
                 kept: Some(or_tree(kept, before)),
+                verdict,
                 id,
                 left,
                 by,
@@ -52,6 +61,24 @@ impl Node {
         }
     }
 
+    // What is known of what the changes made of candidate. It is judged by what they changed, where
+    // candidate is known to be accepted and there is memory for it.
+    fn verdict_after(&self, set: &ChangeSet, tree: &Tree) -> Option<bool>
+        requires { tree.now ≡ applied set.now.changes self.now.state.candidate }
+        ensures { IsKnown result (accepts self.now.accept tree.now) }
+    {
+        match self.verdict {
+            Some(accepted) => {
+                if accepted {
+                    judged(self.alloc, &self.accept, self.candidate(), tree, set)
+                } else {
+                    None
+                }
+            }
+            None => None,
+        }
+    }
+
     /// Changes candidate. Where memory runs out the node is as it was.
     pub(crate) fn edit(&mut self, set: &ChangeSet) -> Result<(), Memory>
         requires fits { IsTrue (list_all change_fits set.now.changes) }
@@ -61,8 +88,8 @@ impl Node {
     {
         let mut tree = self.candidate().copy(self.alloc)?;
         tree.apply(set)?;
+        self.verdict = self.verdict_after(set, &tree);
         self.candidate = Some(tree);
-        self.verdict = None;
         Ok(())
     }
 
@@ -74,11 +101,26 @@ impl Node {
               = Some (record { kept = kept_tree self.old.state; id = id; left = left; by = by });
         }) }
     {
-        let kept = match self.pending.take() {
-            Some(commit) => commit.kept,
-            None => None,
-        };
-        self.pending = Some(Pending { kept, id, left, by });
+        match self.pending.take() {
+            Some(commit) => {
+                self.pending = Some(Pending {
+                    kept: commit.kept,
+                    verdict: commit.verdict,
+                    id,
+                    left,
+                    by,
+                });
+            }
+            None => {
+                self.pending = Some(Pending {
+                    kept: None,
+                    verdict: self.running_verdict,
+                    id,
+                    left,
+                    by,
+                });
+            }
+        }
     }
 
     /// Running becomes candidate.
@@ -88,6 +130,7 @@ impl Node {
     {
         if let Some(tree) = self.candidate.take() {
             let before = mem::replace(&mut self.running, tree);
+            self.running_verdict = self.verdict;
             let pending = self.pending.take();
             self.pending = with_kept(pending, before);
         }
@@ -99,7 +142,7 @@ impl Node {
             (record self.old.state { candidate = self.old.state.running }) }
     {
         self.candidate = None;
-        self.verdict = None;
+        self.verdict = self.running_verdict;
     }
 
     /// Where a commit is pending the tree before it comes back.
@@ -107,11 +150,12 @@ impl Node {
         ensures { self.new ≡ with_state self.old (reverted self.old.state) }
     {
         if let Some(commit) = self.pending.take() {
+            self.running_verdict = commit.verdict;
+            self.candidate = None;
+            self.verdict = commit.verdict;
             if let Some(tree) = commit.kept {
                 self.running = tree;
             }
-            self.candidate = None;
-            self.verdict = None;
         }
     }
 }

@@ -14,7 +14,7 @@ use std::cmp::Ordering;
 use std::sync::Arc;
 
 // Of more rows two shelves are made. A change costs a counter for each row of a shelf.
-const SHELF_ROWS: usize = 32;
+const SHELF_ROWS: usize = 16;
 
 // The ids of the services that write a path.
 #[derive(Drop)]

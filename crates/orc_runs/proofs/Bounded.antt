@@ -29,7 +29,7 @@ use Rattle.orc_script.specs.declared.step.ScriptStep.TheVariants as step
 use Rattle.orc_runs.proofs.InStep.{also, set_devices}
 use Rattle.orc_runs.proofs.Lasting.{each_line, lines_survive, there_in}
 use Rattle.orc_runs.specs.Serving.{IsRested}
-use Rattle.orc_runs.proofs.Settled.{lines_rest_before, lines_rest_last}
+use Rattle.orc_runs.proofs.Rested.{lines_rest_before, lines_rest_last}
 
 -- parts of rounds
 abbrev pub is_round_part : Part → Bool

@@ -15,7 +15,8 @@ use Rattle.orc_runs.specs.Laws.{RunsAreCarried}
 use Rattle.orc_runs.proofs.Faulted.{set_replies}
 use Rattle.orc_runs.proofs.InStep.{set_devices}
 use Rattle.orc_runs.proofs.Lasting.{set_kept}
-use Rattle.orc_runs.proofs.Settled.{idle_now, set_rested, set_serves, steps_rest, steps_serve}
+use Rattle.orc_runs.proofs.Rested.{set_rested, steps_rest}
+use Rattle.orc_runs.proofs.Settled.{idle_now, set_serves, steps_serve}
 use Rattle.orc_runs.proofs.Whole.{starts_devices, starts_kept, starts_replies, starts_rested, starts_served}
 
 module _ {D : Type 0} (here : Setting D) (are : AreDecls here.decls) (plans : PlanStands) (legally : LegalStands) (order : KeepsOrder)

@@ -8,6 +8,7 @@ pub mod Printed
 pub mod Stilled
 pub mod Unmoved
 pub mod Serving
+pub mod Rested
 pub mod Settled
 pub mod Faulting
 pub mod Faulted

@@ -129,10 +129,10 @@ AreSized-some ps sized = λ k d l. (sized k d l).0
 pub AreSized-splice : (ps new : Pages) (from to : ℕ) → AreSized ps → AreSized new → AreSized (splice ps from to new)
 AreSized-splice ps new from to s t = All-append IsSized _ _ (All-take IsSized from ps s) (All-append IsSized _ _ t (All-drop IsSized to ps s))
 
-pub AreSized-push : (ps : Pages) (p : Arc Page Global) → AreSized ps → 1 ≤ length (page_rows p) → length (page_rows p) ≤ 16 → AreSized (ps ++ p ∷ [])
+pub AreSized-push : (ps : Pages) (p : Arc Page Global) → AreSized ps → 1 ≤ length (page_rows p) → length (page_rows p) ≤ 8 → AreSized (ps ++ p ∷ [])
 AreSized-push ps p s low high = All-push IsSized ps p s (low, high)
 
-pub AreSized-set : (ps : Pages) (i : ℕ) (p : Arc Page Global) → AreSized ps → 1 ≤ length (page_rows p) → length (page_rows p) ≤ 16 → AreSized (set ps i p)
+pub AreSized-set : (ps : Pages) (i : ℕ) (p : Arc Page Global) → AreSized ps → 1 ≤ length (page_rows p) → length (page_rows p) ≤ 8 → AreSized (set ps i p)
 AreSized-set ps i p s low high = All-set IsSized ps i p (low, high) s
 
 -- One page cut in two
@@ -144,9 +144,9 @@ rows_of-split (q ∷ ps) zero p front behind l e =
     sym (append_assoc (page_rows front) (page_rows behind) (rows_of ps)) ∙ ap (λ (r : Rows). r ++ rows_of ps) e
 rows_of-split (q ∷ ps) (suc i) p front behind l e = ap (λ (r : Rows). page_rows q ++ r) (rows_of-split ps i p front behind (omega arith) e)
 
-pub AreSized-insert : (ps : Pages) (i : ℕ) (p : Arc Page Global) → AreSized ps → 1 ≤ length (page_rows p) → length (page_rows p) ≤ 16 → AreSized (insert ps i p)
+pub AreSized-insert : (ps : Pages) (i : ℕ) (p : Arc Page Global) → AreSized ps → 1 ≤ length (page_rows p) → length (page_rows p) ≤ 8 → AreSized (insert ps i p)
 AreSized-insert ps i p s low high = AreSized-splice ps (p ∷ []) i i s (AreSized-push [] p (λ k d l. absurd (omega arith)) low high)
 
 -- the rest of a full page
-pub half_left : (whole front behind : Rows) → front ++ behind ≡ whole → length whole ≡ 16 → length front ≡ 12 → length behind ≡ 4
+pub half_left : (whole front behind : Rows) → front ++ behind ≡ whole → length whole ≡ 8 → length front ≡ 6 → length behind ≡ 2
 half_left whole front behind e l n = omega (arith, ap length e, length-append front behind, l, n)

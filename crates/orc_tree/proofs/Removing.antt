@@ -148,5 +148,5 @@ kept_whole p (row ∷ rows) h = on (is_removed_with p row.0) (λ e. kept_whole p
 pub kept_some : (p : List PathStep) (rows : Rows) (n : ℕ) → n ≡ length (kept_of p rows) → (n ≡ 0 → ⊥) → 1 ≤ length (kept_of p rows)
 kept_some p rows n e none = omega arith
 
-pub kept_at_most : (p : List PathStep) (rows : Rows) → length rows ≤ 16 → length (kept_of p rows) ≤ 16
+pub kept_at_most : (p : List PathStep) (rows : Rows) → length rows ≤ 8 → length (kept_of p rows) ≤ 8
 kept_at_most p rows l = omega (arith, kept_short p rows)

@@ -18,7 +18,7 @@ use std::mem;
 use std::sync::Arc;
 
 // How many rows a page gets where more than `PAGE_ROWS` are laid out.
-const LAID_ROWS: usize = 12;
+const LAID_ROWS: usize = 6;
 
 // New pages with these rows.
 fn pages_of(alloc: Global, rows: Vec<(Path, Item)>) -> Result<Vec<Arc<Page>>, Memory>

@@ -8,7 +8,7 @@ use std::alloc::Global;
 use std::sync::Arc;
 
 /// The most rows of a page of a tree.
-pub const PAGE_ROWS: usize = 16;
+pub const PAGE_ROWS: usize = 8;
 
 /// 1 to `PAGE_ROWS` rows of a tree in path order, each a path with its item.
 #[derive(Debug, Drop)]

@@ -15,7 +15,7 @@ use std::mem;
 use std::sync::Arc;
 
 // How many rows two neighbouring pages have at most that become one after a removal.
-const JOINED_ROWS: usize = 8;
+const JOINED_ROWS: usize = 4;
 
 // Whether removing a path takes another one.
 fn takes(path: &Path, other: &Path) -> bool

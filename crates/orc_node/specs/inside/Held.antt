@@ -1,6 +1,8 @@
 -- What a node holds, looked at and changed.
 use Rattle.std.specs.Prelude.{◌≡◌, ℕ, Bool, false, not, nat_eq, Option, Some, None, if◌then◌else◌}
 use Rattle.orc_path.specs.Configurations.{Config}
+use Rattle.orc_check.specs.Acceptance.{accepts}
+use Rattle.orc_check.specs.declared.acceptance.Accept.{Accept}
 use Rattle.orc_node.specs.Held.{or_running}
 use Rattle.orc_node.specs.declared.node.Pending.{Pending}
 
@@ -18,7 +20,13 @@ is_under (Some commit) id = nat_eq commit.id id
 abbrev pub with_kept : Option Pending → Config → Option Pending
 with_kept None before = None
 with_kept (Some commit) before =
-    Some (record { kept = Some (or_running commit.kept before); id = commit.id; left = commit.left; by = commit.by })
+    Some (record {
+      kept = Some (or_running commit.kept before);
+      verdict = commit.verdict;
+      id = commit.id;
+      left = commit.left;
+      by = commit.by;
+    })
 
 -- no tree where there is a cause, and else the one that was there
 abbrev pub unless : Bool → Option Config → Option Config
@@ -29,6 +37,11 @@ abbrev pub IsKnown : Option Bool → Bool → Type 0
 IsKnown None accepted = Unit {0}
 IsKnown (Some verdict) accepted = verdict ≡ accepted
 
--- what is known of a tree, where it stays
-abbrev pub unless_known : Bool → Option Bool → Option Bool
-unless_known cause verdict = if cause then None else verdict
+-- what is known of the tree before a commit that is pending is so
+abbrev pub IsKeptKnown : Accept → Config → Option Pending → Type 0
+IsKeptKnown accept running None = Unit {0}
+IsKeptKnown accept running (Some commit) = IsKnown commit.verdict (accepts accept (or_running commit.kept running))
+
+-- what is known of candidate, which becomes running where there is a cause
+abbrev pub known_unless : Bool → Option Bool → Option Bool → Option Bool
+known_unless cause running candidate = if cause then running else candidate

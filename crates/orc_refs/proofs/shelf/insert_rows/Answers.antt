@@ -17,5 +17,5 @@ returns-clause-rows c =
     on_ok_weaker c.insert_shelf-3.result
     (λ is. is ∙ inserted_twice shelf_rows c.args.shelves.now.items c.insert_shelf-2.new.shelves.items c.args.at (back_rows front) (back_rows behind) (back_rows c.args.rows.items)
     c.in_ok-insert_shelf.ensures.front c.in_ok-insert_shelf.ensures.rows
-    (back_rows-halves 16 c.args.rows.items front behind c.in_ok-behind.ensures.items c.in_ok-behind.ensures.tail))
+    (back_rows-halves 8 c.args.rows.items front behind c.in_ok-behind.ensures.items c.in_ok-behind.ensures.tail))
     c.insert_shelf-3.ensures.rows

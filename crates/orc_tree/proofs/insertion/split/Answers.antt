@@ -29,10 +29,10 @@ returns-clause-sized c =
     let page = c.index_mut.result.now in
     let front = c.part.new.page in
     let behind = c.part.new.behind in
-    let full : length (page_rows page) ≡ 16 =
+    let full : length (page_rows page) ≡ 8 =
     ap (λ p. length (page_rows p)) (c.index_mut.ensures.value ∙ ap (λ (ps : Pages). get_or ps at page) c.reserve.ensures.items) ∙ c.requires.full page in
-    let half : length (page_rows front) ≡ 12 = c.in_ok-part.ensures.len in
-    let rest : length (page_rows behind) ≡ 4 = half_left (page_rows page) (page_rows front) (page_rows behind) c.in_ok-part.ensures.ok full half in
+    let half : length (page_rows front) ≡ 6 = c.in_ok-part.ensures.len in
+    let rest : length (page_rows behind) ≡ 2 = half_left (page_rows page) (page_rows front) (page_rows behind) c.in_ok-part.ensures.ok full half in
     let sized : AreSized pages = subst AreSized (sym c.reserve.ensures.items) c.requires.sized in
     subst AreSized (sym c.in-Ok.ensures.items)
     (AreSized-insert (set pages at front) (at + 1) behind (AreSized-set pages at front sized (omega (arith, half)) (omega (arith, half))) (omega (arith, rest)) (omega (arith, rest)))

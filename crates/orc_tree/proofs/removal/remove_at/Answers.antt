@@ -67,7 +67,7 @@ returns-clause-sized c =
     let rows_are : c.as_slice-rows.result.now ≡ page_rows page = c.as_slice-rows.ensures ∙ ap (λ x. x.rows) c.deref.ensures ∙ ap page_rows same in
     let some : 1 ≤ length (kept_of p (page_rows page)) =
     kept_some p (page_rows page) c.count_kept-kept.result (c.count_kept-kept.ensures ∙ ap (λ (r : Rows). length (kept_of p r)) rows_are) c.if-kept-eq0.false in
-    let sizes : (1 ≤ length (page_rows c.drop_within.new.page)) × (length (page_rows c.drop_within.new.page) ≤ 16) =
-    either_way c.drop_within.result (λ (r : Rows). (1 ≤ length r) × (length r ≤ 16)) (page_rows c.drop_within.new.page) (kept_of p (page_rows page)) (page_rows page)
+    let sizes : (1 ≤ length (page_rows c.drop_within.new.page)) × (length (page_rows c.drop_within.new.page) ≤ 8) =
+    either_way c.drop_within.result (λ (r : Rows). (1 ≤ length r) × (length r ≤ 8)) (page_rows c.drop_within.new.page) (kept_of p (page_rows page)) (page_rows page)
     c.drop_within.ensures.ok c.drop_within.ensures.err (some, kept_at_most p (page_rows page) old.1) old in
     AreSized-set pages at c.drop_within.new.page c.requires.sized sizes.0 sizes.1

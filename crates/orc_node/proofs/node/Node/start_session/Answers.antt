@@ -18,4 +18,6 @@ invariant_of-self c =
     (ap (λ (n : AcceptingNode). n.state) c.end_session.ensures) (ap (λ (n : AcceptingNode). n.state) (c.self-2.view_is ∙ c.end_least.ensures)) in (
       subst (λ (xs : List ℕ). length xs ≤ 8) (sym c.push.ensures.items) (longer_by_one c.self-2.inside.live.items c.next_session-session.result room),
       c.self-2.invariant.1,
+      c.self-2.invariant.2,
+      c.self-2.invariant.3,
     )
