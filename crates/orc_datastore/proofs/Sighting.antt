@@ -199,7 +199,7 @@ module _ (law : LiteralIsExpansion) (decls : Decls) (are : AreDecls decls) (stat
   behind = data_after call.actions state.data
 
   abbrev whole : Plan
-  whole = record { front = snapshot.front; held = call_held decls state call; expansions = call_expansions decls state call }
+  whole = record { front = snapshot.front; held = call_held decls state call; expansions = call_expansions decls state call; next = behind }
 
   pub planned_fault : (actions : List Action) (answer : Answer) → actions ≡ call.actions
       → Some answer ≡ first_service_fault (knows_service snapshot.known) actions → Err answer ≡ planned decls state snapshot.front call
@@ -231,10 +231,11 @@ module _ (law : LiteralIsExpansion) (decls : Decls) (are : AreDecls decls) (stat
         targets = call_targets call.actions;
       };
       expansions = es;
+      next = behind;
     })
 
     by_outcome : invalid decls.data_schema config ≡ None → (due : Result (List Action) Answer) → expanded_call decls state call ≡ due
-        → planned_by decls snapshot.known snapshot.front call.actions due (expanded_actions (serving_on decls behind) call.actions).reads
+        → planned_by decls snapshot.known snapshot.front call.actions behind due (expanded_actions (serving_on decls behind) call.actions).reads
         ≡ planned decls state snapshot.front call
     by_outcome valid due comes = on due comes
       where
@@ -244,7 +245,7 @@ module _ (law : LiteralIsExpansion) (decls : Decls) (are : AreDecls decls) (stat
             ∙ ap (λ o. option_or o (unexpanded (expanded_call decls state call))) (ap (invalid decls.data_schema) (sym config_is) ∙ valid)
 
         on : (due : Result (List Action) Answer) → expanded_call decls state call ≡ due
-            → planned_by decls snapshot.known snapshot.front call.actions due (expanded_actions (serving_on decls behind) call.actions).reads
+            → planned_by decls snapshot.known snapshot.front call.actions behind due (expanded_actions (serving_on decls behind) call.actions).reads
             ≡ planned decls state snapshot.front call
         on (Err answer) comes = sym (ap (λ o. plan_unless o whole) (refused ∙ ap unexpanded comes))
         on (Ok made) comes =

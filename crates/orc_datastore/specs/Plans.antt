@@ -108,4 +108,5 @@ planned decls state front call = plan_unless (plan_refusal decls state call) (re
   front = front;
   held = call_held decls state call;
   expansions = call_expansions decls state call;
+  next = data_after call.actions state.data;
 })

@@ -15,13 +15,15 @@ use orc_text::{Memory, Row, Text};
 use orc_tree::Tree;
 use std::alloc::Global;
 
-/// The plan of a call: the front of the snapshot that it was made on; what the call holds; and, for each
+/// The plan of a call: the front of the snapshot that it was made on; what the call holds; for each
 /// service of a list that it creates, modifies or redeploys, in the order of the actions, what its
-/// expansion writes on each device. What a literal service writes stands in the call itself.
+/// expansion writes on each device; and the data of that snapshot with the call, which is valid. What a
+/// literal service writes stands in the call itself.
 pub struct Plan {
     pub front: u64,
     pub held: Held,
     pub expansions: Row<(Text, Expansion)>,
+    pub next: Tree,
 }
 
 // Written out, so that a crate above lets a plan go by one call.
@@ -31,6 +33,7 @@ impl Drop for Plan {
             front: _,
             held: _,
             expansions: _,
+            next: _,
         } = self;
     }
 }
@@ -44,6 +47,7 @@ impl Plan {
             front: _,
             held,
             expansions: _,
+            next: _,
         } = self;
         held
     }
@@ -121,15 +125,15 @@ pub(crate) fn planned_known(
     known: &Tree,
     front: u64,
     actions: &[Action],
-    data: &Tree,
+    data: Tree,
 ) -> Result<Result<Plan, Answer>, Memory>
     requires fit { FitActions actions.now }
     requires keys { All (λ action. IsTrue (service_key action)) actions.now }
     requires few { length decls.now.names < 2 ^ 32 }
-    ensures { IfOk result (λ found. found ≡ planned_known decls.now known.now front actions.now «data».now) }
+    ensures { IfOk result (λ found. found ≡ planned_known decls.now known.now front actions.now «data») }
 {
     let mut reads = ReadSet::new(alloc);
-    match expanded_reading(alloc, decls, data, actions, &mut reads)? {
+    match expanded_reading(alloc, decls, &data, actions, &mut reads)? {
         Ok(made) => {
             let held = held(alloc, decls, known, actions, made.as_slice(), reads)?;
             let expansions = all_expansions(alloc, decls, actions, made.as_slice())?;
@@ -137,6 +141,7 @@ pub(crate) fn planned_known(
                 front,
                 held,
                 expansions,
+                next: data,
             }))
         }
         Err(answer) => Ok(Err(answer)),

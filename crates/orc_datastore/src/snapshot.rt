@@ -101,7 +101,7 @@ impl Snapshot {
     {
         let actions = call.actions.as_slice();
         match data_behind(alloc, decls.data_schema(), &self.known, &self.data, actions)? {
-            Ok(data) => planned_known(alloc, decls, &self.known, self.front, actions, &data),
+            Ok(data) => planned_known(alloc, decls, &self.known, self.front, actions, data),
             Err(found) => Ok(Err(found)),
         }
     }

@@ -34,7 +34,7 @@ entry_writes_held law_planned law_held decls history call plan written legal sta
         (or_none (existence state.live call.actions) _ last.1.unrefused).1).0
 
     here : Plan
-    here = record { front = 0; held = plan.held; expansions = plan.expansions }
+    here = record { front = 0; held = plan.held; expansions = plan.expansions; next = data_after call.actions state.data }
 
     on : (other : Write) → IsWriteOf state call other → IsHeldWrite plan other
     on (write.At path) differs =

@@ -79,7 +79,7 @@ planned_is (Some answer) due plan h = absurd (err_no_ok answer plan h)
 -- it stands where it is made
 is_planned : (decls : Decls) (state : Datastore) (front : ℕ) (call : Call) (plan : Plan) → planned decls state front call ≡ Ok plan → StandsOn decls state call plan
 is_planned decls state front call plan h =
-    let due : Plan = record { front = front; held = call_held decls state call; expansions = call_expansions decls state call } in
+    let due : Plan = record { front = front; held = call_held decls state call; expansions = call_expansions decls state call; next = data_after call.actions state.data } in
     let is = planned_is (plan_refusal decls state call) due plan h in
     let broken = invalid decls.data_schema (data_after call.actions state.data) in
     let last = unexpanded (expanded_call decls state call) in
@@ -492,9 +492,9 @@ plan_stands stands law decls state call plan others are own h =
 -- where it stands and the data is valid, it is the plan
 stands_planned : (decls : Decls) (state : Datastore) (front : ℕ) (call : Call) (plan : Plan) → StandsOn decls state call plan
     → invalid decls.data_schema (data_after call.actions state.data) ≡ None
-    → planned decls state front call ≡ Ok (record { front = front; held = plan.held; expansions = plan.expansions })
+    → planned decls state front call ≡ Ok (record { front = front; held = plan.held; expansions = plan.expansions; next = data_after call.actions state.data })
 stands_planned decls state front call plan own valid =
-    let made_plan : Held → List (List ℕ × Expansion) → Plan = λ held es. record { front = front; held = held; expansions = es } in
+    let made_plan : Held → List (List ℕ × Expansion) → Plan = λ held es. record { front = front; held = held; expansions = es; next = data_after call.actions state.data } in
     let due = made_plan (call_held decls state call) (call_expansions decls state call) in
     ap (λ o. plan_unless (option_or o (option_or (invalid decls.data_schema (data_after call.actions state.data)) (unexpanded (expanded_call decls state call)))) due) own.exist
     ∙ ap (λ o. plan_unless (option_or o (unexpanded (expanded_call decls state call))) due) valid

@@ -93,13 +93,18 @@ pub record StandsOn (decls : Decls) (state : Datastore) (call : Call) (plan : Pl
   pub expansions : call_expansions decls state call ≡ plan.expansions
 
 -- A plan stands on the state that it is made on. Where it stands and the data is valid with the call, the call is
--- planned there too, and that plan is the same but for the front.
+-- planned there too, and that plan is the same but for the front and the data.
 abbrev pub PlannedStands : Type 0
 PlannedStands =
     (decls : Decls) (state : Datastore) (front : ℕ) (call : Call) (plan : Plan)
     → (planned decls state front call ≡ Ok plan → StandsOn decls state call plan)
     × (StandsOn decls state call plan → invalid decls.data_schema (data_after call.actions state.data) ≡ None
-    → planned decls state front call ≡ Ok (record { front = front; held = plan.held; expansions = plan.expansions }))
+    → planned decls state front call ≡ Ok (record {
+      front = front;
+      held = plan.held;
+      expansions = plan.expansions;
+      next = data_after call.actions state.data;
+    }))
 
 -- what a part of an expansion writes on its device, where these are the names of the devices
 abbrev pub part_writes : List (List ℕ) → ℕ × List Put → List DevicePut

@@ -2,6 +2,7 @@ mod IdsLaws
 mod PathLaws
 mod TouchedLaws
 mod MarkLaws
+mod LentLaws
 mod StoreLaws
 mod RowLaws
 mod PartLaws

@@ -1,5 +1,5 @@
 -- Marks of what moves and edits touch, and the rows that are made of them.
-use Rattle.std.proofs.Common.{◌≡◌, ℕ, ◌+◌, ◌<◌, Bool, true, false, cond, not, T, ◌&&◌, ◌||◌, Bor, List, [], ◌∷◌, ◌++◌, length, take, drop, get_or, slice_set, suc, is_some, Some, None, refl, sym, ap, subst, ◌∙◌, arith}
+use Rattle.std.proofs.Common.{◌≡◌, ℕ, ◌+◌, ◌<◌, Bool, true, false, cond, not, T, ◌&&◌, ◌||◌, Bor, List, [], ◌∷◌, ◌++◌, length, take, get_or, is_some, Some, None, refl, sym, ap, subst, ◌∙◌, arith}
 use Rattle.std.specs.declared.option.Option.{Option}
 use Rattle.std.specs.declared.alloc.Global.{Global}
 use Rattle.std.specs.Prelude.{Vec}
@@ -9,15 +9,14 @@ use Rattle.std.specs.Ordering.{eq_by_cmp, is_eq, is_lt, ordering_reverse}
 use Rattle.std.specs.List.{filter, flat_map, list_any}
 use Rattle.std.specs.List.Sorted.{ties, IsStableBy}
 use Rattle.std.specs.Cmp.{IsStrictWeakOrder}
-use Rattle.std.specs.Option.{option_map, option_map_or}
+use Rattle.std.specs.Option.{option_map_or}
 use Rattle.std.specs.FinMap.{find, put, is_sorted}
 use Rattle.std.specs.FinMap.Entries.{below_all, find-put}
-use Rattle.std.proofs.lemmas.List.{append-nil, get_or-map, get_or_read, length-append, length-map, set_split, take_more}
+use Rattle.std.proofs.lemmas.List.{append-nil, get_or-map, length-append, length-map, take_more}
 use Rattle.std.proofs.lemmas.List.Elements.{filter-append}
 use Rattle.std.proofs.lemmas.List.Concat.{flat_map-append}
 use Rattle.std.proofs.lemmas.List.Folds.{list_any-append}
 use Rattle.std.proofs.lemmas.List.MinMax.{ranks_by}
-use Rattle.std.proofs.lemmas.Option.{slice_get_read}
 use Rattle.orc_path.specs.Steps.{PathStep}
 use Rattle.orc_path.specs.Order.{path_cmp}
 use Rattle.orc_path.proofs.PathOrder.{path_cmp_total}
@@ -25,15 +24,14 @@ use Rattle.orc_path.proofs.ConfigurationLaws.{same_path}
 use Rattle.orc_path.specs.declared.item.Item.{Item}
 use Rattle.orc_call.specs.declared.call.Put.{Put}
 use Rattle.orc_tree.specs.declared.change.Change.{Change}
-use Rattle.orc_tree.proofs.InOrder.{is_true_T, find_here, find_between, put_here, put_between}
-use Rattle.orc_tree.specs.Rows.{IsRowOf, IsPlaceOf}
+use Rattle.orc_tree.proofs.InOrder.{is_true_T}
 use Rattle.orc_tree.proofs.Maps.{sorted-put}
 use Rattle.orc_change.specs.Differences.{has_item}
 use Rattle.orc_refs.specs.declared.mark.Brought.{Brought}
 use Rattle.orc_refs.specs.declared.mark.Mark.{Mark}
 use Rattle.orc_refs.specs.declared.moves.Move.{Move}
 use Rattle.orc_refs.specs.Moves.{BringWhole, count_moved, put_at, rows_in}
-use Rattle.orc_refs.specs.inside.Marks.{AreRowsOf, IsEntered, KeepsOrder, TouchedRows, all_are, all_marks, brings_at, brought_by, brought_in, brought_marks, change_marks, entered, first_of, is_at, marked, move_marks, one_brought, paths_in, read, read_one, shown, taken_marks}
+use Rattle.orc_refs.specs.inside.Marks.{AreRowsOf, IsEntered, KeepsOrder, LentRows, TouchedRows, all_are, all_marks, brings_at, brought_by, brought_in, brought_marks, by_path, change_marks, entered, first_of, is_at, marked, move_marks, one_brought, paths_in, read, read_one, shown, taken_marks}
 use Rattle.orc_refs.specs.inside.Settling.{all_bring, brought, changed_path, changes_touch, enter_id, first_brought, has_path, moves_touch}
 
 abbrev pub Marks : Type 0
@@ -260,14 +258,6 @@ entered_row mark old new list s is added = record {
     at p true e = added ∙ ap (λ (q : List PathStep). brought_in old q ++ mark.1) (sym (same_path p mark.0 e))
     at p false e = sym (append-nil (brought_in old p))
 
--- a row has what is brought to its path
-pub row_brought : (rows : TouchedRows) (i : ℕ) (row : List PathStep × Vec Brought Global) → is_sorted path_cmp rows ≡ true → i < length rows → row ≡ get_or rows i row → brought_in rows row.0 ≡ shown row.1.items
-row_brought rows i row s l is =
-    ap (λ (o : Option (Vec Brought Global)). option_map_or (λ (list : Vec Brought Global). shown list.items) o [])
-    (find_here path_cmp path_cmp_total row.0 rows i (is_true_T _ s) l
-    (λ d. ap (λ (r : List PathStep × Vec Brought Global). r.0) (sym (get_or_read rows i row l is d)))
-    ∙ ap (option_map (λ (r : List PathStep × Vec Brought Global). r.1)) (slice_get_read rows _ i row refl l is))
-
 pub no_rows : AreRowsOf [] []
 no_rows = record { sorted = refl; paths = λ p. refl; given = λ p. refl }
 
@@ -292,29 +282,29 @@ rows_more marks mark old new rows more = record {
 
 -- The paths of rows
 
-below-paths : (p : List PathStep) (rows : TouchedRows) → below_all path_cmp p (paths_in rows) ≡ below_all path_cmp p rows
+below-paths : (p : List PathStep) (rows : LentRows) → below_all path_cmp p (paths_in rows) ≡ below_all path_cmp p (by_path rows)
 below-paths p [] = refl
-below-paths p (row ∷ rows) = ap (λ b. is_lt (path_cmp p row.0) && b) (below-paths p rows)
+below-paths p (row ∷ rows) = ap (λ b. is_lt (path_cmp p row.0.now) && b) (below-paths p rows)
 
-pub sorted-paths : (rows : TouchedRows) → is_sorted path_cmp (paths_in rows) ≡ is_sorted path_cmp rows
+pub sorted-paths : (rows : LentRows) → is_sorted path_cmp (paths_in rows) ≡ is_sorted path_cmp (by_path rows)
 sorted-paths [] = refl
-sorted-paths (row ∷ rows) = ap (λ b. b && is_sorted path_cmp (paths_in rows)) (below-paths row.0 rows) ∙ ap (λ b. below_all path_cmp row.0 rows && b) (sorted-paths rows)
+sorted-paths (row ∷ rows) = ap (λ b. b && is_sorted path_cmp (paths_in rows)) (below-paths row.0.now rows) ∙ ap (λ b. below_all path_cmp row.0.now (by_path rows) && b) (sorted-paths rows)
 
-pub some-paths : (p : List PathStep) (rows : TouchedRows) → is_some (find path_cmp p (paths_in rows)) ≡ is_some (find path_cmp p rows)
+pub some-paths : (p : List PathStep) (rows : LentRows) → is_some (find path_cmp p (paths_in rows)) ≡ is_some (find path_cmp p (by_path rows))
 some-paths p [] = refl
-some-paths p (row ∷ rows) = on (some-paths p rows) (eq_by_cmp path_cmp p row.0)
+some-paths p (row ∷ rows) = on (some-paths p rows) (eq_by_cmp path_cmp p row.0.now)
   where
-    on : is_some (find path_cmp p (paths_in rows)) ≡ is_some (find path_cmp p rows) → (t : Bool) → is_some (cond t (Some tt) (find path_cmp p (paths_in rows))) ≡ is_some (cond t (Some row.1) (find path_cmp p rows))
+    on : is_some (find path_cmp p (paths_in rows)) ≡ is_some (find path_cmp p (by_path rows)) → (t : Bool) → is_some (cond t (Some tt) (find path_cmp p (paths_in rows))) ≡ is_some (cond t (Some row.1) (find path_cmp p (by_path rows)))
     on rest true = refl
     on rest false = rest
 
-pub length-paths : (rows : TouchedRows) → length (paths_in rows) ≡ length rows
+pub length-paths : (rows : LentRows) → length (paths_in rows) ≡ length rows
 length-paths rows = length-map rows _
 
 -- the path of a row
-pub path_here : (rows : TouchedRows) (i : ℕ) (row : List PathStep × Vec Brought Global) → i < length rows → row ≡ get_or rows i row → ◌≡◌ {A = List PathStep × Unit {0}} (row.0, tt) (get_or (paths_in rows) i (row.0, tt))
+pub path_here : (rows : LentRows) (i : ℕ) (row : Bor (List PathStep) × Vec Brought Global) → i < length rows → row ≡ get_or rows i row → ◌≡◌ {A = List PathStep × Unit {0}} (row.0.now, tt) (get_or (paths_in rows) i (row.0.now, tt))
 path_here rows i row l is =
-    ap (λ (r : List PathStep × Vec Brought Global). (r.0, tt)) is ∙ sym (get_or-map (λ (r : List PathStep × Vec Brought Global). (r.0, tt)) rows i row (row.0, tt) l)
+    ap (λ (r : Bor (List PathStep) × Vec Brought Global). (r.0.now, tt)) is ∙ sym (get_or-map (λ (r : Bor (List PathStep) × Vec Brought Global). (r.0.now, tt)) rows i row (row.0.now, tt) l)
 
 pub read_more : (marks : List Mark) (i : ℕ) (mark : Mark) → i < length marks → mark ≡ get_or marks i mark → read (take (i + 1) marks) ≡ read (take i marks) ++ read_one mark ∷ []
 read_more marks i mark l is = ap read (take_more marks i mark l) ∙ behind (take i marks) ∙ ap (λ (m : Mark). read (take i marks) ++ read_one m ∷ []) (sym is)
@@ -322,26 +312,3 @@ read_more marks i mark l is = ap read (take_more marks i mark l) ∙ behind (tak
     behind : (xs : List Mark) → read (xs ++ get_or marks i mark ∷ []) ≡ read xs ++ read_one (get_or marks i mark) ∷ []
     behind [] = refl
     behind (x ∷ xs) = ap (λ ys. read_one x ∷ ys) (behind xs)
-
--- a mark entered in the row of its path
-pub set_entered : (mark : List PathStep × List (List ℕ × Item)) (old : TouchedRows) (at : ℕ) (row : List PathStep × Vec Brought Global) (list : Vec Brought Global) → is_sorted path_cmp old ≡ true → IsRowOf mark.0 old at
-    → row ≡ get_or old at row → shown list.items ≡ shown row.1.items ++ mark.1 → IsEntered mark old (slice_set old at (row.0, list))
-set_entered mark old at row list s here is added =
-    let key : row.0 ≡ mark.0 = ap (λ (r : List PathStep × Vec Brought Global). r.0) is ∙ here.here row in
-    let there : brought_in old mark.0 ≡ shown row.1.items = subst (λ (p : List PathStep). brought_in old p ≡ shown row.1.items) key (row_brought old at row s here.within is) in
-    entered_row mark old (slice_set old at (row.0, list)) list s
-    (set_split old at (row.0, list) here.within
-    ∙ ap (λ (p : List PathStep). take at old ++ (p, list) ∷ drop (suc at) old) key
-    ∙ sym (put_here path_cmp path_cmp_total mark.0 list old at (is_true_T _ s) here.within here.here))
-    (added ∙ ap (λ (bs : List (List ℕ × Item)). bs ++ mark.1) (sym there))
-
--- and as a row of its own
-pub insert_entered : (mark : List PathStep × List (List ℕ × Item)) (old new : TouchedRows) (at : ℕ) (row : List PathStep × Vec Brought Global) → is_sorted path_cmp old ≡ true → IsPlaceOf mark.0 old at
-    → row.0 ≡ mark.0 → shown row.1.items ≡ mark.1 → new ≡ take at old ++ row ∷ drop at old → IsEntered mark old new
-insert_entered mark old new at row s place key list is =
-    let none : brought_in old mark.0 ≡ [] = ap (λ (o : Option (Vec Brought Global)). option_map_or (λ (l : Vec Brought Global). shown l.items) o []) (find_between path_cmp path_cmp_total mark.0 old at place.before place.behind) in
-    entered_row mark old new row.1 s
-    (is
-    ∙ ap (λ (p : List PathStep). take at old ++ (p, row.1) ∷ drop at old) key
-    ∙ sym (put_between path_cmp path_cmp_total mark.0 row.1 old at place.within place.before place.behind))
-    (list ∙ ap (λ (bs : List (List ℕ × Item)). bs ++ mark.1) (sym none))

@@ -1,12 +1,17 @@
 -- What is due is planned, and a refusal has its cause.
-use Rattle.std.proofs.Common.{◌≡◌, ⊎_elim, true, ◌||◌, List, refl, sym, ap, subst, ◌∙◌, is_some, [], ◌∷◌, length, arith}
+use Rattle.std.proofs.Common.{All, ◌≡◌, ⊎_elim, true, ◌||◌, List, refl, sym, ap, subst, ◌∙◌, is_some, [], ◌∷◌, length, arith}
 use Rattle.std.specs.FinMap.{get, find, is_sorted, from_sorted}
-use Rattle.std.proofs.lemmas.Bool.{both_ways, cases_Bool, or_parts}
+use Rattle.std.specs.List.{list_all}
+use Rattle.std.proofs.lemmas.Bool.{and_parts, both_ways, cases_Bool, or_parts}
+use Rattle.std.proofs.lemmas.List.Elements.{All-head, All-tail}
 use Rattle.orc_path.specs.Steps.{PathStep}
 use Rattle.orc_path.specs.Order.{path_cmp}
-use Rattle.orc_path.specs.Configurations.{Config, IsConfig}
-use Rattle.orc_tree.specs.Changes.{applied}
+use Rattle.orc_path.specs.Items.{fits}
+use Rattle.orc_path.specs.Configurations.{Config, IsConfig, drop_item, put_item}
+use Rattle.orc_path.proofs.ConfigurationLaws.{IsConfig-drop_item, IsConfig-put_item}
+use Rattle.orc_tree.specs.Changes.{applied, change_fits, drop_each, put_each}
 use Rattle.orc_tree.specs.declared.change.Change.{Change}
+use Rattle.orc_tree.specs.declared.change.Change.TheVariants.{Put, Remove}
 use Rattle.orc_tree.proofs.InOrder.{is_true_T}
 use Rattle.orc_change.specs.Differences.{difference}
 use Rattle.orc_change.proofs.Exact.{difference_mentions, difference-same}
@@ -18,7 +23,7 @@ use Rattle.orc_refs.specs.Moves.{BringWhole, IsMoved, LeadsTo, StartAt, are_dist
 use Rattle.orc_refs.specs.Clashes.{IsCause}
 use Rattle.orc_refs.specs.inside.Kept.{AreKept}
 use Rattle.orc_refs.specs.inside.Settling.{changes_touch, moves_touch}
-use Rattle.orc_refs.specs.inside.Plans.{HasCause, IsPlanned, all_agree, changes_due, rows_due, planned_store, with_rows}
+use Rattle.orc_refs.specs.inside.Plans.{HasCause, IsPlanned, PutsAtPath, all_agree, changes_due, rows_due, planned_store, with_rows}
 use Rattle.orc_refs.specs.declared.moves.Move.{Move}
 use Rattle.orc_refs.specs.declared.moves.BaseEdit.{BaseEdit}
 use Rattle.orc_refs.specs.declared.moves.RefsFault.{RefsFault}
@@ -63,6 +68,22 @@ cause_is base tree edited backs ms es (Clash p other) kept distinct paths cause 
     clash_is s edited ms p other kept.store distinct cause.1
     (λ q less. ⊎_elim (λ t. cause.0.before q t less) (λ f. untouched_bring ms q (after s edited ms q) (all.touch q f)) (cases_Bool (is_some (find path_cmp q es))))
 
+-- removals keep a configuration one
+dropped_config : (changes : List Change) (m : Config) → IsConfig m → IsConfig (drop_each changes m)
+dropped_config [] m config = config
+dropped_config (Remove p ∷ rest) m config = dropped_config rest (drop_item m p) (IsConfig-drop_item m p config)
+dropped_config (Put p item ∷ rest) m config = dropped_config rest m config
+
+-- what is put at paths that it fits does too
+put_config : (changes : List Change) (m : Config) → All PutsAtPath changes → list_all change_fits changes ≡ true → IsConfig m → IsConfig (put_each changes m)
+put_config [] m paths fit config = config
+put_config (Put p item ∷ rest) m paths fit config =
+    let both = and_parts (fits p item) (list_all change_fits rest) fit in
+    put_config rest (put_item m p item) (All-tail PutsAtPath (Put p item) rest paths) both.1
+    (IsConfig-put_item m p item config (All-head PutsAtPath (Put p item) rest paths) both.0)
+put_config (Remove p ∷ rest) m paths fit config =
+    put_config rest m (All-tail PutsAtPath (Remove p) rest paths) (and_parts true (list_all change_fits rest) fit).1 config
+
 -- a plan on the edited base leads where the moves and the edits lead
 pub planned_is_moved : (s : Store) (base : Config) (ms : List Move) (edits : List BaseEdit) (changes : List Change) (rows : BackRows) (tree : Config) → base ≡ edited edits s.base
     → IsPlanned s base ms changes rows → tree ≡ applied changes s.tree → IsConfig tree → IsMoved s ms edits (planned_store s base changes rows)
@@ -98,6 +119,14 @@ planned_leads s base tree ms edits changes set rows is moved exact = subst (Lead
   leads = refl;
   exact = exact;
 })
+
+-- a plan's changes make a configuration, and lead where the moves and the edits lead
+pub looked_ahead : (s : Store) (base : Config) (ms : List Move) (edits : List BaseEdit) (changes set : List Change) (rows : BackRows) → base ≡ edited edits s.base → IsConfig s.tree
+    → IsPlanned s base ms changes rows → All PutsAtPath changes → set ≡ changes → LeadsTo s ms edits set
+looked_ahead s base ms edits changes set rows is_base tree plan paths is =
+    let config : IsConfig (applied changes s.tree) = put_config changes (drop_each changes s.tree) paths plan.fit (dropped_config changes s.tree tree) in
+    planned_leads s base (applied changes s.tree) ms edits changes set rows is
+    (planned_is_moved s base ms edits changes rows (applied changes s.tree) is_base plan refl config) plan.exact
 
 -- the touched paths, by where an edited base differs
 pub touched_by : (base edited : Config) (changes : List Change) (ms : List Move) (es : Paths) → changes ≡ difference base edited

@@ -1,7 +1,7 @@
 //! Marks of the paths that moves and edits of the base touch: one for each item that is taken,
 //! brought or changed.
 ghost use Rattle.std.specs.Prelude.{◌≡◌, ◌++◌, IfOk, OnOk, vec_len};
-ghost use Rattle.orc_refs.specs.inside.Marks.{KeepsOrder, all_marks, brought_marks, change_marks, move_marks, read, taken_marks};
+ghost use Rattle.orc_refs.specs.inside.Marks.{InPathOrder, KeepsOrder, all_marks, brought_marks, change_marks, move_marks, read, taken_marks};
 ghost use Rattle.orc_refs.specs.inside.Settling.{changed_path};
 
 use crate::Move;
@@ -105,6 +105,7 @@ pub(crate) fn all_marks<'a>(
 
 // The marks in the order of their paths; those at one path stay in their order.
 pub(crate) fn in_order<'a>(marks: Vec<Mark<'a>>) -> Result<Vec<Mark<'a>>, Memory>
+    ensures sorted { IfOk result (λ sorted. InPathOrder sorted.items) }
     ensures order { IfOk result (λ sorted. KeepsOrder (read marks.entry.items) (read sorted.items)) }
     ensures len { IfOk result (λ sorted. vec_len sorted ≡ vec_len marks.entry) }
 {

@@ -1,12 +1,12 @@
 //! What moves come to at the paths that they touch.
 ghost use Rattle.std.specs.Prelude.{◌≡◌, ◌+◌, ◌≤◌, ◌++◌, ◌∷◌, [], List, OnOk, IfOk, IfErr, Ok, true, IsTrue, length};
 ghost use Rattle.std.specs.Option.{option_copied};
-ghost use Rattle.std.specs.FinMap.{from_sorted, is_sorted};
+ghost use Rattle.std.specs.FinMap.{from_sorted, get, is_sorted};
 ghost use Rattle.orc_path.specs.Order.{path_cmp};
 ghost use Rattle.orc_path.specs.Steps.{PathStep};
 ghost use Rattle.orc_refs.specs.Moves.{BringWhole};
 ghost use Rattle.orc_refs.specs.inside.Settling.{all_bring, ids_after, item_after};
-ghost use Rattle.orc_refs.specs.inside.Marks.{brings_at, brought_in, paths_in, shown};
+ghost use Rattle.orc_refs.specs.inside.Marks.{brings_at, brought_in, by_path, paths_in, shown};
 ghost use Rattle.orc_refs.specs.inside.Plans.{HasCause, all_agree, come, gone, puts_due, removals_due, rows_due};
 
 use crate::backs::Backs;
@@ -30,13 +30,13 @@ pub(crate) struct Plan {
     pub(crate) puts: Row<Change>,
 }
 
-// What stands at a path: the ids of the services that write it, the tree's item, and the base's
-// item once it is edited.
+// What stands at a path: the ids of the services that write it, and the tree's item. The base is the
+// edited one, and is searched only for a path that no service is to write.
 #[derive(Clone, Copy)]
 pub(crate) struct Place<'a> {
     pub(crate) ids: &'a [Text],
     pub(crate) here: Option<&'a Item>,
-    pub(crate) base: Option<&'a Item>,
+    pub(crate) base: &'a Tree,
 }
 
 // A store as moves find it, with the base once it is edited.
@@ -74,18 +74,18 @@ impl Plan {
         ensures agree { IfOk result (λ agree. agree
             ≡ all_bring moves.now path.now
             (item_after moves.now path.now found.now.ids.now (option_copied found.now.here)
-            (option_copied found.now.base))) }
+            (get found.now.base.now path.now))) }
         ensures rows { result ≡ Ok true
             → self.new.rows ≡ self.old.rows ++ (path.now, ids_after moves.now path.now found.now.ids.now) ∷ [] }
         ensures removals { result ≡ Ok true
             → self.new.removals ≡ self.old.removals ++ gone (option_copied found.now.here)
             (item_after moves.now path.now found.now.ids.now (option_copied found.now.here)
-            (option_copied found.now.base))
+            (get found.now.base.now path.now))
             path.now }
         ensures puts { result ≡ Ok true
             → self.new.puts ≡ self.old.puts ++ come (option_copied found.now.here)
             (item_after moves.now path.now found.now.ids.now (option_copied found.now.here)
-            (option_copied found.now.base))
+            (get found.now.base.now path.now))
             path.now }
     {
         let after = item_after(moves, path, brought, found);
@@ -139,14 +139,14 @@ fn item_after<'a>(
     requires { shown brought.now ≡ brings_at moves.now path.now }
     ensures { option_copied result
         ≡ item_after moves.now path.now found.now.ids.now (option_copied found.now.here)
-        (option_copied found.now.base) }
+        (get found.now.base.now path.now) }
 {
     if any_stays(moves, found.ids) {
         return found.here;
     }
     match first_of(brought) {
         Some(item) => Some(item),
-        None => found.base,
+        None => found.base.get(path),
     }
 }
 
@@ -156,13 +156,13 @@ pub(crate) fn plan_of<L: Ledger>(
     alloc: Global,
     moves: &[Move],
     store: &Held<'_>,
-    touched: &[(Path, Vec<Brought<'_>>)],
+    touched: &[(&Path, Vec<Brought<'_>>)],
     steps: &mut Steps<L>,
 ) -> Result<Plan, RefsFault>
     requires backs { IsTrue (is_sorted path_cmp store.now.backs.now) }
-    requires paths { IsTrue (is_sorted path_cmp touched.now) }
+    requires paths { IsTrue (is_sorted path_cmp (by_path touched.now)) }
     requires whole { BringWhole moves.now }
-    requires brings { (p : List PathStep) → brought_in touched.now p ≡ brings_at moves.now p }
+    requires brings { (p : List PathStep) → brought_in (by_path touched.now) p ≡ brings_at moves.now p }
     ensures clash { IfErr result (HasCause (from_sorted store.now.backs.now) store.now.tree.now store.now.base.now
         moves.now (paths_in touched.now)) }
     ensures rows { IfOk result
@@ -181,11 +181,11 @@ pub(crate) fn plan_of<L: Ledger>(
     let mut plan = Plan::new(alloc);
     for row in touched {
         steps.tick();
-        let path = &row.0;
+        let path = row.0;
         let found = Place {
             ids: store.backs.ids_of(path),
             here: store.tree.get(path),
-            base: store.base.get(path),
+            base: store.base,
         };
         if !plan.settle(alloc, moves, path, row.1.as_slice(), &found)? {
             let path = path.copy(alloc)?;

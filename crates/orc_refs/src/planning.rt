@@ -1,10 +1,10 @@
 //! Moves and edits of the base prepared and put in place. All that can be refused is refused before
 //! anything is changed.
-ghost use Rattle.std.specs.Prelude.{◌≡◌, ◌+◌, ◌*◌, ◌<◌, ◌≤◌, ◌++◌, List, IsErr, IfErr, IfOk, OnOk, OnErr, IsTrue, length, vec_len};
+ghost use Rattle.std.specs.Prelude.{◌≡◌, ◌+◌, ◌*◌, ◌<◌, ◌≤◌, ◌++◌, All, List, IsErr, IfErr, IfOk, OnOk, OnErr, IsTrue, length, vec_len};
 ghost use Rattle.std.specs.List.{list_all};
 ghost use Rattle.std.specs.FinMap.{from_sorted, is_sorted};
 ghost use Rattle.orc_path.specs.Order.{path_cmp};
-ghost use Rattle.orc_path.specs.Steps.{PathStep};
+ghost use Rattle.orc_path.specs.Steps.{PathStep, is_path};
 ghost use Rattle.orc_path.specs.Configurations.{IsConfig};
 ghost use Rattle.orc_tree.specs.Changes.{applied, change_fits};
 ghost use Rattle.orc_change.specs.Differences.{difference};
@@ -12,8 +12,8 @@ ghost use Rattle.orc_refs.specs.Stores.{store_of, written_by};
 ghost use Rattle.orc_refs.specs.Moves.{BringWhole, IsMoved, LeadsTo, StartAt, are_distinct, count_moved, edit_fits, edited, writes_after};
 ghost use Rattle.orc_refs.specs.Clashes.{IsCause};
 ghost use Rattle.orc_refs.specs.inside.Kept.{AreKept};
-ghost use Rattle.orc_refs.specs.inside.Marks.{brings_at, brought_in, paths_in};
-ghost use Rattle.orc_refs.specs.inside.Plans.{HasCause, IsPlanned, all_agree, changes_due, planned_store, rows_due, with_rows};
+ghost use Rattle.orc_refs.specs.inside.Marks.{brings_at, brought_in, by_path, paths_in};
+ghost use Rattle.orc_refs.specs.inside.Plans.{HasCause, IsPlanned, PutsAtPath, all_agree, changes_due, planned_store, rows_due, with_rows};
 
 use crate::backs::Backs;
 use crate::base::{NewBase, new_base};
@@ -36,6 +36,13 @@ pub(crate) struct Due {
     pub(crate) rows: Row<(Path, Row<Text>)>,
 }
 
+// What is due on a store, with the base that the store is to have.
+#[derive(Drop)]
+pub(crate) struct Outlook {
+    pub(crate) due: Due,
+    pub(crate) base: Tree,
+}
+
 // What is due on a store, with the base and the tree that the store is to have.
 #[derive(Drop)]
 pub(crate) struct Prepared {
@@ -49,13 +56,13 @@ fn due_at<L: Ledger>(
     alloc: Global,
     store: &Held<'_>,
     moves: &[Move],
-    touched: &[(Path, Vec<Brought<'_>>)],
+    touched: &[(&Path, Vec<Brought<'_>>)],
     steps: &mut Steps<L>,
 ) -> Result<Due, RefsFault>
     requires backs { IsTrue (is_sorted path_cmp store.now.backs.now) }
-    requires paths { IsTrue (is_sorted path_cmp touched.now) }
+    requires paths { IsTrue (is_sorted path_cmp (by_path touched.now)) }
     requires whole { BringWhole moves.now }
-    requires brings { (p : List PathStep) → brought_in touched.now p ≡ brings_at moves.now p }
+    requires brings { (p : List PathStep) → brought_in (by_path touched.now) p ≡ brings_at moves.now p }
     ensures changes { IfOk result
         (λ due. due.set.changes ≡ changes_due (from_sorted store.now.backs.now) store.now.tree.now
         store.now.base.now moves.now (paths_in touched.now)) }
@@ -140,6 +147,49 @@ fn applied_to(alloc: Global, set: &ChangeSet, tree: &Tree) -> Result<Tree, Memor
     Ok(new)
 }
 
+// What is due where moves and edits are done on a store.
+fn look_ahead<L: Ledger>(
+    alloc: Global,
+    backs: &Backs,
+    tree: &Tree,
+    base: &Tree,
+    moves: &[Move],
+    edits: &[BaseEdit],
+    steps: &mut Steps<L>,
+) -> Result<Outlook, RefsFault>
+    requires kept { AreKept base.now tree.now backs.now }
+    requires start { StartAt (store_of base.now tree.now backs.now) moves.now }
+    requires distinct { IsTrue (are_distinct moves.now) }
+    requires whole { BringWhole moves.now }
+    requires fits { IsTrue (list_all edit_fits edits.now) }
+    ensures planned { IfOk result
+        (λ outlook. IsPlanned (store_of base.now tree.now backs.now) outlook.base moves.now
+        outlook.due.set.changes outlook.due.rows) }
+    ensures base { IfOk result (λ outlook. outlook.base ≡ edited edits.now base.now) }
+    ensures len { IfOk result
+        (λ outlook. length outlook.due.rows
+        ≤ count_moved moves.now + length (difference base.now (edited edits.now base.now))) }
+    ensures clash { IfErr result
+        (IsCause (writes_after moves.now (written_by (store_of base.now tree.now backs.now))) moves.now) }
+    ensures steps { steps.new
+        ≤ steps.old + (count_moved moves.now + length (difference base.now (edited edits.now base.now))) }
+{
+    let new = new_base(alloc, base, edits)?;
+    let changes = new.set.changes.as_slice();
+    let due = match due_on(alloc, backs, tree, base, &new.tree, changes, moves, steps) {
+        Ok(due) => due,
+        Err(fault) => return Err(fault),
+    };
+    let NewBase {
+        tree: edited_base,
+        set: _,
+    } = new;
+    Ok(Outlook {
+        due,
+        base: edited_base,
+    })
+}
+
 // What moves and edits make of a store.
 pub(crate) fn prepare<L: Ledger>(
     alloc: Global,
@@ -171,20 +221,18 @@ pub(crate) fn prepare<L: Ledger>(
     ensures steps { steps.new
         ≤ steps.old + (count_moved moves.now + length (difference base.now (edited edits.now base.now))) }
 {
-    let new = new_base(alloc, base, edits)?;
-    let changes = new.set.changes.as_slice();
-    let due = match due_on(alloc, backs, tree, base, &new.tree, changes, moves, steps) {
-        Ok(due) => due,
+    let outlook = match look_ahead(alloc, backs, tree, base, moves, edits, steps) {
+        Ok(outlook) => outlook,
         Err(fault) => return Err(fault),
     };
+    let Outlook {
+        due,
+        base: new_base,
+    } = outlook;
     let new_tree = applied_to(alloc, &due.set, tree)?;
-    let NewBase {
-        tree: edited_base,
-        set: _,
-    } = new;
     Ok(Prepared {
         due,
-        base: edited_base,
+        base: new_base,
         tree: new_tree,
     })
 }
@@ -235,15 +283,30 @@ pub(crate) fn apply_moves<L: Ledger>(
     Ok(set)
 }
 
-// The changes alone.
-fn set_of(prepared: Prepared) -> ChangeSet
-    ensures { result.changes ≡ prepared.due.set.changes }
+// A path is one, which its type says.
+fn is_one(path: &Path)
+    ensures { IsTrue (is_path path.now) }
 {
-    let Prepared {
-        due,
-        base: _,
-        tree: _,
-    } = prepared;
+    let _ = path.steps.len();
+}
+
+// Each item that is put is put at a path.
+fn put_at_paths(changes: &[Change])
+    ensures { All PutsAtPath changes.now }
+{
+    for change in changes {
+        match change {
+            Change::Put(path, _) => is_one(path),
+            Change::Remove(_) => {}
+        }
+    }
+}
+
+// The changes alone.
+fn set_of(outlook: Outlook) -> ChangeSet
+    ensures { result.changes ≡ outlook.due.set.changes }
+{
+    let Outlook { due, base: _ } = outlook;
     let Due { set, rows: _ } = due;
     set
 }
@@ -272,8 +335,11 @@ pub(crate) fn preview_moves<L: Ledger>(
         (IsCause (writes_after moves.now (written_by (store_of base.now tree.now backs.now))) moves.now) }
 {
     let mut steps = Steps::<L>::new(blank);
-    match prepare(alloc, backs, tree, base, moves, edits, &mut steps) {
-        Ok(prepared) => Ok(set_of(prepared)),
+    match look_ahead(alloc, backs, tree, base, moves, edits, &mut steps) {
+        Ok(outlook) => {
+            put_at_paths(outlook.due.set.changes.as_slice());
+            Ok(set_of(outlook))
+        }
         Err(fault) => Err(fault),
     }
 }

@@ -1,9 +1,8 @@
 -- What each event leaves of the hub, over the entries with those that it appends.
-use Rattle.std.proofs.Common.{◌≡◌, ◌≢◌, ◌⊎◌, inl, inr, ⊎_elim, ℕ, Bool, true, false, ◌&&◌, ◌||◌, nat_eq, cond, List, [], ◌∷◌, ◌++◌, None, Some, map, length, All, refl, sym, ap, subst, ◌∙◌, arith, eqb-true, zero, suc}
+use Rattle.std.proofs.Common.{◌≡◌, ◌≢◌, ◌⊎◌, inl, inr, ⊎_elim, ℕ, Bool, true, false, ◌&&◌, ◌||◌, nat_eq, cond, List, [], ◌∷◌, ◌++◌, None, Some, map, length, All, refl, sym, ap, subst, ◌∙◌, eqb-true, zero, suc}
 use Rattle.std.specs.Prelude.{slice_get}
 use Rattle.std.proofs.lemmas.Bool.{false≢true}
 use Rattle.std.proofs.lemmas.Option.{same_Some}
-use Rattle.std.proofs.lemmas.List.{take-append-le, length-append}
 use Rattle.std.proofs.lemmas.List.Elements.{All-append, All-cons, All-head, All-nil, All-tail, All-weaker}
 use Rattle.orc_call.specs.declared.call.Call.{Call}
 use Rattle.orc_journal.specs.Entries.{number_of}
@@ -14,7 +13,6 @@ use Rattle.orc_plans.specs.Plans.{PlanStands, StandsOn}
 use Rattle.orc_queue.specs.Fitting.{FitTogether}
 use Rattle.orc_decls.specs.Declarations.{AreDecls}
 use Rattle.orc_datastore.specs.Legal.{IsLegal, IsNew, IsSame, refusal_of, state_of}
-use Rattle.orc_datastore.specs.Plans.{planned}
 use Rattle.orc_decls.specs.declared.declarations.Decls.{Decls}
 use Rattle.orc_rules.specs.Admissions.{transaction_begun, without}
 use Rattle.orc_rules.specs.Kept.{HubKept, IsOpenIn, is_unsettled}
@@ -30,7 +28,7 @@ use Rattle.orc_rules.proofs.Entering.{All-at, All-without, Differ, apart_from, a
 use Rattle.orc_queue.proofs.Mutual.{fit_other}
 use Rattle.orc_rules.proofs.Recording.{given_at}
 use Rattle.orc_rules.proofs.Retiring.{of_map, retired_fit, told_fit, was_other, was_there}
-use Rattle.orc_rules.proofs.Standings.{comes_admitted, stays_admitted}
+use Rattle.orc_rules.proofs.Standings.{comes_admitted, stays_admitted, stays_planned}
 
 -- who is to be settled after a report was so before
 
@@ -168,10 +166,7 @@ module _ (decls : Decls) (entries : List Entry) (history : List Call) (active : 
         still_waiting : (one : Waiting) → IsWaiting decls history one → (it.call.caller ≢ one.call.caller) → IsWaiting decls (history ++ it.call ∷ []) one
         still_waiting one waits apart = record {
           lawful = waits.lawful;
-          planned = record {
-            within = let within = waits.planned.within in simp length-append (omega arith);
-            made = ap (λ (h : List Call). planned decls (state_of decls h) one.plan.front one.call) (take-append-le one.plan.front history (it.call ∷ []) waits.planned.within) ∙ waits.planned.made;
-          };
+          planned = stays_planned decls history (it.call ∷ []) one.call one.plan waits.planned;
           fresh = All-append (λ e. IsSame e one.call → ⊥) history (it.call ∷ []) waits.fresh
               (All-cons (λ e. IsSame e one.call → ⊥) it.call [] (λ same. apart same.0) (All-nil (λ e. IsSame e one.call → ⊥)));
         }
@@ -235,7 +230,7 @@ module _ (decls : Decls) (entries : List Entry) (history : List Call) (active : 
       unnumbered x open_in same = named_by x.t it.t entries open_in.undecided.0 none (sym same)
 
       comes : IsAdmitted decls history b
-      comes = comes_admitted decls history b refl waits.lawful legal (record { new = waits.fresh; unrefused = unrefused }) stands
+      comes = comes_admitted decls history b refl waits.lawful waits.planned legal (record { new = waits.fresh; unrefused = unrefused }) stands
 
   -- a call comes to wait
   pub queue_keeps : (it : Waiting) → IsWaiting decls history it → IsUnnamed entries it.t → taken it.t ≡ false

@@ -3,6 +3,7 @@ use Rattle.std.proofs.Common.{◌≡◌, ℕ, Bool, true, false, nat_eq, nat_lt,
 use Rattle.std.specs.Prelude.{filter, ◌||◌}
 use Rattle.std.specs.List.{list_any}
 use Rattle.std.specs.FinMap.{empty}
+use Rattle.orc_datastore.specs.Actions.{data_after}
 use Rattle.std.proofs.lemmas.Bool.{false≢true}
 use Rattle.std.proofs.lemmas.List.Elements.{filter-append}
 use Rattle.orc_call.specs.declared.call.Call.{Call}
@@ -75,7 +76,7 @@ module _ (decls : Decls) (are : AreDecls decls) (stands : PlanStands) (planned :
     frame = λ h p d one valid unnamed.
         declared_or (nat_lt d (length decls.names)) (tree_due (lawful_state decls (h ++ p.call ∷ [])) d) (tree_due (lawful_state decls h) d) empty
         (λ declared. ap (λ (s : Datastore). tree_due s d) (state_more h p.call one.lawful)
-        ∙ (unheld decls (lawful_state decls h) 0 p.call (record { front = 0; held = one.plan.held; expansions = one.plan.expansions }) d
+        ∙ (unheld decls (lawful_state decls h) 0 p.call (record { front = 0; held = one.plan.held; expansions = one.plan.expansions; next = data_after p.call.actions (lawful_state decls h).data }) d
         ((planned decls (lawful_state decls h) 0 p.call one.plan).1 one.stands valid) (ltb-true d (length decls.names) declared)
         (unnamed_in d one.plan.held.devices (sym (one.names d) ∙ unnamed))).0);
     stands = λ h p q one other fit. record { lawful = one.lawful; plan = one.plan; stands = moved h p q one other fit; names = one.names };

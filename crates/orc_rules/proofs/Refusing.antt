@@ -150,7 +150,7 @@ module _ (is_sought : Answer → Bool) (plain : (x : Answer) → is_plain x ≡ 
 
   pub planned_unsought : (decls : Decls) (state : Datastore) (front : ℕ) (call : Call) (given : Answer) → planned decls state front call ≡ Err given → is_sought given ≡ true → ⊥
   planned_unsought decls state front call given e =
-      unless_unsought (plan_refusal decls state call) (record { front = front; held = call_held decls state call; expansions = call_expansions decls state call })
+      unless_unsought (plan_refusal decls state call) (record { front = front; held = call_held decls state call; expansions = call_expansions decls state call; next = data_after call.actions state.data })
       (or_unsought (existence state.live call.actions)
       (option_or (invalid decls.data_schema (data_after call.actions state.data)) (unexpanded (expanded_call decls state call))) (existence_unsought state.live call.actions)
       (or_unsought (invalid decls.data_schema (data_after call.actions state.data)) (unexpanded (expanded_call decls state call))

@@ -1,5 +1,6 @@
 -- What stays so of a call that has its Intent, while other calls are committed.
 use Rattle.std.proofs.Common.{◌≡◌, ℕ, ◌≤◌, List, [], ◌∷◌, ◌++◌, None, take, drop, length, All, IsTrue, sym, ap, subst, ◌∙◌, arith}
+use Rattle.std.specs.declared.result.Result.TheVariants.{Ok}
 use Rattle.std.proofs.lemmas.List.{take-append-le, drop-append-le, take-append-drop, length-append}
 use Rattle.std.proofs.lemmas.List.Sums.{AllPass-from_list_all}
 use Rattle.std.proofs.Math.Seq.{take-length, drop-length}
@@ -18,7 +19,9 @@ use Rattle.orc_decls.specs.declared.declarations.Decls.{Decls}
 use Rattle.orc_decls.proofs.Fits.{call-actions}
 use Rattle.orc_datastore.proofs.Legality.{fold_from-append, legal_more}
 use Rattle.orc_plans.specs.Plans.{EachAlong, FitsBeside, StandsOn, LegalStands, PlanStands}
-use Rattle.orc_rules.specs.Standing.{IsAdmitted}
+use Rattle.orc_datastore.specs.Plans.{planned}
+use Rattle.orc_datastore.specs.declared.plan.Plan.{Plan}
+use Rattle.orc_rules.specs.Standing.{IsAdmitted, IsPlanned}
 use Rattle.orc_rules.specs.declared.transaction.Transaction.{Transaction}
 
 -- the state after a history, from that after a prefix of it on
@@ -56,12 +59,22 @@ commit_is_legal law decls history it legal own valid =
 pub actions_of : (decls : Decls) (call : Call) → IsTrue (is_call decls call) → All (λ action. IsTrue (is_action decls action)) call.actions
 actions_of decls call lawful = AllPass-from_list_all (is_action decls) call.actions (call-actions decls call lawful)
 
+-- a plan at its front is one there, whatever is committed
+pub stays_planned : (decls : Decls) (history more : List Call) (call : Call) (plan : Plan) → IsPlanned decls history call plan
+    → IsPlanned decls (history ++ more) call plan
+stays_planned decls history more call plan own = record {
+  within = let within = own.within in omega (arith, within, length-append history more);
+  made =
+      subst (λ (h : List Call). planned decls (state_of decls h) plan.front call ≡ Ok plan) (sym (take-append-le plan.front history more own.within)) own.made;
+}
+
 -- an admitted call stays so where another one is committed that fits it
 pub stays_admitted : PlanStands → (decls : Decls) (history : List Call) (it other : Transaction) → AreDecls decls
     → IsAdmitted decls history it → IsAdmitted decls history other → FitTogether it.plan.held other.plan.held
     → (IsSame other.call it.call → ⊥) → IsAdmitted decls (history ++ other.call ∷ []) it
 stays_admitted law decls history it other are own their fit apart = record {
   lawful = own.lawful;
+  planned = stays_planned decls history (other.call ∷ []) it.call it.plan own.planned;
   within = longer;
   legal = subst (λ (h : List Call). IsLegal decls (h ++ it.call ∷ [])) (sym front) own.legal;
   stood = subst (λ (h : List Call). StandsOn decls (state_of decls h) it.call it.plan) (sym front) own.stood;
@@ -91,10 +104,11 @@ stays_admitted law decls history it other are own their fit apart = record {
 
 -- a call is admitted where its plan stands and it makes the history legal
 pub comes_admitted : (decls : Decls) (history : List Call) (it : Transaction) → it.since ≡ length history → IsTrue (is_call decls it.call)
-    → IsLegal decls history → IsDue decls history it.call → StandsOn decls (state_of decls history) it.call it.plan
-    → IsAdmitted decls history it
-comes_admitted decls history it since lawful legal due own = record {
+    → IsPlanned decls history it.call it.plan → IsLegal decls history → IsDue decls history it.call
+    → StandsOn decls (state_of decls history) it.call it.plan → IsAdmitted decls history it
+comes_admitted decls history it since lawful at legal due own = record {
   lawful = lawful;
+  planned = at;
   within = subst (λ n. n ≤ length history) (sym since) (omega arith);
   legal = subst (λ (h : List Call). IsLegal decls (h ++ it.call ∷ [])) (sym whole) (legal_more decls history it.call legal lawful due);
   stood = subst (λ (h : List Call). StandsOn decls (state_of decls h) it.call it.plan) (sym whole) own;

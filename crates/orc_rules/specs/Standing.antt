@@ -21,10 +21,17 @@ history_at history it = take it.since history
 abbrev pub committed_since : List Call → Transaction → List Call
 committed_since history it = drop it.since history
 
--- After the history at its Intent the plan stood and the call made the history legal. Each call that was committed
--- since fits the plan where it was done, and none has this caller and number.
+-- the plan is that of the call after the first calls of the history, as many as its front says
+pub record IsPlanned (decls : Decls) (history : List Call) (call : Call) (plan : Plan) : Type 0 where
+  pub within : plan.front ≤ length history
+  pub made : planned decls (state_of decls (take plan.front history)) plan.front call ≡ Ok plan
+
+-- Its plan is that of the call at the plan's front. After the history at its Intent the plan stood and the call made
+-- the history legal. Each call that was committed since fits the plan where it was done, and none has this caller and
+-- number.
 pub record IsAdmitted (decls : Decls) (history : List Call) (it : Transaction) : Type 0 where
   pub lawful : IsTrue (is_call decls it.call)
+  pub planned : IsPlanned decls history it.call it.plan
   pub within : it.since ≤ length history
   pub legal : IsLegal decls (history_at history it ++ it.call ∷ [])
   pub stood : StandsOn decls (state_of decls (history_at history it)) it.call it.plan
@@ -37,11 +44,6 @@ abbrev pub AreFit : List Transaction → Type 0
 AreFit active = (place place' : ℕ) (it other : Transaction) → slice_get active place ≡ Some it
     → slice_get active place' ≡ Some other
     → (place ≡ place' → ⊥) → FitTogether it.plan.held other.plan.held
-
--- the plan is that of the call after the first calls of the history, as many as its front says
-pub record IsPlanned (decls : Decls) (history : List Call) (call : Call) (plan : Plan) : Type 0 where
-  pub within : plan.front ≤ length history
-  pub made : planned decls (state_of decls (take plan.front history)) plan.front call ≡ Ok plan
 
 -- What is so of a call that waits.
 pub record IsWaiting (decls : Decls) (history : List Call) (it : Waiting) : Type 0 where

@@ -4,7 +4,7 @@ use Rattle.std.proofs.Common.{inl, inr, refl, sym, ap, ◌∙◌, arith, eq-eqb}
 use Rattle.std.proofs.lemmas.Bool.{false≢true}
 use Rattle.std.proofs.lemmas.List.Elements.{All-nil, All-cons}
 use Rattle.std.specs.Char.{encode_utf8}
-use Rattle.std.specs.FinMap.{entries, len, len-empty}
+use Rattle.std.specs.FinMap.{empty, entries, len, len-empty}
 use Rattle.std.specs.Fmt.{digits}
 use Rattle.std.specs.List.Sorted.{IsStrictlySortedBy}
 use Rattle.std.specs.Option.{option_map_or, option_or}
@@ -19,7 +19,7 @@ use Rattle.orc_call.specs.declared.answer.Answer.{Answer}
 use Rattle.orc_call.specs.declared.answer.Answer.TheVariants as answer
 use Rattle.orc_call.specs.declared.call.Call.{Call}
 use Rattle.orc_check.specs.Validity.{Breach, broken_of}
-use Rattle.orc_datastore.specs.Actions.{leave_service}
+use Rattle.orc_datastore.specs.Actions.{data_after, leave_service}
 use Rattle.orc_datastore.specs.Legal.{IsNew, IsSame, refusal_of, state_of}
 use Rattle.orc_datastore.specs.Next.{clash, invalid}
 use Rattle.orc_datastore.specs.Plans.{call_expansions, call_held, leave_targets, plan_unless, planned}
@@ -114,7 +114,7 @@ abbrev no_transaction : Transaction
 no_transaction = record {
   t = 0;
   call = bo_1;
-  plan = record { front = 0; held = nothing_held; expansions = [] };
+  plan = record { front = 0; held = nothing_held; expansions = []; next = empty };
   asker = 0;
   since = 0;
   phase = phase.Left;
@@ -182,6 +182,7 @@ module _ (schema : SchemaTable) (valid : broken_of schema (opening_data (r1.name
     front = 0;
     held = call_held (one_device schema) (opening (one_device schema)) bo_1;
     expansions = call_expansions (one_device schema) (opening (one_device schema)) bo_1;
+    next = data_after bo_1.actions (opening (one_device schema)).data;
   }
 
   abbrev wait_b1 : Waiting
@@ -323,6 +324,7 @@ module _ (schema : SchemaTable) (valid : broken_of schema (opening_data (r1.name
     front = 1;
     held = record { devices = []; services = codes "a" ∷ []; reads = record { reads = read.Service (codes "a") ∷ [] }; targets = [] };
     expansions = [];
+    next = data_after bo_2.actions state_6.data;
   }
 
   -- what the call holds, by the path that its id is, and the number of items that the service has on the device
@@ -346,8 +348,8 @@ module _ (schema : SchemaTable) (valid : broken_of schema (opening_data (r1.name
 
   planned_b2 : planned (one_device schema) state_6 1 bo_2 ≡ Ok plan_b2
   planned_b2 =
-      ap (λ (why : Option Answer). plan_unless why (record { front = 1; held = call_held (one_device schema) state_6 bo_2; expansions = [] })) unbroken_b2
-      ∙ ap (λ (held : Held). ok_plan (record { front = 1; held = held; expansions = [] })) held_b2
+      ap (λ (why : Option Answer). plan_unless why (record { front = 1; held = call_held (one_device schema) state_6 bo_2; expansions = []; next = data_after bo_2.actions state_6.data })) unbroken_b2
+      ∙ ap (λ (held : Held). ok_plan (record { front = 1; held = held; expansions = []; next = data_after bo_2.actions state_6.data })) held_b2
 
   abbrev wait_b2 : Waiting
   wait_b2 = record { t = 2; call = bo_2; plan = plan_b2; asker = 1 }

@@ -12,6 +12,7 @@ use Rattle.std.specs.Char.{encode_utf8}
 use Rattle.std.specs.FinMap.{entries}
 use Rattle.std.specs.List.Sorted.{IsStrictlySortedBy}
 use Rattle.orc_check.specs.Validity.{Breach, broken_of}
+use Rattle.orc_datastore.specs.Actions.{data_after}
 use Rattle.orc_datastore.specs.Clashes.{unequal_among}
 use Rattle.orc_datastore.specs.Legal.{refusal_of, state_of}
 use Rattle.orc_datastore.specs.Next.{clash}
@@ -136,6 +137,7 @@ module _ (schema : SchemaTable) (valid : broken_of schema (opening_data (r1.name
     front = 0;
     held = call_held (one_device schema) (opening (one_device schema)) al_1;
     expansions = call_expansions (one_device schema) (opening (one_device schema)) al_1;
+    next = data_after al_1.actions (opening (one_device schema)).data;
   }
 
   abbrev pub waiting_1 : Waiting

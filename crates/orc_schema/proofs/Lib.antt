@@ -3,6 +3,8 @@ mod Standing
 mod Lawful
 mod Chains
 pub mod Ordered
+mod Alike
+mod Halving
 mod InOrder
 mod Orders
 mod Tables

@@ -16,9 +16,8 @@ use Rattle.std.proofs.lemmas.List.Elements.{All-from_recursion, recursion_from_A
 use Rattle.std.proofs.lemmas.List.Sorted.{All-permutation, IsPermutation-sym}
 use denote.Ref.{Bor}
 use Rattle.orc_schema.specs.declared.draft.Draft.{Draft}
-use Rattle.orc_schema.specs.declared.line.SchemaLine.{SchemaLine}
 use Rattle.orc_schema.specs.Links.{names_cmp, same_names, node_in}
-use Rattle.orc_schema.specs.Schemas.{Ascends, node_in_lines}
+use Rattle.orc_schema.specs.Schemas.{Ascends}
 use Rattle.orc_schema.specs.inside.Indexes.{lent, names_of, IsIndex, climbs, climbs_behind}
 
 abbrev pub Names : Type 0
@@ -44,7 +43,7 @@ module _ {X : Type 0} (key : X → Names) where
   abbrev pub Sorted : List X → Type 0
   Sorted xs = IsStrictlySortedBy names_cmp (map key xs)
 
-  head_less : (x : X) (xs : List X) (i : ℕ) (d : X) → AllByRecursion (λ y. names_cmp (key x) y ≡ Less) (map key xs) → i < length xs → names_cmp (key x) (key (get_or xs i d)) ≡ Less
+  pub head_less : (x : X) (xs : List X) (i : ℕ) (d : X) → AllByRecursion (λ y. names_cmp (key x) y ≡ Less) (map key xs) → i < length xs → names_cmp (key x) (key (get_or xs i d)) ≡ Less
   head_less x [] i d all below = absurd (omega arith)
   head_less x (y ∷ ys) zero d all below = all.0
   head_less x (y ∷ ys) (suc i) d all below = head_less x ys i d all.1 (omega arith)
@@ -228,13 +227,6 @@ module _ (ds : List (Bor Draft)) (sorted : IsIndex ds) (k : Names) where
 
   pub not_lent : (place : ℕ) → IsBinarySearchResult (λ (d : Bor Draft). names_cmp d.now.names k) ds (Err place) → place ≤ length ds → None ≡ node_in (lent ds) k
   not_lent place h within = sym (find_lent k ds ∙ ap (option_map (λ d. d.now)) (searched (λ (d : Bor Draft). d.now.names) k ds (Err place) in_order h within))
-
-module _ (lines : List SchemaLine) (sorted : Ascends lines) (k : Names) where
-  pub found_line : (place : ℕ) (x : SchemaLine) → IsBinarySearchResult (λ (l : SchemaLine). names_cmp l.names k) lines (Ok place) → place < length lines → Some (get_or lines place x).node ≡ node_in_lines lines k
-  found_line place x h within = sym (ap (option_map (λ l. l.node)) (searched (λ (l : SchemaLine). l.names) k lines (Ok place) sorted h within x))
-
-  pub not_line : (place : ℕ) → IsBinarySearchResult (λ (l : SchemaLine). names_cmp l.names k) lines (Err place) → place ≤ length lines → None ≡ node_in_lines lines k
-  not_line place h within = sym (ap (option_map (λ l. l.node)) (searched (λ (l : SchemaLine). l.names) k lines (Err place) sorted h within))
 
 pub none_ascends : Ascends []
 unfolding IsStrictlySortedBy

@@ -11,6 +11,7 @@ mod line;
 mod links;
 mod lookup;
 mod schema;
+mod sought;
 mod weights;
 
 pub use build::node_names;

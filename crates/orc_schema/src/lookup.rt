@@ -1,81 +1,55 @@
 //! What a schema has at a path.
 ghost use Rattle.std.specs.Prelude.{◌≡◌, ◌++◌, ◌∷◌, [], IfOk, option_map, option_and_then};
 ghost use Rattle.std.specs.List.{find};
-ghost use Rattle.orc_schema.specs.Links.{names_cmp};
 ghost use Rattle.orc_schema.specs.declared.line.Node.TheVariants.{Leaf};
 ghost use Rattle.orc_schema.specs.Schemas.{Ascends, path_names, is_line_at, node_in_lines, node_at, shape_of, shape_at, kind_in, kind_at_path};
 
 use crate::Schema;
 use crate::line::{LeafNode, Node, SchemaLine};
+use crate::sought::{BelowSteps, Listed, OfSteps, Sought, order_from};
 use orc_path::{Name, Path, Shape, Step};
 use orc_text::{Copied, Memory, Text};
 use orc_value::Kind;
 use std::alloc::Global;
 use std::cmp::Ordering;
 
-// The order of a node's names and the names of steps.
-fn compare(names: &[Text], steps: &[Step]) -> Ordering
-    ensures { result ≡ names_cmp names.now (path_names steps.now) }
+// The line of the names that are sought among lines in order. It halves the lines with each
+// comparison, and knows how many first names the line below the rest and the one above it have in
+// common with those that are sought. Each line between has at least the lesser number of them, so
+// only the names after these are compared.
+fn line_of<'a, T: Sought>(lines: &'a [SchemaLine], sought: &T) -> Option<&'a SchemaLine>
+    requires { Ascends lines.now }
+    ensures { option_map (λ line. line.now) result ≡ find (is_line_at (T.names sought.now)) lines.now }
 {
-    match names {
-        [] => match steps {
-            [] => Ordering::Equal,
-            [..] => Ordering::Less,
-        },
-        [name, later @ ..] => match steps {
-            [] => Ordering::Greater,
-            [step, below @ ..] => match name.as_str().cmp(step.node.as_str()) {
-                Ordering::Less => Ordering::Less,
-                Ordering::Greater => Ordering::Greater,
-                Ordering::Equal => compare(later, below),
-            },
-        },
+    let mut low = 0;
+    let mut high = lines.len();
+    let mut below: usize = 0;
+    let mut above: usize = 0;
+    while low < high {
+        let middle = low + (high - low) / 2;
+        let line = &lines[middle];
+        let (order, shared) = order_from(line.names.as_slice(), sought, below.min(above));
+        match order {
+            Ordering::Less => {
+                low = middle + 1;
+                below = shared;
+            }
+            Ordering::Equal => return Some(line),
+            Ordering::Greater => {
+                high = middle;
+                above = shared;
+            }
+        }
     }
+    None
 }
 
-// The order of a node's names and one name.
-fn compare_name(names: &[Text], name: &str) -> Ordering
-    ensures { result ≡ names_cmp names.now (name.now ∷ []) }
-{
-    match names {
-        [] => Ordering::Less,
-        [first, later @ ..] => match first.as_str().cmp(name) {
-            Ordering::Less => Ordering::Less,
-            Ordering::Greater => Ordering::Greater,
-            Ordering::Equal => match later {
-                [] => Ordering::Equal,
-                [..] => Ordering::Greater,
-            },
-        },
-    }
-}
-
-// The order of a node's names and the names of steps with one name after them.
-fn compare_below(names: &[Text], steps: &[Step], last: &str) -> Ordering
-    ensures { result ≡ names_cmp names.now (path_names steps.now ++ last.now ∷ []) }
-{
-    match steps {
-        [] => compare_name(names, last),
-        [step, below @ ..] => match names {
-            [] => Ordering::Less,
-            [name, later @ ..] => match name.as_str().cmp(step.node.as_str()) {
-                Ordering::Less => Ordering::Less,
-                Ordering::Greater => Ordering::Greater,
-                Ordering::Equal => compare_below(later, below, last),
-            },
-        },
-    }
-}
-
-// The line of the names of steps among lines in order. It halves the lines with each comparison.
+// The line of the names of steps among lines in order.
 fn line_at<'a>(lines: &'a [SchemaLine], steps: &[Step]) -> Option<&'a SchemaLine>
     requires { Ascends lines.now }
     ensures { option_map (λ line. line.now) result ≡ find (is_line_at (path_names steps.now)) lines.now }
 {
-    match lines.binary_search_by(|line| compare(line.names.as_slice(), steps)) {
-        Ok(place) => Some(&lines[place]),
-        Err(_) => None,
-    }
+    line_of(lines, &OfSteps { steps })
 }
 
 // The node at the names of steps with one name after them.
@@ -83,17 +57,10 @@ fn node_behind<'a>(lines: &'a [SchemaLine], steps: &[Step], name: &str) -> Optio
     requires { Ascends lines.now }
     ensures { option_map (λ node. node.now) result ≡ node_in_lines lines.now (path_names steps.now ++ name.now ∷ []) }
 {
-    match lines.binary_search_by(|line| compare_below(line.names.as_slice(), steps, name)) {
-        Ok(place) => Some(&lines[place].node),
-        Err(_) => None,
+    match line_of(lines, &BelowSteps { steps, last: name }) {
+        Some(line) => Some(&line.node),
+        None => None,
     }
-}
-
-// The order of names.
-fn compare_names(names: &[Text], others: &[Text]) -> Ordering
-    ensures { result ≡ names_cmp names.now others.now }
-{
-    names.cmp(others)
 }
 
 // The node of these names.
@@ -101,9 +68,9 @@ fn node_of<'a>(lines: &'a [SchemaLine], names: &[Text]) -> Option<&'a Node>
     requires { Ascends lines.now }
     ensures { option_map (λ node. node.now) result ≡ node_in_lines lines.now names.now }
 {
-    match lines.binary_search_by(|line| compare_names(line.names.as_slice(), names)) {
-        Ok(place) => Some(&lines[place].node),
-        Err(_) => None,
+    match line_of(lines, &Listed { names }) {
+        Some(line) => Some(&line.node),
+        None => None,
     }
 }
 

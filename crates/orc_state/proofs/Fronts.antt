@@ -6,7 +6,8 @@ use Rattle.std.specs.declared.result.Result.TheVariants.{Ok, Err}
 use Rattle.std.proofs.lemmas.List.{length-append, take-append-le, take_all}
 use Rattle.orc_call.specs.declared.call.Call.{Call}
 use Rattle.orc_datastore.specs.Legal.{state_of}
-use Rattle.orc_datastore.specs.Next.{IsStateOf}
+use Rattle.orc_datastore.specs.Actions.{data_after}
+use Rattle.orc_datastore.specs.Next.{IsDataAfter, IsStateOf, existence, invalid}
 use Rattle.orc_datastore.specs.Plans.{plan_refusal, plan_unless, planned}
 use Rattle.orc_datastore.specs.States.{Datastore, opening}
 use Rattle.orc_decls.specs.declared.declarations.Decls.{Decls}
@@ -17,12 +18,18 @@ use Rattle.std.specs.declared.option.Option.TheVariants.{None, Some}
 use Rattle.orc_call.specs.declared.answer.Answer.{Answer}
 use Rattle.orc_datastore.specs.Snapshots.{IsSnapshotOf, Snapshot}
 use Rattle.orc_state.specs.Laws.{PlanIsAtFront, PlanStaysAtFront, SnapshotStaysAtFront}
-use Rattle.orc_state.specs.States.{IsSnapshotAt, IsStateUnder, State, state_at}
+use Rattle.orc_state.specs.States.{IsPlanAt, IsSnapshotAt, IsStateUnder, State, state_at}
+use Rattle.orc_state.proofs.Checking.{neither}
 
 -- a plan has the front that it was made at
 pub front_of : (o : Option Answer) (made plan : Plan) → plan_unless o made ≡ Ok plan → made ≡ plan
 front_of None made plan h = cc
 front_of (Some answer) made plan h = absurd cc
+
+-- and nothing refuses its call
+pub unrefused_plan : (o : Option Answer) (made plan : Plan) → plan_unless o made ≡ Ok plan → o ≡ None
+unrefused_plan None made plan h = refl
+unrefused_plan (Some other) made plan h = absurd cc
 
 pub is_at_front : PlanIsAtFront
 is_at_front decls history n call plan within is =
@@ -35,6 +42,17 @@ is_at_front decls history n call plan within is =
 -- the datastore that the whole history makes is the present one
 pub present : (decls : Decls) (state : State) → IsStateUnder decls state → (n : ℕ) → n ≡ length state.history → state.datastore ≡ state_at decls state.history n
 present decls state own n is = own.datastore ∙ ap (state_of decls) (sym (take_all n state.history (omega (arith, is))))
+
+-- where the plan's front is the whole history, its data are those with the call now
+pub data_now : (decls : Decls) (state : State) (call : Call) (plan : Plan) → IsStateUnder decls state → IsPlanAt decls state.history call plan
+    → plan.front ≡ length state.history → IsDataAfter decls state.datastore call (Ok plan.next)
+data_now decls state call plan own at is =
+    let s = state_at decls state.history plan.front in
+    let none = unrefused_plan (plan_refusal decls s call) _ plan at.planned in
+    let first = neither (existence s.live call.actions) _ none in
+    let second = neither (invalid decls.data_schema (data_after call.actions s.data)) _ first.1 in
+    subst (λ (x : Datastore). IsDataAfter decls x call (Ok plan.next)) (sym (present decls state own plan.front is))
+    (sym (ap (λ (p : Plan). p.next) (front_of (plan_refusal decls s call) _ plan at.planned)), first.0, second.0)
 
 pub planned_now : (decls : Decls) (state : State) (call : Call) (plan : Plan) → IsStateUnder decls state
     → planned decls state.datastore (length state.history) call ≡ Ok plan

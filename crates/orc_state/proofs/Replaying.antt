@@ -19,7 +19,7 @@ use Rattle.orc_datastore.specs.declared.plan.Plan.{Plan}
 use Rattle.orc_plans.specs.Plans.{PlanRefusesFirst}
 use Rattle.orc_state.specs.Checks.{Checks, clash_of, clashes, conflicts, early, passes}
 use Rattle.orc_state.specs.States.{IsStateUnder, State}
-use Rattle.orc_state.proofs.Fronts.{front_of}
+use Rattle.orc_state.proofs.Fronts.{front_of, unrefused_plan}
 
 -- what is refused first is the refusal
 first_stays : {X : Type 0} (a b c : Option X) (x : X) → option_or a b ≡ Some x → option_or a (option_or b c) ≡ Some x
@@ -31,10 +31,6 @@ first_stays (Some y) b c x h = h
 no_plan : (o : Option Answer) (made : Plan) (answer : Answer) → plan_unless o made ≡ Err answer → o ≡ Some answer
 no_plan None made answer h = absurd cc
 no_plan (Some other) made answer h = let same : other ≡ answer = cc in ap Some same
-
-unrefused_plan : (o : Option Answer) (made plan : Plan) → plan_unless o made ≡ Ok plan → o ≡ None
-unrefused_plan None made plan h = refl
-unrefused_plan (Some other) made plan h = absurd cc
 
 module _ (decls : Decls) (state : State) (own : IsStateUnder decls state) (call : Call) (law : PlanRefusesFirst) (new : IsNew state.history call) where
   abbrev store : Datastore

@@ -19,7 +19,7 @@ use Rattle.orc_datastore.specs.States.{Datastore}
 use Rattle.orc_decls.specs.declared.declarations.Decls.{Decls}
 use Rattle.orc_datastore.specs.declared.plan.Plan.{Plan}
 use Rattle.orc_plans.specs.Plans.{EachAlong, IsWriteOf, LeavesReads, StandsOn}
-use Rattle.orc_state.specs.States.{state_at}
+use Rattle.orc_state.specs.States.{IsPlanAt, state_at}
 
 -- what the plan's expansions and its call read
 abbrev pub reads_of : Plan → List Read
@@ -70,8 +70,10 @@ pub data Checks (decls : Decls) (history : List Call) (call : Call) (plan : Plan
       → StandsOn decls (state_of decls history) call plan
       → Checks decls history call plan (Ok (sets_of decls (state_of decls history) call))
 
--- A call that may be committed where the data is valid with it: it is new, its plan stands and nothing clashes.
+-- A call that may be committed where the data is valid with it: it is new, its plan is one of the call at the plan's
+-- front and still stands, and nothing clashes.
 pub record CanCommit (decls : Decls) (history : List Call) (call : Call) (plan : Plan) : Type 0 where
   pub new : IsNew history call
+  pub planned : IsPlanAt decls history call plan
   pub stands : StandsOn decls (state_of decls history) call plan
   pub apart : clash_of decls (state_of decls history) call ≡ None

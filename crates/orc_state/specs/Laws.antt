@@ -39,10 +39,10 @@ ConflictIsOne =
     → (IsUnread decls history plan → ⊥)
     × ((other : ℕ) (another : Write) → IsConflict decls history plan other another → place ≡ other)
 
--- A new call that passes the check may be committed.
+-- A new call that passes the check by its plan may be committed by that.
 abbrev pub PassedCanCommit : Type 0
 PassedCanCommit =
     (decls : Decls) (history : List Call) (call : Call) (plan : Plan)
     (answer : Result (List (ℕ × ChangeSet)) Answer)
-    → Checks decls history call plan answer → IsNew history call
+    → IsPlanAt decls history call plan → Checks decls history call plan answer → IsNew history call
     → IfOk answer (λ sets. CanCommit decls history call plan)

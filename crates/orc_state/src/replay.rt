@@ -20,7 +20,6 @@ use orc_datastore::Plan;
 use orc_decls::Decls;
 use orc_plans::plan_refuses_first;
 use orc_text::Memory;
-use orc_tree::Tree;
 use std::alloc::Global;
 
 impl State {
@@ -141,31 +140,29 @@ impl State {
         plan_is_at_front();
         passed_can_commit();
         plan_refuses_first();
-        match self.check_keeping(alloc, decls, call, plan)? {
-            Ok((_, next)) => self.replay_checked(alloc, decls, call, plan, next),
+        match self.check(alloc, decls, call, plan)? {
+            Ok(_) => self.replay_checked(alloc, decls, call, plan),
             Err(answer) => Ok(Some(answer)),
         }
     }
 
-    // Commits a new call that passed the check, where this is the data with it.
+    // Commits a new call that passed the check.
     fn replay_checked(
         &mut self,
         alloc: Global,
         decls: &Decls,
         call: &Call,
         plan: &Plan,
-        next: Tree,
     ) -> Result<Option<Answer>, Memory>
         requires decls { AreDecls decls.now }
         requires call { IsTrue (is_call decls.now call.now) }
         requires state { IsStateUnder decls.now self.old }
         requires ready { CanCommit decls.now self.old.history call.now plan.now }
         requires due { IsDue decls.now self.old.history call.now }
-        requires behind { IsDataAfter decls.now self.old.datastore call.now (Ok next) }
         requires planned { planned decls.now self.old.datastore (length self.old.history) call.now ≡ Ok plan.now }
         ensures { ReplaysBy decls.now self.old call.now plan.now result self.new }
     {
-        match self.commit_data(alloc, decls, call.copy(alloc)?, plan, next)? {
+        match self.commit(alloc, decls, call.copy(alloc)?, plan)? {
             Ok(_) => Ok(None),
             Err(answer) => Ok(Some(answer)),
         }

@@ -12,7 +12,7 @@ ghost use Rattle.orc_state.specs.Commits.{CommitsCall};
 ghost use Rattle.orc_decls.specs.declared.declarations.Decls.{Decls};
 ghost use Rattle.orc_state.specs.States.{IsPlanAt, IsSnapshotAt, IsStateUnder};
 ghost use Rattle.orc_state.specs.Writes.{AreWritesOf};
-ghost use Rattle.orc_state.specs.inside.Entering.{ChecksKeeping, Enters};
+ghost use Rattle.orc_state.specs.inside.Entering.{Enters};
 ghost use Rattle.orc_state.specs.inside.Firsts.{IsAnswerAt, IsWriteAt};
 
 use crate::conflict::first_conflict;
@@ -139,33 +139,31 @@ impl State {
         requires plan { IsPlanAt decls.now self.now.history call.now plan.now }
         ensures { IfOk result (Checks decls.now self.now.history call.now plan.now) }
     {
-        match self.check_keeping(alloc, decls, call, plan)? {
-            Ok((sets, _)) => Ok(Ok(sets)),
+        match self.data_with(alloc, decls, call, plan)? {
+            Ok(_) => self.check_reads(alloc, decls, call, plan),
             Err(answer) => Ok(Err(answer)),
         }
     }
 
-    // What `check` answers, and beside the sets the data with the call, for a commit that follows at once.
-    pub(crate) fn check_keeping(
+    // The data with a planned call, or why it is refused before what it read is looked at. Where no call was
+    // committed since the plan's front it is at hand, and nothing is looked at.
+    fn data_with(
         &self,
         alloc: Global,
         decls: &Decls,
         call: &Call,
         plan: &Plan,
-    ) -> Result<Result<(Row<(u32, ChangeSet)>, Tree), Answer>, Memory>
+    ) -> Result<Result<Tree, Answer>, Memory>
         requires decls { AreDecls decls.now }
         requires call { IsTrue (is_call decls.now call.now) }
         requires state { IsStateUnder decls.now self.now }
         requires plan { IsPlanAt decls.now self.now.history call.now plan.now }
-        ensures { IfOk result (ChecksKeeping decls.now self.now call.now plan.now) }
+        ensures { IfOk result (IsDataAfter decls.now self.now.datastore call.now) }
     {
-        match self.datastore.data_after(alloc, decls, call)? {
-            Ok(next) => match self.check_reads(alloc, decls, call, plan)? {
-                Ok(sets) => Ok(Ok((sets, next))),
-                Err(answer) => Ok(Err(answer)),
-            },
-            Err(answer) => Ok(Err(answer)),
+        if plan.front == self.history.len() as u64 {
+            return Ok(Ok(plan.next.copy(alloc)?));
         }
+        self.datastore.data_after(alloc, decls, call)
     }
 
     // What `check` answers where the call has no action at fault and the data is valid with it.
@@ -229,8 +227,8 @@ impl State {
     }
 
     /// Commits a call by its plan, and returns the number of its entry; or answers what is broken in the
-    /// data with it. It asks that the call is new, that its plan stands on the present state and that
-    /// nothing clashes, which is so of a new call that passes `check`, and of one that passed it before
+    /// data with it. It asks that the call is new, that its plan was made at its front and stands on the
+    /// present state, and that nothing clashes, which is so of a new call that passes `check`, and of one that passed it before
     /// calls were committed that fit it. No service is expanded. After a refusal, or where memory runs out,
     /// the state is as it was.
     pub fn commit(
@@ -246,14 +244,14 @@ impl State {
         requires ready { CanCommit decls.now self.old.history call plan.now }
         ensures { CommitsCall decls.now self.old call result self.new }
     {
-        match self.datastore.data_after(alloc, decls, &call)? {
+        match self.data_with(alloc, decls, &call, plan)? {
             Ok(next) => self.commit_data(alloc, decls, call, plan, next),
             Err(answer) => Ok(Err(answer)),
         }
     }
 
     // Commits a call as `commit` does, where this is the data with the call.
-    pub(crate) fn commit_data(
+    fn commit_data(
         &mut self,
         alloc: Global,
         decls: &Decls,

@@ -99,20 +99,22 @@ held_known decls known actions made reads = record {
   targets = call_targets actions;
 }
 
--- the plan of actions, by what they come to, or why there is none
-abbrev pub planned_by : Decls → Config → ℕ → List Action → Result (List Action) Answer → List Read → Result Plan Answer
-planned_by decls known front actions (Ok made) reads = Ok (record {
+-- the plan of actions with this data after them, by what they come to, or why there is none
+abbrev pub planned_by : Decls → Config → ℕ → List Action → Config → Result (List Action) Answer → List Read
+    → Result Plan Answer
+planned_by decls known front actions config (Ok made) reads = Ok (record {
   front = front;
   held = held_known decls known actions made reads;
   expansions = all_expansions decls.names actions made;
+  next = config;
 })
-planned_by decls known front actions (Err answer) reads = Err answer
+planned_by decls known front actions config (Err answer) reads = Err answer
 
 -- the plan of actions on the data after them, or why there is none
 abbrev pub planned_known : Decls → Config → ℕ → List Action → Config → Result Plan Answer
 planned_known decls known front actions config =
     let due = expanded_actions (serving_on decls config) actions in
-    planned_by decls known front actions due.outcome due.reads
+    planned_by decls known front actions config due.outcome due.reads
 
 -- what is planned where nothing is at fault, and else the fault
 abbrev pub unless_fault : Option Answer → Result Plan Answer → Result Plan Answer

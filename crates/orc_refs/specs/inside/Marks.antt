@@ -1,10 +1,12 @@
 -- The paths that moves and edits of the base touch, each with what moves bring there.
-use Rattle.std.specs.Prelude.{◌≡◌, ℕ, Bool, true, false, List, [], ◌∷◌, ◌++◌, ◌||◌, map, is_some, IsTrue, Vec, Option, if◌then◌else◌}
+use Rattle.std.specs.Prelude.{◌≡◌, ℕ, Bool, true, false, List, [], ◌∷◌, ◌++◌, ◌||◌, map, is_some, IsSome, IsTrue, Vec, Option, if◌then◌else◌}
 use Rattle.std.specs.declared.option.Option.TheVariants.{None, Some}
 use Rattle.std.specs.declared.alloc.Global.{Global}
+use Rattle.std.specs.Borrow.{Bor}
 use Rattle.std.specs.List.{filter, flat_map, list_any}
 use Rattle.std.specs.Option.{option_map_or}
-use Rattle.std.specs.Ordering.{eq_by_cmp}
+use Rattle.std.specs.List.Sorted.{IsSortedByKey}
+use Rattle.std.specs.Ordering.{eq_by_cmp, is_lt}
 use Rattle.std.specs.FinMap.{find, is_sorted}
 use Rattle.orc_path.specs.Steps.{PathStep}
 use Rattle.orc_path.specs.Order.{path_cmp}
@@ -99,14 +101,29 @@ abbrev pub KeepsOrder
     : List (List PathStep × List (List ℕ × Item)) → List (List PathStep × List (List ℕ × Item)) → Type 0
 KeepsOrder marks others = (p : List PathStep) → filter (is_at p) others ≡ filter (is_at p) marks
 
+-- no mark is at a path after that of a later one
+abbrev pub InPathOrder : List Mark → Type 0
+InPathOrder marks = IsSortedByKey (λ (mark : Mark). mark.path.now) path_cmp marks
+
 -- Rows: each path once, with what is brought there
 
 abbrev pub TouchedRows : Type 0
 TouchedRows = List (List PathStep × Vec Brought Global)
 
+-- rows whose paths are lent
+abbrev pub LentRows : Type 0
+LentRows = List (Bor (List PathStep) × Vec Brought Global)
+
+abbrev pub by_path : LentRows → TouchedRows
+by_path rows = map (λ row. (row.0.now, row.1)) rows
+
 -- the paths of rows
-abbrev pub paths_in : TouchedRows → List (List PathStep × Unit {0})
-paths_in rows = map (λ row. (row.0, tt)) rows
+abbrev pub paths_in : LentRows → List (List PathStep × Unit {0})
+paths_in rows = map (λ row. (row.0.now, tt)) rows
+
+-- no row is at a path after this one
+abbrev pub NoneBehind : List PathStep → TouchedRows → Type 0
+NoneBehind p rows = (q : List PathStep) → IsSome (find path_cmp q rows) → is_lt (path_cmp p q) ≡ false
 
 -- what rows say is brought to a path
 abbrev pub brought_in : TouchedRows → List PathStep → List (List ℕ × Item)

@@ -4,7 +4,7 @@ use Rattle.std.specs.declared.option.Option.TheVariants.{None, Some}
 use Rattle.std.specs.List.{list_all}
 use Rattle.std.specs.FinMap.{get, insert, remove, find}
 use Rattle.std.specs.declared.cmp.Ordering.TheVariants.{Less}
-use Rattle.orc_path.specs.Steps.{PathStep}
+use Rattle.orc_path.specs.Steps.{PathStep, is_path}
 use Rattle.orc_path.specs.Order.{path_cmp}
 use Rattle.orc_path.specs.Configurations.{Config, IsConfig}
 use Rattle.orc_path.specs.declared.item.Item.{Item}
@@ -84,6 +84,11 @@ abbrev pub HasCause
 HasCause backs tree base moves es (Clash p other) =
     IsFirstClash backs tree base moves es p × (rival_of moves p (ids_in backs p) (get tree p) ≡ Some other)
 HasCause backs tree base moves es Memory = Unit {0}
+
+-- an item that is put is put at a path
+abbrev pub PutsAtPath : Change → Type 0
+PutsAtPath (Put path item) = IsTrue (is_path path)
+PutsAtPath (Remove path) = Unit {0}
 
 -- the store that a plan makes of a store: its base edited, the changes applied to its tree, and the rows put
 abbrev pub planned_store : Store → Config → List Change → List (List PathStep × List (List ℕ)) → Store

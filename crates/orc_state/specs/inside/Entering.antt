@@ -2,18 +2,15 @@
 use Rattle.std.specs.Prelude.{◌≡◌, ℕ, List, [], ◌∷◌, ◌++◌, length, take, Option, Result}
 use Rattle.std.specs.declared.option.Option.TheVariants.{None, Some}
 use Rattle.std.specs.declared.result.Result.TheVariants.{Ok, Err}
-use Rattle.orc_path.specs.Configurations.{Config}
 use Rattle.orc_path.specs.declared.item.Write.{Write}
 use Rattle.orc_call.specs.declared.answer.Answer.{Answer}
 use Rattle.orc_call.specs.declared.call.Call.{Call}
 use Rattle.orc_datastore.specs.Legal.{AnswersAtOnce}
-use Rattle.orc_datastore.specs.Next.{IsDataAfter, IsStateOf, after}
+use Rattle.orc_datastore.specs.Next.{IsStateOf, after}
 use Rattle.orc_decls.specs.declared.declarations.Decls.{Decls}
 use Rattle.orc_datastore.specs.declared.plan.Plan.{Plan}
-use Rattle.orc_state.specs.Checks.{Checks}
 use Rattle.orc_state.specs.Commits.{IsReplayed}
 use Rattle.orc_state.specs.States.{State}
-use Rattle.orc_tree.specs.declared.change.ChangeSet.{ChangeSet}
 
 -- a call and its writes were entered, and it is done; or they may have been entered in part
 abbrev pub Enters : {E : Type 0} → Decls → State → Call → List Write → Result (Unit {0}) E → State → Type 0
@@ -33,9 +30,3 @@ abbrev pub ReplaysBy : {E : Type 0} → Decls → State → Call → Plan → Re
 ReplaysBy decls old call plan (Ok None) new = IsReplayed decls old call plan new
 ReplaysBy decls old call plan (Ok (Some answer)) new = AnswersAtOnce decls old.history call answer × (new ≡ old)
 ReplaysBy decls old call plan (Err fault) new = new ≡ old
-
--- what a planned call is answered, and beside its change sets the data with it
-abbrev pub ChecksKeeping : Decls → State → Call → Plan → Result (List (ℕ × ChangeSet) × Config) Answer → Type 0
-ChecksKeeping decls state call plan (Ok found) =
-    Checks decls state.history call plan (Ok found.0) × IsDataAfter decls state.datastore call (Ok found.1)
-ChecksKeeping decls state call plan (Err answer) = Checks decls state.history call plan (Err answer)

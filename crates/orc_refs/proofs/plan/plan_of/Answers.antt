@@ -13,7 +13,8 @@ use Rattle.orc_tree.specs.declared.change.Change.{Change}
 use Rattle.std.specs.FinMap.{is_sorted}
 use Rattle.orc_path.specs.Order.{path_cmp}
 use Rattle.orc_refs.specs.inside.Marks.{paths_in, shown}
-use Rattle.orc_refs.proofs.MarkLaws.{length-paths, path_here, row_brought, sorted-paths}
+use Rattle.orc_refs.proofs.MarkLaws.{length-paths, path_here, sorted-paths}
+use Rattle.orc_refs.proofs.LentLaws.{row_brought}
 use Rattle.orc_refs.proofs.SettledLaws.{agree_more, first_clash, more_planned}
 use Rattle.orc_text.specs.declared.memory.Memory.{Memory}
 use Rattle.orc_refs.proofs.plan.plan_of.Goals as goal
@@ -25,15 +26,14 @@ returns-then-not-branch-clause-clash g c =
     let base = c.args.store.now.base.now in
     let ms = c.args.moves.now in
     let rows = c.args.touched.now in
-    let p = c.row-item.result.0 in
+    let p = c.row-item.result.0.now in
     let l : c.loop-row.row-index < length (paths_in rows) = subst (λ n. c.loop-row.row-index < n) (sym (length-paths rows)) c.loop-row-test.true in
     let sorted : is_sorted path_cmp (paths_in rows) ≡ true = sorted-paths rows ∙ c.requires.paths in
     let here : ◌≡◌ {A = List PathStep × Unit {0}} (p, tt) (get_or (paths_in rows) c.loop-row.row-index (p, tt)) = path_here rows c.loop-row.row-index c.row-item.result c.loop-row-test.true c.row-item.is in
     let agreed : c.in_ok-settle.field-0 ≡ all_bring ms p (due backs tree base ms p) =
     c.in_ok-settle.ensures.agree
-    ∙ ap (λ (ids : List (List ℕ)). all_bring ms p (item_after ms p ids (option_copied c.get.result) (option_copied c.get-in-loop-row.result))) c.ids_of.ensures
-    ∙ ap (λ (o : Option Item). all_bring ms p (item_after ms p (ids_in backs p) o (option_copied c.get-in-loop-row.result))) c.get.ensures.item
-    ∙ ap (λ (o : Option Item). all_bring ms p (item_after ms p (ids_in backs p) (get tree p) o)) c.get-in-loop-row.ensures.item in
+    ∙ ap (λ (ids : List (List ℕ)). all_bring ms p (item_after ms p ids (option_copied c.get.result) (get base p))) c.ids_of.ensures
+    ∙ ap (λ (o : Option Item). all_bring ms p (item_after ms p (ids_in backs p) o (get base p))) c.get.ensures.item in
     let rivals : rival_of ms p (ids_in backs p) (get tree p) ≡ Some c.in_ok-other.other =
     sym (ap (λ (q : List PathStep). rival_of ms q c.ids_of.result.now (option_copied c.get.result)) c.in_ok-path.ensures
     ∙ ap (λ (ids : List (List ℕ)). rival_of ms p ids (option_copied c.get.result)) c.ids_of.ensures
@@ -51,24 +51,23 @@ loop-row-preserved g c =
     let rows = c.args.touched.now in
     let es = paths_in rows in
     let i = c.loop-row.row-index in
-    let p = c.row-item.result.0 in
+    let p = c.row-item.result.0.now in
     let e : List PathStep × Unit {0} = (p, tt) in
     let l : i < length es = subst (λ n. i < n) (sym (length-paths rows)) c.loop-row-test.true in
     let here : e ≡ get_or es i e = path_here rows i c.row-item.result c.loop-row-test.true c.row-item.is in
-    let found : (X : Type 0) (F : List (List ℕ) → Option Item → Option Item → X) → F c.ids_of.result.now (option_copied c.get.result) (option_copied c.get-in-loop-row.result) ≡ F (ids_in backs p) (get tree p) (get base p) =
-    λ X F. ap (λ (ids : List (List ℕ)). F ids (option_copied c.get.result) (option_copied c.get-in-loop-row.result)) c.ids_of.ensures
-    ∙ ap (λ (o : Option Item). F (ids_in backs p) o (option_copied c.get-in-loop-row.result)) c.get.ensures.item
-    ∙ ap (λ (o : Option Item). F (ids_in backs p) (get tree p) o) c.get-in-loop-row.ensures.item in
+    let found : (X : Type 0) (F : List (List ℕ) → Option Item → X) → F c.ids_of.result.now (option_copied c.get.result) ≡ F (ids_in backs p) (get tree p) =
+    λ X F. ap (λ (ids : List (List ℕ)). F ids (option_copied c.get.result)) c.ids_of.ensures
+    ∙ ap (λ (o : Option Item). F (ids_in backs p) o) c.get.ensures.item in
     let ok : ◌≡◌ {A = Result Bool Memory} (Ok c.in_ok-settle.field-0) (Ok true) = ap Ok c.if-not-branch.false in
     record {
       rows = more_planned (rows_due backs ms) (λ e. (e.0, ids_after ms e.0 (ids_in backs e.0)) ∷ []) (λ e es. refl) c.loop-row.plan.rows c.settle.new.self.rows es i e l here
-          (c.in_ok-settle.ensures.rows ok ∙ found (List (List PathStep × List (List ℕ))) (λ ids h b. c.loop-row.plan.rows ++ (p, ids_after ms p ids) ∷ [])) c.loop-row.invariant.rows;
+          (c.in_ok-settle.ensures.rows ok ∙ found (List (List PathStep × List (List ℕ))) (λ ids h. c.loop-row.plan.rows ++ (p, ids_after ms p ids) ∷ [])) c.loop-row.invariant.rows;
       removals = more_planned (removals_due backs tree base ms) (λ e. gone (get tree e.0) (due backs tree base ms e.0) e.0) (λ e es. refl) c.loop-row.plan.removals c.settle.new.self.removals es i e l here
-          (c.in_ok-settle.ensures.removals ok ∙ found (List Change) (λ ids h b. c.loop-row.plan.removals ++ gone h (item_after ms p ids h b) p)) c.loop-row.invariant.removals;
+          (c.in_ok-settle.ensures.removals ok ∙ found (List Change) (λ ids h. c.loop-row.plan.removals ++ gone h (item_after ms p ids h (get base p)) p)) c.loop-row.invariant.removals;
       puts = more_planned (puts_due backs tree base ms) (λ e. come (get tree e.0) (due backs tree base ms e.0) e.0) (λ e es. refl) c.loop-row.plan.puts c.settle.new.self.puts es i e l here
-          (c.in_ok-settle.ensures.puts ok ∙ found (List Change) (λ ids h b. c.loop-row.plan.puts ++ come h (item_after ms p ids h b) p)) c.loop-row.invariant.puts;
+          (c.in_ok-settle.ensures.puts ok ∙ found (List Change) (λ ids h. c.loop-row.plan.puts ++ come h (item_after ms p ids h (get base p)) p)) c.loop-row.invariant.puts;
       before = agree_more backs tree base ms es i e l here c.loop-row.invariant.before
-          (sym (found Bool (λ ids h b. all_bring ms p (item_after ms p ids h b))) ∙ sym c.in_ok-settle.ensures.agree ∙ c.if-not-branch.false);
+          (sym (found Bool (λ ids h. all_bring ms p (item_after ms p ids h (get base p)))) ∙ sym c.in_ok-settle.ensures.agree ∙ c.if-not-branch.false);
       steps = omega (arith, c.tick.ensures, c.loop-row.invariant.steps);
     }
 
@@ -76,4 +75,4 @@ pub settle-requires : goal.settle-requires
 settle-requires g c =
     ap shown c.as_slice.ensures.value
     ∙ sym (row_brought c.args.touched.now c.loop-row.row-index c.row-item.result c.requires.paths c.loop-row-test.true c.row-item.is)
-    ∙ c.requires.brings c.row-item.result.0
+    ∙ c.requires.brings c.row-item.result.0.now

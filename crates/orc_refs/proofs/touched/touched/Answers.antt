@@ -1,7 +1,7 @@
-use Rattle.std.proofs.Common.{◌≡◌, List, ap, ◌∙◌, length, arith}
+use Rattle.std.proofs.Common.{◌≡◌, List, sym, ap, subst, ◌∙◌, length, arith}
 use Rattle.std.proofs.lemmas.List.{length-map}
 use Rattle.orc_refs.specs.declared.mark.Mark.{Mark}
-use Rattle.orc_refs.specs.inside.Marks.{all_marks, brought_by, marked, read, read_one}
+use Rattle.orc_refs.specs.inside.Marks.{InPathOrder, all_marks, brought_by, marked, read, read_one}
 use Rattle.orc_refs.proofs.MarkLaws.{Marks, by-all, by-kept, length-all, marked-all, marked-kept}
 use Rattle.orc_refs.proofs.touched.touched.Goals as goal
 
@@ -30,3 +30,6 @@ returns-clause-len c =
     let each : length (read c.in_ok-marks.marks.items) ≡ length c.in_ok-marks.marks.items = length-map c.in_ok-marks.marks.items read_one in
     let lent : length c.as_slice.result.now ≡ length c.in_ok-sorted.sorted.items = ap length c.as_slice.ensures.value in
     omega (arith, c.in_ok-rows.ensures.len, c.in_ok-sorted.ensures.len, lent, all, each, length-all c.args.changes.now c.args.moves.now)
+
+pub rows_of-requires : goal.rows_of-requires
+rows_of-requires c = subst InPathOrder (sym c.as_slice.ensures.value) c.in_ok-sorted.ensures.sorted

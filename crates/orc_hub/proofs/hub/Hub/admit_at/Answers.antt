@@ -6,6 +6,11 @@ use Rattle.orc_hub.proofs.Admissions.{fields_fit}
 use Rattle.orc_hub.proofs.DecisionDue.{named_there, open_there}
 use Rattle.orc_hub.proofs.hub.Hub.admit_at.Goals as goal
 
+pub admit_one-requires-clause-waits : goal.admit_one-requires-clause-waits
+admit_one-requires-clause-waits g c =
+    let hub = c.args.self.now in
+    All-at (IsWaiting hub.decls hub.state.history) hub.waiting c.args.place c.take-it.result (c.requires.hub c.requires.up).1.kept.waits c.take-it.ensures.it
+
 pub admit_one-requires-clause-fields : goal.admit_one-requires-clause-fields
 admit_one-requires-clause-fields g c =
     let hub = c.args.self.now in
