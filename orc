@@ -26,7 +26,7 @@ fi
 # Typedefs, or nodes and groupings, of modules are followed 2,000 one inside another, each on up to 1,400 bytes of the stack.
 ulimit -S -s 65536 2>/dev/null
 # Trees are many small pieces all over the memory: in pages of two megabytes, which the C library asks the kernel
-# for, most of them are found sooner. Of each size it keeps a hundred pieces that are let go at hand (seven if not told),
+# for, most of them are found sooner. Of each small size it keeps a hundred pieces that are let go at hand (seven if not told),
 # and joins others with their neighbours at once (no fast bins), as else it would, now and then, for all such pieces
 # together. What the caller set stays, and a kernel without such pages gives the usual ones.
 export GLIBC_TUNABLES="${GLIBC_TUNABLES:-glibc.malloc.hugetlb=1:glibc.malloc.mxfast=0:glibc.malloc.tcache_count=100}"

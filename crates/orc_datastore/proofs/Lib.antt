@@ -26,6 +26,7 @@ mod Writers
 mod Openings
 mod Changing
 mod Literals
+mod Alone
 pub mod Residents
 pub mod Sighting
 mod Entering

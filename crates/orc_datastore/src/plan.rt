@@ -1,5 +1,7 @@
 //! The plan of a call: what it holds while it is under way, and what its services write.
-ghost use Rattle.std.specs.Prelude.{◌≡◌, ◌++◌, ◌<◌, ◌^◌, All, IfOk, IsTrue, OnOk, length};
+ghost use Rattle.std.specs.Prelude.{◌≡◌, ◌++◌, ◌<◌, ◌^◌, All, IfOk, IsTrue, Ok, OnOk, false, length};
+ghost use Rattle.std.specs.List.{list_any};
+ghost use Rattle.orc_services.specs.Expanded.{is_templated};
 ghost use Rattle.orc_services.specs.Fitting.{FitActions, fits_action};
 ghost use Rattle.orc_datastore.specs.inside.Sights.{all_expansions, expansions_by, literal_parts, planned_known, service_key};
 
@@ -10,6 +12,7 @@ use orc_call::{Action, Answer};
 use orc_decls::Decls;
 use orc_expr::ReadSet;
 use orc_queue::Held;
+use orc_services::any_templated;
 use orc_template::Expansion;
 use orc_text::{Memory, Row, Text};
 use orc_tree::Tree;
@@ -117,6 +120,29 @@ fn all_expansions(
     Ok(expansions)
 }
 
+// The plan of actions for which no template is expanded, with the data after them.
+fn planned_alone(
+    alloc: Global,
+    decls: &Decls,
+    known: &Tree,
+    front: u64,
+    actions: &[Action],
+    data: Tree,
+) -> Result<Plan, Memory>
+    requires keys { All (λ action. IsTrue (service_key action)) actions.now }
+    requires few { length decls.now.names < 2 ^ 32 }
+    requires alone { list_any is_templated actions.now ≡ false }
+    ensures { IfOk result (λ plan. Ok plan ≡ planned_known decls.now known.now front actions.now «data») }
+{
+    let held = held(alloc, decls, known, actions, actions, ReadSet::new(alloc))?;
+    Ok(Plan {
+        front,
+        held,
+        expansions: Row::new(alloc),
+        next: data,
+    })
+}
+
 /// The plan of actions with the data after them, as a snapshot knows the living services, or the first
 /// service that can't be expanded.
 pub(crate) fn planned_known(
@@ -132,6 +158,9 @@ pub(crate) fn planned_known(
     requires few { length decls.now.names < 2 ^ 32 }
     ensures { IfOk result (λ found. found ≡ planned_known decls.now known.now front actions.now «data») }
 {
+    if !any_templated(actions) {
+        return Ok(Ok(planned_alone(alloc, decls, known, front, actions, data)?));
+    }
     let mut reads = ReadSet::new(alloc);
     match expanded_reading(alloc, decls, &data, actions, &mut reads)? {
         Ok(made) => {

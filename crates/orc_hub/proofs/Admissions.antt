@@ -36,7 +36,7 @@ use Rattle.orc_hub.proofs.Ranges.{touched_are_devices}
 pub fields_fit : PlannedStands → (decls : Decls) (history : List Call) (it : Waiting) → AreDecls decls → IsWaiting decls history it → HasFields it
 fields_fit law decls history it are waits =
     let state = state_of decls (take it.plan.front history) in
-    let own = (law decls state it.plan.front it.call it.plan).0 waits.planned.made in
+    let own = (law decls state it.plan.front it.call it.plan).0 waits.planned.planned in
     (encodable decls it.call are waits.lawful, touched_are_devices decls state it.call it.plan.held.devices are (sym (ap (λ (h : Held). h.devices) own.held)))
 
 -- which call fits first

@@ -252,7 +252,7 @@ module _ {D : Type 0} (disk : DiskMeaning D) (hub : Hub D) (entries : List Entry
         let it : Waiting = record { t = t; call = call; plan = plan; asker = q.asker } in
         let at = law hub.decls hub.state.history front call plan within made in
         let next = next_number disk hub entries t own q.least in
-        let waits : IsWaiting hub.decls hub.state.history it = record { lawful = lawful; planned = record { within = at.front; made = at.planned }; fresh = fresh } in
+        let waits : IsWaiting hub.decls hub.state.history it = record { lawful = lawful; planned = at; fresh = fresh } in
         let apart : All (λ one. one.call.caller ≢ it.call.caller) hub.waiting =
         All-weaker (λ (one : Waiting). IsAsker hub.askers one.asker one.call) (λ (one : Waiting). one.call.caller ≢ call.caller)
         (λ one a same. none_open hub.askers call.caller closed one.asker a.slot a.there a.is_open (a.caller ∙ same)) hub.waiting own.askers.waits in

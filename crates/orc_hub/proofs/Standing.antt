@@ -14,7 +14,6 @@ use Rattle.orc_rules.specs.Standing.{IsAdmitted}
 use Rattle.orc_rules.specs.declared.transaction.Transaction.{Transaction}
 use Rattle.orc_rules.proofs.Standings.{still_stands}
 use Rattle.orc_state.specs.Checks.{CanCommit, clash_of}
-use Rattle.orc_state.specs.States.{IsPlanAt}
 
 -- the state after a history, from that after a prefix of it on
 state_since : (decls : Decls) (history : List Call) (it : Transaction)
@@ -25,11 +24,8 @@ state_since decls history it =
 
 pub may_commit : UnclashedStands → PlanStands → (decls : Decls) (history : List Call) (it : Transaction) → AreDecls decls
     → IsAdmitted decls history it → IsNew history it.call → CanCommit decls history it.call it.plan
-may_commit unclashed law decls history it are own fresh = record { new = fresh; planned = at_front; stands = still_stands law decls history it are own; apart = apart }
+may_commit unclashed law decls history it are own fresh = record { new = fresh; planned = own.planned; stands = still_stands law decls history it are own; apart = apart }
   where
-    at_front : IsPlanAt decls history it.call it.plan
-    at_front = record { front = own.planned.within; planned = own.planned.made }
-
     early : Datastore
     early = state_of decls (take it.since history)
 

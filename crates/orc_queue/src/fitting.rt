@@ -24,8 +24,8 @@ fn is_same(one: &Text, other: &Text) -> bool
     one == other
 }
 
-// Whether the service is among these.
-fn names(services: &[Text], id: &Text) -> bool
+// Whether the service of this id is among these.
+fn has_service(services: &[Text], id: &Text) -> bool
     ensures { result ≡ list_any (λ it. pointwise nat_eq it id.now) services.now }
 {
     services.iter().any(|it| is_same(it, id))
@@ -35,7 +35,7 @@ fn names(services: &[Text], id: &Text) -> bool
 pub(crate) fn share_no_service(one: &[Text], other: &[Text]) -> bool
     ensures { result ≡ share_no_service one.now other.now }
 {
-    one.iter().all(|id| !names(other, id))
+    one.iter().all(|id| !has_service(other, id))
 }
 
 // Whether the target covers none of the reads.

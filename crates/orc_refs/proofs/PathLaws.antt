@@ -1,6 +1,7 @@
 -- What moves make of one path.
-use Rattle.std.proofs.Common.{◌≡◌, ◌≢◌, ℕ, Bool, true, false, cond, not, ◌&&◌, ◌||◌, List, [], ◌∷◌, Some, None, refl, sym, ap, subst, ◌∙◌, is_some}
+use Rattle.std.proofs.Common.{◌≡◌, ◌≢◌, ℕ, Bool, true, false, cond, not, ◌&&◌, ◌||◌, List, [], ◌∷◌, Some, None, refl, sym, ap, subst, ◌∙◌, is_some, Bor, length, arith}
 use Rattle.std.specs.declared.option.Option.{Option}
+use Rattle.std.specs.Option.{option_copied}
 use Rattle.std.specs.Cmp.Lexicographic.{bytes_decides}
 use Rattle.std.proofs.lemmas.Bool.{false≢true, cond-false, both_ways}
 use Rattle.std.specs.List.{filter, list_any}
@@ -196,3 +197,16 @@ item-none_stays ms p ids here base first h is =
   where
     chosen : List (List ℕ) → Option Item
     chosen xs = elim xs [ [] ↦ or_else (first_brought ms p) base | id ∷ others ↦ here ]
+
+-- The ids at a path where no item stands
+
+pub some_copied : (o : Option (Bor Item)) (item : Option Item) → option_copied o ≡ item → is_some o ≡ is_some item
+some_copied o item is = same o ∙ ap is_some is
+  where
+    same : (o : Option (Bor Item)) → is_some o ≡ is_some (option_copied o)
+    same None = refl
+    same (Some x) = refl
+
+pub no_ids : (ids : List (List ℕ)) → (ids ≢ [] → false ≡ true) → ids ≡ []
+no_ids [] some = refl
+no_ids (id ∷ ids) some = absurd (false≢true (some (λ e. omega (arith, ap length e))))

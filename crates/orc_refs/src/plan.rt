@@ -1,13 +1,14 @@
 //! What moves come to at the paths that they touch.
-ghost use Rattle.std.specs.Prelude.{◌≡◌, ◌+◌, ◌≤◌, ◌++◌, ◌∷◌, [], List, OnOk, IfOk, IfErr, Ok, true, IsTrue, length};
+ghost use Rattle.std.specs.Prelude.{◌≡◌, ◌≢◌, ◌+◌, ◌≤◌, ◌++◌, ◌∷◌, [], List, OnOk, IfOk, IfErr, IsSome, Ok, true, IsTrue, length};
 ghost use Rattle.std.specs.Option.{option_copied};
 ghost use Rattle.std.specs.FinMap.{from_sorted, get, is_sorted};
 ghost use Rattle.orc_path.specs.Order.{path_cmp};
 ghost use Rattle.orc_path.specs.Steps.{PathStep};
+ghost use Rattle.orc_refs.specs.Stores.{ids_in};
 ghost use Rattle.orc_refs.specs.Moves.{BringWhole};
 ghost use Rattle.orc_refs.specs.inside.Settling.{all_bring, ids_after, item_after};
 ghost use Rattle.orc_refs.specs.inside.Marks.{brings_at, brought_in, by_path, paths_in, shown};
-ghost use Rattle.orc_refs.specs.inside.Plans.{HasCause, all_agree, come, gone, puts_due, removals_due, rows_due};
+ghost use Rattle.orc_refs.specs.inside.Plans.{AreCovered, HasCause, all_agree, come, gone, puts_due, removals_due, rows_due};
 
 use crate::backs::Backs;
 use crate::mark::Brought;
@@ -150,6 +151,33 @@ fn item_after<'a>(
     }
 }
 
+// What stands at a path.
+fn place_at<'a>(store: &Held<'a>, path: &Path) -> Place<'a>
+    requires { AreCovered (from_sorted store.now.backs.now) store.now.tree.now }
+    ensures ids { result.ids.now ≡ ids_in (from_sorted store.now.backs.now) path.now }
+    ensures here { option_copied result.here ≡ get store.now.tree.now path.now }
+    ensures base { result.base.now ≡ store.now.base.now }
+{
+    let here = store.tree.get(path);
+    Place {
+        ids: ids_at(store.backs, path, here),
+        here,
+        base: store.base,
+    }
+}
+
+// The ids of the services that write a path, where this item stands in the tree. They are searched
+// only where there is one.
+fn ids_at<'a>(backs: &'a Backs, path: &Path, here: Option<&Item>) -> &'a [Text]
+    requires { ids_in (from_sorted backs.now) path.now ≢ [] → IsSome here }
+    ensures { result.now ≡ ids_in (from_sorted backs.now) path.now }
+{
+    match here {
+        Some(_) => backs.ids_of(path),
+        None => &[],
+    }
+}
+
 // What the moves come to at the paths that they touch, where each path has what they bring there. It
 // visits each of these paths once.
 pub(crate) fn plan_of<L: Ledger>(
@@ -160,6 +188,7 @@ pub(crate) fn plan_of<L: Ledger>(
     steps: &mut Steps<L>,
 ) -> Result<Plan, RefsFault>
     requires backs { IsTrue (is_sorted path_cmp store.now.backs.now) }
+    requires covered { AreCovered (from_sorted store.now.backs.now) store.now.tree.now }
     requires paths { IsTrue (is_sorted path_cmp (by_path touched.now)) }
     requires whole { BringWhole moves.now }
     requires brings { (p : List PathStep) → brought_in (by_path touched.now) p ≡ brings_at moves.now p }
@@ -182,11 +211,7 @@ pub(crate) fn plan_of<L: Ledger>(
     for row in touched {
         steps.tick();
         let path = row.0;
-        let found = Place {
-            ids: store.backs.ids_of(path),
-            here: store.tree.get(path),
-            base: store.base,
-        };
+        let found = place_at(store, path);
         if !plan.settle(alloc, moves, path, row.1.as_slice(), &found)? {
             let path = path.copy(alloc)?;
             let other = rival(alloc, moves, &path, &found)?;

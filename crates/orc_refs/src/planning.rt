@@ -13,7 +13,7 @@ ghost use Rattle.orc_refs.specs.Moves.{BringWhole, IsMoved, LeadsTo, StartAt, ar
 ghost use Rattle.orc_refs.specs.Clashes.{IsCause};
 ghost use Rattle.orc_refs.specs.inside.Kept.{AreKept};
 ghost use Rattle.orc_refs.specs.inside.Marks.{brings_at, brought_in, by_path, paths_in};
-ghost use Rattle.orc_refs.specs.inside.Plans.{HasCause, IsPlanned, PutsAtPath, all_agree, changes_due, planned_store, rows_due, with_rows};
+ghost use Rattle.orc_refs.specs.inside.Plans.{AreCovered, HasCause, IsPlanned, PutsAtPath, all_agree, changes_due, planned_store, rows_due, with_rows};
 
 use crate::backs::Backs;
 use crate::base::{NewBase, new_base};
@@ -60,6 +60,7 @@ fn due_at<L: Ledger>(
     steps: &mut Steps<L>,
 ) -> Result<Due, RefsFault>
     requires backs { IsTrue (is_sorted path_cmp store.now.backs.now) }
+    requires covered { AreCovered (from_sorted store.now.backs.now) store.now.tree.now }
     requires paths { IsTrue (is_sorted path_cmp (by_path touched.now)) }
     requires whole { BringWhole moves.now }
     requires brings { (p : List PathStep) → brought_in (by_path touched.now) p ≡ brings_at moves.now p }
@@ -283,14 +284,14 @@ pub(crate) fn apply_moves<L: Ledger>(
     Ok(set)
 }
 
-// A path is one, which its type says.
+// Looked into, so that the proof knows that it is a path.
 fn is_one(path: &Path)
     ensures { IsTrue (is_path path.now) }
 {
     let _ = path.steps.len();
 }
 
-// Each item that is put is put at a path.
+// Each item that is put is put at a path. It is called for the proof alone.
 fn put_at_paths(changes: &[Change])
     ensures { All PutsAtPath changes.now }
 {

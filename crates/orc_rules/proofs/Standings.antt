@@ -21,7 +21,8 @@ use Rattle.orc_datastore.proofs.Legality.{fold_from-append, legal_more}
 use Rattle.orc_plans.specs.Plans.{EachAlong, FitsBeside, StandsOn, LegalStands, PlanStands}
 use Rattle.orc_datastore.specs.Plans.{planned}
 use Rattle.orc_datastore.specs.declared.plan.Plan.{Plan}
-use Rattle.orc_rules.specs.Standing.{IsAdmitted, IsPlanned}
+use Rattle.orc_rules.specs.Standing.{IsAdmitted}
+use Rattle.orc_state.specs.States.{IsPlanAt}
 use Rattle.orc_rules.specs.declared.transaction.Transaction.{Transaction}
 
 -- the state after a history, from that after a prefix of it on
@@ -60,12 +61,12 @@ pub actions_of : (decls : Decls) (call : Call) → IsTrue (is_call decls call) �
 actions_of decls call lawful = AllPass-from_list_all (is_action decls) call.actions (call-actions decls call lawful)
 
 -- a plan at its front is one there, whatever is committed
-pub stays_planned : (decls : Decls) (history more : List Call) (call : Call) (plan : Plan) → IsPlanned decls history call plan
-    → IsPlanned decls (history ++ more) call plan
+pub stays_planned : (decls : Decls) (history more : List Call) (call : Call) (plan : Plan) → IsPlanAt decls history call plan
+    → IsPlanAt decls (history ++ more) call plan
 stays_planned decls history more call plan own = record {
-  within = let within = own.within in omega (arith, within, length-append history more);
-  made =
-      subst (λ (h : List Call). planned decls (state_of decls h) plan.front call ≡ Ok plan) (sym (take-append-le plan.front history more own.within)) own.made;
+  front = let within = own.front in omega (arith, within, length-append history more);
+  planned =
+      subst (λ (h : List Call). planned decls (state_of decls h) plan.front call ≡ Ok plan) (sym (take-append-le plan.front history more own.front)) own.planned;
 }
 
 -- an admitted call stays so where another one is committed that fits it
@@ -104,7 +105,7 @@ stays_admitted law decls history it other are own their fit apart = record {
 
 -- a call is admitted where its plan stands and it makes the history legal
 pub comes_admitted : (decls : Decls) (history : List Call) (it : Transaction) → it.since ≡ length history → IsTrue (is_call decls it.call)
-    → IsPlanned decls history it.call it.plan → IsLegal decls history → IsDue decls history it.call
+    → IsPlanAt decls history it.call it.plan → IsLegal decls history → IsDue decls history it.call
     → StandsOn decls (state_of decls history) it.call it.plan → IsAdmitted decls history it
 comes_admitted decls history it since lawful at legal due own = record {
   lawful = lawful;

@@ -105,7 +105,7 @@ module _ {D : Type 0} (here : Setting D) (are : AreDecls here.decls) (plans : Pl
     does_keeps meant row next (DoesUnderHub.answers call front said asked snap why keeps) = nothing next _ refl own
     does_keeps meant row next (DoesUnderHub.queues it front snap same lawful closed apart new within made number slot) =
         nothing next _ refl (queue_keeps here.decls (entries_read world.journal) (history_of (entries_read world.journal)) hub.active hub.waiting hub.given own it
-        (record { lawful = lawful; planned = record { within = within; made = made }; fresh = new }) number.unused number.new apart.waits apart.prepares)
+        (record { lawful = lawful; planned = record { front = within; planned = made }; fresh = new }) number.unused number.new apart.waits apart.prepares)
     does_keeps meant row next (DoesUnderHub.turns_away place it said there first idle why) =
         nothing next _ refl (turn_away_keeps here.decls (entries_read world.journal) (history_of (entries_read world.journal)) hub.active hub.waiting hub.given own place)
     does_keeps meant row next (DoesUnderHub.admits place it sets there first idle passes fresh) =

@@ -6,12 +6,10 @@ use Rattle.orc_queue.specs.Fitting.{FitTogether}
 use Rattle.orc_decls.specs.Calls.{is_call}
 use Rattle.orc_datastore.specs.Legal.{IsLegal, IsNew, state_of}
 use Rattle.orc_decls.specs.declared.declarations.Decls.{Decls}
-use Rattle.std.specs.declared.result.Result.TheVariants.{Ok}
-use Rattle.orc_datastore.specs.Plans.{planned}
-use Rattle.orc_datastore.specs.declared.plan.Plan.{Plan}
 use Rattle.orc_rules.specs.declared.transaction.Waiting.{Waiting}
 use Rattle.orc_plans.specs.Plans.{EachAlong, FitsBeside, StandsOn}
 use Rattle.orc_rules.specs.declared.transaction.Transaction.{Transaction}
+use Rattle.orc_state.specs.States.{IsPlanAt}
 
 -- the history at its Intent
 abbrev pub history_at : List Call → Transaction → List Call
@@ -21,17 +19,12 @@ history_at history it = take it.since history
 abbrev pub committed_since : List Call → Transaction → List Call
 committed_since history it = drop it.since history
 
--- the plan is that of the call after the first calls of the history, as many as its front says
-pub record IsPlanned (decls : Decls) (history : List Call) (call : Call) (plan : Plan) : Type 0 where
-  pub within : plan.front ≤ length history
-  pub made : planned decls (state_of decls (take plan.front history)) plan.front call ≡ Ok plan
-
 -- Its plan is that of the call at the plan's front. After the history at its Intent the plan stood and the call made
 -- the history legal. Each call that was committed since fits the plan where it was done, and none has this caller and
 -- number.
 pub record IsAdmitted (decls : Decls) (history : List Call) (it : Transaction) : Type 0 where
   pub lawful : IsTrue (is_call decls it.call)
-  pub planned : IsPlanned decls history it.call it.plan
+  pub planned : IsPlanAt decls history it.call it.plan
   pub within : it.since ≤ length history
   pub legal : IsLegal decls (history_at history it ++ it.call ∷ [])
   pub stood : StandsOn decls (state_of decls (history_at history it)) it.call it.plan
@@ -48,5 +41,5 @@ AreFit active = (place place' : ℕ) (it other : Transaction) → slice_get acti
 -- What is so of a call that waits.
 pub record IsWaiting (decls : Decls) (history : List Call) (it : Waiting) : Type 0 where
   pub lawful : IsTrue (is_call decls it.call)
-  pub planned : IsPlanned decls history it.call it.plan
+  pub planned : IsPlanAt decls history it.call it.plan
   pub fresh : IsNew history it.call

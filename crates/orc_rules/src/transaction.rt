@@ -29,7 +29,7 @@ pub struct Waiting {
 }
 
 /// A call under way: besides, how many calls the history had at its Intent, and its phase. Once all its
-/// workers have ended it holds nothing.
+/// workers have ended it holds no device, service, read or target, so that others fit with it.
 #[derive(Drop)]
 pub struct Transaction {
     pub t: u64,

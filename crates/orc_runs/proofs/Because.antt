@@ -138,8 +138,8 @@ module _ {D : Type 0} (here : Setting D) (first : World D) (earlier : List (Turn
             waits = among_at hub.waiting place it there;
             number = refl;
             is = (refl, refl);
-            within = is.planned.within;
-            planned = is.planned.made;
+            within = is.planned.front;
+            planned = is.planned.planned;
           }
 
       turned : (place : ℕ) (it : Waiting) (said : Answer) → turn.seen ≡ Some (event.Admit it.t (Some said)) → slice_get hub.waiting place ≡ Some it → IsTurnedAway here.decls (history_read old.journal) hub it said

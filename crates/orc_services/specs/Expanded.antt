@@ -1,5 +1,5 @@
 -- What actions on services come to, once the data of a call is done.
-use Rattle.std.specs.Prelude.{◌≡◌, ℕ, List, [], ◌∷◌, ◌++◌, map, Option, Result}
+use Rattle.std.specs.Prelude.{◌≡◌, ℕ, Bool, true, false, List, [], ◌∷◌, ◌++◌, map, Option, Result}
 use Rattle.std.specs.declared.option.Option.TheVariants.{None, Some}
 use Rattle.std.specs.declared.result.Result.TheVariants.{Ok, Err}
 use Rattle.std.specs.FinMap.{entries}
@@ -47,6 +47,13 @@ expanded_action s (Create id body) = as_literal s.devices.names id (expansion_of
 expanded_action s (Modify id body) = as_literal s.devices.names id (expansion_of s id)
 expanded_action s (Redeploy id) = as_literal s.devices.names id (expansion_of s id)
 expanded_action s other = record { outcome = Ok other; reads = [] }
+
+-- whether a template is expanded for an action
+abbrev pub is_templated : Action → Bool
+is_templated (Create id body) = true
+is_templated (Modify id body) = true
+is_templated (Redeploy id) = true
+is_templated other = false
 
 -- an action before what later ones come to
 abbrev pub with_expanded : Action → Result (List Action) Answer → Result (List Action) Answer

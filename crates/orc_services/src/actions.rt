@@ -1,5 +1,6 @@
 //! What actions on templated services come to.
 ghost use Rattle.std.specs.Prelude.{◌≡◌, ℕ, List, [], IfOk, IsTrue, OnErr, Result, Some};
+ghost use Rattle.std.specs.List.{list_any};
 ghost use Rattle.std.specs.Option.{option_map};
 ghost use Rattle.orc_expr.specs.declared.read.Read.{Read};
 ghost use Rattle.orc_template.specs.TheReaders.{the_readers};
@@ -7,7 +8,7 @@ ghost use Rattle.orc_template.specs.Expansions.{Expanding, Failed, expanded};
 ghost use Rattle.orc_template.specs.Said.{template_json};
 ghost use Rattle.orc_services.specs.Fitting.{fits_action, FitActions};
 ghost use Rattle.orc_services.specs.Services.{expansion_at, expansion_of, instance_at, serving};
-ghost use Rattle.orc_services.specs.Expanded.{as_literal, expanded_actions, expanded_action, ExpandsTo};
+ghost use Rattle.orc_services.specs.Expanded.{as_literal, expanded_actions, expanded_action, ExpandsTo, is_templated};
 ghost use Rattle.orc_services.specs.inside.Answering.{Expands};
 ghost use Rattle.orc_schema.specs.Schemas.{shape_at};
 
@@ -113,6 +114,24 @@ fn expand_service(
         Some(path) => expand_at(alloc, lists, devices, view, id, &path, reads),
         None => Ok(Ok(Action::Literal(id.copy(alloc)?, Row::new(alloc)))),
     }
+}
+
+// Whether a template is expanded for an action.
+fn is_templated(action: &Action) -> bool
+    ensures { result ≡ is_templated action.now }
+{
+    match action {
+        Action::Create(_, _) | Action::Modify(_, _) | Action::Redeploy(_) => true,
+        _ => false,
+    }
+}
+
+/// Whether a template is expanded for one of the actions: one creates, modifies or redeploys a service.
+/// Else all of them come to themselves.
+pub fn any_templated(actions: &[Action]) -> bool
+    ensures { result ≡ list_any is_templated actions.now }
+{
+    actions.iter().any(|action| is_templated(action))
 }
 
 // What an action comes to.

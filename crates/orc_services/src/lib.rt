@@ -11,6 +11,6 @@ mod laws;
 mod list;
 mod writes;
 
-pub use actions::expand_actions;
+pub use actions::{any_templated, expand_actions};
 pub use laws::{expanded_is_fixed_by_reads, expanded_stands};
 pub use list::{ServiceList, is_listed, path_of_id};

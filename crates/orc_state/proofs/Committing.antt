@@ -2,7 +2,7 @@
 use Rattle.std.proofs.Common.{◌≡◌, ℕ, List, [], ◌∷◌, ◌++◌, Some, None, take, length, IsTrue, OnErr, OnOk, ◌<◌, get_or, refl, sym, ap, subst, ◌∙◌, arith}
 use Rattle.std.specs.declared.result.Result.{Result}
 use Rattle.std.specs.declared.result.Result.TheVariants.{Ok, Err}
-use Rattle.std.specs.Prelude.{slice_get}
+use Rattle.std.specs.Prelude.{Option, slice_get, unwrap_or}
 use Rattle.std.proofs.lemmas.List.{length-append}
 use Rattle.std.proofs.lemmas.Option.{same_Some, slice_get_read}
 use Rattle.std.proofs.Math.Seq.{take-append_seam}
@@ -41,6 +41,13 @@ entry_last list xs call entry n whole at is =
     let within : n < length list = omega (arith, at, ap (λ (l : List Call). length l) whole, length-append xs (call ∷ [])) in
     same_Some entry call
     (sym (slice_get_read list _ n entry refl within is) ∙ ap (λ (l : List Call). slice_get l n) whole ∙ ap (slice_get (xs ++ call ∷ [])) at ∙ last_at xs call)
+
+-- an entered call comes to the actions that were made of its own ones, else to these
+pub comes_as_entered : (decls : Decls) (s : Datastore) (call entry : Call) (made : Option (List Action)) (actions : List Action) → entry ≡ call
+    → expanded_call decls s call ≡ Ok (unwrap_or made call.actions) → actions ≡ unwrap_or made entry.actions → expanded_call decls s entry ≡ Ok actions
+comes_as_entered decls s call entry made actions same comes is =
+    subst (λ (e : Call). actions ≡ unwrap_or made e.actions → expanded_call decls s e ≡ Ok actions) (sym same)
+    (λ own. comes ∙ ap (λ (l : List Action). Ok l) (sym own)) is
 
 pub entered : {E : Type 0} (decls : Decls) (before : State) (call entry : Call) (row : List Write) (result : Result (Unit {0}) E) (state : Datastore) (history : List Call)
     (writes : List (List Write)) → history ≡ before.history ++ call ∷ [] → writes ≡ before.writes ++ row ∷ [] → length before.writes ≡ length before.history

@@ -22,7 +22,7 @@ pub fn conflict_is_one()
     ensures { ConflictIsOne }
 {}
 
-/// A new call that passes the check may be committed.
+/// A new call that passes the check by a plan of a front of the history may be committed by that plan.
 pub fn passed_can_commit()
     ensures { PassedCanCommit }
 {}

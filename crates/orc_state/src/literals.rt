@@ -1,11 +1,12 @@
 //! What a call comes to by the expansions of its plan.
-ghost use Rattle.std.specs.Prelude.{◌≡◌, ◌++◌, ◌∷◌, [], IfOk, OnOk, drop, map};
+ghost use Rattle.std.specs.Prelude.{◌≡◌, ◌++◌, ◌∷◌, [], IfOk, OnOk, drop, map, unwrap_or};
 ghost use Rattle.std.specs.List.{flat_map};
 ghost use Rattle.orc_plans.specs.Plans.{first_writes, part_writes, with_expansions};
 ghost use Rattle.orc_decls.specs.Devices.{name_of};
 ghost use Rattle.orc_state.specs.inside.Making.{left_by, made_by};
 
 use orc_call::{Action, DevicePut, Put};
+use orc_services::any_templated;
 use orc_template::Expansion;
 use orc_text::{Memory, Row, Text};
 use std::alloc::Global;
@@ -92,9 +93,9 @@ fn push_made<'a>(
     }
 }
 
-/// Actions with the expansions of a plan: each one that creates, modifies or redeploys a service is that
-/// of a literal one with what the next expansion writes.
-pub(crate) fn with_expansions(
+// Actions with the expansions of a plan: each one that creates, modifies or redeploys a service is that
+// of a literal one with what the next expansion writes.
+fn with_expansions(
     alloc: Global,
     names: &[Text],
     actions: &[Action],
@@ -108,4 +109,31 @@ pub(crate) fn with_expansions(
         left = push_made(alloc, &mut made, names, action, left)?;
     }
     Ok(made)
+}
+
+/// What actions come to with the expansions of a plan, where one of them creates, modifies or redeploys a
+/// service; else none, since they come to themselves.
+pub(crate) fn made_of(
+    alloc: Global,
+    names: &[Text],
+    actions: &[Action],
+    expansions: &[(Text, Expansion)],
+) -> Result<Option<Row<Action>>, Memory>
+    ensures { IfOk result
+        (λ made. unwrap_or made actions.now ≡ with_expansions names.now actions.now expansions.now) }
+{
+    if !any_templated(actions) {
+        return Ok(None);
+    }
+    Ok(Some(with_expansions(alloc, names, actions, expansions)?))
+}
+
+/// What a call comes to: the actions that were made of its own ones, else these.
+pub(crate) fn made_or_own<'a>(made: &'a Option<Row<Action>>, own: &'a [Action]) -> &'a [Action]
+    ensures { result.now ≡ unwrap_or made.now own.now }
+{
+    match made {
+        Some(made) => made.as_slice(),
+        None => own,
+    }
 }

@@ -1,5 +1,5 @@
 //! The state with its history: planned calls are checked on it and committed.
-ghost use Rattle.std.specs.Prelude.{◌≡◌, ◌<◌, [], Ok, None, IfOk, IsTrue, length, take};
+ghost use Rattle.std.specs.Prelude.{◌≡◌, ◌<◌, [], Ok, None, IfOk, IsTrue, length, take, unwrap_or};
 ghost use Rattle.orc_decls.specs.Calls.{is_call};
 ghost use Rattle.orc_decls.specs.Declarations.{AreDecls};
 ghost use Rattle.orc_datastore.specs.Legal.{IsNew};
@@ -17,7 +17,7 @@ ghost use Rattle.orc_state.specs.inside.Firsts.{IsAnswerAt, IsWriteAt};
 
 use crate::conflict::first_conflict;
 use crate::history::History;
-use crate::literals::with_expansions;
+use crate::literals::{made_of, made_or_own};
 use crate::writes::writes;
 use orc_call::{Action, Answer, Call};
 use orc_datastore::{Datastore, Plan, Snapshot};
@@ -220,17 +220,18 @@ impl State {
         unread_plan_stands();
         plan_is_enough();
         let names = decls.names();
-        let actions = call.actions.as_slice();
-        let made = with_expansions(alloc, names, actions, plan.expansions.as_slice())?;
+        let own = call.actions.as_slice();
+        let made = made_of(alloc, names, own, plan.expansions.as_slice())?;
         self.datastore
-            .change_sets(alloc, decls, call, made.as_slice())
+            .change_sets(alloc, decls, call, made_or_own(&made, own))
     }
 
     /// Commits a call by its plan, and returns the number of its entry; or answers what is broken in the
-    /// data with it. It asks that the call is new, that its plan was made at its front and stands on the
-    /// present state, and that nothing clashes, which is so of a new call that passes `check`, and of one that passed it before
-    /// calls were committed that fit it. No service is expanded. After a refusal, or where memory runs out,
-    /// the state is as it was.
+    /// data with it. It asks that the call is new, that the plan is one that a snapshot of this state
+    /// answered and still stands, and that nothing clashes. That is so of a new call that passes `check`, and
+    /// of one that passed it before calls were committed that fit it. No service is expanded, and the data is
+    /// looked at only where a call was committed since the plan's front. After a refusal, or where memory
+    /// runs out, the state is as it was.
     pub fn commit(
         &mut self,
         alloc: Global,
@@ -268,23 +269,19 @@ impl State {
     {
         plan_is_enough();
         let names = decls.names();
-        let made = with_expansions(
-            alloc,
-            names,
-            call.actions.as_slice(),
-            plan.expansions.as_slice(),
-        )?;
+        let own = call.actions.as_slice();
+        let made = made_of(alloc, names, own, plan.expansions.as_slice())?;
         let row = writes(alloc, decls, &self.datastore, &call, plan, &next)?;
-        self.commit_made(alloc, decls, call, made.as_slice(), row, next)
+        self.commit_made(alloc, decls, call, made, row, next)
     }
 
-    // Commits a call as `commit` does, where it comes to these actions and writes this.
+    // Commits a call as `commit` does, where these actions were made of its own ones and it writes this.
     fn commit_made(
         &mut self,
         alloc: Global,
         decls: &Decls,
         call: Call,
-        made: &[Action],
+        made: Option<Row<Action>>,
         row: Row<Write>,
         next: Tree,
     ) -> Result<Result<u64, Answer>, Memory>
@@ -293,7 +290,7 @@ impl State {
         requires state { IsStateUnder decls.now self.old }
         requires new { IsNew self.old.history call }
         requires behind { IsDataAfter decls.now self.old.datastore call (Ok next) }
-        requires actions { expanded_call decls.now self.old.datastore call ≡ Ok made.now }
+        requires actions { expanded_call decls.now self.old.datastore call ≡ Ok (unwrap_or made call.actions) }
         requires apart { clash_of decls.now self.old.datastore call ≡ None }
         requires row { AreWritesOf self.old.datastore call row }
         ensures { CommitsCall decls.now self.old call result self.new }
@@ -314,7 +311,7 @@ impl State {
         alloc: Global,
         decls: &Decls,
         call: Call,
-        made: &[Action],
+        made: Option<Row<Action>>,
         row: Row<Write>,
         next: Tree,
     ) -> Result<(), Memory>
@@ -324,7 +321,7 @@ impl State {
         requires count { length self.old.writes ≡ length self.old.history }
         requires new { IsNew self.old.history call }
         requires behind { IsDataAfter decls.now self.old.datastore call (Ok next) }
-        requires actions { expanded_call decls.now self.old.datastore call ≡ Ok made.now }
+        requires actions { expanded_call decls.now self.old.datastore call ≡ Ok (unwrap_or made call.actions) }
         requires apart { clash_of decls.now self.old.datastore call ≡ None }
         ensures { Enters decls.now self.old call row result self.new }
     {
@@ -332,7 +329,8 @@ impl State {
         self.history.push(alloc, call)?;
         self.writes.push(row)?;
         let call = &self.history.as_slice()[place];
-        self.datastore.perform(alloc, decls, call, made, next)
+        let actions = made_or_own(&made, call.actions.as_slice());
+        self.datastore.perform(alloc, decls, call, actions, next)
     }
 
     // Keeps the first so many entries.

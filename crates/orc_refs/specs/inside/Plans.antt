@@ -1,5 +1,5 @@
 -- What moves come to at the paths that they touch.
-use Rattle.std.specs.Prelude.{◌≡◌, ℕ, Bool, true, false, IsSome, ◌&&◌, List, [], ◌∷◌, ◌++◌, Option, IsTrue, if◌then◌else◌}
+use Rattle.std.specs.Prelude.{◌≡◌, ◌≢◌, ℕ, Bool, true, false, IsSome, ◌&&◌, List, [], ◌∷◌, ◌++◌, Option, IsTrue, if◌then◌else◌}
 use Rattle.std.specs.declared.option.Option.TheVariants.{None, Some}
 use Rattle.std.specs.List.{list_all}
 use Rattle.std.specs.FinMap.{get, insert, remove, find}
@@ -19,6 +19,10 @@ use Rattle.orc_refs.specs.Stores.{Store, Backs, IsStore, ids_in, written_by}
 use Rattle.orc_refs.specs.Moves.{writes_after}
 use Rattle.orc_refs.specs.inside.Settling.{ids_after, item_after, all_bring}
 use Rattle.orc_refs.specs.inside.Rivals.{rival_of}
+
+-- each path that services write has an item in the tree
+abbrev pub AreCovered : Backs → Config → Type 0
+AreCovered backs tree = (path : List PathStep) → ids_in backs path ≢ [] → IsSome (get tree path)
 
 -- the removal of a path, where something stands there and nothing is to
 abbrev pub gone : Option Item → Option Item → List PathStep → List Change

@@ -14,14 +14,14 @@ change_sets-requires-clause-actions c =
     let history = c.args.self.now.history in
     let call = c.args.call.now in
     let plan = c.args.plan.now in
-    subst (λ (s : State). expanded_call decls s.datastore call ≡ Ok c.as_slice-2.result.now) (sym c.self.view_is)
-    (subst (λ (s : Datastore). expanded_call decls s call ≡ Ok c.as_slice-2.result.now) (sym c.requires.state.datastore)
+    subst (λ (s : State). expanded_call decls s.datastore call ≡ Ok c.made_or_own.result.now) (sym c.self.view_is)
+    (subst (λ (s : Datastore). expanded_call decls s call ≡ Ok c.made_or_own.result.now) (sym c.requires.state.datastore)
     (comes_to decls history call plan c.plan_is_enough.ensures c.requires.decls
     (stands_here decls history call plan c.planned_stands.ensures c.unread_plan_stands.ensures c.requires.decls c.requires.plan c.requires.unread)
-    c.as_slice-2.result.now
-    (c.as_slice-2.ensures ∙ c.in_ok-made.ensures
-    ∙ made_is c.names-names.result.now decls.names c.as_slice-actions.result.now call.actions c.as_slice.result.now plan.expansions
-    c.names-names.ensures.names c.as_slice-actions.ensures c.as_slice.ensures)))
+    c.made_or_own.result.now
+    (c.made_or_own.ensures ∙ c.in_ok-made.ensures
+    ∙ made_is c.names-names.result.now decls.names c.as_slice-own.result.now call.actions c.as_slice.result.now plan.expansions
+    c.names-names.ensures.names c.as_slice-own.ensures c.as_slice.ensures)))
 
 pub returns : goal.returns
 returns c =
@@ -29,13 +29,13 @@ returns c =
     let history = c.args.self.now.history in
     let call = c.args.call.now in
     let plan = c.args.plan.now in
-    checked decls history call plan c.args.self.now.datastore c.as_slice-2.result.now c.change_sets.result c.requires.state.datastore c.requires.early c.requires.unread
+    checked decls history call plan c.args.self.now.datastore c.made_or_own.result.now c.change_sets.result c.requires.state.datastore c.requires.early c.requires.unread
     (stands_here decls history call plan c.planned_stands.ensures c.unread_plan_stands.ensures c.requires.decls c.requires.plan c.requires.unread)
-    (subst (λ (s : Datastore). expanded_call decls s call ≡ Ok c.as_slice-2.result.now) (sym c.requires.state.datastore)
+    (subst (λ (s : Datastore). expanded_call decls s call ≡ Ok c.made_or_own.result.now) (sym c.requires.state.datastore)
     (comes_to decls history call plan c.plan_is_enough.ensures c.requires.decls
     (stands_here decls history call plan c.planned_stands.ensures c.unread_plan_stands.ensures c.requires.decls c.requires.plan c.requires.unread)
-    c.as_slice-2.result.now
-    (c.as_slice-2.ensures ∙ c.in_ok-made.ensures
-    ∙ made_is c.names-names.result.now decls.names c.as_slice-actions.result.now call.actions c.as_slice.result.now plan.expansions
-    c.names-names.ensures.names c.as_slice-actions.ensures c.as_slice.ensures)))
-    (subst (λ (s : State). IfOk c.change_sets.result (AreSets decls.names c.as_slice-2.result.now s.datastore)) c.self.view_is c.change_sets.ensures)
+    c.made_or_own.result.now
+    (c.made_or_own.ensures ∙ c.in_ok-made.ensures
+    ∙ made_is c.names-names.result.now decls.names c.as_slice-own.result.now call.actions c.as_slice.result.now plan.expansions
+    c.names-names.ensures.names c.as_slice-own.ensures c.as_slice.ensures)))
+    (subst (λ (s : State). IfOk c.change_sets.result (AreSets decls.names c.made_or_own.result.now s.datastore)) c.self.view_is c.change_sets.ensures)
