@@ -50,7 +50,7 @@ pub(crate) fn short_block(entry: &Entry) -> Option<[u8; SHORT_LEN]>
 fn framed(alloc: Global, kind: u8, len: u32, said: &[u8]) -> Result<Vec<u8>, Memory>
     ensures { IfOk result (λ block. block.items ≡ kind ∷ (to_be_bytes w32 len ++ (said.now ++ CLOSED ∷ []))) }
 {
-    let mut block = Vec::new(alloc);
+    let mut block = Vec::with_capacity(alloc, said.len().saturating_add(6))?;
     block.push(kind)?;
     block.extend_from_slice(&len.to_be_bytes())?;
     block.extend_from_slice(said)?;

@@ -12,7 +12,7 @@ pub fn items_of(alloc: Global, tree: &Tree) -> Result<Row<Put>, Memory>
     ensures items { IfOk result (λ items. items ≡ items_of tree.now) }
     ensures whole { IfOk result AreWhole }
 {
-    let mut items = Row::new(alloc);
+    let mut items = Row::from_vec(Vec::with_capacity(alloc, tree.len() as usize)?);
     for row in tree.rows() {
         let path = row.0.copy(alloc)?;
         let item = row.1.copy(alloc)?;

@@ -29,6 +29,7 @@ pub(crate) struct Mark<'a> {
 fn mark_taken<'a>(marks: &mut Vec<Mark<'a>>, puts: &'a [Put]) -> Result<(), Memory>
     ensures { OnOk result (read marks.new.items ≡ read marks.old.items ++ taken_marks puts.now) }
 {
+    marks.reserve(puts.len())?;
     for put in puts {
         marks.push(Mark {
             path: &put.path,
@@ -46,6 +47,7 @@ fn mark_brought<'a>(
 ) -> Result<(), Memory>
     ensures { OnOk result (read marks.new.items ≡ read marks.old.items ++ brought_marks service.now puts.now) }
 {
+    marks.reserve(puts.len())?;
     for put in puts {
         let item = &put.item;
         marks.push(Mark {
@@ -70,6 +72,7 @@ fn changed_path(change: &Change) -> &Path
 fn mark_changed<'a>(marks: &mut Vec<Mark<'a>>, changes: &'a [Change]) -> Result<(), Memory>
     ensures { OnOk result (read marks.new.items ≡ read marks.old.items ++ change_marks changes.now) }
 {
+    marks.reserve(changes.len())?;
     for change in changes {
         marks.push(Mark {
             path: changed_path(change),

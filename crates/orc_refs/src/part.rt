@@ -28,12 +28,12 @@ pub(crate) trait Part {
         ensures { result ≡ starts_behind path.now (rows self.now) };
 }
 
-// Another list of the same parts, which are held by owners.
+// Another list of the same parts, which are held by owners, with room for one more.
 pub(crate) fn share<T: Drop>(alloc: Global, parts: &[Arc<T>]) -> Result<Vec<Arc<T>>, Memory>
     ensures { IfOk result (λ shared. map arc_value shared.items ≡ map arc_value parts.now) }
 {
     let mut shared = Vec::new(alloc);
-    shared.reserve(parts.len())?;
+    shared.reserve(parts.len().saturating_add(1))?;
     for part in parts {
         shared.push(Arc::try_clone(part)?)?;
     }

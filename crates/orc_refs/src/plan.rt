@@ -19,7 +19,7 @@ use orc_change::has_item;
 use orc_io::Steps;
 use orc_path::{Item, Path};
 use orc_text::{Memory, Row, Text};
-use orc_tree::{Change, Tree};
+use orc_tree::{Change, Finger, Tree};
 use std::alloc::Global;
 use std::sync::ledger::Ledger;
 
@@ -49,20 +49,20 @@ pub(crate) struct Held<'a> {
 }
 
 impl Plan {
-    // Nothing yet.
-    fn new(alloc: Global) -> Plan
-        ensures rows { result.rows ≡ [] }
-        ensures removals { result.removals ≡ [] }
-        ensures puts { result.puts ≡ [] }
+    // Nothing yet, with room for so many paths.
+    fn new(alloc: Global, count: usize) -> Result<Plan, Memory>
+        ensures rows { IfOk result (λ plan. plan.rows ≡ []) }
+        ensures removals { IfOk result (λ plan. plan.removals ≡ []) }
+        ensures puts { IfOk result (λ plan. plan.puts ≡ []) }
     {
-        Plan {
-            rows: Row::new(alloc),
-            removals: Row::new(alloc),
-            puts: Row::new(alloc),
-        }
+        Ok(Plan {
+            rows: Row::from_vec(Vec::with_capacity(alloc, count)?),
+            removals: Row::from_vec(Vec::with_capacity(alloc, count)?),
+            puts: Row::from_vec(Vec::with_capacity(alloc, count)?),
+        })
     }
 
-    // Settles one path where all that write it agree, and else answers false.
+    // Settles one path where all that write it agree, and else answers false. The finger is in the base.
     fn settle(
         &mut self,
         alloc: Global,
@@ -70,6 +70,7 @@ impl Plan {
         path: &Path,
         brought: &[Brought<'_>],
         found: &Place<'_>,
+        finger: &mut Finger,
     ) -> Result<bool, Memory>
         requires { shown brought.now ≡ brings_at moves.now path.now }
         ensures agree { IfOk result (λ agree. agree
@@ -89,7 +90,7 @@ impl Plan {
             (get found.now.base.now path.now))
             path.now }
     {
-        let after = item_after(moves, path, brought, found);
+        let after = item_after(moves, path, brought, found, finger);
         if !all_are(brought, after) {
             return Ok(false);
         }
@@ -130,12 +131,13 @@ impl Plan {
     }
 }
 
-// The item that stands at a path once the moves are done.
+// The item that stands at a path once the moves are done. The finger is in the base.
 fn item_after<'a>(
     moves: &[Move],
     path: &Path,
     brought: &[Brought<'a>],
     found: &Place<'a>,
+    finger: &mut Finger,
 ) -> Option<&'a Item>
     requires { shown brought.now ≡ brings_at moves.now path.now }
     ensures { option_copied result
@@ -147,18 +149,18 @@ fn item_after<'a>(
     }
     match first_of(brought) {
         Some(item) => Some(item),
-        None => found.base.get(path),
+        None => found.base.get_near(finger, path),
     }
 }
 
-// What stands at a path.
-fn place_at<'a>(store: &Held<'a>, path: &Path) -> Place<'a>
+// What stands at a path. The finger is in the tree.
+fn place_at<'a>(store: &Held<'a>, path: &Path, finger: &mut Finger) -> Place<'a>
     requires { AreCovered (from_sorted store.now.backs.now) store.now.tree.now }
     ensures ids { result.ids.now ≡ ids_in (from_sorted store.now.backs.now) path.now }
     ensures here { option_copied result.here ≡ get store.now.tree.now path.now }
     ensures base { result.base.now ≡ store.now.base.now }
 {
-    let here = store.tree.get(path);
+    let here = store.tree.get_near(finger, path);
     Place {
         ids: ids_at(store.backs, path, here),
         here,
@@ -207,12 +209,15 @@ pub(crate) fn plan_of<L: Ledger>(
         moves.now (paths_in touched.now))) }
     ensures steps { steps.new ≤ steps.old + length touched.now }
 {
-    let mut plan = Plan::new(alloc);
+    let mut plan = Plan::new(alloc, touched.len())?;
+    // The paths come in path order, so that most of them stand beside the one before.
+    let mut in_tree = Finger::new();
+    let mut in_base = Finger::new();
     for row in touched {
         steps.tick();
         let path = row.0;
-        let found = place_at(store, path);
-        if !plan.settle(alloc, moves, path, row.1.as_slice(), &found)? {
+        let found = place_at(store, path, &mut in_tree);
+        if !plan.settle(alloc, moves, path, row.1.as_slice(), &found, &mut in_base)? {
             let path = path.copy(alloc)?;
             let other = rival(alloc, moves, &path, &found)?;
             return Err(RefsFault::Clash { path, other });

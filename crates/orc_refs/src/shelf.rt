@@ -9,6 +9,7 @@ ghost use Rattle.orc_refs.specs.inside.Shelves.{AreOrdered, AreSome, back_rows, 
 use crate::part::{Part, share};
 use orc_path::Path;
 use orc_text::{Memory, Row, Text};
+use orc_tree::order;
 use std::alloc::Global;
 use std::cmp::Ordering;
 use std::sync::Arc;
@@ -40,7 +41,7 @@ impl Part for Shelf {
 
     fn starts_behind(&self, path: &Path) -> bool {
         match self.rows.first() {
-            Some(row) => path.cmp(&row.path).is_lt(),
+            Some(row) => order(path.steps.as_slice(), &row.path).is_lt(),
             None => false,
         }
     }
@@ -57,7 +58,7 @@ fn place_of(rows: &[Arc<Back>], path: &Path) -> Result<usize, usize>
     let mut high = rows.len();
     while low < high {
         let middle = low + (high - low) / 2;
-        match path.cmp(&rows[middle].path) {
+        match order(path.steps.as_slice(), &rows[middle].path) {
             Ordering::Less => high = middle,
             Ordering::Equal => return Ok(middle),
             Ordering::Greater => low = middle + 1,

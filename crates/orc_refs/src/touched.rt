@@ -45,7 +45,7 @@ fn rows_of<'a>(
     ensures rows { IfOk result (λ rows. AreRowsOf (read marks.now) (by_path rows.items)) }
     ensures len { IfOk result (λ rows. vec_len rows ≤ length marks.now) }
 {
-    let mut rows = Vec::new(alloc);
+    let mut rows = Vec::with_capacity(alloc, marks.len())?;
     for mark in marks {
         enter(alloc, &mut rows, mark)?;
     }

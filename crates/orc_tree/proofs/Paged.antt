@@ -25,7 +25,7 @@ abbrev pub Pages : Type 0
 Pages = List (Arc Page Global)
 
 -- a part whose first row comes after the path
-starts_less : (q : List PathStep) (part rest : Rows) → is_sorted path_cmp (part ++ rest) ≡ true → starts_behind q part ≡ true → below_all path_cmp q (part ++ rest) ≡ true
+pub starts_less : (q : List PathStep) (part rest : Rows) → is_sorted path_cmp (part ++ rest) ≡ true → starts_behind q part ≡ true → below_all path_cmp q (part ++ rest) ≡ true
 starts_less q [] rest s h = absurd (false≢true h)
 starts_less q (row ∷ part) rest s h =
     and_from _ _ h (below_less path_cmp path_cmp_total q row.0 (part ++ rest) (lt_is _ h) (and_parts (below_all path_cmp row.0 (part ++ rest)) _ s).0)

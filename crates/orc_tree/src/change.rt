@@ -4,6 +4,7 @@ ghost use Rattle.std.specs.List.{list_all};
 ghost use Rattle.orc_path.specs.Configurations.{IsConfig};
 ghost use Rattle.orc_tree.specs.Changes.{applied, drop_each, put_each, change_fits};
 
+use crate::finger::Finger;
 use crate::tree::Tree;
 use orc_path::{Item, Path};
 use orc_text::{Copied, Memory, Row};
@@ -58,12 +59,12 @@ impl Copied for ChangeSet {
 }
 
 // Removes what a change removes.
-fn drop_change(tree: &mut Tree, change: &Change) -> Result<(), Memory>
+fn drop_change(tree: &mut Tree, finger: &mut Finger, change: &Change) -> Result<(), Memory>
     ensures { OnOk result (tree.new ≡ drop_each (change.now ∷ []) tree.old) }
 {
     match change {
         Change::Put(_, _) => Ok(()),
-        Change::Remove(path) => tree.remove(path),
+        Change::Remove(path) => tree.remove_near(finger, path),
     }
 }
 
@@ -71,19 +72,25 @@ fn drop_change(tree: &mut Tree, change: &Change) -> Result<(), Memory>
 fn drop_each(tree: &mut Tree, changes: &[Change]) -> Result<(), Memory>
     ensures { OnOk result (tree.new ≡ drop_each changes.now tree.old) }
 {
+    let mut finger = Finger::new();
     for change in changes {
-        drop_change(tree, change)?;
+        drop_change(tree, &mut finger, change)?;
     }
     Ok(())
 }
 
 // Sets the item that a change puts.
-fn put_change(alloc: Global, tree: &mut Tree, change: &Change) -> Result<(), Memory>
+fn put_change(
+    alloc: Global,
+    tree: &mut Tree,
+    finger: &mut Finger,
+    change: &Change,
+) -> Result<(), Memory>
     requires fits { IsTrue (change_fits change.now) }
     ensures { OnOk result (tree.new ≡ put_each (change.now ∷ []) tree.old) }
 {
     match change {
-        Change::Put(path, item) => tree.set(path.copy(alloc)?, item.copy(alloc)?),
+        Change::Put(path, item) => tree.set_near(finger, path.copy(alloc)?, item.copy(alloc)?),
         Change::Remove(_) => Ok(()),
     }
 }
@@ -93,8 +100,9 @@ fn put_each(alloc: Global, tree: &mut Tree, changes: &[Change]) -> Result<(), Me
     requires fits { IsTrue (list_all change_fits changes.now) }
     ensures { OnOk result (tree.new ≡ put_each changes.now tree.old) }
 {
+    let mut finger = Finger::new();
     for change in changes {
-        put_change(alloc, tree, change)?;
+        put_change(alloc, tree, &mut finger, change)?;
     }
     Ok(())
 }

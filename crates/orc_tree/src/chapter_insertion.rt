@@ -6,19 +6,21 @@ ghost use Rattle.orc_tree.specs.inside.Places.{AreInOrder, AreChaptersInOrder, A
 ghost use Rattle.orc_tree.specs.inside.Puts.{AreGaps, put_with};
 
 use crate::chapter::{Chapter, own_chapter};
+use crate::finger::{Finger, place_near};
 use crate::insertion::put;
 use crate::layout::{push_chapter, split_long};
-use crate::lookup::chapter_for;
 use orc_path::{Item, Path};
 use orc_text::{Memory, Row};
 use std::alloc::Global;
 use std::mem;
 use std::sync::Arc;
 
-// Puts entries and an item into a chapter. Where memory runs out, its rows are as they were.
+// Puts entries and an item into a chapter, where this page is likely to be the path's. Where memory
+// runs out, its rows are as they were.
 fn put_into(
     chapter: &mut Arc<Chapter>,
     alloc: Global,
+    near: usize,
     missing: Vec<Path>,
     path: Path,
     item: Item,
@@ -34,7 +36,7 @@ fn put_into(
     match Arc::get_mut(chapter) {
         Some(chapter) => {
             let mut pages = mem::replace(&mut chapter.pages, Row::new(alloc)).into_vec();
-            let done = put(&mut pages, missing, path, item);
+            let done = put(&mut pages, near, missing, path, item);
             chapter.pages = Row::from_vec(pages);
             done
         }
@@ -48,6 +50,7 @@ fn put_into(
 fn put_at(
     chapters: &mut Vec<Arc<Chapter>>,
     at: usize,
+    near: usize,
     missing: Vec<Path>,
     path: Path,
     item: Item,
@@ -62,7 +65,7 @@ fn put_at(
     ensures laid { AreLaid chapters.new.items }
 {
     let alloc = *chapters.allocator();
-    put_into(&mut chapters[at], alloc, missing, path, item)
+    put_into(&mut chapters[at], alloc, near, missing, path, item)
 }
 
 // Makes the first chapter, of entries and an item, where there is none. Where memory runs out, there
@@ -83,13 +86,15 @@ fn put_first(
 {
     let alloc = *chapters.allocator();
     let mut pages = Vec::new(alloc);
-    put(&mut pages, missing, path, item)?;
+    put(&mut pages, 0, missing, path, item)?;
     push_chapter(chapters, alloc, pages)
 }
 
-// Puts entries and an item into the chapters. Where memory runs out, the rows are as they were.
+// Puts entries and an item into the chapters. The finger is left where the path is put. Where memory
+// runs out, the rows are as they were.
 pub(crate) fn put_in_chapters(
     chapters: &mut Vec<Arc<Chapter>>,
+    finger: &mut Finger,
     missing: Vec<Path>,
     path: Path,
     item: Item,
@@ -105,8 +110,9 @@ pub(crate) fn put_in_chapters(
     if chapters.is_empty() {
         return put_first(chapters, missing, path, item);
     }
-    let at = chapter_for(chapters.as_slice(), path.steps.as_slice());
-    put_at(chapters, at, missing, path, item)?;
-    split_long(chapters, at);
+    let place = place_near(chapters.as_slice(), *finger, path.steps.as_slice());
+    *finger = place;
+    put_at(chapters, place.chapter, place.page, missing, path, item)?;
+    split_long(chapters, place.chapter);
     Ok(())
 }

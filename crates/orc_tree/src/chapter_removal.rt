@@ -5,8 +5,8 @@ ghost use Rattle.orc_tree.specs.inside.Places.{AreInOrder, AreChaptersInOrder, A
 ghost use Rattle.orc_tree.specs.inside.Removal.{kept_of, all_kept, starts_taken};
 
 use crate::chapter::{Chapter, own_chapter};
+use crate::finger::{Finger, place_near};
 use crate::layout::{join_chapters, replace_chapters, share_run};
-use crate::lookup::chapter_for;
 use crate::page::Page;
 use crate::removal::{remove, starts_taken};
 use orc_path::Path;
@@ -15,9 +15,14 @@ use std::alloc::Global;
 use std::mem;
 use std::sync::Arc;
 
-// Takes the path and what is below it out of a chapter, and says whether no page is left. Where
-// memory runs out, its rows are as they were.
-fn remove_within(chapter: &mut Chapter, alloc: Global, path: &Path) -> Result<bool, Memory>
+// Takes the path and what is below it out of a chapter, where this page is likely to be the path's,
+// and says whether no page is left. Where memory runs out, its rows are as they were.
+fn remove_within(
+    chapter: &mut Chapter,
+    alloc: Global,
+    near: usize,
+    path: &Path,
+) -> Result<bool, Memory>
     requires sorted { AreInOrder chapter.old.pages }
     requires sized { AreSized chapter.old.pages }
     ensures ok { OnOk result (rows_of chapter.new.pages ≡ kept_of path.now (rows_of chapter.old.pages)) }
@@ -26,7 +31,7 @@ fn remove_within(chapter: &mut Chapter, alloc: Global, path: &Path) -> Result<bo
     ensures left { IfOk result (λ none. none ≡ (length chapter.new.pages == 0)) }
 {
     let mut pages = mem::replace(&mut chapter.pages, Row::new(alloc)).into_vec();
-    let done = remove(&mut pages, path);
+    let done = remove(&mut pages, near, path);
     chapter.pages = Row::from_vec(pages);
     done?;
     Ok(chapter.pages.is_empty())
@@ -34,7 +39,12 @@ fn remove_within(chapter: &mut Chapter, alloc: Global, path: &Path) -> Result<bo
 
 // Takes the path and what is below it out of a chapter that other owners may share, which is copied
 // where they do, and says whether no page is left.
-fn remove_from(chapter: &mut Arc<Chapter>, alloc: Global, path: &Path) -> Result<bool, Memory>
+fn remove_from(
+    chapter: &mut Arc<Chapter>,
+    alloc: Global,
+    near: usize,
+    path: &Path,
+) -> Result<bool, Memory>
     requires sorted { AreInOrder (chapter_pages chapter.old) }
     requires sized { AreSized (chapter_pages chapter.old) }
     ensures ok { OnOk result (chapter_rows chapter.new ≡ kept_of path.now (chapter_rows chapter.old)) }
@@ -44,7 +54,7 @@ fn remove_from(chapter: &mut Arc<Chapter>, alloc: Global, path: &Path) -> Result
 {
     own_chapter(alloc, chapter)?;
     match Arc::get_mut(chapter) {
-        Some(chapter) => remove_within(chapter, alloc, path),
+        Some(chapter) => remove_within(chapter, alloc, near, path),
         // No chapter has another holder after `own_chapter`.
         None => Err(Memory),
     }
@@ -80,7 +90,12 @@ fn end_of_run(chapters: &[Arc<Chapter>], at: usize, path: &Path) -> usize
 
 // Takes the path and what is below it out of its chapter, where all of it stands there. A chapter
 // of which nothing is left goes.
-fn remove_at_chapter(chapters: &mut Vec<Arc<Chapter>>, at: usize, path: &Path) -> Result<(), Memory>
+fn remove_at_chapter(
+    chapters: &mut Vec<Arc<Chapter>>,
+    at: usize,
+    near: usize,
+    path: &Path,
+) -> Result<(), Memory>
     requires place { IsChapterFor path.now chapters.old.items at }
     requires sorted { AreChaptersInOrder chapters.old.items }
     requires laid { AreLaid chapters.old.items }
@@ -90,7 +105,7 @@ fn remove_at_chapter(chapters: &mut Vec<Arc<Chapter>>, at: usize, path: &Path) -
     ensures laid { AreLaid chapters.new.items }
 {
     let alloc = *chapters.allocator();
-    let none = remove_from(&mut chapters[at], alloc, path)?;
+    let none = remove_from(&mut chapters[at], alloc, near, path)?;
     if none {
         chapters.remove(at);
         return Ok(());
@@ -104,6 +119,7 @@ fn remove_run(
     chapters: &mut Vec<Arc<Chapter>>,
     at: usize,
     end: usize,
+    near: usize,
     path: &Path,
 ) -> Result<(), Memory>
     requires place { IsChapterFor path.now chapters.old.items at }
@@ -117,17 +133,18 @@ fn remove_run(
     ensures laid { AreLaid chapters.new.items }
 {
     if end == at + 1 {
-        return remove_at_chapter(chapters, at, path);
+        return remove_at_chapter(chapters, at, near, path);
     }
     let mut pages = share_run(*chapters.allocator(), &chapters[at..end])?;
-    remove(&mut pages, path)?;
+    remove(&mut pages, near, path)?;
     replace_chapters(chapters, at, end, pages)
 }
 
 // Takes the path and what is below it out of the chapters, and joins what is left where it is
-// little. Where memory runs out, the rows are as they were.
+// little. The finger is left where the path was. Where memory runs out, the rows are as they were.
 pub(crate) fn remove_in_chapters(
     chapters: &mut Vec<Arc<Chapter>>,
+    finger: &mut Finger,
     path: &Path,
 ) -> Result<(), Memory>
     requires sorted { AreChaptersInOrder chapters.old.items }
@@ -139,9 +156,10 @@ pub(crate) fn remove_in_chapters(
     if chapters.is_empty() {
         return Ok(());
     }
-    let at = chapter_for(chapters.as_slice(), path.steps.as_slice());
-    let end = end_of_run(chapters.as_slice(), at, path);
-    remove_run(chapters, at, end, path)?;
-    join_chapters(chapters, at);
+    let place = place_near(chapters.as_slice(), *finger, path.steps.as_slice());
+    *finger = place;
+    let end = end_of_run(chapters.as_slice(), place.chapter, path);
+    remove_run(chapters, place.chapter, end, place.page, path)?;
+    join_chapters(chapters, place.chapter);
     Ok(())
 }

@@ -8,6 +8,7 @@ ghost use Rattle.orc_tree.specs.Pages.{page_rows, rows_of, AreSized};
 ghost use Rattle.orc_tree.specs.inside.Places.{AreInOrder, IsPageFor};
 ghost use Rattle.orc_tree.specs.inside.Puts.{AreGaps, put_with, rows_with};
 
+use crate::finger::page_near;
 use crate::lookup::page_for;
 use crate::page::{PAGE_ROWS, Page, copy_rows, own};
 use crate::sorted::{enter_rows, put_row};
@@ -207,7 +208,7 @@ fn split(pages: &mut Vec<Arc<Page>>, at: usize) -> Result<(), Memory>
 
 // The page in which the row of the path of these steps stands, or else would, once it was split
 // where it was full. Where memory runs out, the rows are as they were.
-fn page_with_room(pages: &mut Vec<Arc<Page>>, steps: &[Step]) -> Result<usize, Memory>
+fn page_with_room(pages: &mut Vec<Arc<Page>>, near: usize, steps: &[Step]) -> Result<usize, Memory>
     requires sorted { AreInOrder pages.old.items }
     requires sized { AreSized pages.old.items }
     requires some { 0 < vec_len pages.old }
@@ -215,7 +216,7 @@ fn page_with_room(pages: &mut Vec<Arc<Page>>, steps: &[Step]) -> Result<usize, M
     ensures rows { rows_of pages.new.items ≡ rows_of pages.old.items }
     ensures sized { AreSized pages.new.items }
 {
-    let at = page_for(pages.as_slice(), steps);
+    let at = page_near(pages.as_slice(), near, steps);
     if pages[at].rows.len() < PAGE_ROWS {
         return Ok(at);
     }
@@ -223,9 +224,11 @@ fn page_with_room(pages: &mut Vec<Arc<Page>>, steps: &[Step]) -> Result<usize, M
     Ok(page_for(pages.as_slice(), steps))
 }
 
-// Puts entries and an item into the pages. Where memory runs out, the rows are as they were.
+// Puts entries and an item into the pages, of which this one is likely to be the path's. Where memory
+// runs out, the rows are as they were.
 pub(crate) fn put(
     pages: &mut Vec<Arc<Page>>,
+    near: usize,
     missing: Vec<Path>,
     path: Path,
     item: Item,
@@ -241,6 +244,6 @@ pub(crate) fn put(
         let rows = Vec::new(*pages.allocator());
         return put_apart(pages, 0, 0, rows, missing, path, item);
     }
-    let at = page_with_room(pages, path.steps.as_slice())?;
+    let at = page_with_room(pages, near, path.steps.as_slice())?;
     put_at(pages, at, missing, path, item)
 }

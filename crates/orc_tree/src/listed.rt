@@ -8,6 +8,7 @@ ghost use Rattle.orc_tree.specs.inside.Removal.{kept_of};
 use crate::chapter::{Chapter, ChapterList, share_chapters};
 use crate::chapter_insertion::put_in_chapters;
 use crate::chapter_removal::remove_in_chapters;
+use crate::finger::Finger;
 use orc_path::{Item, Path};
 use orc_text::Memory;
 use std::alloc::Global;
@@ -71,6 +72,7 @@ fn own_list(list: &mut Option<Arc<ChapterList>>, alloc: Global) -> Result<(), Me
 // Puts entries and an item into the chapters of a list that has no other holder.
 fn put_owned(
     list: &mut Arc<ChapterList>,
+    finger: &mut Finger,
     missing: Vec<Path>,
     path: Path,
     item: Item,
@@ -85,14 +87,14 @@ fn put_owned(
     ensures laid { AreLaid (list_chapters list.new) }
 {
     match Arc::get_mut(list) {
-        Some(list) => put_in_chapters(&mut list.chapters, missing, path, item),
+        Some(list) => put_in_chapters(&mut list.chapters, finger, missing, path, item),
         // No list has another holder after `own_list`.
         None => Err(Memory),
     }
 }
 
 // Takes a path and what is below it out of the chapters of a list that has no other holder.
-fn remove_owned(list: &mut Arc<ChapterList>, path: &Path) -> Result<(), Memory>
+fn remove_owned(list: &mut Arc<ChapterList>, finger: &mut Finger, path: &Path) -> Result<(), Memory>
     requires sorted { AreChaptersInOrder (list_chapters list.old) }
     requires laid { AreLaid (list_chapters list.old) }
     ensures ok { OnOk result
@@ -101,7 +103,7 @@ fn remove_owned(list: &mut Arc<ChapterList>, path: &Path) -> Result<(), Memory>
     ensures laid { AreLaid (list_chapters list.new) }
 {
     match Arc::get_mut(list) {
-        Some(list) => remove_in_chapters(&mut list.chapters, path),
+        Some(list) => remove_in_chapters(&mut list.chapters, finger, path),
         // No list has another holder after `own_list`.
         None => Err(Memory),
     }
@@ -112,6 +114,7 @@ fn remove_owned(list: &mut Arc<ChapterList>, path: &Path) -> Result<(), Memory>
 pub(crate) fn put_shared(
     list: &mut Option<Arc<ChapterList>>,
     alloc: Global,
+    finger: &mut Finger,
     missing: Vec<Path>,
     path: Path,
     item: Item,
@@ -126,7 +129,7 @@ pub(crate) fn put_shared(
 {
     own_list(list, alloc)?;
     match list {
-        Some(list) => put_owned(list, missing, path, item),
+        Some(list) => put_owned(list, finger, missing, path, item),
         None => Err(Memory),
     }
 }
@@ -136,6 +139,7 @@ pub(crate) fn put_shared(
 pub(crate) fn remove_shared(
     list: &mut Option<Arc<ChapterList>>,
     alloc: Global,
+    finger: &mut Finger,
     path: &Path,
 ) -> Result<(), Memory>
     requires sorted { AreChaptersInOrder (listed list.old) }
@@ -146,7 +150,7 @@ pub(crate) fn remove_shared(
 {
     own_list(list, alloc)?;
     match list {
-        Some(list) => remove_owned(list, path),
+        Some(list) => remove_owned(list, finger, path),
         None => Err(Memory),
     }
 }

@@ -3,7 +3,7 @@ ghost use Rattle.std.specs.Prelude.{◌≡◌, ◌<◌, length, IsTrue};
 ghost use Rattle.std.specs.Option.{option_copied};
 ghost use Rattle.std.specs.FinMap.{find, is_sorted};
 ghost use Rattle.orc_path.specs.Order.{path_cmp};
-ghost use Rattle.orc_tree.specs.Pages.{rows_of, AreSized, chapters_rows};
+ghost use Rattle.orc_tree.specs.Pages.{rows_of, AreSized};
 ghost use Rattle.orc_tree.specs.inside.Places.{AreInOrder, AreChaptersInOrder, AreLaid, IsPageFor, IsChapterFor, starts_behind};
 
 use crate::chapter::Chapter;
@@ -13,7 +13,7 @@ use orc_path::{Item, Path, Step};
 use std::sync::Arc;
 
 // Whether the first of some rows comes after the path of these steps.
-fn starts_behind(rows: &[(Path, Item)], steps: &[Step]) -> bool
+pub(crate) fn starts_behind(rows: &[(Path, Item)], steps: &[Step]) -> bool
     ensures { result ≡ starts_behind steps.now rows.now }
 {
     match rows.first() {
@@ -44,7 +44,7 @@ pub(crate) fn page_for(pages: &[Arc<Page>], steps: &[Step]) -> usize
 }
 
 // The item at the path of these steps among rows, if there is one.
-fn item_in<'a>(rows: &'a [(Path, Item)], steps: &[Step]) -> Option<&'a Item>
+pub(crate) fn item_in<'a>(rows: &'a [(Path, Item)], steps: &[Step]) -> Option<&'a Item>
     requires { IsTrue (is_sorted path_cmp rows.now) }
     ensures { option_copied result ≡ find path_cmp steps.now rows.now }
 {
@@ -54,20 +54,8 @@ fn item_in<'a>(rows: &'a [(Path, Item)], steps: &[Step]) -> Option<&'a Item>
     }
 }
 
-// The item at the path of these steps among pages, if there is one. It takes no memory.
-fn item_among<'a>(pages: &'a [Arc<Page>], steps: &[Step]) -> Option<&'a Item>
-    requires sorted { AreInOrder pages.now }
-    requires sized { AreSized pages.now }
-    ensures { option_copied result ≡ find path_cmp steps.now (rows_of pages.now) }
-{
-    if pages.is_empty() {
-        return None;
-    }
-    item_in(pages[page_for(pages, steps)].rows.as_slice(), steps)
-}
-
 // Whether the first row of pages comes after the path of these steps.
-fn first_behind(pages: &[Arc<Page>], steps: &[Step]) -> bool
+pub(crate) fn first_behind(pages: &[Arc<Page>], steps: &[Step]) -> bool
     requires { AreSized pages.now }
     ensures { result ≡ starts_behind steps.now (rows_of pages.now) }
 {
@@ -96,19 +84,4 @@ pub(crate) fn chapter_for(chapters: &[Arc<Chapter>], steps: &[Step]) -> usize
         }
     }
     low
-}
-
-// The item at the path of these steps among chapters, if there is one. It takes no memory.
-pub(crate) fn find_item<'a>(chapters: &'a [Arc<Chapter>], steps: &[Step]) -> Option<&'a Item>
-    requires sorted { AreChaptersInOrder chapters.now }
-    requires laid { AreLaid chapters.now }
-    ensures { option_copied result ≡ find path_cmp steps.now (chapters_rows chapters.now) }
-{
-    if chapters.is_empty() {
-        return None;
-    }
-    item_among(
-        chapters[chapter_for(chapters, steps)].pages.as_slice(),
-        steps,
-    )
 }

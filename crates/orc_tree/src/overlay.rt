@@ -6,6 +6,7 @@ ghost use Rattle.orc_tree.specs.inside.Places.{AreChaptersInOrder, AreLaid};
 
 use crate::chapter::Chapter;
 use crate::chapter_insertion::put_in_chapters;
+use crate::finger::Finger;
 use crate::walk::Rows;
 use orc_text::Memory;
 use std::sync::Arc;
@@ -23,9 +24,11 @@ pub(crate) fn lay_chapters(
     ensures laid { AreLaid chapters.new.items }
 {
     let alloc = *chapters.allocator();
+    let mut finger = Finger::new();
     for row in Rows::new(top) {
         put_in_chapters(
             chapters,
+            &mut finger,
             Vec::new(alloc),
             row.0.copy(alloc)?,
             row.1.copy(alloc)?,

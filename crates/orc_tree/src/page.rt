@@ -48,11 +48,12 @@ pub(crate) fn push_copies(
     Ok(())
 }
 
-// Copies of rows.
+// Copies of rows, with room for one row more, which often is put there next.
 pub(crate) fn copy_rows(alloc: Global, rows: &[(Path, Item)]) -> Result<Vec<(Path, Item)>, Memory>
     ensures { IfOk result (λ copies. copies.items ≡ rows.now) }
 {
     let mut copies = Vec::new(alloc);
+    copies.reserve(rows.len().saturating_add(1))?;
     push_copies(alloc, &mut copies, rows)?;
     Ok(copies)
 }
@@ -82,13 +83,14 @@ pub(crate) fn push_shared(out: &mut Vec<Arc<Page>>, pages: &[Arc<Page>]) -> Resu
     Ok(())
 }
 
-// Another list of the same pages.
+// Another list of the same pages, with room for one more.
 pub(crate) fn share_pages(alloc: Global, pages: &[Arc<Page>]) -> Result<Vec<Arc<Page>>, Memory>
     requires { AreSized pages.now }
     ensures rows { IfOk result (λ shared. rows_of shared.items ≡ rows_of pages.now) }
     ensures sized { IfOk result (λ shared. AreSized shared.items) }
 {
     let mut shared = Vec::new(alloc);
+    shared.reserve(pages.len().saturating_add(1))?;
     push_shared(&mut shared, pages)?;
     Ok(shared)
 }

@@ -5,8 +5,8 @@ ghost use Rattle.orc_tree.specs.Pages.{page_rows, rows_of, AreSized};
 ghost use Rattle.orc_tree.specs.inside.Places.{AreInOrder, IsPageFor};
 ghost use Rattle.orc_tree.specs.inside.Removal.{kept_of, all_kept, starts_taken};
 
+use crate::finger::page_near;
 use crate::insertion::replace;
-use crate::lookup::page_for;
 use crate::page::{Page, copy_rows, own, push_copies};
 use orc_path::{Item, Path};
 use orc_text::{Memory, Row};
@@ -200,9 +200,9 @@ fn join_around(pages: &mut Vec<Arc<Page>>, at: usize)
     }
 }
 
-// Takes the path and what is below it out of the pages, and joins what is left where it is little.
-// Where memory runs out, the rows are as they were.
-pub(crate) fn remove(pages: &mut Vec<Arc<Page>>, path: &Path) -> Result<(), Memory>
+// Takes the path and what is below it out of the pages, of which this one is likely to be the path's,
+// and joins what is left where it is little. Where memory runs out, the rows are as they were.
+pub(crate) fn remove(pages: &mut Vec<Arc<Page>>, near: usize, path: &Path) -> Result<(), Memory>
     requires sorted { AreInOrder pages.old.items }
     requires sized { AreSized pages.old.items }
     ensures ok { OnOk result (rows_of pages.new.items ≡ kept_of path.now (rows_of pages.old.items)) }
@@ -212,7 +212,7 @@ pub(crate) fn remove(pages: &mut Vec<Arc<Page>>, path: &Path) -> Result<(), Memo
     if pages.is_empty() {
         return Ok(());
     }
-    let at = page_for(pages.as_slice(), path.steps.as_slice());
+    let at = page_near(pages.as_slice(), near, path.steps.as_slice());
     let end = end_of(pages.as_slice(), at, path);
     remove_among(pages, at, end, path)?;
     join_around(pages, at);

@@ -12,9 +12,9 @@ ghost use Rattle.orc_tree.specs.Sameness.{equal_configs};
 
 use crate::change::{ChangeSet, apply_to};
 use crate::chapter::{Chapter, ChapterList, share_chapters};
+use crate::finger::{Finger, find_item, find_near};
 use crate::listed::{chapters_in, new_list, put_shared, remove_shared, share_list};
 use crate::lists::list_entries;
-use crate::lookup::find_item;
 use crate::overlay::lay_chapters;
 use crate::walk::{Rows, count_all, same_rows};
 use crate::ways::missing_ways;
@@ -72,6 +72,15 @@ impl Tree {
         find_item(chapters_in(&self.list), path.steps.as_slice())
     }
 
+    /// The item at a path, if there is one. It takes no memory. It costs a few comparisons where the last
+    /// search with this finger ended beside it, and else a search.
+    pub fn get_near(&self, finger: &mut Finger, path: &Path) -> Option<&Item>
+        ensures item { option_copied result ≡ get self.now path.now }
+        ensures config { IsConfig self.now }
+    {
+        find_near(chapters_in(&self.list), finger, path.steps.as_slice())
+    }
+
     /// Sets the item at a path, and adds the entries on its way that are missing. It costs a search
     /// for each entry on the way and an edit of one page. Where copies hold the list of chapters,
     /// the chapter or the page, these are copied first. Where memory runs out, the tree is as it was.
@@ -81,8 +90,23 @@ impl Tree {
         ensures err { OnErr result (self.new ≡ self.old) }
         ensures config { IsConfig self.new }
     {
-        let missing = missing_ways(self.alloc, chapters_in(&self.list), &path)?;
-        put_shared(&mut self.list, self.alloc, missing, path, item)
+        self.set_near(&mut Finger::new(), path, item)
+    }
+
+    // `set`, where the finger is likely to be beside the path. It is left where the item is put.
+    pub(crate) fn set_near(
+        &mut self,
+        finger: &mut Finger,
+        path: Path,
+        item: Item,
+    ) -> Result<(), Memory>
+        requires fits { IsTrue (fits path item) }
+        ensures ok { OnOk result (self.new ≡ put_item self.old path item) }
+        ensures err { OnErr result (self.new ≡ self.old) }
+        ensures config { IsConfig self.new }
+    {
+        let missing = missing_ways(self.alloc, chapters_in(&self.list), finger, &path)?;
+        put_shared(&mut self.list, self.alloc, finger, missing, path, item)
     }
 
     /// Removes a path that ends in keys with all below it, or else that one leaf. It costs a search
@@ -92,7 +116,16 @@ impl Tree {
         ensures err { OnErr result (self.new ≡ self.old) }
         ensures config { IsConfig self.new }
     {
-        remove_shared(&mut self.list, self.alloc, path)
+        self.remove_near(&mut Finger::new(), path)
+    }
+
+    // `remove`, where the finger is likely to be at the path. It is left where the path was.
+    pub(crate) fn remove_near(&mut self, finger: &mut Finger, path: &Path) -> Result<(), Memory>
+        ensures ok { OnOk result (self.new ≡ drop_item self.old path.now) }
+        ensures err { OnErr result (self.new ≡ self.old) }
+        ensures config { IsConfig self.new }
+    {
+        remove_shared(&mut self.list, self.alloc, finger, path)
     }
 
     /// Sets each item of another tree, so that this one is overlaid with it. It costs a list of the

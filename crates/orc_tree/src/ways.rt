@@ -9,7 +9,7 @@ ghost use Rattle.orc_tree.specs.inside.Places.{AreChaptersInOrder, AreLaid, AreC
 ghost use Rattle.orc_tree.specs.inside.Puts.{HasNoneBeyond, AreGaps};
 
 use crate::chapter::Chapter;
-use crate::lookup::find_item;
+use crate::finger::{Finger, find_near};
 use orc_path::{Path, Step};
 use orc_text::Memory;
 use std::alloc::Global;
@@ -25,7 +25,7 @@ fn has_keys(steps: &[Step], at: usize) -> bool
 }
 
 // Whether the step at a place has keys and the path up to it has a row.
-fn is_present(chapters: &[Arc<Chapter>], steps: &[Step], at: usize) -> bool
+fn is_present(chapters: &[Arc<Chapter>], finger: &mut Finger, steps: &[Step], at: usize) -> bool
     requires sorted { AreChaptersInOrder chapters.now }
     requires laid { AreLaid chapters.now }
     requires within { at < length steps.now }
@@ -33,13 +33,13 @@ fn is_present(chapters: &[Arc<Chapter>], steps: &[Step], at: usize) -> bool
         ≡ (has_keys_at steps.now at
         && is_some (find path_cmp (take (at + 1) steps.now) (chapters_rows chapters.now))) }
 {
-    has_keys(steps, at) && find_item(chapters, &steps[..at + 1]).is_some()
+    has_keys(steps, at) && find_near(chapters, finger, &steps[..at + 1]).is_some()
 }
 
 // How many steps the longest entry on the way to a path has that has a row, or 0 where none has
 // one. It is looked for from the path's end, since the entries on the way to one that is there are
 // there, too: most paths are put beside others, and then one search does for all.
-fn present_steps(chapters: &[Arc<Chapter>], steps: &[Step]) -> usize
+fn present_steps(chapters: &[Arc<Chapter>], finger: &mut Finger, steps: &[Step]) -> usize
     requires { AreChapters chapters.now }
     ensures within { result ≤ length steps.now - 1 }
     ensures entered { enter_all (ways_up_to result steps.now) (chapters_map chapters.now) ≡ chapters_map chapters.now }
@@ -47,7 +47,7 @@ fn present_steps(chapters: &[Arc<Chapter>], steps: &[Step]) -> usize
 {
     let mut at = steps.len().saturating_sub(1);
     while at > 0 {
-        if is_present(chapters, steps, at - 1) {
+        if is_present(chapters, finger, steps, at - 1) {
             return at;
         }
         at -= 1;
@@ -60,6 +60,7 @@ fn present_steps(chapters: &[Arc<Chapter>], steps: &[Step]) -> usize
 pub(crate) fn missing_ways(
     alloc: Global,
     chapters: &[Arc<Chapter>],
+    finger: &mut Finger,
     path: &Path,
 ) -> Result<Vec<Path>, Memory>
     requires { AreChapters chapters.now }
@@ -71,7 +72,7 @@ pub(crate) fn missing_ways(
 {
     let mut missing = Vec::new(alloc);
     let steps = path.steps.as_slice();
-    let present = present_steps(chapters, steps);
+    let present = present_steps(chapters, finger, steps);
     for at in present..steps.len().saturating_sub(1) {
         if has_keys(steps, at) {
             missing.push(path.first_steps(alloc, at + 1)?)?;

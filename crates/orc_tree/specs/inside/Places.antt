@@ -1,5 +1,5 @@
 -- A tree's chapters and their pages, and a path's place among them.
-use Rattle.std.specs.Prelude.{◌≡◌, ℕ, suc, ◌<◌, ◌≤◌, Bool, false, List, [], ◌∷◌, ◌++◌, length, take, drop, IsTrue}
+use Rattle.std.specs.Prelude.{◌≡◌, ℕ, suc, ◌<◌, ◌≤◌, Bool, false, List, [], ◌∷◌, ◌++◌, length, take, drop, get_or, IsTrue}
 use Rattle.std.specs.Ordering.{is_gt, is_lt}
 use Rattle.std.specs.List.{list_all, flat_map, All}
 use Rattle.std.specs.FinMap.{is_sorted}
@@ -60,6 +60,18 @@ IsPageFor path pages at = IsPartFor page_rows path pages at
 -- the chapter is the path's among chapters
 abbrev pub IsChapterFor : List PathStep → List (Arc Chapter Global) → ℕ → Type 0
 IsChapterFor path chapters at = IsPartFor chapter_rows path chapters at
+
+-- the rows behind a page of a chapter, in it and in the chapters behind that, come after the path
+pub record AreBehind
+    (path : List PathStep) (chapters : List (Arc Chapter Global)) (chapter : ℕ) (pages : List (Arc Page Global)) (page : ℕ)
+    : Type 0 where
+  pub inside : IsTrue (below_all path_cmp path (rows_of (drop (suc page) pages)))
+  pub after : IsTrue (below_all path_cmp path (chapters_rows (drop (suc chapter) chapters)))
+
+-- the chapter is the path's among chapters, and the page the path's among the pages of that
+pub record IsPlaceFor (path : List PathStep) (chapters : List (Arc Chapter Global)) (chapter page : ℕ) : Type 0 where
+  pub among : IsChapterFor path chapters chapter
+  pub inside : (default : Arc Chapter Global) → IsPageFor path (chapter_pages (get_or chapters chapter default)) page
 
 -- the rest of the rows, before which only rows stand that come before the path
 pub record IsRestFor (path : List PathStep) (whole rest : List (List PathStep × Item)) : Type 0 where

@@ -16,7 +16,7 @@ loop-low-preserved-in-Less c =
     let middle = c.loop-low.low + (c.loop-low.high - c.loop-low.low) / 2 in
     let row = c.index-rows-middle.result in
     let within : middle < length rows = omega arith in
-    let less : path_cmp q (back_row row).0 ≡ Less = ap (λ (b : Back). path_cmp q b.path) (sym c.deref.ensures) ∙ sym c.in-Less.ensures.value in
+    let less : path_cmp q (back_row row).0 ≡ Less = ap (λ (b : Back). path_cmp q b.path) (sym c.deref.ensures) ∙ ap (λ (steps : List PathStep). path_cmp steps c.deref.result.now.path) (sym (c.as_slice.ensures ∙ c.path.view_is)) ∙ sym c.in-Less.ensures in
     record {
       order = omega arith;
       within = omega arith;
@@ -31,7 +31,7 @@ returns-in-Equal-clause-found c =
     let middle = c.loop-low.low + (c.loop-low.high - c.loop-low.low) / 2 in
     let row = c.index-rows-middle.result in
     let within : middle < length rows = omega arith in
-    let equal : path_cmp q (back_row row).0 ≡ Equal = ap (λ (b : Back). path_cmp q b.path) (sym c.deref.ensures) ∙ sym c.in-Equal.ensures.value in
+    let equal : path_cmp q (back_row row).0 ≡ Equal = ap (λ (b : Back). path_cmp q b.path) (sym c.deref.ensures) ∙ ap (λ (steps : List PathStep). path_cmp steps c.deref.result.now.path) (sym (c.as_slice.ensures ∙ c.path.view_is)) ∙ sym c.in-Equal.ensures in
     record {
       within = omega (arith, as_many rows);
       here = λ d. ap (λ (e : List PathStep × List (List ℕ)). e.0) (sym (get_or_read (back_rows rows) middle (back_row row) (omega (arith, as_many rows)) (kept-at rows middle row within c.index-rows-middle.is) d))
@@ -45,7 +45,7 @@ loop-low-preserved c =
     let middle = c.loop-low.low + (c.loop-low.high - c.loop-low.low) / 2 in
     let row = c.index-rows-middle.result in
     let within : middle < length rows = omega arith in
-    let greater : path_cmp q (back_row row).0 ≡ Greater = ap (λ (b : Back). path_cmp q b.path) (sym c.deref.ensures) ∙ sym c.in-Greater.ensures.value in
+    let greater : path_cmp q (back_row row).0 ≡ Greater = ap (λ (b : Back). path_cmp q b.path) (sym c.deref.ensures) ∙ ap (λ (steps : List PathStep). path_cmp steps c.deref.result.now.path) (sym (c.as_slice.ensures ∙ c.path.view_is)) ∙ sym c.in-Greater.ensures in
     record {
       order = omega arith;
       within = omega arith;

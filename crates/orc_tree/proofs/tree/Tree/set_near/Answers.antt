@@ -9,8 +9,8 @@ use Rattle.orc_tree.specs.inside.Puts.{put_entries}
 use Rattle.orc_tree.proofs.Maps.{map_of}
 use Rattle.orc_tree.proofs.Chaptered.{Chapters}
 use Rattle.orc_tree.proofs.Edited.{map_of-put_all, sorted-put_all, AreChapters-edited}
-use Rattle.orc_tree.proofs.tree.Tree.set.Goals as goal
-use Rattle.orc_tree.proofs.tree.Tree.set.Goals.{After-put_shared}
+use Rattle.orc_tree.proofs.tree.Tree.set_near.Goals as goal
+use Rattle.orc_tree.proofs.tree.Tree.set_near.Goals.{After-put_shared}
 
 set_is : (c : After-put_shared) → map_of (put path_cmp c.args.path c.args.item (put_entries c.in_ok-missing.missing.items (chapters_rows (listed c.self.inside.list)))) ≡ put_item c.args.self.now c.args.path c.args.item
 set_is c =

@@ -6,8 +6,8 @@ use Rattle.orc_tree.specs.Pages.{listed, chapters_rows}
 use Rattle.orc_tree.specs.inside.Removal.{kept_of}
 use Rattle.orc_tree.proofs.Maps.{map_of}
 use Rattle.orc_tree.proofs.Edited.{map_of-kept, sorted-kept, AreChapters-edited}
-use Rattle.orc_tree.proofs.tree.Tree.remove.Goals as goal
-use Rattle.orc_tree.proofs.tree.Tree.remove.Goals.{After-remove_shared}
+use Rattle.orc_tree.proofs.tree.Tree.remove_near.Goals as goal
+use Rattle.orc_tree.proofs.tree.Tree.remove_near.Goals.{After-remove_shared}
 
 removed_is : (c : After-remove_shared) → map_of (kept_of c.args.path.now (chapters_rows (listed c.self.inside.list))) ≡ drop_item c.args.self.now c.args.path.now
 removed_is c = map_of-kept c.args.path.now (chapters_rows (listed c.self.inside.list)) c.self.invariant.sorted ∙ ap (λ (m : Config). drop_item m c.args.path.now) c.self.view_is
