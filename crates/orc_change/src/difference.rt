@@ -10,7 +10,7 @@ ghost use Rattle.orc_change.specs.inside.Held.{AreHeld};
 use crate::likely::{Place, likely_place};
 use orc_path::{Item, Path};
 use orc_text::{Memory, Row};
-use orc_tree::{Change, ChangeSet, Chapter, Page, Tree};
+use orc_tree::{Change, ChangeSet, Chapter, Finger, Page, Tree};
 use std::alloc::Global;
 use std::sync::Arc;
 
@@ -156,7 +156,8 @@ fn push_absent(
     push_each_absent(alloc, changes, rows, to)
 }
 
-// Adds a removal of each row's path at which the tree has no item, with a search for each row.
+// Adds a removal of each row's path at which the tree has no item, with a search for each row. Each
+// search begins where the one before ended.
 fn push_each_absent(
     alloc: Global,
     changes: &mut Row<Change>,
@@ -165,8 +166,9 @@ fn push_each_absent(
 ) -> Result<(), Memory>
     ensures { OnOk result (changes.new ≡ changes.old ++ removals rows.now to.now) }
 {
+    let mut finger = Finger::new();
     for row in rows {
-        if to.get(&row.0).is_none() {
+        if to.get_near(&mut finger, &row.0).is_none() {
             changes.push(Change::Remove(row.0.copy(alloc)?))?;
         }
     }
@@ -190,7 +192,8 @@ fn push_new(
     push_each_new(alloc, changes, rows, from)
 }
 
-// Adds a put of each row whose item the tree hasn't at its path, with a search for each row.
+// Adds a put of each row whose item the tree hasn't at its path, with a search for each row. Each search
+// begins where the one before ended.
 fn push_each_new(
     alloc: Global,
     changes: &mut Row<Change>,
@@ -199,8 +202,9 @@ fn push_each_new(
 ) -> Result<(), Memory>
     ensures { OnOk result (changes.new ≡ changes.old ++ new_puts rows.now from.now) }
 {
+    let mut finger = Finger::new();
     for row in rows {
-        if !has_item(from.get(&row.0), &row.1) {
+        if !has_item(from.get_near(&mut finger, &row.0), &row.1) {
             changes.push(Change::Put(row.0.copy(alloc)?, row.1.copy(alloc)?))?;
         }
     }

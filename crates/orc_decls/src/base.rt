@@ -1,8 +1,9 @@
 //! The tree of items that were declared, as those of a device's base.
 //!
-//! It is made in the order of the paths. To search a large tree in no order is to wait for memory at
-//! each step, so the items are put in order first: in pieces that a processor's cache holds, each of
-//! which is copied in its order, and then all by a sort that takes the pieces as runs.
+//! It is made in the order of the paths, so that most searches end where the one before ended. To search
+//! a large tree in no order is to wait for memory at each step, so the items are put in order first: in
+//! pieces that a processor's cache holds, each of which is copied in its order, and then all by a sort
+//! that takes the pieces as runs.
 ghost use Rattle.std.specs.Prelude.{◌≡◌, ◌++◌, map, IfOk, OnOk, IsTrue};
 ghost use Rattle.std.specs.FinMap.{empty};
 ghost use Rattle.orc_decls.specs.Openings.{declared_base, fits_puts, put_all};
@@ -11,7 +12,7 @@ ghost use Rattle.orc_decls.specs.inside.Orders.{KeepsOrder};
 use crate::Device;
 use orc_call::Put;
 use orc_text::Memory;
-use orc_tree::Tree;
+use orc_tree::{Finger, Tree};
 use std::alloc::Global;
 use std::cmp::min;
 
@@ -61,8 +62,9 @@ pub fn tree_of(alloc: Global, puts: &[Put]) -> Result<Tree, Memory>
     ensures { IfOk result (λ tree. tree ≡ put_all puts.now empty) }
 {
     let mut tree = Tree::new(alloc);
+    let mut finger = Finger::new();
     for put in sorted(alloc, puts)? {
-        tree.set(put.path, put.item)?;
+        tree.set_near(&mut finger, put.path, put.item)?;
     }
     Ok(tree)
 }

@@ -23,7 +23,8 @@ use orc_tree::{Change, Finger, Tree};
 use std::alloc::Global;
 use std::sync::ledger::Ledger;
 
-// The back pointers of the paths that moves touch, and the changes of the tree there.
+// The changes of the tree at the paths that moves touch, and the back pointers there where these are
+// wanted.
 #[derive(Drop)]
 pub(crate) struct Plan {
     pub(crate) rows: Row<(Path, Row<Text>)>,
@@ -49,20 +50,23 @@ pub(crate) struct Held<'a> {
 }
 
 impl Plan {
-    // Nothing yet, with room for so many paths.
-    fn new(alloc: Global, count: usize) -> Result<Plan, Memory>
+    // Nothing yet, with room for what so many paths come to, and for their back pointers where they are
+    // wanted.
+    fn new(alloc: Global, count: usize, with_pointers: bool) -> Result<Plan, Memory>
         ensures rows { IfOk result (λ plan. plan.rows ≡ []) }
         ensures removals { IfOk result (λ plan. plan.removals ≡ []) }
         ensures puts { IfOk result (λ plan. plan.puts ≡ []) }
     {
+        let pointer_count = if with_pointers { count } else { 0 };
         Ok(Plan {
-            rows: Row::from_vec(Vec::with_capacity(alloc, count)?),
+            rows: Row::from_vec(Vec::with_capacity(alloc, pointer_count)?),
             removals: Row::from_vec(Vec::with_capacity(alloc, count)?),
             puts: Row::from_vec(Vec::with_capacity(alloc, count)?),
         })
     }
 
-    // Settles one path where all that write it agree, and else answers false. The finger is in the base.
+    // Settles the item of one path where all that write it agree, and else answers false. The finger is
+    // where the last search in the base ended.
     fn settle(
         &mut self,
         alloc: Global,
@@ -77,8 +81,7 @@ impl Plan {
             ≡ all_bring moves.now path.now
             (item_after moves.now path.now found.now.ids.now (option_copied found.now.here)
             (get found.now.base.now path.now))) }
-        ensures rows { result ≡ Ok true
-            → self.new.rows ≡ self.old.rows ++ (path.now, ids_after moves.now path.now found.now.ids.now) ∷ [] }
+        ensures rows { self.new.rows ≡ self.old.rows }
         ensures removals { result ≡ Ok true
             → self.new.removals ≡ self.old.removals ++ gone (option_copied found.now.here)
             (item_after moves.now path.now found.now.ids.now (option_copied found.now.here)
@@ -94,10 +97,32 @@ impl Plan {
         if !all_are(brought, after) {
             return Ok(false);
         }
-        let ids = ids_after(alloc, moves, brought, found.ids)?;
-        self.rows.push((path.copy(alloc)?, Row::from_vec(ids)))?;
         self.change(alloc, path, found.here, after)?;
         Ok(true)
+    }
+
+    // Adds the back pointers of a path, where these are wanted. The ids are those before the moves.
+    fn add_pointers(
+        &mut self,
+        alloc: Global,
+        moves: &[Move],
+        path: &Path,
+        brought: &[Brought<'_>],
+        ids: &[Text],
+        with_pointers: bool,
+    ) -> Result<(), Memory>
+        requires { shown brought.now ≡ brings_at moves.now path.now }
+        ensures rows { OnOk result (IsTrue with_pointers
+            → self.new.rows ≡ self.old.rows ++ (path.now, ids_after moves.now path.now ids.now) ∷ []) }
+        ensures removals { self.new.removals ≡ self.old.removals }
+        ensures puts { self.new.puts ≡ self.old.puts }
+    {
+        if !with_pointers {
+            return Ok(());
+        }
+        let after = ids_after(alloc, moves, brought, ids)?;
+        self.rows.push((path.copy(alloc)?, Row::from_vec(after)))?;
+        Ok(())
     }
 
     // Adds the change of a path, if there is one.
@@ -131,7 +156,8 @@ impl Plan {
     }
 }
 
-// The item that stands at a path once the moves are done. The finger is in the base.
+// The item that stands at a path once the moves are done. The finger is where the last search in the
+// base ended.
 fn item_after<'a>(
     moves: &[Move],
     path: &Path,
@@ -153,7 +179,7 @@ fn item_after<'a>(
     }
 }
 
-// What stands at a path. The finger is in the tree.
+// What stands at a path. The finger is where the last search in the tree ended.
 fn place_at<'a>(store: &Held<'a>, path: &Path, finger: &mut Finger) -> Place<'a>
     requires { AreCovered (from_sorted store.now.backs.now) store.now.tree.now }
     ensures ids { result.ids.now ≡ ids_in (from_sorted store.now.backs.now) path.now }
@@ -180,13 +206,14 @@ fn ids_at<'a>(backs: &'a Backs, path: &Path, here: Option<&Item>) -> &'a [Text]
     }
 }
 
-// What the moves come to at the paths that they touch, where each path has what they bring there. It
-// visits each of these paths once.
+// What the moves come to at the paths that they touch, where each path has what they bring there, with
+// the back pointers there where these are wanted. It visits each of these paths once.
 pub(crate) fn plan_of<L: Ledger>(
     alloc: Global,
     moves: &[Move],
     store: &Held<'_>,
     touched: &[(&Path, Vec<Brought<'_>>)],
+    with_pointers: bool,
     steps: &mut Steps<L>,
 ) -> Result<Plan, RefsFault>
     requires backs { IsTrue (is_sorted path_cmp store.now.backs.now) }
@@ -197,7 +224,8 @@ pub(crate) fn plan_of<L: Ledger>(
     ensures clash { IfErr result (HasCause (from_sorted store.now.backs.now) store.now.tree.now store.now.base.now
         moves.now (paths_in touched.now)) }
     ensures rows { IfOk result
-        (λ plan. plan.rows ≡ rows_due (from_sorted store.now.backs.now) moves.now (paths_in touched.now)) }
+        (λ plan. IsTrue with_pointers
+        → plan.rows ≡ rows_due (from_sorted store.now.backs.now) moves.now (paths_in touched.now)) }
     ensures removals { IfOk result
         (λ plan. plan.removals ≡ removals_due (from_sorted store.now.backs.now) store.now.tree.now store.now.base.now
         moves.now (paths_in touched.now)) }
@@ -209,19 +237,34 @@ pub(crate) fn plan_of<L: Ledger>(
         moves.now (paths_in touched.now))) }
     ensures steps { steps.new ≤ steps.old + length touched.now }
 {
-    let mut plan = Plan::new(alloc, touched.len())?;
+    let mut plan = Plan::new(alloc, touched.len(), with_pointers)?;
     // The paths come in path order, so that most of them stand beside the one before.
-    let mut in_tree = Finger::new();
-    let mut in_base = Finger::new();
+    let mut tree_finger = Finger::new();
+    let mut base_finger = Finger::new();
     for row in touched {
         steps.tick();
         let path = row.0;
-        let found = place_at(store, path, &mut in_tree);
-        if !plan.settle(alloc, moves, path, row.1.as_slice(), &found, &mut in_base)? {
+        let found = place_at(store, path, &mut tree_finger);
+        if !plan.settle(
+            alloc,
+            moves,
+            path,
+            row.1.as_slice(),
+            &found,
+            &mut base_finger,
+        )? {
             let path = path.copy(alloc)?;
             let other = rival(alloc, moves, &path, &found)?;
             return Err(RefsFault::Clash { path, other });
         }
+        plan.add_pointers(
+            alloc,
+            moves,
+            path,
+            row.1.as_slice(),
+            found.ids,
+            with_pointers,
+        )?;
     }
     Ok(plan)
 }

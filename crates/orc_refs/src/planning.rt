@@ -1,6 +1,6 @@
-//! Moves and edits of the base prepared and put in place. All that can be refused is refused before
+//! Moves and edits of the base planned and put in place. All that can be refused is refused before
 //! anything is changed.
-ghost use Rattle.std.specs.Prelude.{◌≡◌, ◌+◌, ◌*◌, ◌<◌, ◌≤◌, ◌++◌, All, List, IsErr, IfErr, IfOk, OnOk, OnErr, IsTrue, length, vec_len};
+ghost use Rattle.std.specs.Prelude.{◌≡◌, ◌+◌, ◌*◌, ◌<◌, ◌≤◌, ◌++◌, All, List, IsErr, IfErr, IfOk, OnOk, IsTrue, length};
 ghost use Rattle.std.specs.List.{list_all};
 ghost use Rattle.std.specs.FinMap.{from_sorted, is_sorted};
 ghost use Rattle.orc_path.specs.Order.{path_cmp};
@@ -13,7 +13,7 @@ ghost use Rattle.orc_refs.specs.Moves.{BringWhole, IsMoved, LeadsTo, StartAt, ar
 ghost use Rattle.orc_refs.specs.Clashes.{IsCause};
 ghost use Rattle.orc_refs.specs.inside.Kept.{AreKept};
 ghost use Rattle.orc_refs.specs.inside.Marks.{brings_at, brought_in, by_path, paths_in};
-ghost use Rattle.orc_refs.specs.inside.Plans.{AreCovered, HasCause, IsPlanned, PutsAtPath, all_agree, changes_due, planned_store, rows_due, with_rows};
+ghost use Rattle.orc_refs.specs.inside.Plans.{AreCovered, HasCause, IsPlannedWith, PutsAtPath, all_agree, changes_due, rows_due};
 
 use crate::backs::Backs;
 use crate::base::{NewBase, new_base};
@@ -28,8 +28,8 @@ use orc_tree::{Change, ChangeSet, Tree};
 use std::alloc::Global;
 use std::sync::ledger::{Blank, Ledger};
 
-// What is due on a store: the changes of its tree and the back pointers of the paths that are
-// touched.
+// What is due on a store: the changes of its tree and, where they are made too, the back pointers
+// of the paths that are touched.
 #[derive(Drop)]
 pub(crate) struct Due {
     pub(crate) set: ChangeSet,
@@ -43,20 +43,13 @@ pub(crate) struct Outlook {
     pub(crate) base: Tree,
 }
 
-// What is due on a store, with the base and the tree that the store is to have.
-#[derive(Drop)]
-pub(crate) struct Prepared {
-    pub(crate) due: Due,
-    pub(crate) base: Tree,
-    pub(crate) tree: Tree,
-}
-
 // What is due at these paths. It visits each of them once.
 fn due_at<L: Ledger>(
     alloc: Global,
     store: &Held<'_>,
     moves: &[Move],
     touched: &[(&Path, Vec<Brought<'_>>)],
+    with_pointers: bool,
     steps: &mut Steps<L>,
 ) -> Result<Due, RefsFault>
     requires backs { IsTrue (is_sorted path_cmp store.now.backs.now) }
@@ -68,7 +61,8 @@ fn due_at<L: Ledger>(
         (λ due. due.set.changes ≡ changes_due (from_sorted store.now.backs.now) store.now.tree.now
         store.now.base.now moves.now (paths_in touched.now)) }
     ensures rows { IfOk result
-        (λ due. due.rows ≡ rows_due (from_sorted store.now.backs.now) moves.now (paths_in touched.now)) }
+        (λ due. IsTrue with_pointers
+        → due.rows ≡ rows_due (from_sorted store.now.backs.now) moves.now (paths_in touched.now)) }
     ensures agree { IfOk result
         (λ due. IsTrue (all_agree (from_sorted store.now.backs.now) store.now.tree.now store.now.base.now
         moves.now (paths_in touched.now))) }
@@ -77,7 +71,7 @@ fn due_at<L: Ledger>(
     ensures steps { steps.new ≤ steps.old + length touched.now }
 {
     // A `match` and no `?`, so that the proof has the fault by its name.
-    let plan = match plan_of(alloc, moves, store, touched, steps) {
+    let plan = match plan_of(alloc, moves, store, touched, with_pointers, steps) {
         Ok(plan) => plan,
         Err(fault) => return Err(fault),
     };
@@ -99,6 +93,7 @@ fn due_on<L: Ledger>(
     edited: &Tree,
     changes: &[Change],
     moves: &[Move],
+    with_pointers: bool,
     steps: &mut Steps<L>,
 ) -> Result<Due, RefsFault>
     requires kept { AreKept base.now tree.now backs.now }
@@ -108,9 +103,11 @@ fn due_on<L: Ledger>(
     requires config { IsConfig edited.now }
     requires changes { changes.now ≡ difference base.now edited.now }
     ensures planned { IfOk result
-        (λ due. IsPlanned (store_of base.now tree.now backs.now) edited.now moves.now due.set.changes due.rows) }
+        (λ due. IsPlannedWith with_pointers (store_of base.now tree.now backs.now) edited.now moves.now
+        due.set.changes due.rows) }
     ensures len { IfOk result
-        (λ due. length due.rows ≤ count_moved moves.now + length (difference base.now edited.now)) }
+        (λ due. IsTrue with_pointers
+        → length due.rows ≤ count_moved moves.now + length (difference base.now edited.now)) }
     ensures clash { IfErr result
         (IsCause (writes_after moves.now (written_by (store_of base.now tree.now backs.now))) moves.now) }
     ensures steps { steps.new ≤ steps.old + (count_moved moves.now + length (difference base.now edited.now)) }
@@ -121,7 +118,7 @@ fn due_on<L: Ledger>(
         tree,
         base: edited,
     };
-    match due_at(alloc, &store, moves, paths.as_slice(), steps) {
+    match due_at(alloc, &store, moves, paths.as_slice(), with_pointers, steps) {
         Ok(due) => Ok(due),
         Err(fault) => Err(fault),
     }
@@ -156,6 +153,7 @@ fn look_ahead<L: Ledger>(
     base: &Tree,
     moves: &[Move],
     edits: &[BaseEdit],
+    with_pointers: bool,
     steps: &mut Steps<L>,
 ) -> Result<Outlook, RefsFault>
     requires kept { AreKept base.now tree.now backs.now }
@@ -164,11 +162,12 @@ fn look_ahead<L: Ledger>(
     requires whole { BringWhole moves.now }
     requires fits { IsTrue (list_all edit_fits edits.now) }
     ensures planned { IfOk result
-        (λ outlook. IsPlanned (store_of base.now tree.now backs.now) outlook.base moves.now
+        (λ outlook. IsPlannedWith with_pointers (store_of base.now tree.now backs.now) outlook.base moves.now
         outlook.due.set.changes outlook.due.rows) }
     ensures base { IfOk result (λ outlook. outlook.base ≡ edited edits.now base.now) }
     ensures len { IfOk result
-        (λ outlook. length outlook.due.rows
+        (λ outlook. IsTrue with_pointers
+        → length outlook.due.rows
         ≤ count_moved moves.now + length (difference base.now (edited edits.now base.now))) }
     ensures clash { IfErr result
         (IsCause (writes_after moves.now (written_by (store_of base.now tree.now backs.now))) moves.now) }
@@ -177,7 +176,17 @@ fn look_ahead<L: Ledger>(
 {
     let new = new_base(alloc, base, edits)?;
     let changes = new.set.changes.as_slice();
-    let due = match due_on(alloc, backs, tree, base, &new.tree, changes, moves, steps) {
+    let due = match due_on(
+        alloc,
+        backs,
+        tree,
+        base,
+        &new.tree,
+        changes,
+        moves,
+        with_pointers,
+        steps,
+    ) {
         Ok(due) => due,
         Err(fault) => return Err(fault),
     };
@@ -188,53 +197,6 @@ fn look_ahead<L: Ledger>(
     Ok(Outlook {
         due,
         base: edited_base,
-    })
-}
-
-// What moves and edits make of a store.
-pub(crate) fn prepare<L: Ledger>(
-    alloc: Global,
-    backs: &Backs,
-    tree: &Tree,
-    base: &Tree,
-    moves: &[Move],
-    edits: &[BaseEdit],
-    steps: &mut Steps<L>,
-) -> Result<Prepared, RefsFault>
-    requires kept { AreKept base.now tree.now backs.now }
-    requires start { StartAt (store_of base.now tree.now backs.now) moves.now }
-    requires distinct { IsTrue (are_distinct moves.now) }
-    requires whole { BringWhole moves.now }
-    requires fits { IsTrue (list_all edit_fits edits.now) }
-    ensures moved { IfOk result
-        (λ prepared. IsMoved (store_of base.now tree.now backs.now) moves.now edits.now
-        (planned_store (store_of base.now tree.now backs.now) prepared.base prepared.due.set.changes
-        prepared.due.rows)) }
-    ensures tree { IfOk result (λ prepared. prepared.tree ≡ applied prepared.due.set.changes tree.now) }
-    ensures exact { IfOk result
-        (λ prepared. prepared.due.set.changes
-        ≡ difference tree.now (applied prepared.due.set.changes tree.now)) }
-    ensures len { IfOk result
-        (λ prepared. length prepared.due.rows
-        ≤ count_moved moves.now + length (difference base.now (edited edits.now base.now))) }
-    ensures clash { IfErr result
-        (IsCause (writes_after moves.now (written_by (store_of base.now tree.now backs.now))) moves.now) }
-    ensures steps { steps.new
-        ≤ steps.old + (count_moved moves.now + length (difference base.now (edited edits.now base.now))) }
-{
-    let outlook = match look_ahead(alloc, backs, tree, base, moves, edits, steps) {
-        Ok(outlook) => outlook,
-        Err(fault) => return Err(fault),
-    };
-    let Outlook {
-        due,
-        base: new_base,
-    } = outlook;
-    let new_tree = applied_to(alloc, &due.set, tree)?;
-    Ok(Prepared {
-        due,
-        base: new_base,
-        tree: new_tree,
     })
 }
 
@@ -267,16 +229,16 @@ pub(crate) fn apply_moves<L: Ledger>(
     ensures steps { steps.new
         ≤ steps.old + 2 * (count_moved moves.now + length (difference base.old (edited edits.now base.old))) }
 {
-    let prepared = match prepare(alloc, &*backs, &*tree, &*base, moves, edits, steps) {
-        Ok(prepared) => prepared,
+    let outlook = match look_ahead(alloc, &*backs, &*tree, &*base, moves, edits, true, steps) {
+        Ok(outlook) => outlook,
         Err(fault) => return Err(fault),
     };
-    let Prepared {
+    let Outlook {
         due,
         base: new_base,
-        tree: new_tree,
-    } = prepared;
+    } = outlook;
     let Due { set, rows } = due;
+    let new_tree = applied_to(alloc, &set, &*tree)?;
     let new_backs = backs.with_rows(alloc, rows.into_vec(), steps)?;
     *backs = new_backs;
     *base = new_base;
@@ -312,7 +274,8 @@ fn set_of(outlook: Outlook) -> ChangeSet
     set
 }
 
-// The changes of the tree that moves and edits would make, where nothing is counted.
+// The changes of the tree that moves and edits would make, where nothing is counted and no back pointer
+// is made.
 pub(crate) fn preview_moves<L: Ledger>(
     alloc: Global,
     backs: &Backs,
@@ -336,7 +299,7 @@ pub(crate) fn preview_moves<L: Ledger>(
         (IsCause (writes_after moves.now (written_by (store_of base.now tree.now backs.now))) moves.now) }
 {
     let mut steps = Steps::<L>::new(blank);
-    match look_ahead(alloc, backs, tree, base, moves, edits, &mut steps) {
+    match look_ahead(alloc, backs, tree, base, moves, edits, false, &mut steps) {
         Ok(outlook) => {
             put_at_paths(outlook.due.set.changes.as_slice());
             Ok(set_of(outlook))

@@ -48,7 +48,7 @@ impl Part for Shelf {
 }
 
 // Where the row of a path stands among rows, or else where it would. It halves the rows with each
-// comparison.
+// comparison, which `order` makes cheaper than `Path::cmp`, where the names of steps are equal.
 fn place_of(rows: &[Arc<Back>], path: &Path) -> Result<usize, usize>
     requires { AreOrdered (back_rows rows.now) }
     ensures found { IfOk result (IsRowOf path.now (back_rows rows.now)) }

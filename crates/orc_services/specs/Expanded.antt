@@ -48,7 +48,7 @@ expanded_action s (Modify id body) = as_literal s.devices.names id (expansion_of
 expanded_action s (Redeploy id) = as_literal s.devices.names id (expansion_of s id)
 expanded_action s other = record { outcome = Ok other; reads = [] }
 
--- whether a template is expanded for an action
+-- the action creates, modifies or redeploys a service: only such actions expand a template
 abbrev pub is_templated : Action → Bool
 is_templated (Create id body) = true
 is_templated (Modify id body) = true

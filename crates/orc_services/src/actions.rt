@@ -116,7 +116,7 @@ fn expand_service(
     }
 }
 
-// Whether a template is expanded for an action.
+// Whether an action creates, modifies or redeploys a service: only such actions expand a template.
 fn is_templated(action: &Action) -> bool
     ensures { result ≡ is_templated action.now }
 {
@@ -126,8 +126,8 @@ fn is_templated(action: &Action) -> bool
     }
 }
 
-/// Whether a template is expanded for one of the actions: one creates, modifies or redeploys a service.
-/// Else all of them come to themselves.
+/// Whether one of the actions creates, modifies or redeploys a service: only such actions expand a
+/// template. Else all of them come to themselves.
 pub fn any_templated(actions: &[Action]) -> bool
     ensures { result ≡ list_any is_templated actions.now }
 {

@@ -1,10 +1,10 @@
 -- The rows of chapters, and of the pages that stand in them.
-use Rattle.std.proofs.Common.{◌≡◌, ◌==◌, ℕ, ◌<◌, ◌≤◌, Bool, false, List, [], ◌∷◌, ◌++◌, length, get_or, refl, sym, ap, subst, ◌∙◌, arith}
-use Rattle.std.specs.List.{splice}
+use Rattle.std.proofs.Common.{◌≡◌, ◌==◌, ℕ, zero, suc, ◌-◌, ◌<◌, ◌≤◌, Bool, false, List, [], ◌∷◌, ◌++◌, length, take, drop, get_or, refl, sym, ap, subst, ◌∙◌, arith}
+use Rattle.std.specs.List.{slice_range, splice}
 use Rattle.std.specs.declared.alloc.Global.{Global}
 use Rattle.std.specs.declared.sync.Arc.{Arc}
 use Rattle.std.proofs.lemmas.Bool.{false≢true}
-use Rattle.std.proofs.lemmas.List.{length-append}
+use Rattle.std.proofs.lemmas.List.{length-append, length-drop}
 use Rattle.std.proofs.lemmas.List.Elements.{All-append, All-head, All-tail, All-take, All-drop}
 use Rattle.orc_tree.specs.declared.chapter.Chapter.{Chapter}
 use Rattle.orc_tree.specs.Pages.{page_rows, rows_of, chapter_pages, pages_of, IsSized, AreSized, AreFilled, chapter_rows, chapters_rows}
@@ -46,6 +46,16 @@ some_page (p ∷ ps) l = omega arith
 pub some_rows : (ps : Pages) → AreSized ps → 1 ≤ length ps → 1 ≤ length (rows_of ps)
 some_rows [] sized l = absurd (omega arith)
 some_rows (p ∷ ps) sized l = omega (arith, (All-head IsSized p ps sized).0, length-append (page_rows p) (rows_of ps))
+
+-- chapters, at least one, have a row, and so have those from one on to a later one
+some_in_front : (cs : Chapters) (n : ℕ) → AreLaid cs → 1 ≤ n → 1 ≤ length cs → 1 ≤ length (chapters_rows (take n cs))
+some_in_front [] n laid some within = absurd (omega (arith, within))
+some_in_front (c ∷ cs) zero laid some within = absurd (omega (arith, some))
+some_in_front (c ∷ cs) (suc n) laid some within = omega (arith, (All-head IsLaid c cs laid).1, length-append (chapter_rows c) (chapters_rows (take n cs)))
+
+pub some_in_span : (cs : Chapters) (at end : ℕ) → AreLaid cs → at < end → at < length cs → 1 ≤ length (chapters_rows (slice_range cs at end))
+some_in_span cs at end laid more within =
+    some_in_front (drop at cs) (end - at) (All-drop IsLaid at cs laid) (omega (arith, more)) (omega (arith, within, length-drop at cs))
 
 pub AreLaid-filled : (cs : Chapters) → AreLaid cs → AreFilled cs
 AreLaid-filled cs laid = λ k d l. some_page (chapter_pages (get_or cs k d)) (laid k d l).1

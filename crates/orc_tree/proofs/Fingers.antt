@@ -26,25 +26,6 @@ not_behind q [] [] rest above some h = absurd (omega (arith, some))
 not_behind q [] (row ∷ part) rest above some h = h
 not_behind q (row ∷ front) part rest above some h = ap is_lt (gt_is _ (and_parts _ (above_all q front) above).0)
 
--- a page that begins at the path or before it is the path's where it is the last one, and where the next one begins behind the path
-module _ (q : List PathStep) (pages : Pages) (at : ℕ) (page : Arc Page Global) (sorted : is_sorted path_cmp (rows_of pages) ≡ true) (sized : AreSized pages)
-    (within : at < length pages) (is : page ≡ get_or pages at page) (begins : starts_behind q (page_rows page) ≡ false) where
-  pub page_last : length pages ≤ at + 1 → IsPageFor q pages at
-  page_last last = record {
-    within = within;
-    before = before_part page_rows q pages at page sorted (AreSized-some pages sized) within is begins;
-    behind = ap (λ (ps : Pages). below_all path_cmp q (rows_of ps)) (drop_all (suc at) pages (omega (arith, last)));
-  }
-
-  pub page_here : (next : Arc Page Global) → at + 1 < length pages → next ≡ get_or pages (at + 1) next → starts_behind q (page_rows next) ≡ true → IsPageFor q pages at
-  page_here next more is_next ends =
-      let one : at + 1 ≡ suc at = omega arith in
-      record {
-        within = within;
-        before = before_part page_rows q pages at page sorted (AreSized-some pages sized) within is begins;
-        behind = behind_part page_rows q pages (suc at) next sorted (omega (arith, more)) (is_next ∙ ap (λ n. get_or pages n next) one) ends;
-      }
-
 -- what stands behind pages comes after a path that the first row of one of them comes after
 behind_pages : (q : List PathStep) (pages : Pages) (at : ℕ) (page : Arc Page Global) (rest : Rows)
     → at < length pages → page ≡ get_or pages at page → starts_behind q (page_rows page) ≡ true

@@ -1,5 +1,5 @@
 -- The rows of parts, cut at one part: of the pages of a chapter, and of the chapters of a tree.
-use Rattle.std.proofs.Common.{◌≡◌, ℕ, zero, suc, ◌+◌, ◌<◌, ◌≤◌, true, false, List, [], ◌∷◌, ◌++◌, length, take, drop, get_or, set, insert, refl, sym, ap, subst, ◌∙◌, arith, append-nil}
+use Rattle.std.proofs.Common.{◌≡◌, ℕ, zero, suc, ◌+◌, ◌<◌, ◌≤◌, true, false, List, [], ◌∷◌, ◌++◌, map, length, take, drop, get_or, set, insert, refl, sym, ap, subst, ◌∙◌, arith, append-nil}
 use Rattle.std.specs.Ordering.{is_lt}
 use Rattle.std.specs.List.{splice, flat_map, All}
 use Rattle.std.specs.declared.alloc.Global.{Global}
@@ -9,7 +9,7 @@ use Rattle.std.specs.declared.cmp.Ordering.TheVariants.{Less, Equal, Greater}
 use Rattle.std.specs.FinMap.{find, is_sorted}
 use Rattle.std.specs.FinMap.Entries.{below_all}
 use Rattle.std.proofs.lemmas.Bool.{false≢true, and_parts, and_from}
-use Rattle.std.proofs.lemmas.List.{length-append, take-append-drop, append_assoc, drop_more, set_split}
+use Rattle.std.proofs.lemmas.List.{length-append, length-map, take-append-drop, append_assoc, drop_more, set_split}
 use Rattle.std.proofs.lemmas.List.Concat.{flat_map-append}
 use Rattle.std.proofs.lemmas.List.Elements.{All-append, All-take, All-drop, All-push, All-set}
 use Rattle.orc_path.specs.Steps.{PathStep}
@@ -106,6 +106,26 @@ module _ {E : Type 0} (f : E → Rows) where
 
   pub IsPartFor-like : (q r : List PathStep) (ps qs : List E) (i : ℕ) → r ≡ q → qs ≡ ps → IsPartFor f r qs i → IsPartFor f q ps i
   IsPartFor-like q r ps qs i same is for = subst (λ (x : List E). IsPartFor f q x i) is (subst (λ (x : List PathStep). IsPartFor f x qs i) same for)
+
+  -- the rows of the parts up to a place, and of those from there on, are told by the rows of each part
+  rows_before : (ps : List E) (i : ℕ) → flat_map (λ (r : Rows). r) (take i (map f ps)) ≡ flat_map f (take i ps)
+  rows_before ps zero = refl
+  rows_before [] (suc i) = refl
+  rows_before (p ∷ ps) (suc i) = ap (λ (r : Rows). f p ++ r) (rows_before ps i)
+
+  rows_from : (ps : List E) (i : ℕ) → flat_map (λ (r : Rows). r) (drop i (map f ps)) ≡ flat_map f (drop i ps)
+  rows_from [] zero = refl
+  rows_from (p ∷ ps) zero = ap (λ (r : Rows). f p ++ r) (rows_from ps zero)
+  rows_from [] (suc i) = refl
+  rows_from (p ∷ ps) (suc i) = rows_from ps i
+
+  -- so a path's part is its part among others that have the same rows one by one
+  pub IsPartFor-again : (q : List PathStep) (ps qs : List E) (i : ℕ) → map f ps ≡ map f qs → IsPartFor f q qs i → IsPartFor f q ps i
+  IsPartFor-again q ps qs i same for = record {
+    within = subst (λ n. i < n) (sym (length-map qs f) ∙ ap length (sym same) ∙ length-map ps f) for.within;
+    before = ap (above_all q) (sym (rows_before ps i) ∙ ap (λ (rs : List Rows). flat_map (λ (r : Rows). r) (take i rs)) same ∙ rows_before qs i) ∙ for.before;
+    behind = ap (below_all path_cmp q) (sym (rows_from ps (suc i)) ∙ ap (λ (rs : List Rows). flat_map (λ (r : Rows). r) (drop (suc i) rs)) same ∙ rows_from qs (suc i)) ∙ for.behind;
+  }
 
   -- two parts that stand next to each other, cut out of the others
   pub rows_of-two : (ps : List E) (i : ℕ) (p q : E) → i + 1 < length ps → p ≡ get_or ps i p → q ≡ get_or ps (i + 1) q

@@ -22,7 +22,7 @@ use Rattle.orc_tree.specs.inside.Places.{IsPartFor, above_all}
 use Rattle.orc_tree.specs.inside.Removal.{kept_of, all_kept, starts_taken}
 use Rattle.orc_tree.proofs.InOrder.{turned_by}
 use Rattle.orc_tree.proofs.Maps.{Rows}
-use Rattle.orc_tree.proofs.Pieces.{lt_is, below_behind, sorted_behind}
+use Rattle.orc_tree.proofs.Pieces.{lt_is, below_behind, sorted_behind, sorted_front}
 use Rattle.orc_tree.proofs.Paged.{HaveRows, rows_of-append, rows_of-at, rows_of-cut}
 use Rattle.orc_tree.proofs.Between.{prefix_between}
 
@@ -106,6 +106,12 @@ module _ {E : Type 0} (f : E → Rows) where
   rows_of-span ps i end order =
       rows_of-cut f ps i
       ∙ ap (λ (r : Rows). flat_map f (take i ps) ++ r) (ap (λ (qs : List E). flat_map f qs) (drop_split ps i end order) ∙ rows_of-append f (slice_range ps i end) (drop end ps))
+
+  -- parts of rows in order are in order
+  pub sorted_span : (ps : List E) (i end : ℕ) → i ≤ end → is_sorted path_cmp (flat_map f ps) ≡ true → is_sorted path_cmp (flat_map f (slice_range ps i end)) ≡ true
+  sorted_span ps i end order sorted =
+      sorted_front path_cmp path_cmp_total (flat_map f (slice_range ps i end)) (flat_map f (drop end ps))
+      (sorted_behind path_cmp path_cmp_total (flat_map f (take i ps)) _ (ap (is_sorted path_cmp) (sym (rows_of-span ps i end order)) ∙ sorted))
 
   -- the rows before a path's part and those after what it takes stay
   pub kept_span : (p : List PathStep) (ps : List E) (i end : ℕ) → above_all p (flat_map f (take i ps)) ≡ true → all_kept p (flat_map f (drop end ps)) ≡ true → i ≤ end

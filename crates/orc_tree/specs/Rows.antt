@@ -1,4 +1,4 @@
--- A path's place among rows in path order, each a path with a value.
+-- A path's place among rows in path order, each a path with a value, for tables in the crates above too.
 use Rattle.std.specs.Prelude.{◌≡◌, ℕ, ◌<◌, ◌≤◌, List, length}
 use Rattle.std.specs.List.{AllWithin, HoldsAt}
 use Rattle.std.specs.declared.cmp.Ordering.TheVariants.{Less, Greater}

@@ -1,6 +1,6 @@
 //! Chapters: runs of pages in path order that trees share.
-ghost use Rattle.std.specs.Prelude.{◌≡◌, IfOk};
-ghost use Rattle.orc_tree.specs.Pages.{chapter_pages, AreSized, chapter_rows, chapters_rows};
+ghost use Rattle.std.specs.Prelude.{◌≡◌, IfOk, map};
+ghost use Rattle.orc_tree.specs.Pages.{page_rows, chapter_pages, AreSized, chapter_rows, chapters_rows};
 ghost use Rattle.orc_tree.specs.inside.Places.{AreLaid};
 
 use crate::page::{Page, share_pages};
@@ -25,6 +25,7 @@ pub(crate) struct ChapterList {
 pub(crate) fn own_chapter(alloc: Global, chapter: &mut Arc<Chapter>) -> Result<(), Memory>
     requires { AreSized (chapter_pages chapter.old) }
     ensures rows { chapter_rows chapter.new ≡ chapter_rows chapter.old }
+    ensures each { map page_rows (chapter_pages chapter.new) ≡ map page_rows (chapter_pages chapter.old) }
     ensures sized { AreSized (chapter_pages chapter.new) }
 {
     if Arc::strong_count(chapter) != 1 {

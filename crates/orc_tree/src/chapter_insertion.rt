@@ -2,12 +2,12 @@
 //! copied where it has other holders, and so is the page.
 ghost use Rattle.std.specs.Prelude.{◌≡◌, [], OnOk, OnErr};
 ghost use Rattle.orc_tree.specs.Pages.{chapter_pages, AreSized, chapter_rows, chapters_rows};
-ghost use Rattle.orc_tree.specs.inside.Places.{AreInOrder, AreChaptersInOrder, AreLaid, IsChapterFor};
+ghost use Rattle.orc_tree.specs.inside.Places.{AreInOrder, AreChaptersInOrder, AreLaid, IsPageFor, IsPlaceFor};
 ghost use Rattle.orc_tree.specs.inside.Puts.{AreGaps, put_with};
 
 use crate::chapter::{Chapter, own_chapter};
 use crate::finger::{Finger, place_near};
-use crate::insertion::put;
+use crate::insertion::{pages_with, put};
 use crate::layout::{push_chapter, split_long};
 use orc_path::{Item, Path};
 use orc_text::{Memory, Row};
@@ -15,16 +15,17 @@ use std::alloc::Global;
 use std::mem;
 use std::sync::Arc;
 
-// Puts entries and an item into a chapter, where this page is likely to be the path's. Where memory
-// runs out, its rows are as they were.
+// Puts entries and an item into a chapter, of whose pages this one is the path's. Where memory runs
+// out, its rows are as they were.
 fn put_into(
     chapter: &mut Arc<Chapter>,
     alloc: Global,
-    near: usize,
+    page: usize,
     missing: Vec<Path>,
     path: Path,
     item: Item,
 ) -> Result<(), Memory>
+    requires page { IsPageFor path (chapter_pages chapter.old) page }
     requires sorted { AreInOrder (chapter_pages chapter.old) }
     requires sized { AreSized (chapter_pages chapter.old) }
     requires gaps { AreGaps path (chapter_rows chapter.old) missing.items }
@@ -36,7 +37,7 @@ fn put_into(
     match Arc::get_mut(chapter) {
         Some(chapter) => {
             let mut pages = mem::replace(&mut chapter.pages, Row::new(alloc)).into_vec();
-            let done = put(&mut pages, near, missing, path, item);
+            let done = put(&mut pages, page, missing, path, item);
             chapter.pages = Row::from_vec(pages);
             done
         }
@@ -45,17 +46,17 @@ fn put_into(
     }
 }
 
-// Puts entries and an item into the chapter in which the path belongs. Where memory runs out, the
-// rows are as they were.
+// Puts entries and an item into the page of the chapter in which the path belongs. Where memory runs
+// out, the rows are as they were.
 fn put_at(
     chapters: &mut Vec<Arc<Chapter>>,
     at: usize,
-    near: usize,
+    page: usize,
     missing: Vec<Path>,
     path: Path,
     item: Item,
 ) -> Result<(), Memory>
-    requires place { IsChapterFor path chapters.old.items at }
+    requires place { IsPlaceFor path chapters.old.items at page }
     requires sorted { AreChaptersInOrder chapters.old.items }
     requires laid { AreLaid chapters.old.items }
     requires gaps { AreGaps path (chapters_rows chapters.old.items) missing.items }
@@ -65,7 +66,7 @@ fn put_at(
     ensures laid { AreLaid chapters.new.items }
 {
     let alloc = *chapters.allocator();
-    put_into(&mut chapters[at], alloc, near, missing, path, item)
+    put_into(&mut chapters[at], alloc, page, missing, path, item)
 }
 
 // Makes the first chapter, of entries and an item, where there is none. Where memory runs out, there
@@ -85,13 +86,12 @@ fn put_first(
     ensures laid { AreLaid chapters.new.items }
 {
     let alloc = *chapters.allocator();
-    let mut pages = Vec::new(alloc);
-    put(&mut pages, 0, missing, path, item)?;
+    let pages = pages_with(alloc, missing, path, item)?;
     push_chapter(chapters, alloc, pages)
 }
 
-// Puts entries and an item into the chapters. The finger is left where the path is put. Where memory
-// runs out, the rows are as they were.
+// Puts entries and an item into the chapters. The finger is left near the path, or as it was
+// where there was no chapter. Where memory runs out, the rows are as they were.
 pub(crate) fn put_in_chapters(
     chapters: &mut Vec<Arc<Chapter>>,
     finger: &mut Finger,

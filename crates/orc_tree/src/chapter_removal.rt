@@ -1,12 +1,13 @@
 //! The removal of a path, with all below it where it ends in keys, from chapters.
 ghost use Rattle.std.specs.Prelude.{◌≡◌, ◌≤◌, ◌<◌, ◌+◌, ◌==◌, drop, length, vec_len, IfOk, OnOk, OnErr, IsTrue};
 ghost use Rattle.orc_tree.specs.Pages.{chapter_pages, rows_of, AreSized, chapter_rows, chapters_rows};
-ghost use Rattle.orc_tree.specs.inside.Places.{AreInOrder, AreChaptersInOrder, AreLaid, IsChapterFor};
+ghost use Rattle.orc_tree.specs.inside.Places.{AreInOrder, AreChaptersInOrder, AreLaid, IsPageFor, IsChapterFor, IsPlaceFor};
 ghost use Rattle.orc_tree.specs.inside.Removal.{kept_of, all_kept, starts_taken};
 
 use crate::chapter::{Chapter, own_chapter};
 use crate::finger::{Finger, place_near};
 use crate::layout::{join_chapters, replace_chapters, share_run};
+use crate::lookup::page_for;
 use crate::page::Page;
 use crate::removal::{remove, starts_taken};
 use orc_path::Path;
@@ -15,14 +16,15 @@ use std::alloc::Global;
 use std::mem;
 use std::sync::Arc;
 
-// Takes the path and what is below it out of a chapter, where this page is likely to be the path's,
-// and says whether no page is left. Where memory runs out, its rows are as they were.
+// Takes the path and what is below it out of a chapter, of whose pages this one is the path's, and
+// says whether no page is left. Where memory runs out, its rows are as they were.
 fn remove_within(
     chapter: &mut Chapter,
     alloc: Global,
-    near: usize,
+    page: usize,
     path: &Path,
 ) -> Result<bool, Memory>
+    requires page { IsPageFor path.now chapter.old.pages page }
     requires sorted { AreInOrder chapter.old.pages }
     requires sized { AreSized chapter.old.pages }
     ensures ok { OnOk result (rows_of chapter.new.pages ≡ kept_of path.now (rows_of chapter.old.pages)) }
@@ -31,7 +33,7 @@ fn remove_within(
     ensures left { IfOk result (λ none. none ≡ (length chapter.new.pages == 0)) }
 {
     let mut pages = mem::replace(&mut chapter.pages, Row::new(alloc)).into_vec();
-    let done = remove(&mut pages, near, path);
+    let done = remove(&mut pages, page, path);
     chapter.pages = Row::from_vec(pages);
     done?;
     Ok(chapter.pages.is_empty())
@@ -42,9 +44,10 @@ fn remove_within(
 fn remove_from(
     chapter: &mut Arc<Chapter>,
     alloc: Global,
-    near: usize,
+    page: usize,
     path: &Path,
 ) -> Result<bool, Memory>
+    requires page { IsPageFor path.now (chapter_pages chapter.old) page }
     requires sorted { AreInOrder (chapter_pages chapter.old) }
     requires sized { AreSized (chapter_pages chapter.old) }
     ensures ok { OnOk result (chapter_rows chapter.new ≡ kept_of path.now (chapter_rows chapter.old)) }
@@ -54,7 +57,7 @@ fn remove_from(
 {
     own_chapter(alloc, chapter)?;
     match Arc::get_mut(chapter) {
-        Some(chapter) => remove_within(chapter, alloc, near, path),
+        Some(chapter) => remove_within(chapter, alloc, page, path),
         // No chapter has another holder after `own_chapter`.
         None => Err(Memory),
     }
@@ -93,10 +96,10 @@ fn end_of_run(chapters: &[Arc<Chapter>], at: usize, path: &Path) -> usize
 fn remove_at_chapter(
     chapters: &mut Vec<Arc<Chapter>>,
     at: usize,
-    near: usize,
+    page: usize,
     path: &Path,
 ) -> Result<(), Memory>
-    requires place { IsChapterFor path.now chapters.old.items at }
+    requires place { IsPlaceFor path.now chapters.old.items at page }
     requires sorted { AreChaptersInOrder chapters.old.items }
     requires laid { AreLaid chapters.old.items }
     requires kept { IsTrue (all_kept path.now (chapters_rows (drop (at + 1) chapters.old.items))) }
@@ -105,7 +108,7 @@ fn remove_at_chapter(
     ensures laid { AreLaid chapters.new.items }
 {
     let alloc = *chapters.allocator();
-    let none = remove_from(&mut chapters[at], alloc, near, path)?;
+    let none = remove_from(&mut chapters[at], alloc, page, path)?;
     if none {
         chapters.remove(at);
         return Ok(());
@@ -119,10 +122,10 @@ fn remove_run(
     chapters: &mut Vec<Arc<Chapter>>,
     at: usize,
     end: usize,
-    near: usize,
+    page: usize,
     path: &Path,
 ) -> Result<(), Memory>
-    requires place { IsChapterFor path.now chapters.old.items at }
+    requires place { IsPlaceFor path.now chapters.old.items at page }
     requires sorted { AreChaptersInOrder chapters.old.items }
     requires laid { AreLaid chapters.old.items }
     requires order { at < end }
@@ -133,15 +136,18 @@ fn remove_run(
     ensures laid { AreLaid chapters.new.items }
 {
     if end == at + 1 {
-        return remove_at_chapter(chapters, at, near, path);
+        return remove_at_chapter(chapters, at, page, path);
     }
     let mut pages = share_run(*chapters.allocator(), &chapters[at..end])?;
-    remove(&mut pages, near, path)?;
+    // The same page, which a search shows with less to prove.
+    let page = page_for(pages.as_slice(), path.steps.as_slice());
+    remove(&mut pages, page, path)?;
     replace_chapters(chapters, at, end, pages)
 }
 
 // Takes the path and what is below it out of the chapters, and joins what is left where it is
-// little. The finger is left where the path was. Where memory runs out, the rows are as they were.
+// little. The finger is left near where the path was, or as it was where there is no chapter. Where
+// memory runs out, the rows are as they were.
 pub(crate) fn remove_in_chapters(
     chapters: &mut Vec<Arc<Chapter>>,
     finger: &mut Finger,

@@ -5,7 +5,7 @@ ghost use Rattle.std.specs.FinMap.{find};
 ghost use Rattle.std.specs.declared.alloc.Global.{Global};
 ghost use Rattle.std.specs.declared.sync.Arc.{Arc};
 ghost use Rattle.orc_path.specs.Order.{path_cmp};
-ghost use Rattle.orc_tree.specs.Pages.{rows_of, chapter_pages, AreSized, chapters_rows};
+ghost use Rattle.orc_tree.specs.Pages.{rows_of, chapter_pages, chapters_rows};
 ghost use Rattle.orc_tree.specs.declared.chapter.Chapter.{Chapter};
 ghost use Rattle.orc_tree.specs.inside.Places.{AreBehind, AreInOrder, AreChaptersInOrder, AreLaid, IsPageFor, IsPlaceFor, starts_behind};
 
@@ -16,7 +16,7 @@ use orc_path::{Item, Step};
 use std::sync::Arc;
 
 /// Where a search in a tree ended: the next one is likely to end there too. With a finger of another
-/// tree, or of one that changed since, a search answers what it would without, and spares nothing.
+/// tree, or of one that changed since, a search answers what it would without, and may spare nothing.
 #[derive(Clone, Copy, Debug)]
 pub struct Finger {
     pub(crate) chapter: usize,
@@ -33,38 +33,6 @@ impl Finger {
     }
 }
 
-// Whether a page is the one in which the row of the path of these steps stands, or else would. It costs
-// two comparisons.
-fn is_page_for(pages: &[Arc<Page>], page: usize, steps: &[Step]) -> bool
-    requires sorted { AreInOrder pages.now }
-    requires sized { AreSized pages.now }
-    ensures { IsTrue result → IsPageFor steps.now pages.now page }
-{
-    if page >= pages.len() {
-        return false;
-    }
-    if starts_behind(pages[page].rows.as_slice(), steps) {
-        return false;
-    }
-    if page + 1 >= pages.len() {
-        return true;
-    }
-    starts_behind(pages[page + 1].rows.as_slice(), steps)
-}
-
-// The page in which the row of the path of these steps stands, or else would. This one is tried first.
-pub(crate) fn page_near(pages: &[Arc<Page>], page: usize, steps: &[Step]) -> usize
-    requires sorted { AreInOrder pages.now }
-    requires sized { AreSized pages.now }
-    requires some { 0 < length pages.now }
-    ensures { IsPageFor steps.now pages.now result }
-{
-    if is_page_for(pages, page, steps) {
-        return page;
-    }
-    page_for(pages, steps)
-}
-
 // Where the row of the path of these steps stands, or else would. It costs a search.
 fn place_for(chapters: &[Arc<Chapter>], steps: &[Step]) -> Finger
     requires sorted { AreChaptersInOrder chapters.now }
@@ -77,8 +45,8 @@ fn place_for(chapters: &[Arc<Chapter>], steps: &[Step]) -> Finger
     Finger { chapter, page }
 }
 
-// Whether what stands behind the finger's page, which is among these pages of its chapter, comes after
-// the path of these steps.
+// Whether what stands after the finger's page, which is among these pages of its chapter, comes after
+// the path of these steps too.
 fn are_behind(
     chapters: &[Arc<Chapter>],
     finger: Finger,
@@ -102,8 +70,8 @@ fn are_behind(
     true
 }
 
-// Whether the row of the path of these steps stands where the finger is, or else would. It costs two
-// comparisons.
+// Whether two comparisons show that the row of the path of these steps stands where the finger is, or
+// else would.
 fn is_place_for(chapters: &[Arc<Chapter>], finger: Finger, steps: &[Step]) -> bool
     requires sorted { AreChaptersInOrder chapters.now }
     requires laid { AreLaid chapters.now }
@@ -122,8 +90,7 @@ fn is_place_for(chapters: &[Arc<Chapter>], finger: Finger, steps: &[Step]) -> bo
     are_behind(chapters, finger, pages, steps)
 }
 
-// Where the row of the path of these steps stands, or else would. Where the finger is, is looked into
-// first.
+// Where the row of the path of these steps stands, or else would. The finger's page is tried first.
 pub(crate) fn place_near(chapters: &[Arc<Chapter>], finger: Finger, steps: &[Step]) -> Finger
     requires sorted { AreChaptersInOrder chapters.now }
     requires laid { AreLaid chapters.now }
@@ -155,20 +122,8 @@ fn item_at<'a>(chapters: &'a [Arc<Chapter>], place: Finger, steps: &[Step]) -> O
     item_on(chapters[place.chapter].pages.as_slice(), place.page, steps)
 }
 
-// The item at the path of these steps among chapters, if there is one. It takes no memory.
-pub(crate) fn find_item<'a>(chapters: &'a [Arc<Chapter>], steps: &[Step]) -> Option<&'a Item>
-    requires sorted { AreChaptersInOrder chapters.now }
-    requires laid { AreLaid chapters.now }
-    ensures { option_copied result ≡ find path_cmp steps.now (chapters_rows chapters.now) }
-{
-    if chapters.is_empty() {
-        return None;
-    }
-    item_at(chapters, place_for(chapters, steps), steps)
-}
-
-// The item at the path of these steps among chapters, if there is one. Where the finger is, is
-// looked into first, and it is left where the search ends. It takes no memory.
+// The item at the path of these steps among chapters, if there is one. The finger's page is tried
+// first, and the finger is left where the search ends. It takes no memory.
 pub(crate) fn find_near<'a>(
     chapters: &'a [Arc<Chapter>],
     finger: &mut Finger,

@@ -1,6 +1,6 @@
 //! An item with the missing entries on its way put into pages. The page that is touched is copied
 //! where it has other holders.
-ghost use Rattle.std.specs.Prelude.{◌≡◌, ◌≤◌, ◌<◌, ◌+◌, ◌++◌, length, vec_len, IfOk, OnOk, OnErr, IsTrue};
+ghost use Rattle.std.specs.Prelude.{◌≡◌, ◌≤◌, ◌<◌, ◌+◌, ◌++◌, [], length, vec_len, IfOk, OnOk, OnErr, IsTrue};
 ghost use Rattle.std.specs.List.{HoldsAt};
 ghost use Rattle.std.specs.FinMap.{is_sorted};
 ghost use Rattle.orc_path.specs.Order.{path_cmp};
@@ -8,7 +8,6 @@ ghost use Rattle.orc_tree.specs.Pages.{page_rows, rows_of, AreSized};
 ghost use Rattle.orc_tree.specs.inside.Places.{AreInOrder, IsPageFor};
 ghost use Rattle.orc_tree.specs.inside.Puts.{AreGaps, put_with, rows_with};
 
-use crate::finger::page_near;
 use crate::lookup::page_for;
 use crate::page::{PAGE_ROWS, Page, copy_rows, own};
 use crate::sorted::{enter_rows, put_row};
@@ -76,6 +75,21 @@ fn put_among(
     enter_rows(rows, missing);
     put_row(rows, path, item);
     Ok(())
+}
+
+// New pages with entries and an item.
+pub(crate) fn pages_with(
+    alloc: Global,
+    missing: Vec<Path>,
+    path: Path,
+    item: Item,
+) -> Result<Vec<Arc<Page>>, Memory>
+    ensures rows { IfOk result (λ pages. rows_of pages.items ≡ put_with missing.items path item []) }
+    ensures sized { IfOk result (λ pages. AreSized pages.items) }
+{
+    let mut rows = Vec::new(alloc);
+    put_among(&mut rows, missing, path, item)?;
+    pages_of(alloc, rows)
 }
 
 // Puts entries and an item into a page. Where memory runs out, its rows are as they were.
@@ -206,17 +220,16 @@ fn split(pages: &mut Vec<Arc<Page>>, at: usize) -> Result<(), Memory>
     }
 }
 
-// The page in which the row of the path of these steps stands, or else would, once it was split
-// where it was full. Where memory runs out, the rows are as they were.
-fn page_with_room(pages: &mut Vec<Arc<Page>>, near: usize, steps: &[Step]) -> Result<usize, Memory>
+// The page in which the row of the path of these steps stands, or else would, once this one, which it
+// was, is split where it was full. Where memory runs out, the rows are as they were.
+fn page_with_room(pages: &mut Vec<Arc<Page>>, at: usize, steps: &[Step]) -> Result<usize, Memory>
+    requires page { IsPageFor steps.now pages.old.items at }
     requires sorted { AreInOrder pages.old.items }
     requires sized { AreSized pages.old.items }
-    requires some { 0 < vec_len pages.old }
     ensures page { IfOk result (IsPageFor steps.now pages.new.items) }
     ensures rows { rows_of pages.new.items ≡ rows_of pages.old.items }
     ensures sized { AreSized pages.new.items }
 {
-    let at = page_near(pages.as_slice(), near, steps);
     if pages[at].rows.len() < PAGE_ROWS {
         return Ok(at);
     }
@@ -224,15 +237,16 @@ fn page_with_room(pages: &mut Vec<Arc<Page>>, near: usize, steps: &[Step]) -> Re
     Ok(page_for(pages.as_slice(), steps))
 }
 
-// Puts entries and an item into the pages, of which this one is likely to be the path's. Where memory
-// runs out, the rows are as they were.
+// Puts entries and an item into the pages, of which this one is the path's. Where memory runs out, the
+// rows are as they were.
 pub(crate) fn put(
     pages: &mut Vec<Arc<Page>>,
-    near: usize,
+    at: usize,
     missing: Vec<Path>,
     path: Path,
     item: Item,
 ) -> Result<(), Memory>
+    requires page { IsPageFor path pages.old.items at }
     requires sorted { AreInOrder pages.old.items }
     requires sized { AreSized pages.old.items }
     requires gaps { AreGaps path (rows_of pages.old.items) missing.items }
@@ -240,10 +254,6 @@ pub(crate) fn put(
     ensures err { OnErr result (rows_of pages.new.items ≡ rows_of pages.old.items) }
     ensures sized { AreSized pages.new.items }
 {
-    if pages.is_empty() {
-        let rows = Vec::new(*pages.allocator());
-        return put_apart(pages, 0, 0, rows, missing, path, item);
-    }
-    let at = page_with_room(pages, near, path.steps.as_slice())?;
+    let at = page_with_room(pages, at, path.steps.as_slice())?;
     put_at(pages, at, missing, path, item)
 }

@@ -1,5 +1,5 @@
 //! Pages: runs of rows in path order that trees share.
-ghost use Rattle.std.specs.Prelude.{◌≡◌, ◌++◌, [], IfOk, OnOk};
+ghost use Rattle.std.specs.Prelude.{◌≡◌, ◌++◌, map, IfOk, OnOk};
 ghost use Rattle.orc_tree.specs.Pages.{page_rows, rows_of, AreSized};
 
 use orc_path::{Item, Path};
@@ -48,7 +48,7 @@ pub(crate) fn push_copies(
     Ok(())
 }
 
-// Copies of rows, with room for one row more, which often is put there next.
+// Copies of rows, with room for one row more that may be put there.
 pub(crate) fn copy_rows(alloc: Global, rows: &[(Path, Item)]) -> Result<Vec<(Path, Item)>, Memory>
     ensures { IfOk result (λ copies. copies.items ≡ rows.now) }
 {
@@ -74,6 +74,8 @@ pub(crate) fn push_shared(out: &mut Vec<Arc<Page>>, pages: &[Arc<Page>]) -> Resu
     requires sized { AreSized pages.now }
     requires old { AreSized out.old.items }
     ensures rows { OnOk result (rows_of out.new.items ≡ rows_of out.old.items ++ rows_of pages.now) }
+    ensures each { OnOk result
+        (map page_rows out.new.items ≡ map page_rows out.old.items ++ map page_rows pages.now) }
     ensures sized { AreSized out.new.items }
 {
     out.reserve(pages.len())?;
@@ -87,6 +89,7 @@ pub(crate) fn push_shared(out: &mut Vec<Arc<Page>>, pages: &[Arc<Page>]) -> Resu
 pub(crate) fn share_pages(alloc: Global, pages: &[Arc<Page>]) -> Result<Vec<Arc<Page>>, Memory>
     requires { AreSized pages.now }
     ensures rows { IfOk result (λ shared. rows_of shared.items ≡ rows_of pages.now) }
+    ensures each { IfOk result (λ shared. map page_rows shared.items ≡ map page_rows pages.now) }
     ensures sized { IfOk result (λ shared. AreSized shared.items) }
 {
     let mut shared = Vec::new(alloc);

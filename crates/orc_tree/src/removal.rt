@@ -5,7 +5,6 @@ ghost use Rattle.orc_tree.specs.Pages.{page_rows, rows_of, AreSized};
 ghost use Rattle.orc_tree.specs.inside.Places.{AreInOrder, IsPageFor};
 ghost use Rattle.orc_tree.specs.inside.Removal.{kept_of, all_kept, starts_taken};
 
-use crate::finger::page_near;
 use crate::insertion::replace;
 use crate::page::{Page, copy_rows, own, push_copies};
 use orc_path::{Item, Path};
@@ -200,19 +199,16 @@ fn join_around(pages: &mut Vec<Arc<Page>>, at: usize)
     }
 }
 
-// Takes the path and what is below it out of the pages, of which this one is likely to be the path's,
-// and joins what is left where it is little. Where memory runs out, the rows are as they were.
-pub(crate) fn remove(pages: &mut Vec<Arc<Page>>, near: usize, path: &Path) -> Result<(), Memory>
+// Takes the path and what is below it out of the pages, of which this one is the path's, and joins
+// what is left where it is little. Where memory runs out, the rows are as they were.
+pub(crate) fn remove(pages: &mut Vec<Arc<Page>>, at: usize, path: &Path) -> Result<(), Memory>
+    requires page { IsPageFor path.now pages.old.items at }
     requires sorted { AreInOrder pages.old.items }
     requires sized { AreSized pages.old.items }
     ensures ok { OnOk result (rows_of pages.new.items ≡ kept_of path.now (rows_of pages.old.items)) }
     ensures err { OnErr result (rows_of pages.new.items ≡ rows_of pages.old.items) }
     ensures sized { AreSized pages.new.items }
 {
-    if pages.is_empty() {
-        return Ok(());
-    }
-    let at = page_near(pages.as_slice(), near, path.steps.as_slice());
     let end = end_of(pages.as_slice(), at, path);
     remove_among(pages, at, end, path)?;
     join_around(pages, at);

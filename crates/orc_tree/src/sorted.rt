@@ -10,7 +10,8 @@ use orc_path::{Item, Path, Step};
 use orc_text::Text;
 use std::cmp::Ordering;
 
-// How one key stands to another one, and several keys to others.
+// How one key stands to another one, and several keys to others. Most entries have one key, which needs
+// no walk over others.
 fn order_of_keys(keys: &[Text], others: &[Text]) -> Ordering
     ensures { result ≡ slice_cmp text_cmp keys.now others.now }
 {
@@ -32,14 +33,14 @@ fn order_of_steps(step: &Step, other: &Step) -> Ordering
 }
 
 /// How the path of these steps stands to another one in the order of paths. It is what `Path::cmp`
-/// answers, and costs less where the paths have steps of one name.
+/// answers, and costs less where the names of their steps are equal.
 pub fn order(steps: &[Step], path: &Path) -> Ordering
     ensures { result ≡ path_cmp steps.now path.now }
 {
     let mut rest = steps;
     let mut others = path.steps.as_slice();
-    while let Some((step, behind)) = rest.split_first() {
-        let (other, others_behind) = match others.split_first() {
+    while let Some((step, later)) = rest.split_first() {
+        let (other, others_later) = match others.split_first() {
             Some(parts) => parts,
             None => return Ordering::Greater,
         };
@@ -47,8 +48,8 @@ pub fn order(steps: &[Step], path: &Path) -> Ordering
         if found.is_ne() {
             return found;
         }
-        rest = behind;
-        others = others_behind;
+        rest = later;
+        others = others_later;
     }
     if others.is_empty() {
         return Ordering::Equal;

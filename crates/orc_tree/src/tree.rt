@@ -12,7 +12,7 @@ ghost use Rattle.orc_tree.specs.Sameness.{equal_configs};
 
 use crate::change::{ChangeSet, apply_to};
 use crate::chapter::{Chapter, ChapterList, share_chapters};
-use crate::finger::{Finger, find_item, find_near};
+use crate::finger::{Finger, find_near};
 use crate::listed::{chapters_in, new_list, put_shared, remove_shared, share_list};
 use crate::lists::list_entries;
 use crate::overlay::lay_chapters;
@@ -69,11 +69,11 @@ impl Tree {
         ensures item { option_copied result ≡ get self.now path.now }
         ensures config { IsConfig self.now }
     {
-        find_item(chapters_in(&self.list), path.steps.as_slice())
+        self.get_near(&mut Finger::new(), path)
     }
 
     /// The item at a path, if there is one. It takes no memory. It costs a few comparisons where the last
-    /// search with this finger ended beside it, and else a search.
+    /// search with this finger ended in the page where this path stands or would, and else a search.
     pub fn get_near(&self, finger: &mut Finger, path: &Path) -> Option<&Item>
         ensures item { option_copied result ≡ get self.now path.now }
         ensures config { IsConfig self.now }
@@ -93,13 +93,10 @@ impl Tree {
         self.set_near(&mut Finger::new(), path, item)
     }
 
-    // `set`, where the finger is likely to be beside the path. It is left where the item is put.
-    pub(crate) fn set_near(
-        &mut self,
-        finger: &mut Finger,
-        path: Path,
-        item: Item,
-    ) -> Result<(), Memory>
+    /// Does what `set` does, and costs less where the last search with this finger ended beside the path,
+    /// as where paths come in order. The finger is left near the path, or as it was where the tree was
+    /// empty.
+    pub fn set_near(&mut self, finger: &mut Finger, path: Path, item: Item) -> Result<(), Memory>
         requires fits { IsTrue (fits path item) }
         ensures ok { OnOk result (self.new ≡ put_item self.old path item) }
         ensures err { OnErr result (self.new ≡ self.old) }
@@ -119,7 +116,8 @@ impl Tree {
         self.remove_near(&mut Finger::new(), path)
     }
 
-    // `remove`, where the finger is likely to be at the path. It is left where the path was.
+    // `remove`, where the finger is likely to be at the path. It is left near where the path
+    // was, or as it was where the tree is empty.
     pub(crate) fn remove_near(&mut self, finger: &mut Finger, path: &Path) -> Result<(), Memory>
         ensures ok { OnOk result (self.new ≡ drop_item self.old path.now) }
         ensures err { OnErr result (self.new ≡ self.old) }

@@ -108,3 +108,10 @@ pub record IsPlanned (before : Store) (base : Config) (moves : List Move) (chang
   pub store : IsConfig (applied changes before.tree) → IsStore (planned_store before base changes rows)
   pub exact : changes ≡ difference before.tree (applied changes before.tree)
   pub fit : IsTrue (list_all change_fits changes)
+
+-- a plan of these changes with some rows; where back pointers are made, the rows that were made are those
+pub record IsPlannedWith (pointers : Bool) (before : Store) (base : Config) (moves : List Move) (changes : List Change)
+    (made : List (List PathStep × List (List ℕ))) : Type 0 where
+  pub rows : List (List PathStep × List (List ℕ))
+  pub planned : IsPlanned before base moves changes rows
+  pub made_are : IsTrue pointers → made ≡ rows

@@ -61,7 +61,7 @@ IsPageFor path pages at = IsPartFor page_rows path pages at
 abbrev pub IsChapterFor : List PathStep → List (Arc Chapter Global) → ℕ → Type 0
 IsChapterFor path chapters at = IsPartFor chapter_rows path chapters at
 
--- the rows behind a page of a chapter, in it and in the chapters behind that, come after the path
+-- the rows after a page, both in its chapter and in the chapters after that, come after the path
 pub record AreBehind
     (path : List PathStep) (chapters : List (Arc Chapter Global)) (chapter : ℕ) (pages : List (Arc Page Global)) (page : ℕ)
     : Type 0 where

@@ -16,6 +16,7 @@ use Rattle.orc_path.specs.Order.{path_cmp}
 use Rattle.orc_refs.specs.inside.Marks.{paths_in, shown}
 use Rattle.orc_refs.proofs.MarkLaws.{length-paths, path_here, sorted-paths}
 use Rattle.orc_refs.proofs.LentLaws.{row_brought}
+use Rattle.orc_refs.proofs.RowLaws.{BackRows}
 use Rattle.orc_refs.proofs.SettledLaws.{agree_more, first_clash, more_planned}
 use Rattle.orc_text.specs.declared.memory.Memory.{Memory}
 use Rattle.orc_refs.proofs.plan.plan_of.Goals as goal
@@ -67,12 +68,13 @@ loop-row-preserved g c =
     λ X F. placed place.ids.now (ids_in backs p) (option_copied place.here) (get tree p) place.base.now base X F is.ids is.here is.base in
     let ok : ◌≡◌ {A = Result Bool Memory} (Ok c.in_ok-settle.field-0) (Ok true) = ap Ok c.if-not-branch.false in
     record {
-      rows = more_planned (rows_due backs ms) (λ e. (e.0, ids_after ms e.0 (ids_in backs e.0)) ∷ []) (λ e es. refl) c.loop-row.plan.rows c.settle.new.self.rows es i e l here
-          (c.in_ok-settle.ensures.rows ok ∙ found (List (List PathStep × List (List ℕ))) (λ ids h b. c.loop-row.plan.rows ++ (p, ids_after ms p ids) ∷ [])) c.loop-row.invariant.rows;
-      removals = more_planned (removals_due backs tree base ms) (λ e. gone (get tree e.0) (due backs tree base ms e.0) e.0) (λ e es. refl) c.loop-row.plan.removals c.settle.new.self.removals es i e l here
-          (c.in_ok-settle.ensures.removals ok ∙ found (List Change) (λ ids h b. c.loop-row.plan.removals ++ gone h (item_after ms p ids h (get b p)) p)) c.loop-row.invariant.removals;
-      puts = more_planned (puts_due backs tree base ms) (λ e. come (get tree e.0) (due backs tree base ms e.0) e.0) (λ e es. refl) c.loop-row.plan.puts c.settle.new.self.puts es i e l here
-          (c.in_ok-settle.ensures.puts ok ∙ found (List Change) (λ ids h b. c.loop-row.plan.puts ++ come h (item_after ms p ids h (get b p)) p)) c.loop-row.invariant.puts;
+      rows = λ w. more_planned (rows_due backs ms) (λ e. (e.0, ids_after ms e.0 (ids_in backs e.0)) ∷ []) (λ e es. refl) c.loop-row.plan.rows c.add_pointers.new.self.rows es i e l here
+          (c.in_ok-add_pointers.ensures.rows w ∙ ap (λ (rows : BackRows). rows ++ (p, ids_after ms p place.ids.now) ∷ []) c.settle.ensures.rows
+          ∙ ap (λ (ids : List (List ℕ)). c.loop-row.plan.rows ++ (p, ids_after ms p ids) ∷ []) is.ids) (c.loop-row.invariant.rows w);
+      removals = more_planned (removals_due backs tree base ms) (λ e. gone (get tree e.0) (due backs tree base ms e.0) e.0) (λ e es. refl) c.loop-row.plan.removals c.add_pointers.new.self.removals es i e l here
+          (c.add_pointers.ensures.removals ∙ c.in_ok-settle.ensures.removals ok ∙ found (List Change) (λ ids h b. c.loop-row.plan.removals ++ gone h (item_after ms p ids h (get b p)) p)) c.loop-row.invariant.removals;
+      puts = more_planned (puts_due backs tree base ms) (λ e. come (get tree e.0) (due backs tree base ms e.0) e.0) (λ e es. refl) c.loop-row.plan.puts c.add_pointers.new.self.puts es i e l here
+          (c.add_pointers.ensures.puts ∙ c.in_ok-settle.ensures.puts ok ∙ found (List Change) (λ ids h b. c.loop-row.plan.puts ++ come h (item_after ms p ids h (get b p)) p)) c.loop-row.invariant.puts;
       before = agree_more backs tree base ms es i e l here c.loop-row.invariant.before
           (sym (found Bool (λ ids h b. all_bring ms p (item_after ms p ids h (get b p)))) ∙ sym c.in_ok-settle.ensures.agree ∙ c.if-not-branch.false);
       steps = omega (arith, c.tick.ensures, c.loop-row.invariant.steps);
@@ -81,5 +83,11 @@ loop-row-preserved g c =
 pub settle-requires : goal.settle-requires
 settle-requires g c =
     ap shown c.as_slice.ensures.value
+    ∙ sym (row_brought c.args.touched.now c.loop-row.row-index c.row-item.result c.requires.paths c.loop-row-test.true c.row-item.is)
+    ∙ c.requires.brings c.row-item.result.0.now
+
+pub add_pointers-requires : goal.add_pointers-requires
+add_pointers-requires g c =
+    ap shown c.as_slice-in-loop-row.ensures.value
     ∙ sym (row_brought c.args.touched.now c.loop-row.row-index c.row-item.result c.requires.paths c.loop-row-test.true c.row-item.is)
     ∙ c.requires.brings c.row-item.result.0.now

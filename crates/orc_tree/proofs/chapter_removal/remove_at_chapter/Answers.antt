@@ -1,8 +1,11 @@
 use Rattle.std.proofs.Common.{◌≡◌, ◌+◌, ◌≤◌, ◌++◌, suc, true, [], length, take, drop, set, ap, sym, subst, ◌∙◌, arith, eqb-true}
 use Rattle.std.proofs.lemmas.List.{nil_from_length, take-set, drop-set-lt}
 use Rattle.std.proofs.lemmas.List.Elements.{All-set, All-append, All-take, All-drop}
+use Rattle.std.specs.declared.alloc.Global.{Global}
+use Rattle.std.specs.declared.sync.Arc.{Arc}
+use Rattle.orc_tree.specs.declared.chapter.Chapter.{Chapter}
 use Rattle.orc_tree.specs.Pages.{rows_of, chapter_pages, chapter_rows, chapters_rows}
-use Rattle.orc_tree.specs.inside.Places.{IsLaid, AreLaid}
+use Rattle.orc_tree.specs.inside.Places.{IsLaid, AreLaid, IsPageFor}
 use Rattle.orc_tree.specs.inside.Removal.{kept_of, all_kept}
 use Rattle.orc_tree.proofs.Maps.{Rows}
 use Rattle.orc_tree.proofs.Paged.{Pages, sorted_part, rows_of-append, rows_of-at, rows_of-changed}
@@ -16,9 +19,10 @@ remove_from-requires c =
     let chapters = c.args.chapters.now.items in
     let at = c.args.at in
     let chapter = c.index_mut.result.now in
-    let within = c.requires.place.within in
+    let within = c.requires.place.among.within in
     let laid : IsLaid chapter = subst IsLaid (sym c.index_mut.ensures.value) (c.requires.laid at chapter within) in
     record {
+      page = subst (λ (it : Arc Chapter Global). IsPageFor c.args.path.now (chapter_pages it) c.args.page) (sym c.index_mut.ensures.value) (c.requires.place.inside chapter);
       sorted = sorted_part chapter_rows chapters at chapter c.requires.sorted within c.index_mut.ensures.value;
       sized = laid.0;
     }
@@ -27,14 +31,14 @@ pub returns-in_err-none-clause-err : goal.returns-in_err-none-clause-err
 returns-in_err-none-clause-err c =
     let chapters = c.args.chapters.now.items in
     OnErr-held c.from_residual.result
-    (rows_of-changed chapter_rows chapters c.args.at c.remove_from.new.chapter _ c.requires.place.within c.in_err-none.ensures.err
-    ∙ sym (rows_of-at chapter_rows chapters c.args.at c.index_mut.result.now c.requires.place.within c.index_mut.ensures.value))
+    (rows_of-changed chapter_rows chapters c.args.at c.remove_from.new.chapter _ c.requires.place.among.within c.in_err-none.ensures.err
+    ∙ sym (rows_of-at chapter_rows chapters c.args.at c.index_mut.result.now c.requires.place.among.within c.index_mut.ensures.value))
 
 pub returns-in_err-none-clause-laid : goal.returns-in_err-none-clause-laid
 returns-in_err-none-clause-laid c =
     let chapters = c.args.chapters.now.items in
     let chapter = c.index_mut.result.now in
-    let laid : IsLaid chapter = subst IsLaid (sym c.index_mut.ensures.value) (c.requires.laid c.args.at chapter c.requires.place.within) in
+    let laid : IsLaid chapter = subst IsLaid (sym c.index_mut.ensures.value) (c.requires.laid c.args.at chapter c.requires.place.among.within) in
     All-set IsLaid chapters c.args.at c.remove_from.new.chapter
     (c.remove_from.ensures.sized, subst (λ (r : Rows). 1 ≤ length r) (sym c.in_err-none.ensures.err) laid.1) c.requires.laid
 
@@ -53,7 +57,7 @@ returns-then-none-clause-ok c =
     ∙ ap (λ (cs : Chapters). chapters_rows cs ++ chapters_rows (drop (at + 1) (set chapters at new))) (take-set chapters at new)
     ∙ ap (λ (cs : Chapters). chapters_rows (take at chapters) ++ chapters_rows cs) (drop-set-lt (at + 1) chapters at new (omega arith))
     ∙ ap (λ n. chapters_rows (take at chapters) ++ chapters_rows (drop n chapters)) next
-    ∙ sym (kept_in_part chapter_rows p chapters at chapter c.requires.place c.index_mut.ensures.value (subst (λ n. all_kept p (chapters_rows (drop n chapters)) ≡ true) next c.requires.kept)
+    ∙ sym (kept_in_part chapter_rows p chapters at chapter c.requires.place.among c.index_mut.ensures.value (subst (λ n. all_kept p (chapters_rows (drop n chapters)) ≡ true) next c.requires.kept)
     ∙ ap (λ (r : Rows). chapters_rows (take at chapters) ++ (r ++ chapters_rows (drop (suc at) chapters))) gone)
 
 pub returns-then-none-clause-laid : goal.returns-then-none-clause-laid
@@ -71,8 +75,8 @@ returns-clause-ok c =
     let chapters = c.args.chapters.now.items in
     let at = c.args.at in
     let next : at + 1 ≡ suc at = omega arith in
-    rows_of-changed chapter_rows chapters at c.remove_from.new.chapter _ c.requires.place.within c.in_ok-none.ensures.ok
-    ∙ sym (kept_in_part chapter_rows c.args.path.now chapters at c.index_mut.result.now c.requires.place c.index_mut.ensures.value
+    rows_of-changed chapter_rows chapters at c.remove_from.new.chapter _ c.requires.place.among.within c.in_ok-none.ensures.ok
+    ∙ sym (kept_in_part chapter_rows c.args.path.now chapters at c.index_mut.result.now c.requires.place.among c.index_mut.ensures.value
     (subst (λ n. all_kept c.args.path.now (chapters_rows (drop n chapters)) ≡ true) next c.requires.kept))
 
 pub returns-clause-laid : goal.returns-clause-laid

@@ -1,5 +1,5 @@
-use Rattle.std.proofs.Common.{◌≡◌, suc, ◌+◌, true, ap, sym, subst, ◌∙◌, arith}
-use Rattle.orc_tree.specs.Pages.{rows_of, page_rows, chapter_rows, chapter_pages, AreSized}
+use Rattle.std.proofs.Common.{◌≡◌, ◌+◌, ap, sym, subst, ◌∙◌, arith}
+use Rattle.orc_tree.specs.Pages.{rows_of, page_rows, chapter_rows, AreSized}
 use Rattle.orc_tree.specs.inside.Places.{starts_behind}
 use Rattle.orc_tree.proofs.Paged.{Pages}
 use Rattle.orc_tree.proofs.Chaptered.{IsLaid-at}

@@ -1,13 +1,13 @@
-use Rattle.std.proofs.Common.{◌≡◌, ◌<◌, ◌≤◌, length, ap, sym, subst, ◌∙◌, true}
+use Rattle.std.proofs.Common.{◌≡◌, ◌≤◌, length, ap, sym, subst, ◌∙◌, true}
 use Rattle.std.specs.declared.alloc.Global.{Global}
 use Rattle.std.specs.declared.sync.Arc.{Arc}
 use Rattle.std.specs.FinMap.{is_sorted}
 use Rattle.std.proofs.lemmas.List.{get_or_read}
 use Rattle.orc_path.specs.Order.{path_cmp}
 use Rattle.orc_tree.specs.declared.chapter.Chapter.{Chapter}
-use Rattle.orc_tree.specs.Pages.{page_rows, rows_of, chapter_pages, AreSized, chapter_rows}
+use Rattle.orc_tree.specs.Pages.{rows_of, chapter_pages, AreSized, chapter_rows}
 use Rattle.orc_tree.specs.inside.Places.{IsLaid, IsPageFor}
-use Rattle.orc_tree.proofs.Paged.{Pages, sorted_part, IsPartFor-like}
+use Rattle.orc_tree.proofs.Paged.{Pages, sorted_part}
 use Rattle.orc_tree.proofs.Chaptered.{IsLaid-at, some_page}
 use Rattle.orc_tree.proofs.finger.place_for.Goals as goal
 

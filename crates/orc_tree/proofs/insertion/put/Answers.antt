@@ -8,6 +8,9 @@ use Rattle.orc_tree.proofs.Maps.{Rows}
 use Rattle.orc_tree.proofs.Paged.{IsPartFor-like}
 use Rattle.orc_tree.proofs.insertion.put.Goals as goal
 
+pub page_with_room-requires-clause-page : goal.page_with_room-requires-clause-page
+page_with_room-requires-clause-page c = IsPartFor-like page_rows _ _ _ _ c.args.at (sym (c.as_slice.ensures ∙ c.path.view_is)) refl c.requires.page
+
 pub put_at-requires : goal.put_at-requires
 put_at-requires c = record {
   page = IsPartFor-like page_rows _ _ _ _ c.in_ok-at.at (c.as_slice.ensures ∙ c.path.view_is) refl c.in_ok-at.ensures.page;

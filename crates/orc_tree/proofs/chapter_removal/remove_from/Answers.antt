@@ -1,0 +1,10 @@
+use Rattle.std.proofs.Common.{rules, ◌≡◌, map, ap, ◌∙◌}
+use Rattle.orc_tree.specs.Pages.{page_rows, chapter_pages}
+use Rattle.orc_tree.proofs.Paged.{Pages, IsPartFor-again}
+use Rattle.orc_tree.proofs.chapter_removal.remove_from.Goals as goal
+
+pub remove_within-requires-clause-page : goal.remove_within-requires-clause-page
+remove_within-requires-clause-page c =
+    let pages_are : c.in-Some.chapter.now.pages ≡ chapter_pages c.own_chapter.new.chapter = search rules in
+    IsPartFor-again page_rows c.args.path.now c.in-Some.chapter.now.pages (chapter_pages c.args.chapter.now) c.args.page
+    (ap (λ (ps : Pages). map page_rows ps) pages_are ∙ c.own_chapter.ensures.each) c.requires.page
