@@ -2,7 +2,7 @@
 use crate::json::{push_json_fault, push_strange_member};
 use orc_json::{DUPLICATE, JsonFault, KEY, KIND, MEMBER, VALUE, read_entry};
 use orc_path::Path;
-use orc_schema::{Node, Schema};
+use orc_schema_nodes::{Node, Schema};
 use orc_text::{Memory, Text};
 use std::alloc::Global;
 

@@ -2,8 +2,8 @@
 use crate::cuts::{front_of, push_cut, rest_of};
 use orc_decls::{is_kept, is_served};
 use orc_path::{Path, PathFault, Step};
-use orc_schema::{Node, Schema};
 use orc_schema_findings::push_quoted;
+use orc_schema_nodes::{Node, Schema};
 use orc_services::{ServiceList, is_listed};
 use orc_text::{Memory, Text};
 use std::alloc::Global;

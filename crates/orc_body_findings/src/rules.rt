@@ -4,7 +4,7 @@ ghost use Rattle.orc_check.specs.Validity.{broken_of};
 
 use orc_check::{CheckFault, KEY, KIND, LEAFREF, MANDATORY, MAX_ELEMENTS, MIN_ELEMENTS, valid};
 use orc_path::Path;
-use orc_schema::Schema;
+use orc_schema_nodes::Schema;
 use orc_text::{Memory, Text};
 use orc_tree::Tree;
 use std::alloc::Global;

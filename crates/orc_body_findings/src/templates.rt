@@ -2,7 +2,7 @@
 use crate::json::push_json_fault;
 use crate::members::push_block_fault;
 use orc_path::Path;
-use orc_schema::Schema;
+use orc_schema_nodes::Schema;
 use orc_template::{Template, TemplateFault, View};
 use orc_text::{Memory, Text};
 use orc_tree::Tree;

@@ -2,7 +2,7 @@
 use Rattle.std.proofs.Common.{◌≡◌, ◌≤◌, ◌<◌, ◌+◌, ◌^◌, ℕ, List, length, map, Result, Ok, Err, refl, ap, ◌∙◌, subst, arith, IfOk}
 use Rattle.std.specs.List.{All}
 use Rattle.std.proofs.lemmas.List.{length-take}
-use Rattle.orc_schema.specs.Sound.{IsSound}
+use Rattle.orc_schema_nodes.specs.Sound.{IsSound}
 use Rattle.orc_decls.specs.Declarations.{AreDecls, accept_of}
 use Rattle.orc_decls.specs.declared.fault.BundleFault.{BundleFault}
 use Rattle.orc_decls.specs.declared.rule.Rule.{Rule}

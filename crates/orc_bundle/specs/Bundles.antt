@@ -3,7 +3,7 @@ use Rattle.std.specs.Prelude.{ℕ, ◌≡◌, ◌≤◌, List, [], ◌∷◌, le
 use Rattle.std.specs.declared.result.Result.TheVariants.{Ok, Err}
 use Rattle.std.specs.List.{list_all, All}
 use Rattle.std.specs.Str.{is_utf8}
-use Rattle.orc_schema.specs.Sound.{IsSound}
+use Rattle.orc_schema_nodes.specs.Sound.{IsSound}
 use Rattle.orc_decls.specs.Declarations.{AreDecls, accept_of}
 use Rattle.orc_decls.specs.declared.rule.Rule.{Rule}
 use Rattle.orc_decls.specs.declared.rule.Rule.TheVariants as rule

@@ -19,7 +19,7 @@ use Rattle.orc_path.specs.declared.item.Item.{Item}
 use Rattle.orc_path.specs.declared.item.Item.TheVariants.{Entry, Leaf}
 use Rattle.orc_path.proofs.Characters.{IsUtf8-path_text, is_plain_text-value_text}
 use Rattle.orc_text.proofs.Plain.{plain_parts}
-use Rattle.orc_schema.specs.Schemas.{SchemaTable}
+use Rattle.orc_schema_nodes.specs.Schemas.{SchemaTable}
 use Rattle.orc_typed.specs.Typed.{is_typed}
 use Rattle.orc_decls.specs.Calls.{is_item_at, is_item_under, is_lawful_item, is_lawful_name}
 use Rattle.orc_lines.proofs.Numbers.{own}

@@ -7,7 +7,7 @@ use Rattle.std.proofs.lemmas.List.{map-append}
 use Rattle.orc_path.specs.Steps.{PathStep}
 use Rattle.orc_call.specs.declared.call.Put.{Put}
 use Rattle.orc_decls.specs.Devices.{is_same_text, names_of}
-use Rattle.orc_schema.specs.Schemas.{SchemaTable}
+use Rattle.orc_schema_nodes.specs.Schemas.{SchemaTable}
 use Rattle.orc_decls.specs.Calls.{is_data_item, is_device, is_device_under, is_forbid_rule, is_lawful_name, is_max_rule, is_put, is_served, schema_in}
 use Rattle.orc_decls.specs.declared.declarations.Device.{Device}
 use Rattle.orc_decls.specs.declared.declarations.TheConstants.{MOST_DEVICES}

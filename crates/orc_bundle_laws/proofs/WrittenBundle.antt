@@ -9,7 +9,7 @@ use Rattle.orc_call.specs.declared.call.Put.{Put}
 use Rattle.orc_check.specs.Validity.{Breach, broken_of}
 use Rattle.orc_decls.specs.Devices.{is_same_text, names_of}
 use Rattle.orc_decls.specs.Openings.{opening_data}
-use Rattle.orc_schema.specs.Schemas.{SchemaTable, plain_table}
+use Rattle.orc_schema_nodes.specs.Schemas.{SchemaTable, plain_table}
 use Rattle.orc_decls.specs.Calls.{is_data_item, is_served, is_device, is_device_under, is_lawful_name, schema_in}
 use Rattle.orc_decls.specs.Declarations.{accepts_base}
 use Rattle.orc_decls.specs.declared.declarations.Decls.{Decls}

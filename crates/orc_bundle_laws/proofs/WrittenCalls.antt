@@ -22,7 +22,7 @@ use Rattle.orc_call.specs.declared.call.Action.TheVariants as action
 use Rattle.orc_call.specs.declared.call.DevicePut.{DevicePut}
 use Rattle.orc_call.specs.declared.call.Put.{Put}
 use Rattle.orc_call.specs.declared.call.TheConstants.{MOST_ACTIONS}
-use Rattle.orc_schema.specs.Schemas.{SchemaTable}
+use Rattle.orc_schema_nodes.specs.Schemas.{SchemaTable}
 use Rattle.orc_typed.specs.Typed.{are_canonical_steps, is_in_schema, is_typed}
 use Rattle.orc_decls.specs.Calls.{is_service_among, service_of, services_once}
 use Rattle.orc_decls.specs.Devices.{is_same_text, names_of}

@@ -13,7 +13,7 @@ use Rattle.orc_path.specs.Texts.{path_text}
 use Rattle.orc_path.specs.declared.item.Item.TheVariants.{Leaf}
 use Rattle.orc_call.specs.declared.call.Put.{Put}
 use Rattle.orc_decls.specs.Devices.{is_same_text, names_of}
-use Rattle.orc_schema.specs.Schemas.{SchemaTable, node_at, path_names, plain_table}
+use Rattle.orc_schema_nodes.specs.Schemas.{SchemaTable, node_at, path_names, plain_table}
 use Rattle.orc_typed.specs.Typed.{are_canonical_steps, stand}
 use Rattle.orc_decls.specs.Calls.{device_named, is_data_item, is_forbid_rule, is_kept, is_list_path, has_entries, is_max_rule, is_put, is_served, schema_in, schema_named}
 use Rattle.orc_decls.specs.declared.declarations.Device.{Device}

@@ -16,7 +16,7 @@ use Rattle.orc_path.proofs.Values.{values_are_read}
 use Rattle.orc_value.specs.declared.kind.Kind.{Kind}
 use Rattle.orc_value.proofs.CanonLaws.{is_canonical-Decides}
 use Rattle.orc_call.specs.declared.call.Put.{Put}
-use Rattle.orc_schema.specs.Schemas.{SchemaTable, kind_at_path, node_at, path_names}
+use Rattle.orc_schema_nodes.specs.Schemas.{SchemaTable, kind_at_path, node_at, path_names}
 use Rattle.orc_typed.specs.Typed.{are_canonical_keys, are_canonical_steps, canonical_item, canonical_keys, canonical_path, canonical_steps, canonical_text, has_canonical_keys, is_canonical_text, is_canonical_value, is_in_schema, is_typed, kinds_at, stand}
 use Rattle.orc_typed.proofs.Kept.{own_of_typed}
 use Rattle.orc_decls.specs.Calls.{blank_item, has_entries, is_data_path, is_item_at, is_item_under, is_kept, is_list_path, is_path_under, is_served}

@@ -13,7 +13,7 @@ use Rattle.orc_call.specs.declared.call.DevicePut.{DevicePut}
 use Rattle.orc_call.specs.declared.call.Put.{Put}
 use Rattle.orc_decls.specs.Devices.{name_of}
 use Rattle.orc_lines.specs.Lines.{is_skipped}
-use Rattle.orc_schema.specs.Schemas.{SchemaTable}
+use Rattle.orc_schema_nodes.specs.Schemas.{SchemaTable}
 use Rattle.orc_path.specs.Reading.{path_of}
 use Rattle.orc_services.specs.Services.{list_with}
 use Rattle.orc_services.specs.declared.list.ServiceList.{ServiceList}

@@ -4,7 +4,7 @@ use Rattle.std.specs.Fmt.{decimal}
 use Rattle.std.specs.List.{AllByRecursion, concat, flat_map, list_all}
 use Rattle.std.specs.declared.option.Option.TheVariants.{Some}
 use Rattle.orc_path.specs.Reading.{path_of}
-use Rattle.orc_schema.specs.Schemas.{SchemaTable}
+use Rattle.orc_schema_nodes.specs.Schemas.{SchemaTable}
 use Rattle.orc_script.specs.Bodies.{body_of}
 use Rattle.std.specs.Str.{is_utf8}
 use Rattle.orc_path.specs.Items.{item_text}

@@ -18,7 +18,7 @@ use Rattle.orc_path.specs.declared.item.Item.{Item}
 use Rattle.orc_path.proofs.PathOrder.{path_cmp_total, path_cmp_exact}
 use Rattle.orc_tree.proofs.InOrder.{T_is_true}
 use Rattle.orc_tree.proofs.Maps.{Rows}
-use Rattle.orc_schema.specs.declared.line.Target.{Target}
+use Rattle.orc_schema_nodes.specs.declared.line.Target.{Target}
 use Rattle.orc_check.specs.Validity.{plain_steps}
 use Rattle.orc_check.specs.inside.Named.{named_path, leaf_path}
 

@@ -14,9 +14,9 @@ use Rattle.std.proofs.lemmas.Bool.{false≢true, or_from}
 use Rattle.orc_path.specs.Steps.{PathStep}
 use Rattle.orc_path.specs.Configurations.{Config}
 use Rattle.orc_value.specs.Canon.{same_text}
-use Rattle.orc_schema.specs.Links.{names_cmp}
-use Rattle.orc_schema.specs.Schemas.{SchemaTable, Ascends, path_names}
-use Rattle.orc_schema.specs.declared.line.SchemaLine.{SchemaLine}
+use Rattle.orc_schema_nodes.specs.Names.{names_cmp}
+use Rattle.orc_schema_nodes.specs.Schemas.{SchemaTable, Ascends, path_names}
+use Rattle.orc_schema_nodes.specs.declared.line.SchemaLine.{SchemaLine}
 use Rattle.orc_tree.proofs.Pieces.{lt_is}
 use Rattle.orc_check.specs.Validity.{Breach, behind, goes_down, plain_steps, node_breaches, line_breaches}
 use Rattle.orc_check.specs.inside.Lines.{leads_on, is_before}

@@ -7,10 +7,10 @@ use Rattle.std.proofs.lemmas.Bool.{false≢true, and_parts, eqb-true}
 use Rattle.std.proofs.lemmas.List.{take-append-drop, length-append, length-map}
 use Rattle.orc_path.specs.Steps.{PathStep}
 use Rattle.orc_path.proofs.Equality.{path_eq_decides}
-use Rattle.orc_schema.specs.Links.{same_names}
-use Rattle.orc_schema.specs.Schemas.{SchemaTable, path_names, node_at}
-use Rattle.orc_schema.specs.declared.line.Node.{Node}
-use Rattle.orc_schema.specs.declared.line.Node.TheVariants.{Container, List as ListOf, Leaf, LeafList}
+use Rattle.orc_schema_nodes.specs.Names.{same_names}
+use Rattle.orc_schema_nodes.specs.Schemas.{SchemaTable, path_names, node_at}
+use Rattle.orc_schema_nodes.specs.declared.line.Node.{Node}
+use Rattle.orc_schema_nodes.specs.declared.line.Node.TheVariants.{Container, List as ListOf, Leaf, LeafList}
 use Rattle.orc_typed.specs.Typed.{each_step, stands_at, stand, step_kinds, kind_of_names}
 use Rattle.orc_check.specs.Validity.{last_keys, is_container, goes_down, plain_step, plain_steps, shares}
 use Rattle.orc_check.specs.inside.Named.{is_list_of}

@@ -9,11 +9,11 @@ use Rattle.orc_path.specs.Steps.{PathStep}
 use Rattle.orc_path.specs.declared.item.Item.{Item}
 use Rattle.orc_path.specs.declared.item.Item.TheVariants as item
 use Rattle.orc_value.specs.Canon.{same_text}
-use Rattle.orc_schema.specs.Links.{same_names}
-use Rattle.orc_schema.specs.Schemas.{SchemaTable, path_names, node_at}
-use Rattle.orc_schema.specs.declared.line.Node.{Node}
-use Rattle.orc_schema.specs.declared.line.Node.TheVariants.{Container, List as ListOf, Leaf, LeafList}
-use Rattle.orc_schema.specs.declared.line.Target.{Target}
+use Rattle.orc_schema_nodes.specs.Names.{same_names}
+use Rattle.orc_schema_nodes.specs.Schemas.{SchemaTable, path_names, node_at}
+use Rattle.orc_schema_nodes.specs.declared.line.Node.{Node}
+use Rattle.orc_schema_nodes.specs.declared.line.Node.TheVariants.{Container, List as ListOf, Leaf, LeafList}
+use Rattle.orc_schema_nodes.specs.declared.line.Target.{Target}
 use Rattle.orc_typed.specs.Typed.{stand, carries, is_carried, is_in_schema}
 use Rattle.orc_check.specs.Validity.{last_keys, key_values, entry_values, item_values, values_of, plain_steps, shares, is_value_of, row_has, default_in, has_default}
 use Rattle.orc_check.specs.inside.Named.{is_key_leaf, is_list_of, IsOwnKey, named_path}

@@ -5,7 +5,7 @@ use Rattle.std.specs.Cmp.Lexicographic.{bytes_decides}
 use Rattle.std.proofs.lemmas.List.{drop_more, drop_all, take_more}
 use Rattle.orc_path.specs.Steps.{PathStep}
 use Rattle.orc_value.specs.Canon.{same_text}
-use Rattle.orc_schema.specs.Schemas.{SchemaTable, path_names, node_at}
+use Rattle.orc_schema_nodes.specs.Schemas.{SchemaTable, path_names, node_at}
 use Rattle.orc_check.specs.Validity.{is_container, behind, goes_down, reached}
 use Rattle.orc_check.specs.inside.Lent.{reached_names}
 

@@ -16,7 +16,7 @@ use Rattle.orc_path.specs.declared.item.Item.{Item}
 use Rattle.orc_path.proofs.PathOrder.{path_cmp_total}
 use Rattle.orc_tree.proofs.InOrder.{T_is_true}
 use Rattle.orc_tree.proofs.Maps.{Rows}
-use Rattle.orc_schema.specs.Schemas.{SchemaTable}
+use Rattle.orc_schema_nodes.specs.Schemas.{SchemaTable}
 use Rattle.orc_check.specs.declared.found.Found.{Found}
 use Rattle.orc_check.specs.Found.{found_breach}
 use Rattle.orc_check.specs.Validity.{Breach, breach_cmp, breach_if, is_of_kind, has_canonical_last_keys, lacks_instance, values_of, row_breaches, lesser_breach}

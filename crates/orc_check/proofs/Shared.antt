@@ -16,8 +16,8 @@ use Rattle.orc_path.proofs.Equality.{step_eq_decides, path_eq_decides}
 use Rattle.orc_tree.specs.inside.Places.{above_all}
 use Rattle.orc_tree.proofs.Maps.{Rows}
 use Rattle.orc_tree.proofs.Listing.{then_equal, then_up_to, same_step}
-use Rattle.orc_schema.specs.Schemas.{SchemaTable}
-use Rattle.orc_schema.specs.declared.line.Target.{Target}
+use Rattle.orc_schema_nodes.specs.Schemas.{SchemaTable}
+use Rattle.orc_schema_nodes.specs.declared.line.Target.{Target}
 use Rattle.orc_check.specs.Validity.{shares, is_value_of, values_of, row_has}
 use Rattle.orc_check.specs.inside.Sharing.{begins_past}
 

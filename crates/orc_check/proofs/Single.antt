@@ -21,11 +21,11 @@ use Rattle.orc_path.proofs.Equality.{path_eq_decides}
 use Rattle.orc_path.proofs.PathOrder.{path_cmp_exact}
 use Rattle.orc_tree.proofs.Maps.{Rows}
 use Rattle.orc_value.specs.Canon.{same_text}
-use Rattle.orc_schema.specs.Links.{same_names}
-use Rattle.orc_schema.specs.Schemas.{SchemaTable, path_names, node_at}
-use Rattle.orc_schema.specs.declared.line.Node.{Node}
-use Rattle.orc_schema.specs.declared.line.Node.TheVariants.{Container, List as ListOf, Leaf, LeafList}
-use Rattle.orc_schema.specs.declared.line.Target.{Target}
+use Rattle.orc_schema_nodes.specs.Names.{same_names}
+use Rattle.orc_schema_nodes.specs.Schemas.{SchemaTable, path_names, node_at}
+use Rattle.orc_schema_nodes.specs.declared.line.Node.{Node}
+use Rattle.orc_schema_nodes.specs.declared.line.Node.TheVariants.{Container, List as ListOf, Leaf, LeafList}
+use Rattle.orc_schema_nodes.specs.declared.line.Target.{Target}
 use Rattle.orc_typed.specs.Typed.{stands_at, stand, carries, is_carried, is_in_schema, step_kinds}
 use Rattle.orc_check.specs.Validity.{last_keys, key_values, entry_values, item_values, values_of, is_container, is_list, is_place, places, behind, goes_down, plain_step, plain_steps, shares, is_value_of, row_has, default_in, has_default, place_lacks, has_instance}
 use Rattle.orc_check.specs.inside.Named.{is_leaf_list, has_key_named, IsSingle, named_path, leaf_path, is_present, is_lacked_above, has_at_leaf}

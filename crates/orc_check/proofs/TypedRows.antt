@@ -18,7 +18,7 @@ use Rattle.orc_path.specs.declared.item.Item.{Item}
 use Rattle.orc_path.specs.declared.item.Item.TheVariants as item
 use Rattle.orc_path.proofs.ConfigurationLaws.{is_entry-some}
 use Rattle.orc_path.proofs.PathOrder.{path_cmp_total, path_cmp_exact}
-use Rattle.orc_schema.specs.Schemas.{SchemaTable, path_names, kind_at_path}
+use Rattle.orc_schema_nodes.specs.Schemas.{SchemaTable, path_names, kind_at_path}
 use Rattle.orc_typed.specs.Typed.{is_in_schema, kinds_at, are_canonical_keys, has_canonical_keys, are_canonical_steps, each_step, is_canonical_value}
 use Rattle.orc_check.specs.declared.rules.TheConstants.{KIND, KEY, LEAFREF}
 use Rattle.orc_check.specs.Validity.{Breach, breach_if, last_keys, is_of_kind, row_breaches, least_breach, breaches, broken_of}

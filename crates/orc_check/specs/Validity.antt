@@ -13,13 +13,13 @@ use Rattle.orc_path.specs.Configurations.{Config, is_entry_of}
 use Rattle.orc_path.specs.declared.item.Item.{Item}
 use Rattle.orc_path.specs.declared.item.Item.TheVariants as item
 use Rattle.orc_value.specs.Canon.{same_text}
-use Rattle.orc_schema.specs.Links.{same_names}
-use Rattle.orc_schema.specs.Schemas.{SchemaTable, path_names, node_at, kind_at_path}
-use Rattle.orc_schema.specs.declared.line.Node.{Node}
-use Rattle.orc_schema.specs.declared.line.Node.TheVariants.{Container, List as ListOf, Leaf, LeafList}
-use Rattle.orc_schema.specs.declared.line.LeafNode.{LeafNode}
-use Rattle.orc_schema.specs.declared.line.SchemaLine.{SchemaLine}
-use Rattle.orc_schema.specs.declared.line.Target.{Target}
+use Rattle.orc_schema_nodes.specs.Names.{same_names}
+use Rattle.orc_schema_nodes.specs.Schemas.{SchemaTable, path_names, node_at, kind_at_path}
+use Rattle.orc_schema_nodes.specs.declared.line.Node.{Node}
+use Rattle.orc_schema_nodes.specs.declared.line.Node.TheVariants.{Container, List as ListOf, Leaf, LeafList}
+use Rattle.orc_schema_nodes.specs.declared.line.LeafNode.{LeafNode}
+use Rattle.orc_schema_nodes.specs.declared.line.SchemaLine.{SchemaLine}
+use Rattle.orc_schema_nodes.specs.declared.line.Target.{Target}
 use Rattle.orc_typed.specs.Typed.{is_in_schema, kinds_at, are_canonical_keys, is_canonical_value}
 use Rattle.orc_check.specs.declared.rules.TheConstants.{KIND, KEY, MANDATORY, MIN_ELEMENTS, MAX_ELEMENTS, LEAFREF}
 

@@ -8,7 +8,7 @@ use crate::counting::has_more;
 use crate::fault::CheckFault;
 use crate::validity::{broken, valid};
 use orc_path::{Item, Path};
-use orc_schema::Schema;
+use orc_schema_nodes::Schema;
 use orc_text::{Memory, Row, Text};
 use orc_tree::Tree;
 use std::alloc::Global;

@@ -13,7 +13,7 @@ use crate::references::has_dangling;
 use crate::rows::{has_row_keys, is_of_kind};
 use crate::rules::{KEY, KIND, LEAFREF};
 use orc_path::{Item, Path};
-use orc_schema::{Schema, SchemaLine};
+use orc_schema_nodes::{Schema, SchemaLine};
 use orc_tree::Tree;
 use std::alloc::Global;
 use std::marker::Model;

@@ -8,7 +8,7 @@ use crate::reach::{behind, reached};
 use crate::references::{first_steps, last_keys};
 use crate::sought::{first_sought, names_of, sought};
 use orc_path::{Item, Path, Step};
-use orc_schema::{Node, Schema, Target};
+use orc_schema_nodes::{Node, Schema, Target};
 use orc_text::{Memory, Text};
 use orc_tree::Tree;
 use std::alloc::Global;

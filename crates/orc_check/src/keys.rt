@@ -7,7 +7,7 @@ ghost use Rattle.std.specs.List.{list_any};
 ghost use Rattle.orc_check.specs.inside.Named.{is_key_leaf, is_list_of, IsOwnKey, is_leaf_list, has_key_named, IsSingle};
 
 use crate::reach::goes_down;
-use orc_schema::{Node, Schema, Target};
+use orc_schema_nodes::{Node, Schema, Target};
 use orc_text::Text;
 
 /// The names of a list, a leaf-list or a leaf, cut before its own.

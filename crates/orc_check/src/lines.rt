@@ -2,13 +2,13 @@
 ghost use Rattle.std.specs.Prelude.{◌≡◌, ◌≤◌, ◌&&◌, not, length, take, false};
 ghost use Rattle.std.specs.List.{list_any};
 ghost use Rattle.std.specs.Ordering.{is_lt};
-ghost use Rattle.orc_schema.specs.Links.{names_cmp};
-ghost use Rattle.orc_schema.specs.Schemas.{Ascends, path_names};
+ghost use Rattle.orc_schema_nodes.specs.Names.{names_cmp};
+ghost use Rattle.orc_schema_nodes.specs.Schemas.{Ascends, path_names};
 ghost use Rattle.orc_check.specs.inside.Lines.{leads_on, is_before};
 
 use crate::reach::behind;
 use orc_path::Step;
-use orc_schema::SchemaLine;
+use orc_schema_nodes::SchemaLine;
 use orc_text::Text;
 use std::cmp::Ordering;
 

@@ -2,7 +2,7 @@
 ghost use Rattle.std.specs.Prelude.{◌≡◌, ◌++◌, option_map};
 ghost use Rattle.std.specs.List.{fold, flat_map};
 ghost use Rattle.std.specs.Option.{option_map_or};
-ghost use Rattle.orc_schema.specs.Schemas.{Ascends};
+ghost use Rattle.orc_schema_nodes.specs.Schemas.{Ascends};
 ghost use Rattle.orc_check.specs.Validity.{lesser_breach, plain_steps, is_missing, count_breaches, node_breaches, line_breaches, place_breaches, places};
 ghost use Rattle.orc_check.specs.Found.{place_path, found_breach};
 ghost use Rattle.orc_check.specs.inside.Lent.{has_too_many};
@@ -14,7 +14,7 @@ use crate::lookup::is_absent;
 use crate::reach::{is_place, reached};
 use crate::rules::{MANDATORY, MAX_ELEMENTS, MIN_ELEMENTS};
 use orc_path::Path;
-use orc_schema::{LeafNode, Node, Schema, SchemaLine};
+use orc_schema_nodes::{LeafNode, Node, Schema, SchemaLine};
 use orc_text::Text;
 use orc_tree::Tree;
 

@@ -4,7 +4,7 @@ ghost use Rattle.orc_check.specs.Validity.{is_container, is_list, is_place, behi
 ghost use Rattle.orc_check.specs.inside.Lent.{reached_names};
 
 use orc_path::{Item, Path, Step};
-use orc_schema::{Node, Schema};
+use orc_schema_nodes::{Node, Schema};
 use orc_text::Text;
 use orc_typed::is_in_schema;
 

@@ -10,7 +10,7 @@ use crate::instances::Instance;
 use crate::references::has_dangling;
 use crate::rules::{KEY, KIND, LEAFREF};
 use orc_path::{Item, Path, Step};
-use orc_schema::Schema;
+use orc_schema_nodes::Schema;
 use orc_tree::Tree;
 use orc_typed::{has_canonical_keys, is_canonical_value, is_in_schema};
 

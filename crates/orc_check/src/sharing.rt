@@ -13,7 +13,7 @@ use crate::references::{first_steps, row_has};
 use crate::runs::{Runs, runs_from};
 use crate::spot::Spot;
 use orc_path::{Item, Path, Step};
-use orc_schema::{Schema, Target};
+use orc_schema_nodes::{Schema, Target};
 use orc_text::Text;
 use orc_tree::Tree;
 use std::cmp::Ordering;

@@ -5,7 +5,7 @@ ghost use Rattle.std.specs.Prelude.{◌≡◌, ◌≤◌, length};
 use crate::keys::{own_key, single};
 use crate::references::target_in;
 use orc_path::Step;
-use orc_schema::{Schema, SchemaLine, Target};
+use orc_schema_nodes::{Schema, SchemaLine, Target};
 use orc_text::{Memory, Text};
 use std::alloc::Global;
 use std::cmp::Ordering;

@@ -9,7 +9,7 @@ use crate::found::{Found, path_of};
 use crate::instances::{Instance, instances};
 use crate::places::least_of_places;
 use crate::rows::least_of_rows;
-use orc_schema::Schema;
+use orc_schema_nodes::Schema;
 use orc_tree::Tree;
 use std::alloc::Global;
 

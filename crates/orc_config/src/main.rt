@@ -7,7 +7,7 @@
 use orc_check::{CheckFault, valid};
 use orc_json::{JsonFault, read, write};
 use orc_path::Path;
-use orc_schema::Schema;
+use orc_schema::{Build, Schema};
 use orc_table_programs::{ended_apart, given_words};
 use orc_text::Memory;
 use orc_tree::Tree;

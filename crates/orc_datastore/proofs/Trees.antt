@@ -19,7 +19,7 @@ use Rattle.orc_template.specs.Laws.{WrittenIsTyped}
 use Rattle.orc_datastore.proofs.Written.{is_expanded, expanded_may}
 use Rattle.std.proofs.lemmas.List.Sums.{AllPass-from_list_all}
 use Rattle.orc_datastore.specs.Histories.{fold_from}
-use Rattle.orc_schema.specs.Schemas.{SchemaTable}
+use Rattle.orc_schema_nodes.specs.Schemas.{SchemaTable}
 use Rattle.orc_decls.specs.Calls.{is_item_at, is_put, is_write, is_device, is_action, schema_in, schema_named}
 use Rattle.orc_decls.specs.declared.declarations.Decls.{Decls}
 use Rattle.orc_datastore.specs.Legal.{state_of}

@@ -14,7 +14,7 @@ use Rattle.orc_path.specs.Configurations.{Config, drop_item, is_removed_with, ov
 use Rattle.orc_path.specs.declared.item.Item.{Item}
 use Rattle.orc_path.specs.declared.item.Item.TheVariants.{Entry}
 use Rattle.orc_path.proofs.ConfigurationLaws.{get-drop_item, get-overlay, put_item_cases}
-use Rattle.orc_schema.specs.Schemas.{SchemaTable, plain_table}
+use Rattle.orc_schema_nodes.specs.Schemas.{SchemaTable, plain_table}
 use Rattle.orc_typed.specs.Typed.{is_typed}
 use Rattle.orc_call.specs.declared.call.Put.{Put}
 use Rattle.orc_call.specs.declared.call.Call.{Call}

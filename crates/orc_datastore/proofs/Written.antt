@@ -16,7 +16,7 @@ use Rattle.orc_path.specs.Limits.{is_long_path}
 use Rattle.orc_path.specs.Items.{fits}
 use Rattle.orc_path.specs.Configurations.{Config}
 use Rattle.orc_path.specs.declared.item.Item.{Item}
-use Rattle.orc_schema.specs.Schemas.{SchemaTable, plain_table}
+use Rattle.orc_schema_nodes.specs.Schemas.{SchemaTable, plain_table}
 use Rattle.orc_typed.specs.Typed.{is_typed}
 use Rattle.orc_change.specs.inside.Held.{AreHeld}
 use Rattle.orc_change.proofs.Exact.{entries_are}

@@ -4,7 +4,7 @@ use Rattle.std.specs.declared.result.Result.TheVariants.{Ok, Err}
 use Rattle.std.specs.declared.option.Option.TheVariants.{None, Some}
 use Rattle.std.specs.Option.{option_or}
 use Rattle.orc_path.specs.Configurations.{Config}
-use Rattle.orc_schema.specs.Schemas.{SchemaTable, shape_at}
+use Rattle.orc_schema_nodes.specs.Schemas.{SchemaTable, shape_at}
 use Rattle.orc_services.specs.Services.{Serving}
 use Rattle.orc_services.specs.Expanded.{expanded_actions}
 use Rattle.orc_check.specs.Validity.{broken_of}

@@ -20,7 +20,7 @@ use orc_check::CheckFault;
 use orc_expr::Target;
 use orc_path::{Item, Path};
 use orc_revalidate::revalidate;
-use orc_schema::Schema;
+use orc_schema_nodes::Schema;
 use orc_services::path_of_id;
 use orc_text::{Memory, Text};
 use orc_tree::Tree;

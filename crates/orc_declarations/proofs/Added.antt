@@ -4,8 +4,8 @@ use Rattle.std.specs.List.{list_all}
 use Rattle.std.specs.Option.{option_map_or}
 use Rattle.std.proofs.lemmas.Bool.{and_from, and_parts}
 use Rattle.std.proofs.lemmas.List.Elements.{All-push}
-use Rattle.orc_schema.specs.Schemas.{SchemaTable, plain_table}
-use Rattle.orc_schema.specs.Sound.{IsSound}
+use Rattle.orc_schema_nodes.specs.Schemas.{SchemaTable, plain_table}
+use Rattle.orc_schema_nodes.specs.Sound.{IsSound}
 use Rattle.orc_decls.specs.Calls.{is_device, is_lawful_name, schema_in, is_device_under}
 use Rattle.orc_decls.specs.declared.declarations.Device.{Device}
 use Rattle.orc_declarations.specs.Declarations.{schema_place, with_type}

@@ -6,7 +6,7 @@ use Rattle.std.specs.Cmp.{first_so, second_so}
 use Rattle.orc_path.specs.Steps.{PathStep}
 use Rattle.orc_call.specs.declared.call.Put.{Put}
 use Rattle.orc_decls.specs.Devices.{names_of}
-use Rattle.orc_schema.specs.Schemas.{SchemaTable}
+use Rattle.orc_schema_nodes.specs.Schemas.{SchemaTable}
 use Rattle.orc_decls.specs.Calls.{is_data_item, is_device, is_forbid_rule, is_kept, is_served, is_lawful_name, is_max_rule, is_put, schema_in}
 use Rattle.orc_decls.specs.declared.declarations.Device.{Device}
 use Rattle.orc_lines.specs.declared.declared.Declared.{Declared}

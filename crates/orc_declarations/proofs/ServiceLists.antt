@@ -8,7 +8,7 @@ use Rattle.std.proofs.lemmas.Map.Keys.{IsDistinct-push}
 use Rattle.orc_path.specs.Order.{path_cmp}
 use Rattle.orc_path.specs.Limits.{is_long_path}
 use Rattle.orc_path.specs.Steps.{PathStep, has_keys, is_path}
-use Rattle.orc_schema.specs.Schemas.{SchemaTable, node_at, path_names}
+use Rattle.orc_schema_nodes.specs.Schemas.{SchemaTable, node_at, path_names}
 use Rattle.orc_typed.specs.Typed.{stand}
 use Rattle.orc_path.proofs.PathOrder.{path_cmp_total}
 use Rattle.orc_template.specs.Said.{json_value}

@@ -4,7 +4,7 @@ use Rattle.std.specs.List.{AllByRecursion, IsDistinct, list_all, list_any}
 use Rattle.std.proofs.lemmas.Bool.{and_parts, and_from, or_from}
 use Rattle.std.proofs.lemmas.List.{length-map}
 use Rattle.orc_value.specs.Canon.{same_text}
-use Rattle.orc_schema.specs.Schemas.{SchemaTable}
+use Rattle.orc_schema_nodes.specs.Schemas.{SchemaTable}
 use Rattle.orc_template.specs.Devices.{DeviceTable, all_differ, is_device_table}
 use Rattle.orc_decls.specs.Devices.{is_same_text, names_of}
 use Rattle.orc_decls.specs.Calls.{is_device, is_device_under, is_lawful_name, schema_in}

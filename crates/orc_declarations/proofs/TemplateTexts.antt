@@ -4,7 +4,7 @@ use Rattle.std.specs.Option.{is_none, option_map_or}
 use Rattle.std.specs.Str.{is_utf8}
 use Rattle.serde_json.specs.Data.{Data, null}
 use Rattle.orc_path.specs.Steps.{PathStep}
-use Rattle.orc_schema.specs.Schemas.{SchemaTable, shape_at}
+use Rattle.orc_schema_nodes.specs.Schemas.{SchemaTable, shape_at}
 use Rattle.orc_json.specs.Readings.{IsJson}
 use Rattle.orc_template.proofs.Texts.{value_is, value_is_none}
 use Rattle.orc_template.specs.Said.{template_json}

@@ -10,7 +10,7 @@ use Rattle.orc_path.specs.Limits.{is_long_name}
 use Rattle.orc_call.specs.declared.call.Put.{Put}
 use Rattle.orc_path.specs.Steps.{PathStep}
 use Rattle.orc_check.specs.Validity.{broken_of}
-use Rattle.orc_schema.specs.Schemas.{SchemaTable, plain_table}
+use Rattle.orc_schema_nodes.specs.Schemas.{SchemaTable, plain_table}
 use Rattle.orc_decls.specs.Calls.{meets, schema_named}
 use Rattle.orc_decls.specs.Declarations.{accepts_base, has_template, is_service_list}
 use Rattle.orc_services.specs.declared.list.ServiceList.{ServiceList}

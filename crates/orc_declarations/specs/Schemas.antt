@@ -2,7 +2,8 @@
 use Rattle.std.specs.Prelude.{List, Result}
 use Rattle.std.specs.declared.result.Result.TheVariants.{Ok, Err}
 use Rattle.orc_yang.specs.declared.statement.Stmt.{Stmt}
-use Rattle.orc_schema.specs.Schemas.{SchemaTable, schema_of}
+use Rattle.orc_schema_nodes.specs.Schemas.{SchemaTable}
+use Rattle.orc_schema.specs.Schemas.{schema_of}
 use Rattle.orc_statements.specs.declared.fault.SchemaFault.{SchemaFault}
 use Rattle.orc_decls.specs.declared.rule.Rule.{Rule}
 use Rattle.orc_decls.specs.declared.rule.Rule.TheVariants as rule

@@ -1,7 +1,7 @@
 //! A bundle: what it declares, and where its script begins.
 ghost use Rattle.std.specs.Prelude.{◌≡◌, ◌≤◌, [], IfOk, IsTrue, Ok, OnOk, length, map};
 ghost use Rattle.std.specs.List.{All, IsDistinct};
-ghost use Rattle.orc_schema.specs.Sound.{IsSound};
+ghost use Rattle.orc_schema_nodes.specs.Sound.{IsSound};
 ghost use Rattle.orc_decls.specs.Declarations.{AreDecls, accept_of};
 ghost use Rattle.orc_decls.specs.Devices.{is_same_text};
 ghost use Rattle.orc_lines.specs.Answers.{Gives};

@@ -1,6 +1,6 @@
 //! The schema of modules that a line names.
 ghost use Rattle.std.specs.Prelude.{◌≡◌, IfOk};
-ghost use Rattle.orc_schema.specs.Sound.{IsSound};
+ghost use Rattle.orc_schema_nodes.specs.Sound.{IsSound};
 ghost use Rattle.orc_declarations.specs.Declarations.{built_in_schema, schema_or_plain};
 ghost use Rattle.orc_declarations.specs.Schemas.{schema_or_rule};
 ghost use Rattle.orc_lines.specs.Answers.{ReadsLine};
@@ -9,7 +9,7 @@ ghost use Rattle.orc_declarations.specs.inside.Faults.{of_schema};
 use crate::statements::orc_module;
 use orc_decls::Rule;
 use orc_lines::LineFault;
-use orc_schema::{Looks, Schema, SchemaFault, schemas_are_sound};
+use orc_schema::{Build, Looks, Schema, SchemaFault, schemas_are_sound};
 use orc_text::{Memory, Row};
 use orc_yang::Stmt;
 use std::alloc::Global;

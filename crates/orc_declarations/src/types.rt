@@ -2,8 +2,8 @@
 ghost use Rattle.std.specs.Prelude.{◌≡◌, ◌++◌, IfOk, OnOk, Some, false, option_and_then, option_to_list, slice_get, suc};
 ghost use Rattle.std.specs.List.{list_all, list_any};
 ghost use Rattle.std.specs.Option.{option_copied};
-ghost use Rattle.orc_schema.specs.Schemas.{plain_table};
-ghost use Rattle.orc_schema.specs.Sound.{IsSound};
+ghost use Rattle.orc_schema_nodes.specs.Schemas.{plain_table};
+ghost use Rattle.orc_schema_nodes.specs.Sound.{IsSound};
 ghost use Rattle.orc_path.specs.Alphabet.{is_identifier};
 ghost use Rattle.orc_path.specs.Limits.{is_long_name};
 ghost use Rattle.orc_decls.specs.Calls.{schema_in, schema_named};

@@ -4,7 +4,7 @@ use Rattle.std.specs.Prelude.{if◌then◌else◌}
 use Rattle.std.specs.List.{list_all, list_any}
 use Rattle.std.specs.Cmp.{first_so, second_so}
 use Rattle.std.proofs.lemmas.Bool.{and_from}
-use Rattle.orc_schema.specs.Schemas.{SchemaTable}
+use Rattle.orc_schema_nodes.specs.Schemas.{SchemaTable}
 use Rattle.orc_decls.specs.Devices.{is_same_text, names_of}
 use Rattle.orc_decls.specs.Calls.{device_named, is_device, is_lawful_name}
 use Rattle.orc_decls.specs.declared.declarations.Device.{Device}

@@ -2,7 +2,7 @@
 use Rattle.std.proofs.Common.{◌≡◌, ◌+◌, ℕ, suc, List, [], ◌∷◌, Bool, true, false, not, cond, nat_lt, length, slice_get, Option, Some, None, option_and_then, refl, ap, sym, ◌∙◌, arith, lt-ltb}
 use Rattle.std.specs.List.{position_or_len}
 use Rattle.std.specs.Option.{option_map_or}
-use Rattle.orc_schema.specs.Schemas.{SchemaTable, plain_table}
+use Rattle.orc_schema_nodes.specs.Schemas.{SchemaTable, plain_table}
 use Rattle.orc_decls.specs.Devices.{is_same_text, names_of}
 use Rattle.orc_decls.specs.Names.{place_of}
 use Rattle.orc_decls.specs.Calls.{device_named, schema_in, schema_named}

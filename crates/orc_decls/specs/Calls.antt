@@ -15,9 +15,9 @@ use Rattle.orc_path.specs.Steps.{PathStep, ends_in_keys, is_path}
 use Rattle.orc_path.specs.Items.{fits}
 use Rattle.orc_path.specs.declared.item.Item.{Item}
 use Rattle.orc_path.specs.declared.item.Item.TheVariants.{Entry, Leaf}
-use Rattle.orc_schema.specs.Schemas.{SchemaTable, node_at, path_names, plain_table}
-use Rattle.orc_schema.specs.declared.line.Node.{Node}
-use Rattle.orc_schema.specs.declared.line.Node.TheVariants as node
+use Rattle.orc_schema_nodes.specs.Schemas.{SchemaTable, node_at, path_names, plain_table}
+use Rattle.orc_schema_nodes.specs.declared.line.Node.{Node}
+use Rattle.orc_schema_nodes.specs.declared.line.Node.TheVariants as node
 use Rattle.orc_typed.specs.Typed.{are_canonical_steps, is_in_schema, is_typed, stand}
 use Rattle.orc_decls.specs.Devices.{device_list_path, is_same_text}
 use Rattle.orc_decls.specs.Openings.{put_all}

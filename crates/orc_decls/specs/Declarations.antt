@@ -6,9 +6,9 @@ use Rattle.orc_path.specs.Limits.{is_long_path}
 use Rattle.orc_path.specs.Order.{path_cmp}
 use Rattle.std.specs.declared.option.Option.TheVariants.{None, Some}
 use Rattle.std.specs.List.{list_all, IsDistinct}
-use Rattle.orc_schema.specs.Schemas.{SchemaTable, node_at, path_names, plain_table, shape_at}
-use Rattle.orc_schema.specs.declared.line.Node.{Node}
-use Rattle.orc_schema.specs.declared.line.Node.TheVariants as node
+use Rattle.orc_schema_nodes.specs.Schemas.{SchemaTable, node_at, path_names, plain_table, shape_at}
+use Rattle.orc_schema_nodes.specs.declared.line.Node.{Node}
+use Rattle.orc_schema_nodes.specs.declared.line.Node.TheVariants as node
 use Rattle.orc_typed.specs.Typed.{stand}
 use Rattle.orc_template.specs.Devices.{DeviceTable}
 use Rattle.orc_template.specs.Said.{template_json}

@@ -1,7 +1,7 @@
 -- What a bundle declares, as contracts see it.
 use Rattle.std.specs.Prelude.{ℕ, List}
 use Rattle.orc_call.specs.declared.call.Put.{Put}
-use Rattle.orc_schema.specs.Schemas.{SchemaTable}
+use Rattle.orc_schema_nodes.specs.Schemas.{SchemaTable}
 use Rattle.orc_services.specs.declared.list.ServiceList.{ServiceList}
 use Rattle.orc_template.specs.Devices.{DeviceTable}
 use Rattle.orc_decls.specs.declared.declarations.Device.{Device}

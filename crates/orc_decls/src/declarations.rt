@@ -7,7 +7,7 @@ ghost use Rattle.orc_decls.specs.Names.{place_of};
 use crate::names::Names;
 use orc_call::Put;
 use orc_path::Path;
-use orc_schema::Schema;
+use orc_schema_nodes::Schema;
 use orc_services::ServiceList;
 use orc_template::Devices;
 use orc_text::{Row, Text};

@@ -13,7 +13,7 @@ use crate::served::{has_body, is_served, is_service};
 use crate::{Decls, Device};
 use orc_call::{Action, Call, DevicePut, MOST_ACTIONS, Put};
 use orc_path::{Item, Path, is_identifier, is_long_name, is_long_value, is_value};
-use orc_schema::Schema;
+use orc_schema_nodes::Schema;
 use orc_text::{Memory, Text};
 use orc_typed::{are_canonical_steps, is_in_schema, is_typed};
 use std::alloc::Global;

@@ -1,12 +1,12 @@
 //! The schemas of devices.
 ghost use Rattle.std.specs.Prelude.{◌≡◌, slice_get};
 ghost use Rattle.std.specs.Option.{option_copied};
-ghost use Rattle.orc_schema.specs.Schemas.{plain_table};
+ghost use Rattle.orc_schema_nodes.specs.Schemas.{plain_table};
 ghost use Rattle.orc_decls.specs.Calls.{schema_in, schema_named};
 ghost use Rattle.orc_decls.specs.Devices.{names_of};
 
 use crate::{Decls, Device, Names};
-use orc_schema::Schema;
+use orc_schema_nodes::Schema;
 use orc_text::Text;
 
 /// The schema of a place; the plain one where there is none.

@@ -9,7 +9,7 @@ use crate::base::tree_of;
 use crate::lawful::{MOST_WRITES, is_data_path, is_put};
 use orc_call::Put;
 use orc_path::{Path, Step};
-use orc_schema::Schema;
+use orc_schema_nodes::Schema;
 use orc_services::{ServiceList, is_listed, path_of_id};
 use orc_text::{Memory, Text};
 use orc_tree::Tree;

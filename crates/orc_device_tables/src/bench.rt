@@ -7,7 +7,7 @@ use orc_check::Accept;
 use orc_device_words::{Placed, placed_of, tree_of};
 use orc_node::{Link, Node, NodeFault};
 use orc_path::{Item, Path};
-use orc_schema::Schema;
+use orc_schema::{Build, Schema};
 use orc_table_programs::{Table, Undone, first_word};
 use orc_text::Row;
 use orc_yang::parse;

@@ -30,7 +30,7 @@ use Rattle.orc_path.proofs.PathOf.{text_of_path}
 use Rattle.orc_path.proofs.PathOrder.{path_cmp_exact}
 use Rattle.orc_services.specs.Services.{list_with}
 use Rattle.orc_text.proofs.Plain.{plain_parts}
-use Rattle.orc_schema.specs.Schemas.{SchemaTable}
+use Rattle.orc_schema_nodes.specs.Schemas.{SchemaTable}
 use Rattle.orc_call.specs.Fields.{Field, a_path, an_item, IsText, IsItem, IsPathAfter, AreLawful}
 use Rattle.orc_call.specs.Encoding.{body_fields, device_put_fields, put_fields, puts_fields, action_fields, IsCall}
 use Rattle.orc_call.specs.declared.call.Put.{Put}

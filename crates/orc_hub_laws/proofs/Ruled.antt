@@ -9,10 +9,10 @@ use Rattle.std.specs.FinMap.{entries}
 use Rattle.orc_path.specs.Steps.{PathStep}
 use Rattle.orc_path.specs.Configurations.{Config}
 use Rattle.orc_path.specs.declared.item.Item.{Item}
-use Rattle.orc_schema.specs.Schemas.{SchemaTable}
-use Rattle.orc_schema.specs.declared.line.Node.{Node}
-use Rattle.orc_schema.specs.declared.line.Node.TheVariants.{Container, List as ListOf, Leaf, LeafList}
-use Rattle.orc_schema.specs.declared.line.SchemaLine.{SchemaLine}
+use Rattle.orc_schema_nodes.specs.Schemas.{SchemaTable}
+use Rattle.orc_schema_nodes.specs.declared.line.Node.{Node}
+use Rattle.orc_schema_nodes.specs.declared.line.Node.TheVariants.{Container, List as ListOf, Leaf, LeafList}
+use Rattle.orc_schema_nodes.specs.declared.line.SchemaLine.{SchemaLine}
 use Rattle.orc_check.specs.Validity.{Breach, breach_cmp, breach_if, breaches, broken_of, count_breaches, entry_count, has_canonical_last_keys, is_missing, is_of_kind, lacks_instance, least_breach, lesser_breach, line_breaches, node_breaches, place_breaches, places, reached, row_breaches, values_of}
 use Rattle.orc_check.specs.declared.rules.TheConstants.{KIND, KEY, MANDATORY, MIN_ELEMENTS, MAX_ELEMENTS, LEAFREF}
 use Rattle.orc_print.specs.Printed.{is_rule}

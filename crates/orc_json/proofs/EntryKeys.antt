@@ -6,7 +6,7 @@ use Rattle.serde_json.specs.Data.{Data, Members, object}
 use Rattle.orc_path.specs.Items.{fits}
 use Rattle.orc_path.specs.Steps.{PathStep}
 use Rattle.orc_path.specs.declared.item.Item.TheVariants.{Entry}
-use Rattle.orc_schema.specs.Schemas.{SchemaTable, path_names}
+use Rattle.orc_schema_nodes.specs.Schemas.{SchemaTable, path_names}
 use Rattle.orc_json.specs.Findings.{states, breaks, below, entry_key, key_texts, entry_keys, entry_object, members_at, entry_at}
 use Rattle.orc_json.specs.declared.fault.TheConstants.{KEY}
 use Rattle.orc_json.proofs.Found.{entry_fits}

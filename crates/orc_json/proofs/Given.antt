@@ -4,7 +4,7 @@ use Rattle.std.specs.Prelude.{Result, Ok, Err}
 use Rattle.serde_json.specs.Data.{Data}
 use Rattle.orc_path.specs.Configurations.{Config}
 use Rattle.orc_path.specs.Steps.{PathStep}
-use Rattle.orc_schema.specs.Schemas.{SchemaTable}
+use Rattle.orc_schema_nodes.specs.Schemas.{SchemaTable}
 use Rattle.orc_json.specs.Readings.{JsonGives, IsJson, IsOutcome, outcome, reading}
 use Rattle.orc_json.specs.declared.fault.JsonFault.{JsonFault}
 use Rattle.orc_json.specs.declared.fault.JsonFault.TheVariants.{Syntax, Bad, Memory}

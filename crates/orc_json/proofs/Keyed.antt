@@ -8,7 +8,7 @@ use Rattle.orc_path.specs.Steps.{PathStep}
 use Rattle.orc_value.specs.Canon.{canon_of, is_canonical, gives_text}
 use Rattle.orc_value.specs.Json.{json_of}
 use Rattle.orc_value.specs.declared.kind.Kind.{Kind}
-use Rattle.orc_schema.specs.Schemas.{SchemaTable}
+use Rattle.orc_schema_nodes.specs.Schemas.{SchemaTable}
 use Rattle.orc_json.specs.Findings.{below}
 use Rattle.orc_json.specs.inside.Fronts.{Row, first_path}
 use Rattle.orc_json.specs.Written.{Rows, AreValues, are_keys, with_key_members}

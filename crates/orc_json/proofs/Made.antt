@@ -8,7 +8,7 @@ use Rattle.serde_json.specs.View.{view, items_view}
 use Rattle.serde_json.specs.declared.value.Value.{Value}
 use Rattle.orc_path.specs.Steps.{PathStep}
 use Rattle.orc_path.specs.declared.item.Item.TheVariants.{Entry}
-use Rattle.orc_schema.specs.Schemas.{SchemaTable, path_names}
+use Rattle.orc_schema_nodes.specs.Schemas.{SchemaTable, path_names}
 use Rattle.orc_json.specs.Findings.{below}
 use Rattle.orc_json.specs.inside.Fronts.{same_name, same_step, front, longest, AreLaid, MakesMembers, PutsNode, MakesEntries, MakesEntry}
 use Rattle.orc_json.specs.Written.{Rows, AreMembers, AreEntries, with_key_members}

@@ -13,7 +13,7 @@ use Rattle.orc_path.specs.declared.item.Item.TheVariants.{Entry}
 use Rattle.orc_path.proofs.Bools.{first_of_both, second_of_both}
 use Rattle.orc_path.proofs.Equality.{step_eq_decides}
 use Rattle.orc_path.proofs.PathOrder.{path_cmp_total}
-use Rattle.orc_schema.specs.Schemas.{SchemaTable, path_names}
+use Rattle.orc_schema_nodes.specs.Schemas.{SchemaTable, path_names}
 use Rattle.orc_json.specs.Findings.{below, node_below}
 use Rattle.orc_json.specs.inside.Fronts.{Row, same_name, same_step, both_steps, passing, front, longest, AreLaid}
 use Rattle.orc_json.specs.Written.{Rows, AreMembers, IsNode, AreEntries, is_before, are_keys, with_key_members}

@@ -15,8 +15,8 @@ use Rattle.orc_value.specs.Integers.{int_value}
 use Rattle.orc_value.specs.Json.{json_of}
 use Rattle.orc_value.specs.declared.kind.Kind.{Kind}
 use Rattle.orc_value.specs.declared.kind.Kind.TheVariants.{Int, Decimal, Str, Bool as Boolean, Enum, Empty}
-use Rattle.orc_schema.specs.Schemas.{SchemaTable, path_names}
-use Rattle.orc_schema.specs.declared.line.Node.{Node}
+use Rattle.orc_schema_nodes.specs.Schemas.{SchemaTable, path_names}
+use Rattle.orc_schema_nodes.specs.declared.line.Node.{Node}
 use Rattle.orc_json.specs.Findings.{below, node_below, key_kind}
 use Rattle.orc_json.specs.inside.Fronts.{longest}
 use Rattle.orc_json.specs.Written.{Rows, AreValues, AreMembers, IsNode, AreEntries, with_key_member, with_key_members}

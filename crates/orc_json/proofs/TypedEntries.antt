@@ -14,11 +14,11 @@ use Rattle.orc_path.specs.Steps.{is_name_behind}
 use Rattle.orc_path.specs.declared.item.Item.TheVariants.{Entry}
 use Rattle.orc_value.specs.Canon.{canon_of, same_text}
 use Rattle.orc_value.specs.Json.{json_of}
-use Rattle.orc_schema.specs.Schemas.{SchemaTable, path_names}
-use Rattle.orc_schema.specs.declared.line.Node.{Node}
-use Rattle.orc_schema.specs.declared.line.Node.TheVariants as node
-use Rattle.orc_schema.specs.declared.line.ListNode.{ListNode}
-use Rattle.orc_schema.specs.declared.line.ValueListNode.{ValueListNode}
+use Rattle.orc_schema_nodes.specs.Schemas.{SchemaTable, path_names}
+use Rattle.orc_schema_nodes.specs.declared.line.Node.{Node}
+use Rattle.orc_schema_nodes.specs.declared.line.Node.TheVariants as node
+use Rattle.orc_schema_nodes.specs.declared.line.ListNode.{ListNode}
+use Rattle.orc_schema_nodes.specs.declared.line.ValueListNode.{ValueListNode}
 use Rattle.orc_json.specs.Findings.{below, node_below, is_key_name}
 use Rattle.orc_json.specs.Written.{Rows, AreValues, AreMembers, IsNode, AreEntries, is_before, are_keys, with_key_members}
 use Rattle.orc_json.specs.Written.AreValues.{no_value, value}

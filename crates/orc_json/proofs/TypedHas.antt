@@ -4,8 +4,8 @@ use Rattle.std.specs.Prelude.{is_some}
 use Rattle.std.specs.FinMap.{entries, entries_sorted, get-entries}
 use Rattle.std.proofs.lemmas.Bool.{false≢true}
 use Rattle.orc_path.specs.Configurations.{Config, IsWay, is_entry}
-use Rattle.orc_schema.specs.Schemas.{SchemaTable}
-use Rattle.orc_schema.specs.Sound.{IsSound}
+use Rattle.orc_schema_nodes.specs.Schemas.{SchemaTable}
+use Rattle.orc_schema_nodes.specs.Sound.{IsSound}
 use Rattle.orc_json.specs.TypedJson.{IsTypedConfig}
 use Rattle.orc_json.specs.Written.{Rows, HasJson, AreMembers}
 use Rattle.orc_json.proofs.TypedRows.{Path, look, below_path-root, weight}

@@ -14,7 +14,7 @@ use Rattle.serde_json.proofs.Views.{get_member-put, get_member-put_other}
 use Rattle.orc_value.specs.declared.kind.Kind.{Kind}
 use Rattle.orc_value.specs.Canon.{canon_of, is_canonical, gives_text, same_text}
 use Rattle.orc_value.specs.Json.{json_of, canon_of_json}
-use Rattle.orc_schema.specs.Schemas.{SchemaTable}
+use Rattle.orc_schema_nodes.specs.Schemas.{SchemaTable}
 use Rattle.orc_typed.specs.Typed.{kind_of_names, are_canonical_keys}
 use Rattle.orc_json.specs.Findings.{key_kind, entry_key, key_texts, entry_keys, is_key_name}
 use Rattle.orc_json.specs.Written.{are_keys, with_key_member, with_key_members}

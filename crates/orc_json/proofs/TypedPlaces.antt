@@ -9,14 +9,14 @@ use Rattle.orc_path.specs.Alphabet.{is_identifier, is_qualified}
 use Rattle.orc_path.specs.Steps.{PathStep, is_name_behind}
 use Rattle.orc_path.specs.declared.item.Item.{Item}
 use Rattle.orc_path.specs.declared.item.Item.TheVariants.{Entry, Leaf as LeafItem}
-use Rattle.orc_schema.specs.Schemas.{SchemaTable, path_names, node_at, kind_in, kind_at_path}
-use Rattle.orc_schema.specs.declared.line.Node.{Node}
-use Rattle.orc_schema.specs.declared.line.Node.TheVariants.{Container, List as ListOf, Leaf, LeafList}
-use Rattle.orc_schema.specs.declared.line.LeafNode.{LeafNode}
-use Rattle.orc_schema.specs.declared.line.ListNode.{ListNode}
-use Rattle.orc_schema.specs.declared.line.ValueListNode.{ValueListNode}
+use Rattle.orc_schema_nodes.specs.Schemas.{SchemaTable, path_names, node_at, kind_in, kind_at_path}
+use Rattle.orc_schema_nodes.specs.declared.line.Node.{Node}
+use Rattle.orc_schema_nodes.specs.declared.line.Node.TheVariants.{Container, List as ListOf, Leaf, LeafList}
+use Rattle.orc_schema_nodes.specs.declared.line.LeafNode.{LeafNode}
+use Rattle.orc_schema_nodes.specs.declared.line.ListNode.{ListNode}
+use Rattle.orc_schema_nodes.specs.declared.line.ValueListNode.{ValueListNode}
 use Rattle.orc_typed.specs.Typed.{kinds_at, step_kinds, stands_at, stand, carries, is_carried, has_canonical_keys, are_canonical_keys, are_canonical_steps, is_canonical_value, is_in_schema, is_typed}
-use Rattle.orc_schema.specs.Sound.{IsSound, are_node_names, holds_nodes}
+use Rattle.orc_schema_nodes.specs.Sound.{IsSound, are_node_names, holds_nodes}
 use Rattle.orc_json.proofs.TypedRows.{Path}
 
 pub names-below : (at : Path) (st : PathStep) → path_names (at ++ st ∷ []) ≡ path_names at ++ st.node ∷ []

@@ -19,15 +19,15 @@ use Rattle.orc_path.specs.declared.item.Item.TheVariants.{Entry, Leaf as LeafIte
 use Rattle.orc_path.proofs.Bools.{first_of_both, second_of_both}
 use Rattle.orc_value.specs.Canon.{canon_of, is_canonical}
 use Rattle.orc_value.specs.Json.{json_of}
-use Rattle.orc_schema.specs.Schemas.{SchemaTable, path_names, node_at, kind_in}
-use Rattle.orc_schema.specs.declared.line.Node.{Node}
-use Rattle.orc_schema.specs.declared.line.Node.TheVariants.{Container, List as ListOf, Leaf, LeafList}
-use Rattle.orc_schema.specs.declared.line.LeafNode.{LeafNode}
-use Rattle.orc_schema.specs.declared.line.ListNode.{ListNode}
-use Rattle.orc_schema.specs.declared.line.ValueListNode.{ValueListNode}
+use Rattle.orc_schema_nodes.specs.Schemas.{SchemaTable, path_names, node_at, kind_in}
+use Rattle.orc_schema_nodes.specs.declared.line.Node.{Node}
+use Rattle.orc_schema_nodes.specs.declared.line.Node.TheVariants.{Container, List as ListOf, Leaf, LeafList}
+use Rattle.orc_schema_nodes.specs.declared.line.LeafNode.{LeafNode}
+use Rattle.orc_schema_nodes.specs.declared.line.ListNode.{ListNode}
+use Rattle.orc_schema_nodes.specs.declared.line.ValueListNode.{ValueListNode}
 use Rattle.orc_typed.specs.Typed.{kind_of_names, carries, is_canonical_value, are_canonical_keys}
 use Rattle.orc_json.specs.Findings.{below, node_below, is_key_name}
-use Rattle.orc_schema.specs.Sound.{IsSound, HasItsKeys, is_list_key, holds_nodes}
+use Rattle.orc_schema_nodes.specs.Sound.{IsSound, HasItsKeys, is_list_key, holds_nodes}
 use Rattle.orc_json.specs.Written.{Rows, AreMembers, IsNode, are_keys}
 use Rattle.orc_json.specs.Written.AreMembers.{no_member}
 use Rattle.orc_json.specs.Written.IsNode.{container, leaf}

@@ -5,8 +5,8 @@ use Rattle.serde_json.specs.Data.{Data, Items, Members}
 use Rattle.orc_path.specs.Steps.{PathStep}
 use Rattle.orc_path.specs.declared.item.Item.TheVariants.{Entry}
 use Rattle.orc_value.specs.declared.kind.Kind.{Kind}
-use Rattle.orc_schema.specs.Schemas.{SchemaTable}
-use Rattle.orc_schema.specs.declared.line.Node.{Node}
+use Rattle.orc_schema_nodes.specs.Schemas.{SchemaTable}
+use Rattle.orc_schema_nodes.specs.declared.line.Node.{Node}
 use Rattle.orc_json.specs.Findings.{below, node_below}
 use Rattle.orc_json.specs.inside.Fronts.{Row}
 use Rattle.orc_json.specs.Written.{Rows, AreValues, AreMembers, IsNode, AreEntries}

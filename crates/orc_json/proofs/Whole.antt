@@ -8,7 +8,7 @@ use Rattle.serde_json.specs.Written.{compact_text, has_float}
 use Rattle.orc_path.specs.Configurations.{Config, IsConfig}
 use Rattle.orc_path.specs.Order.{path_cmp}
 use Rattle.orc_path.specs.declared.limits.TheConstants.{PATH_STEPS}
-use Rattle.orc_schema.specs.Schemas.{SchemaTable}
+use Rattle.orc_schema_nodes.specs.Schemas.{SchemaTable}
 use Rattle.orc_json.specs.inside.Fronts.{longest, AreLaid, MakesMembers}
 use Rattle.orc_json.specs.Laws.{JsonIsRead}
 use Rattle.orc_json.specs.Readings.{find_all, nothing_read, outcome, IsReadAs}

@@ -16,8 +16,8 @@ use Rattle.orc_path.specs.declared.item.Item.TheVariants.{Entry}
 use Rattle.orc_value.specs.declared.kind.Kind.{Kind}
 use Rattle.orc_value.specs.Canon.{same_text}
 use Rattle.orc_value.specs.Json.{json_of, canon_of_json}
-use Rattle.orc_schema.specs.Schemas.{SchemaTable, path_names}
-use Rattle.orc_schema.specs.declared.line.Node.{Node}
+use Rattle.orc_schema_nodes.specs.Schemas.{SchemaTable, path_names}
+use Rattle.orc_schema_nodes.specs.declared.line.Node.{Node}
 use Rattle.orc_json.specs.Findings.{Finding, states, breaks, below, node_below, key_kind, entry_object, entry_value, values, leaf_value, is_key_name, node_found, member_found, object_at, members_at, list_at, entries_at, strange_name}
 use Rattle.orc_json.specs.declared.fault.TheConstants.{MEMBER}
 use Rattle.orc_json.specs.Written.{Rows, AreValues, AreMembers, IsNode, AreEntries, with_key_member, with_key_members}

@@ -11,10 +11,10 @@ use Rattle.orc_value.specs.Canon.{same_text}
 use Rattle.orc_value.specs.Json.{canon_of_json}
 use Rattle.orc_value.specs.declared.fault.TheConstants.{KIND as OTHER_KIND}
 use Rattle.orc_value.specs.declared.kind.Kind.{Kind}
-use Rattle.orc_schema.specs.Schemas.{SchemaTable, path_names, node_at, kind_in}
-use Rattle.orc_schema.specs.declared.line.Node.{Node}
-use Rattle.orc_schema.specs.declared.line.Node.TheVariants as node
-use Rattle.orc_schema.specs.declared.line.LeafNode.{LeafNode}
+use Rattle.orc_schema_nodes.specs.Schemas.{SchemaTable, path_names, node_at, kind_in}
+use Rattle.orc_schema_nodes.specs.declared.line.Node.{Node}
+use Rattle.orc_schema_nodes.specs.declared.line.Node.TheVariants as node
+use Rattle.orc_schema_nodes.specs.declared.line.LeafNode.{LeafNode}
 use Rattle.orc_json.specs.declared.fault.TheConstants.{MEMBER, KIND, VALUE, KEY}
 
 -- A member states that an item stands at a path, or breaks a rule there: MEMBER, KIND, VALUE or KEY.

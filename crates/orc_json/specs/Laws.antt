@@ -3,7 +3,7 @@ use Rattle.std.specs.Prelude.{◌≡◌, [], Ok}
 use Rattle.std.specs.FinMap.{entries}
 use Rattle.serde_json.specs.Data.{Members, object}
 use Rattle.orc_path.specs.Configurations.{Config, IsConfig}
-use Rattle.orc_schema.specs.Schemas.{SchemaTable}
+use Rattle.orc_schema_nodes.specs.Schemas.{SchemaTable}
 use Rattle.orc_json.specs.Readings.{reading, outcome}
 use Rattle.orc_json.specs.Written.{AreMembers}
 

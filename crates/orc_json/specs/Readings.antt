@@ -11,7 +11,7 @@ use Rattle.orc_path.specs.Configurations.{Config, put_item}
 use Rattle.orc_path.specs.Order.{path_cmp, is_prefix}
 use Rattle.orc_path.specs.Steps.{PathStep}
 use Rattle.orc_path.specs.declared.item.Item.{Item}
-use Rattle.orc_schema.specs.Schemas.{SchemaTable}
+use Rattle.orc_schema_nodes.specs.Schemas.{SchemaTable}
 use Rattle.orc_json.specs.Findings.{Finding, states, breaks, object_at}
 use Rattle.orc_json.specs.declared.fault.JsonFault.{JsonFault}
 use Rattle.orc_json.specs.declared.fault.JsonFault.TheVariants.{Syntax, Bad, Memory}

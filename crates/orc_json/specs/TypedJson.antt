@@ -4,9 +4,9 @@ use Rattle.std.specs.FinMap.{get}
 use Rattle.orc_path.specs.Configurations.{Config, IsConfig}
 use Rattle.orc_path.specs.Steps.{PathStep}
 use Rattle.orc_path.specs.declared.item.Item.{Item}
-use Rattle.orc_schema.specs.Schemas.{SchemaTable}
+use Rattle.orc_schema_nodes.specs.Schemas.{SchemaTable}
 use Rattle.orc_typed.specs.Typed.{is_typed}
-use Rattle.orc_schema.specs.Sound.{IsSound}
+use Rattle.orc_schema_nodes.specs.Sound.{IsSound}
 use Rattle.orc_json.specs.Written.{HasJson}
 
 -- A configuration under a schema: each item is one of the schema, with each key and the text of their types and

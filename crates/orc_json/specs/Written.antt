@@ -15,12 +15,12 @@ use Rattle.orc_path.specs.declared.item.Item.TheVariants.{Entry, Leaf}
 use Rattle.orc_value.specs.Canon.{canon_of, is_canonical, same_text}
 use Rattle.orc_value.specs.Json.{json_of}
 use Rattle.orc_value.specs.declared.kind.Kind.{Kind}
-use Rattle.orc_schema.specs.Schemas.{SchemaTable, path_names}
-use Rattle.orc_schema.specs.declared.line.Node.{Node}
-use Rattle.orc_schema.specs.declared.line.Node.TheVariants as node
-use Rattle.orc_schema.specs.declared.line.ListNode.{ListNode}
-use Rattle.orc_schema.specs.declared.line.LeafNode.{LeafNode}
-use Rattle.orc_schema.specs.declared.line.ValueListNode.{ValueListNode}
+use Rattle.orc_schema_nodes.specs.Schemas.{SchemaTable, path_names}
+use Rattle.orc_schema_nodes.specs.declared.line.Node.{Node}
+use Rattle.orc_schema_nodes.specs.declared.line.Node.TheVariants as node
+use Rattle.orc_schema_nodes.specs.declared.line.ListNode.{ListNode}
+use Rattle.orc_schema_nodes.specs.declared.line.LeafNode.{LeafNode}
+use Rattle.orc_schema_nodes.specs.declared.line.ValueListNode.{ValueListNode}
 use Rattle.orc_json.specs.Findings.{below, node_below, key_kind, is_key_name}
 
 abbrev pub Rows : Type 0

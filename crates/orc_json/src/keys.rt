@@ -5,11 +5,11 @@ ghost use Rattle.serde_json.specs.Find.{get};
 ghost use Rattle.serde_json.specs.View.{view};
 ghost use Rattle.orc_path.specs.Alphabet.{is_key};
 ghost use Rattle.orc_value.specs.Json.{canon_of_json};
-ghost use Rattle.orc_schema.specs.Schemas.{path_names};
+ghost use Rattle.orc_schema_nodes.specs.Schemas.{path_names};
 ghost use Rattle.orc_json.specs.Findings.{entry_key, key_texts, entry_keys};
 
 use orc_path::Step;
-use orc_schema::Schema;
+use orc_schema_nodes::Schema;
 use orc_text::{Memory, Row, Text};
 use orc_value::{ValueFault, from_json};
 use serde_json::Value;

@@ -11,7 +11,7 @@ use crate::reading::Reading;
 use crate::steps::{name_behind, path_below};
 use crate::values::{read_leaf, read_leaf_list};
 use orc_path::{Item, Name, Path};
-use orc_schema::{Node, Schema};
+use orc_schema_nodes::{Node, Schema};
 use orc_text::{Memory, Row, Text};
 use serde_json::{Map, Value};
 use std::alloc::Global;

@@ -6,7 +6,7 @@ ghost use Rattle.orc_json.specs.inside.Fronts.{MakesMembers, PutsNode, MakesNode
 use crate::runs::{first_steps, name_front, step_at, step_front};
 use crate::texts::{leaf_value, put_keys, put_member, values_of};
 use orc_path::{Item, Path, Step};
-use orc_schema::{Node, Schema};
+use orc_schema_nodes::{Node, Schema};
 use orc_text::{Memory, Text};
 use serde_json::{Map, Value};
 use std::alloc::Global;

@@ -8,7 +8,7 @@ use crate::fault::JsonFault;
 use crate::members::read_object;
 use crate::reading::Reading;
 use orc_path::{Item, Path};
-use orc_schema::Schema;
+use orc_schema_nodes::Schema;
 use orc_text::{Memory, Row};
 use orc_tree::Tree;
 use serde_json::Value;

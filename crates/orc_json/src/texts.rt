@@ -7,12 +7,12 @@ ghost use Rattle.orc_path.specs.Steps.{PathStep};
 ghost use Rattle.orc_path.specs.declared.item.Item.TheVariants.{Leaf};
 ghost use Rattle.orc_value.specs.Canon.{canon_of, is_canonical};
 ghost use Rattle.orc_value.specs.Json.{json_of};
-ghost use Rattle.orc_schema.specs.Schemas.{path_names};
+ghost use Rattle.orc_schema_nodes.specs.Schemas.{path_names};
 ghost use Rattle.orc_json.specs.Findings.{below, key_kind};
 ghost use Rattle.orc_json.specs.Written.{AreValues, are_keys, with_key_member, with_key_members};
 
 use orc_path::{Item, Path, Step};
-use orc_schema::Schema;
+use orc_schema_nodes::Schema;
 use orc_text::{Memory, Text};
 use orc_value::{Kind, is_canonical, to_json};
 use serde_json::{Map, Value};

@@ -13,7 +13,7 @@ use crate::fault::{KIND, MEMBER, VALUE};
 use crate::reading::Reading;
 use crate::steps::{one_key, path_below};
 use orc_path::{Item, Name, Path};
-use orc_schema::LeafNode;
+use orc_schema_nodes::LeafNode;
 use orc_text::{Memory, Row};
 use orc_value::{KIND as OTHER_KIND, Kind, ValueFault, from_json};
 use serde_json::Value;

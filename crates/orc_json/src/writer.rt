@@ -5,7 +5,7 @@ ghost use Rattle.orc_json.specs.Written.{HasJson, IsJsonTextOf, has_short_paths}
 
 use crate::object::object_of;
 use crate::runs::longest;
-use orc_schema::Schema;
+use orc_schema_nodes::Schema;
 use orc_text::Memory;
 use orc_tree::Tree;
 use serde_json::Value;

@@ -17,7 +17,7 @@ use Rattle.orc_path.specs.Steps.{PathStep, ends_in_keys}
 use Rattle.orc_path.specs.Configurations.{Config, IsConfig, IsWay, is_removed_with, put_item}
 use Rattle.orc_path.specs.declared.item.Item.TheVariants.{Entry}
 use Rattle.orc_path.proofs.ConfigurationLaws.{IsConfig-empty, IsConfig-put_item, IsConfig-drop_item, get-drop_item, get-put_item-elsewhere, same_path}
-use Rattle.orc_schema.specs.Schemas.{SchemaTable}
+use Rattle.orc_schema_nodes.specs.Schemas.{SchemaTable}
 use Rattle.orc_check.specs.Validity.{broken_of}
 use Rattle.orc_call.specs.declared.call.Put.{Put}
 use Rattle.orc_call.specs.declared.call.Call.{Call}

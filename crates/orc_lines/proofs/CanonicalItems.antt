@@ -8,9 +8,9 @@ use Rattle.orc_path.specs.Limits.{is_long_path, is_long_value}
 use Rattle.orc_path.specs.Steps.{PathStep, is_path}
 use Rattle.orc_path.specs.declared.item.Item.{Item}
 use Rattle.orc_path.specs.declared.item.Item.TheVariants.{Entry, Leaf}
-use Rattle.orc_schema.specs.Schemas.{SchemaTable, node_at, path_names}
-use Rattle.orc_schema.specs.declared.line.Node.{Node}
-use Rattle.orc_schema.specs.declared.line.Node.TheVariants as node
+use Rattle.orc_schema_nodes.specs.Schemas.{SchemaTable, node_at, path_names}
+use Rattle.orc_schema_nodes.specs.declared.line.Node.{Node}
+use Rattle.orc_schema_nodes.specs.declared.line.Node.TheVariants as node
 use Rattle.orc_typed.specs.Typed.{canonical_item, canonical_path, carries, is_carried, is_in_schema, is_typed, stand}
 use Rattle.orc_typed.specs.Laws.{AreCanonicalOf, CanonicalIsTyped, CanonicalKeeps, KeepsPlace, has_plain_text}
 use Rattle.orc_decls.specs.Calls.{is_item_at, is_lawful_item, is_put}

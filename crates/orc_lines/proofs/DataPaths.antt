@@ -6,7 +6,7 @@ use Rattle.orc_path.specs.Items.{fits}
 use Rattle.orc_path.specs.Limits.{is_long_path}
 use Rattle.orc_path.specs.Steps.{PathStep, ends_in_keys, is_path}
 use Rattle.orc_path.specs.declared.item.Item.TheVariants.{Entry, Leaf}
-use Rattle.orc_schema.specs.Schemas.{SchemaTable}
+use Rattle.orc_schema_nodes.specs.Schemas.{SchemaTable}
 use Rattle.orc_decls.specs.Calls.{blank_item, is_data_path, is_kept, is_lawful_item}
 use Rattle.orc_typed.specs.Typed.{are_canonical_steps, is_in_schema}
 use Rattle.orc_lines.specs.inside.Places.{keeps_place}

@@ -3,7 +3,7 @@ use Rattle.std.proofs.Common.{◌≡◌, ℕ, Bool, true, false, ◌&&◌, ◌||
 use Rattle.std.specs.Option.{option_and_then, option_map}
 use Rattle.std.proofs.lemmas.Bool.{or_parts}
 use Rattle.orc_path.specs.Steps.{PathStep}
-use Rattle.orc_schema.specs.Schemas.{SchemaTable, path_names}
+use Rattle.orc_schema_nodes.specs.Schemas.{SchemaTable, path_names}
 use Rattle.orc_typed.specs.Typed.{canonical_keys, canonical_path, canonical_steps, kinds_at}
 use Rattle.orc_call.specs.declared.call.Put.{Put}
 use Rattle.orc_services.specs.declared.list.ServiceList.{ServiceList}

@@ -3,7 +3,7 @@ use Rattle.std.proofs.Common.{◌≡◌, ◌-◌, Bool, true, false, not, ◌&&�
 use Rattle.std.specs.Prelude.{nat_lt}
 use Rattle.orc_path.specs.Limits.{is_long_path}
 use Rattle.orc_path.specs.Steps.{PathStep, ends_in_keys, is_path}
-use Rattle.orc_schema.specs.Schemas.{SchemaTable, node_at, path_names}
+use Rattle.orc_schema_nodes.specs.Schemas.{SchemaTable, node_at, path_names}
 use Rattle.orc_decls.specs.Calls.{has_entries, is_list_path}
 use Rattle.orc_typed.specs.Typed.{are_canonical_steps, stand}
 use Rattle.orc_lines.specs.Items.{names_list}

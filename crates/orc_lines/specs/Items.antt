@@ -10,7 +10,7 @@ use Rattle.orc_path.specs.Values.{value_of}
 use Rattle.orc_path.specs.Limits.{is_long_path, is_long_value}
 use Rattle.orc_path.specs.declared.item.Item.{Item}
 use Rattle.orc_path.specs.declared.item.Item.TheVariants.{Entry, Leaf}
-use Rattle.orc_schema.specs.Schemas.{SchemaTable, node_at, path_names}
+use Rattle.orc_schema_nodes.specs.Schemas.{SchemaTable, node_at, path_names}
 use Rattle.orc_typed.specs.Typed.{canonical_item, canonical_path, is_in_schema, stand}
 use Rattle.orc_call.specs.declared.call.Put.{Put}
 use Rattle.orc_services.specs.Services.{list_with}

@@ -6,8 +6,8 @@ use Rattle.std.specs.declared.option.Option.TheVariants.{Some}
 use Rattle.std.specs.List.{list_all, All, IsDistinct}
 use Rattle.std.specs.Ordering.{eq_by_cmp}
 use Rattle.orc_path.specs.Order.{path_cmp}
-use Rattle.orc_schema.specs.Schemas.{plain_table}
-use Rattle.orc_schema.specs.Sound.{IsSound}
+use Rattle.orc_schema_nodes.specs.Schemas.{plain_table}
+use Rattle.orc_schema_nodes.specs.Sound.{IsSound}
 use Rattle.orc_decls.specs.Devices.{names_of}
 use Rattle.orc_decls.specs.Calls.{is_data_item, is_device, is_served}
 use Rattle.orc_decls.specs.Declarations.{is_list_of_services}

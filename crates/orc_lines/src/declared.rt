@@ -1,6 +1,6 @@
 //! What was declared so far, against which the lines of declarations and of the script are read.
 ghost use Rattle.std.specs.Prelude.{◌≡◌};
-ghost use Rattle.orc_schema.specs.Schemas.{plain_table};
+ghost use Rattle.orc_schema_nodes.specs.Schemas.{plain_table};
 ghost use Rattle.orc_decls.specs.Calls.{schema_named};
 ghost use Rattle.orc_decls.specs.Devices.{names_of};
 ghost use Rattle.orc_lines.specs.Lawful.{decls_with};
@@ -8,7 +8,7 @@ ghost use Rattle.orc_lines.specs.Lawful.{decls_with};
 use crate::names::SortedNames;
 use orc_call::Put;
 use orc_decls::{Decls, Device, Names, schema_named};
-use orc_schema::Schema;
+use orc_schema_nodes::Schema;
 use orc_services::ServiceList;
 use orc_template::Devices;
 use orc_text::{Row, Text};

@@ -6,7 +6,7 @@ ghost use Rattle.orc_path.specs.Values.{value_of};
 ghost use Rattle.orc_decls.specs.Calls.{is_data_path, is_forbid_rule, is_item_under, is_list_path, is_put, is_served};
 ghost use Rattle.orc_lines.specs.Answers.{ReadsLine};
 ghost use Rattle.orc_lines.specs.Items.{is_past_path, is_past_value, is_long_item, is_barred, can_carry, canonical_put, after_mark, data_path_of, entry_of, forbidden_of, kept_path_of, leaf_in, leaf_of, list_path_of, put_of, stored_data_path, stored_list_path, names_service, is_service_at, service_path_of, stored_service_path};
-ghost use Rattle.orc_schema.specs.Schemas.{SchemaTable, path_names};
+ghost use Rattle.orc_schema_nodes.specs.Schemas.{SchemaTable, path_names};
 ghost use Rattle.orc_typed.specs.Typed.{canonical_path};
 ghost use Rattle.orc_typed.specs.Laws.{has_plain_text};
 
@@ -16,7 +16,7 @@ use crate::words::cut;
 use orc_call::Put;
 use orc_decls::{Rule, blank_item, is_kept, is_served};
 use orc_path::{Item, Path, PathFault, is_long_value, read_value, values_are_read};
-use orc_schema::Schema;
+use orc_schema_nodes::Schema;
 use orc_services::{ServiceList, is_listed};
 use orc_text::{Memory, Text};
 use orc_typed::{

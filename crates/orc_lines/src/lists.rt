@@ -7,7 +7,7 @@ ghost use Rattle.orc_lines.specs.inside.Places.{keeps_place};
 use crate::items::can_carry;
 use orc_decls::{blank_item, is_kept};
 use orc_path::Path;
-use orc_schema::{Node, Schema};
+use orc_schema_nodes::{Node, Schema};
 use orc_typed::{are_canonical_steps, stand};
 use std::alloc::Global;
 

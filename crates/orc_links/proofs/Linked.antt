@@ -9,7 +9,7 @@ use Rattle.orc_decls.specs.declared.declarations.Decls.{Decls}
 use Rattle.orc_decls.specs.Openings.{declared_base, fits_puts}
 use Rattle.orc_decls.specs.declared.declarations.Device.{Device}
 use Rattle.orc_node.specs.LinkStates.{LinkState}
-use Rattle.orc_schema.specs.Schemas.{SchemaTable}
+use Rattle.orc_schema_nodes.specs.Schemas.{SchemaTable}
 use Rattle.orc_links.specs.Networks.{AreAccepted, link_of_device, links_to}
 
 -- so far there are links to the first devices, and the others are left with what they accept

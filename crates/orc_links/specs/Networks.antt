@@ -15,7 +15,7 @@ use Rattle.orc_node.specs.LinkStates.{LinkState, new_link}
 use Rattle.orc_node.specs.Nodes.{new_node, with_state}
 use Rattle.orc_path.specs.Configurations.{Config}
 use Rattle.orc_rules.specs.Worlds.{Link}
-use Rattle.orc_schema.specs.Schemas.{SchemaTable}
+use Rattle.orc_schema_nodes.specs.Schemas.{SchemaTable}
 
 -- a device that isn't there runs nothing, and nothing is pending there
 abbrev pub absent_node : NodeState

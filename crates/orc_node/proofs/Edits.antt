@@ -7,7 +7,7 @@ use Rattle.std.specs.List.{list_all}
 use Rattle.orc_call.specs.declared.answer.Tag.{Tag}
 use Rattle.orc_call.specs.declared.answer.Tag.TheVariants.{InUse, InvalidValue, NoSession}
 use Rattle.orc_check.specs.declared.acceptance.Accept.{Accept}
-use Rattle.orc_schema.specs.Schemas.{SchemaTable}
+use Rattle.orc_schema_nodes.specs.Schemas.{SchemaTable}
 use Rattle.orc_typed.specs.Typed.{is_typed}
 use Rattle.orc_path.specs.Items.{fits}
 use Rattle.orc_tree.specs.Changes.{change_fits}

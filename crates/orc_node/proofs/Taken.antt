@@ -12,9 +12,9 @@ use Rattle.orc_path.specs.Items.{fits}
 use Rattle.orc_path.specs.Configurations.{Config, IsConfig}
 use Rattle.orc_path.specs.declared.item.Item.{Item}
 use Rattle.orc_path.specs.declared.item.Item.TheVariants.{Entry, Leaf}
-use Rattle.orc_schema.specs.Schemas.{SchemaTable, path_names, node_at}
-use Rattle.orc_schema.specs.declared.line.Node.{Node}
-use Rattle.orc_schema.specs.declared.line.Node.TheVariants as node
+use Rattle.orc_schema_nodes.specs.Schemas.{SchemaTable, path_names, node_at}
+use Rattle.orc_schema_nodes.specs.declared.line.Node.{Node}
+use Rattle.orc_schema_nodes.specs.declared.line.Node.TheVariants as node
 use Rattle.orc_typed.specs.Typed.{is_typed, is_in_schema, is_carried, carries, stand, are_canonical_steps, has_place, has_place_in_schema}
 use Rattle.orc_tree.specs.declared.change.Change.{Change}
 use Rattle.orc_tree.specs.declared.change.Change.TheVariants.{Put, Remove}

@@ -2,7 +2,7 @@
 use Rattle.std.specs.Prelude.{Bool, ◌&&◌}
 use Rattle.std.specs.List.{list_all}
 use Rattle.orc_path.specs.Items.{fits}
-use Rattle.orc_schema.specs.Schemas.{SchemaTable}
+use Rattle.orc_schema_nodes.specs.Schemas.{SchemaTable}
 use Rattle.orc_typed.specs.Typed.{is_typed, has_place}
 use Rattle.orc_tree.specs.Changes.{applied}
 use Rattle.orc_tree.specs.declared.change.Change.{Change}

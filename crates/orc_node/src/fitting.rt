@@ -3,7 +3,7 @@ ghost use Rattle.std.specs.Prelude.{◌≡◌};
 ghost use Rattle.std.specs.List.{list_all};
 ghost use Rattle.orc_node.specs.Kinds.{change_stands, set_stands};
 
-use orc_schema::Schema;
+use orc_schema_nodes::Schema;
 use orc_tree::{Change, ChangeSet};
 use orc_typed::{has_place, is_typed};
 

@@ -9,7 +9,7 @@ ghost use Rattle.orc_node.specs.inside.Held.{IsKnown};
 use orc_check::{Accept, CheckFault, accepts_under};
 use orc_expr::Target;
 use orc_revalidate::revalidate;
-use orc_schema::Schema;
+use orc_schema_nodes::Schema;
 use orc_text::{Memory, Row};
 use orc_tree::{Change, ChangeSet, Tree};
 use std::alloc::Global;

@@ -11,7 +11,7 @@ use Rattle.orc_path.specs.declared.item.Item.{Item}
 use Rattle.orc_path.specs.declared.item.Item.TheVariants.{Entry}
 use Rattle.orc_path.specs.declared.item.Write.TheVariants as write
 use Rattle.orc_path.proofs.ConfigurationLaws.{get-drop_item, get-put_item-here, get-put_item-way, put_item_cases}
-use Rattle.orc_schema.specs.Schemas.{shape_at}
+use Rattle.orc_schema_nodes.specs.Schemas.{shape_at}
 use Rattle.orc_call.specs.declared.call.Action.{Action}
 use Rattle.orc_call.specs.declared.call.Action.TheVariants.{Create, Modify, Delete, Set, Unset}
 use Rattle.orc_call.specs.declared.call.Call.{Call}

@@ -19,7 +19,7 @@ use Rattle.orc_call.specs.declared.answer.Answer.TheVariants.{Committed, Exists,
 use Rattle.orc_call.specs.declared.answer.RecFault.{RecFault}
 use Rattle.orc_call.specs.declared.answer.RecFault.TheVariants as fault
 use Rattle.orc_refs.specs.declared.moves.Meta.{Meta}
-use Rattle.orc_schema.specs.Schemas.{SchemaTable}
+use Rattle.orc_schema_nodes.specs.Schemas.{SchemaTable}
 use Rattle.orc_check.specs.declared.rules.TheConstants.{KIND, KEY, MANDATORY, MIN_ELEMENTS, MAX_ELEMENTS, LEAFREF}
 use Rattle.orc_json.specs.Written.{IsJsonTextOf}
 use Rattle.orc_template.specs.declared.fault.TheConstants.{NO_VALUE, MANY_VALUES, UNKNOWN_DEVICE, BAD_LEAF, SELF_CLASH}

@@ -11,8 +11,8 @@ use Rattle.orc_path.specs.Steps.{PathStep}
 use Rattle.orc_path.specs.Configurations.{Config, list_of, is_entry_of}
 use Rattle.orc_path.specs.declared.item.Item.{Item}
 use Rattle.orc_path.proofs.ConfigurationLaws.{is_entry_of_decides, length-list_of}
-use Rattle.orc_schema.specs.Schemas.{SchemaTable, Ascends, path_names}
-use Rattle.orc_schema.specs.declared.line.SchemaLine.{SchemaLine}
+use Rattle.orc_schema_nodes.specs.Schemas.{SchemaTable, Ascends, path_names}
+use Rattle.orc_schema_nodes.specs.declared.line.SchemaLine.{SchemaLine}
 use Rattle.orc_check.specs.Validity.{Breach, is_place, places, line_breaches, place_breaches, plain_steps}
 use Rattle.orc_revalidate.specs.inside.Looked.{stands, line_at, standing_breaches, front_breaches, node_breaches_on}
 use Rattle.orc_revalidate.proofs.Members.{In, in_left, in_right, in_parts, in_flat_map, in_filter, in_map, from_filter, from_map}

@@ -8,7 +8,7 @@ use Rattle.std.specs.FinMap.{get, entries}
 use Rattle.orc_path.specs.Order.{is_prefix}
 use Rattle.orc_path.specs.Configurations.{Config}
 use Rattle.orc_path.specs.declared.item.Item.{Item}
-use Rattle.orc_schema.specs.Schemas.{SchemaTable}
+use Rattle.orc_schema_nodes.specs.Schemas.{SchemaTable}
 use Rattle.orc_check.specs.Validity.{Breach, is_place, places, row_breaches, place_breaches, breaches}
 use Rattle.orc_expr.specs.declared.read.Target.{Target}
 use Rattle.orc_expr.specs.declared.read.Target.TheVariants.{One, Under}

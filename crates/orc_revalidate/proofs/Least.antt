@@ -13,7 +13,7 @@ use Rattle.std.proofs.lemmas.List.Elements.{All-contains}
 use Rattle.orc_path.specs.Order.{path_cmp}
 use Rattle.orc_path.specs.Configurations.{Config, IsConfig}
 use Rattle.orc_path.proofs.PathOrder.{path_cmp_total, path_cmp_exact}
-use Rattle.orc_schema.specs.Schemas.{SchemaTable, Ascends}
+use Rattle.orc_schema_nodes.specs.Schemas.{SchemaTable, Ascends}
 use Rattle.orc_check.specs.Laws.{IsLeastBreach, LeastBreachIsLeast}
 use Rattle.orc_check.specs.Validity.{Breach, breach_cmp, least_breach, breaches, broken_of}
 use Rattle.orc_expr.specs.declared.read.Target.{Target}

@@ -9,11 +9,11 @@ use Rattle.std.proofs.lemmas.List.{map-append}
 use Rattle.std.proofs.lemmas.Option.{same_Some}
 use Rattle.orc_path.specs.Steps.{PathStep}
 use Rattle.orc_value.specs.Canon.{same_text}
-use Rattle.orc_schema.specs.Links.{same_names}
-use Rattle.orc_schema.specs.Schemas.{SchemaTable, Ascends, path_names, is_line_at, node_at}
-use Rattle.orc_schema.specs.declared.line.SchemaLine.{SchemaLine}
-use Rattle.orc_schema.specs.declared.line.Target.{Target}
-use Rattle.orc_schema.proofs.Ordered.{sorted_alone}
+use Rattle.orc_schema_nodes.specs.Names.{same_names}
+use Rattle.orc_schema_nodes.specs.Schemas.{SchemaTable, Ascends, path_names, is_line_at, node_at}
+use Rattle.orc_schema_nodes.specs.declared.line.SchemaLine.{SchemaLine}
+use Rattle.orc_schema_nodes.specs.declared.line.Target.{Target}
+use Rattle.orc_schema_nodes.proofs.Ordered.{sorted_alone}
 use Rattle.orc_check.specs.Validity.{behind, goes_down, plain_steps, reached, target_in}
 use Rattle.orc_revalidate.specs.inside.Looked.{line_at}
 use Rattle.orc_revalidate.proofs.Members.{In}

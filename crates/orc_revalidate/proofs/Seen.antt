@@ -10,11 +10,11 @@ use Rattle.std.proofs.lemmas.List.{length-append}
 use Rattle.std.proofs.Math.Seq.{take-append_seam}
 use Rattle.orc_path.specs.Configurations.{Config, IsConfig, is_entry_of}
 use Rattle.orc_path.specs.declared.item.Item.{Item}
-use Rattle.orc_schema.specs.Schemas.{SchemaTable, Ascends, path_names}
-use Rattle.orc_schema.specs.declared.line.LeafNode.{LeafNode}
-use Rattle.orc_schema.specs.declared.line.Node.{Node}
-use Rattle.orc_schema.specs.declared.line.Node.TheVariants.{Container, List as ListOf, Leaf, LeafList}
-use Rattle.orc_schema.specs.declared.line.SchemaLine.{SchemaLine}
+use Rattle.orc_schema_nodes.specs.Schemas.{SchemaTable, Ascends, path_names}
+use Rattle.orc_schema_nodes.specs.declared.line.LeafNode.{LeafNode}
+use Rattle.orc_schema_nodes.specs.declared.line.Node.{Node}
+use Rattle.orc_schema_nodes.specs.declared.line.Node.TheVariants.{Container, List as ListOf, Leaf, LeafList}
+use Rattle.orc_schema_nodes.specs.declared.line.SchemaLine.{SchemaLine}
 use Rattle.orc_change.specs.Differences.{has_item}
 use Rattle.orc_check.specs.Validity.{Breach, breach_if, goes_down, plain_steps, is_place, places, reached, is_of_kind, has_canonical_last_keys, values_of, lacks_instance, row_breaches, count_breaches, is_missing, node_breaches, line_breaches, place_breaches, breaches}
 use Rattle.orc_check.specs.declared.rules.TheConstants.{KIND, KEY, MANDATORY, MIN_ELEMENTS, MAX_ELEMENTS, LEAFREF}

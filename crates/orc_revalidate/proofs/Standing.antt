@@ -11,8 +11,8 @@ use Rattle.std.proofs.lemmas.Option.{same_Some}
 use Rattle.orc_path.specs.Steps.{ends_in_keys}
 use Rattle.orc_path.specs.Configurations.{Config}
 use Rattle.orc_path.specs.declared.item.Item.{Item}
-use Rattle.orc_schema.specs.Schemas.{SchemaTable}
-use Rattle.orc_schema.specs.declared.line.SchemaLine.{SchemaLine}
+use Rattle.orc_schema_nodes.specs.Schemas.{SchemaTable}
+use Rattle.orc_schema_nodes.specs.declared.line.SchemaLine.{SchemaLine}
 use Rattle.orc_check.specs.Validity.{Breach, is_place, line_breaches, lesser_breach}
 use Rattle.orc_revalidate.specs.inside.Inside.{row_of, front_rows}
 use Rattle.orc_revalidate.specs.inside.Looked.{standing_breaches, front_breaches}

@@ -7,10 +7,10 @@ use Rattle.std.specs.FinMap.{get}
 use Rattle.std.proofs.lemmas.Bool.{false≢true, ltb-true, ltb-false}
 use Rattle.orc_path.specs.Steps.{PathStep}
 use Rattle.orc_path.specs.Configurations.{Config}
-use Rattle.orc_schema.specs.Schemas.{SchemaTable}
-use Rattle.orc_schema.specs.declared.line.Node.{Node}
-use Rattle.orc_schema.specs.declared.line.Node.TheVariants.{Container, List as ListOf, Leaf, LeafList}
-use Rattle.orc_schema.specs.declared.line.SchemaLine.{SchemaLine}
+use Rattle.orc_schema_nodes.specs.Schemas.{SchemaTable}
+use Rattle.orc_schema_nodes.specs.declared.line.Node.{Node}
+use Rattle.orc_schema_nodes.specs.declared.line.Node.TheVariants.{Container, List as ListOf, Leaf, LeafList}
+use Rattle.orc_schema_nodes.specs.declared.line.SchemaLine.{SchemaLine}
 use Rattle.orc_check.specs.Validity.{Breach, breach_if, count_breaches, entry_count, node_breaches, line_breaches, reached}
 use Rattle.orc_check.specs.declared.rules.TheConstants.{MANDATORY, MIN_ELEMENTS, MAX_ELEMENTS}
 use Rattle.orc_revalidate.specs.inside.Looked.{can_lack, has_bound, front_breaches, stands}

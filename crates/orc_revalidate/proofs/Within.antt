@@ -10,7 +10,7 @@ use Rattle.std.proofs.lemmas.List.{take_all}
 use Rattle.orc_path.specs.Order.{is_prefix}
 use Rattle.orc_path.specs.Configurations.{Config}
 use Rattle.orc_path.specs.declared.item.Item.{Item}
-use Rattle.orc_schema.specs.Schemas.{SchemaTable}
+use Rattle.orc_schema_nodes.specs.Schemas.{SchemaTable}
 use Rattle.orc_check.specs.Validity.{Breach, row_breaches}
 use Rattle.orc_expr.specs.Touches.{IsInside}
 use Rattle.orc_expr.specs.declared.read.Target.{Target}

@@ -4,7 +4,7 @@
 use crate::inside::rows_inside;
 use orc_expr::Target;
 use orc_path::{Item, Path, Step};
-use orc_schema::{Node, Schema};
+use orc_schema_nodes::{Node, Schema};
 use orc_text::{Memory, Text};
 use orc_tree::Tree;
 use std::alloc::Global;
@@ -46,7 +46,7 @@ fn goes_through_containers(schema: &Schema, names: &[Text], shared: u64) -> bool
 
 // Whether an instance of a leafref's target is found by a search for an entry: the target is the one key
 // of a list.
-fn is_searched(schema: &Schema, target: &orc_schema::Target) -> bool {
+fn is_searched(schema: &Schema, target: &orc_schema_nodes::Target) -> bool {
     let Some((key, list)) = target.names.as_slice().split_last() else {
         return false;
     };

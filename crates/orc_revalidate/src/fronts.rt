@@ -6,7 +6,7 @@ ghost use Rattle.orc_revalidate.specs.inside.Looked.{can_lack, front_breaches, h
 
 use orc_check::{Best, is_place, row_of_steps};
 use orc_path::{Item, Path, Step};
-use orc_schema::{Node, Schema, SchemaLine};
+use orc_schema_nodes::{Node, Schema, SchemaLine};
 use orc_tree::Tree;
 
 // Whether a number of entries has a bound.

@@ -11,7 +11,7 @@ use crate::kept::has_row;
 use orc_check::{first_steps, row_of_steps, target_in};
 use orc_expr::Target;
 use orc_path::{Item, Path, Step};
-use orc_schema::{Node, Schema, SchemaLine};
+use orc_schema_nodes::{Node, Schema, SchemaLine};
 use orc_text::{Memory, Text};
 use orc_tree::Tree;
 use std::alloc::Global;
@@ -72,7 +72,7 @@ fn is_cut_off(tree: &Tree, path: &[Step], number: usize) -> bool
 }
 
 // Whether a leafref of this target may lead there from a row that is there.
-fn may_reach(tree: &Tree, steps: &[Step], target: &orc_schema::Target) -> bool
+fn may_reach(tree: &Tree, steps: &[Step], target: &orc_schema_nodes::Target) -> bool
     ensures { result ≡ may_reach tree.now steps.now target.now }
 {
     begin_with(target.names.as_slice(), steps) && !is_cut_off(tree, steps, target.shared as usize)

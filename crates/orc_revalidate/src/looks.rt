@@ -10,7 +10,7 @@ use crate::kept::has_row;
 use orc_check::{Best, is_place};
 use orc_expr::Target;
 use orc_path::{Item, Path};
-use orc_schema::Schema;
+use orc_schema_nodes::Schema;
 use orc_text::Memory;
 use orc_tree::Tree;
 use std::alloc::Global;

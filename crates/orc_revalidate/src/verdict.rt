@@ -10,7 +10,7 @@ use crate::led::may_lose;
 use crate::looks::least_looked;
 use orc_check::{CheckFault, least_breach_is_least, valid};
 use orc_expr::Target;
-use orc_schema::Schema;
+use orc_schema_nodes::Schema;
 use orc_tree::Tree;
 use std::alloc::Global;
 

@@ -19,7 +19,7 @@ use Rattle.orc_decls.specs.declared.declarations.Decls.{Decls}
 use Rattle.orc_decls.specs.declared.declarations.Device.{Device}
 use Rattle.orc_node.specs.Kinds.{device_kind, set_stands}
 use Rattle.orc_node.specs.Laws.{IsTypedTree}
-use Rattle.orc_schema.specs.Schemas.{SchemaTable, plain_table}
+use Rattle.orc_schema_nodes.specs.Schemas.{SchemaTable, plain_table}
 use Rattle.orc_rules.specs.Acceptance.{IsOfSchema, declared_kind, node_kind, plain_accept}
 use Rattle.orc_rules.specs.UnderHub.{IsOfHub}
 use Rattle.orc_rules.specs.Worlds.{over}

@@ -25,7 +25,7 @@ use Rattle.orc_datastore.specs.declared.service.Service.{Service}
 use Rattle.orc_datastore.specs.declared.plan.Plan.{Plan}
 use Rattle.orc_decls.specs.declared.declarations.Decls.{Decls}
 use Rattle.orc_expr.specs.declared.read.Read.{Read}
-use Rattle.orc_schema.specs.Schemas.{SchemaTable}
+use Rattle.orc_schema_nodes.specs.Schemas.{SchemaTable}
 use Rattle.orc_services.specs.Expanded.{ExpandedTo, as_literal, expanded_action, expanded_actions, expanded_by, with_expanded}
 use Rattle.orc_services.specs.Services.{Serving, expansion_of}
 use Rattle.orc_template.specs.Expansions.{Expanding, Failed}

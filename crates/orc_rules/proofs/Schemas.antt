@@ -15,7 +15,7 @@ use Rattle.orc_decls.specs.declared.declarations.Decls.{Decls}
 use Rattle.orc_device.specs.Nodes.{DeviceKind}
 use Rattle.orc_node.specs.Kinds.{set_stands}
 use Rattle.orc_node.specs.Laws.{ChangesAreTaken, IsTypedTree}
-use Rattle.orc_schema.specs.Schemas.{SchemaTable}
+use Rattle.orc_schema_nodes.specs.Schemas.{SchemaTable}
 use Rattle.orc_tree.specs.Sameness.{EqualConfigsAreOne}
 use Rattle.orc_tree.specs.declared.change.ChangeSet.{ChangeSet}
 use Rattle.orc_rules.specs.Acceptance.{IsOfSchema}

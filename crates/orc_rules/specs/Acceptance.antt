@@ -17,7 +17,7 @@ use Rattle.orc_device.specs.Operations.{is_fault}
 use Rattle.orc_device.specs.declared.kind.OpKind.{OpKind}
 use Rattle.orc_device.specs.declared.reply.Reply.{Reply}
 use Rattle.orc_node.specs.Kinds.{device_kind, set_stands}
-use Rattle.orc_schema.specs.Schemas.{SchemaTable, plain_table}
+use Rattle.orc_schema_nodes.specs.Schemas.{SchemaTable, plain_table}
 use Rattle.orc_recover.specs.Menders.{MenderState, mender_end}
 use Rattle.orc_recover.specs.declared.stage.MendStage.{MendStage}
 use Rattle.orc_recover.specs.declared.stage.MendStage.TheVariants as mend_stage

@@ -57,7 +57,7 @@ use Rattle.orc_rules.specs.declared.transaction.Waiting.{Waiting}
 use Rattle.orc_runs.specs.Runs.{AreDone, IsDone, LineDone, Run, text_in}
 use Rattle.orc_runs.specs.Scripts.{Goes, NoneOf, Part as part}
 use Rattle.orc_script.specs.declared.step.ScriptStep.TheVariants as step
-use Rattle.orc_schema.specs.Schemas.{SchemaTable}
+use Rattle.orc_schema_nodes.specs.Schemas.{SchemaTable}
 use Rattle.orc_state.specs.Checks.{Checks, IsConflict}
 use Rattle.orc_text.specs.Characters.{is_plain_text}
 use Rattle.orc_run_cases.specs.Disks.{SureDisk}

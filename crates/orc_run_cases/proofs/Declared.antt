@@ -10,7 +10,7 @@ use Rattle.orc_rules.specs.UnderHub.{IsOfHub}
 use Rattle.orc_text.specs.Characters.{is_plain_text}
 use Rattle.std.specs.Char.{encode_utf8}
 use Rattle.std.specs.Str.{chars, is_utf8}
-use Rattle.orc_schema.specs.Schemas.{SchemaTable, plain_table}
+use Rattle.orc_schema_nodes.specs.Schemas.{SchemaTable, plain_table}
 use Rattle.orc_run_cases.specs.OneDevice.{one_device, r1, r1_kind}
 
 pub one_is_declared : (schema : SchemaTable) → broken_of schema (opening_data (r1.name ∷ []) []) ≡ None → AreDecls (one_device schema)

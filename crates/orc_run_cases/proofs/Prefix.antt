@@ -42,7 +42,7 @@ use Rattle.orc_rules.specs.declared.transaction.Waiting.{Waiting}
 use Rattle.orc_runs.specs.Runs.{AreDone, IsDone, LineDone}
 use Rattle.orc_runs.specs.Starts.{StartsRun, link_at_first, node_at_base}
 use Rattle.orc_script.specs.declared.step.ScriptStep.TheVariants as step
-use Rattle.orc_schema.specs.Schemas.{SchemaTable}
+use Rattle.orc_schema_nodes.specs.Schemas.{SchemaTable}
 use Rattle.orc_tree.specs.declared.change.ChangeSet.{ChangeSet}
 use Rattle.orc_run_cases.specs.Disks.{SureDisk}
 use Rattle.orc_run_cases.specs.OneDevice.{al_1, one_device, r1, write_mtu}

@@ -8,7 +8,7 @@ use Rattle.orc_rules.specs.Cells.{updated_at}
 use Rattle.orc_rules.specs.Network.{Noted}
 use Rattle.orc_rules.specs.Told.{Told}
 use Rattle.orc_rules.specs.Worlds.{AreUnsettled, Link, World}
-use Rattle.orc_schema.specs.Schemas.{SchemaTable}
+use Rattle.orc_schema_nodes.specs.Schemas.{SchemaTable}
 use Rattle.orc_run_cases.specs.Disks.{SureDisk}
 use Rattle.orc_run_cases.proofs.Turns.{after_operation, stepped}
 

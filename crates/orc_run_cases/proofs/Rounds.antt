@@ -7,7 +7,7 @@ use Rattle.orc_rules.specs.Due.{least_due}
 use Rattle.orc_rules.specs.Events.{Comes, Turn}
 use Rattle.orc_rules.specs.Worlds.{World}
 use Rattle.orc_runs.specs.Scripts.{Goes, IsOf, Part as part}
-use Rattle.orc_schema.specs.Schemas.{SchemaTable}
+use Rattle.orc_schema_nodes.specs.Schemas.{SchemaTable}
 use Rattle.orc_run_cases.specs.Disks.{SureDisk}
 use Rattle.orc_run_cases.proofs.Idle.{idle_admissions, idle_decided}
 use Rattle.orc_run_cases.proofs.Turns.{MayStep, after_operation, here, hearing_comes, hearing_turn, hub_in, operation_comes, operation_turn, reply_to, step_turns, stepped}

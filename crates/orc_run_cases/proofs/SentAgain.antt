@@ -31,7 +31,7 @@ use Rattle.orc_rules.specs.declared.transaction.Waiting.{Waiting}
 use Rattle.orc_runs.specs.Runs.{IsDone, LineDone, Run, text_in}
 use Rattle.orc_runs.specs.Scripts.{Goes}
 use Rattle.orc_script.specs.declared.step.ScriptStep.TheVariants as step
-use Rattle.orc_schema.specs.Schemas.{SchemaTable}
+use Rattle.orc_schema_nodes.specs.Schemas.{SchemaTable}
 use Rattle.orc_run_cases.specs.Disks.{SureDisk}
 use Rattle.orc_run_cases.specs.OneDevice.{al_1, network_with, one_device, r1}
 use Rattle.orc_run_cases.specs.Worked.{IsWorked, again_script, again_text}

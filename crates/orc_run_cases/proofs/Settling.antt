@@ -21,7 +21,7 @@ use Rattle.orc_rules.specs.declared.transaction.Waiting.{Waiting}
 use Rattle.orc_runs.specs.Runs.{IsDone, LineDone}
 use Rattle.orc_runs.specs.Scripts.{Goes, Part as part, said_in}
 use Rattle.orc_script.specs.declared.step.ScriptStep.TheVariants as step
-use Rattle.orc_schema.specs.Schemas.{SchemaTable}
+use Rattle.orc_schema_nodes.specs.Schemas.{SchemaTable}
 use Rattle.orc_run_cases.specs.Disks.{SureDisk}
 use Rattle.orc_run_cases.specs.OneDevice.{al_1, r1}
 use Rattle.orc_run_cases.proofs.Done.{appending, comes_appending, stays_tidy}

@@ -23,7 +23,7 @@ use Rattle.orc_runs.specs.Runs.{AreDone, IsDone, LineDone, Run, text_in}
 use Rattle.orc_runs.specs.Scripts.{Goes}
 use Rattle.orc_script.specs.declared.step.ScriptStep.{ScriptStep}
 use Rattle.orc_script.specs.declared.step.ScriptStep.TheVariants as step
-use Rattle.orc_schema.specs.Schemas.{SchemaTable}
+use Rattle.orc_schema_nodes.specs.Schemas.{SchemaTable}
 use Rattle.orc_run_cases.specs.Disks.{SureDisk, sure_disk}
 use Rattle.orc_run_cases.specs.Worked.{IsWorked, given_up_script, given_up_text}
 use Rattle.orc_run_cases.specs.OneDevice.{network_with, one_device, r1}

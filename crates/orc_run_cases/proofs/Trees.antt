@@ -14,7 +14,7 @@ use Rattle.orc_path.specs.Steps.{PathStep}
 use Rattle.orc_path.specs.declared.item.Item.{Item}
 use Rattle.orc_path.specs.declared.item.Item.TheVariants.{Leaf}
 use Rattle.orc_rules.specs.Worlds.{over}
-use Rattle.orc_schema.specs.Schemas.{SchemaTable}
+use Rattle.orc_schema_nodes.specs.Schemas.{SchemaTable}
 use Rattle.orc_text.specs.Characters.{is_plain_text}
 use Rattle.orc_tree.specs.Sameness.{equal_configs, equal_rows}
 use Rattle.orc_tree.specs.declared.change.Change.{Change}

@@ -27,7 +27,7 @@ use Rattle.orc_runs.specs.Runs.{EndsRun, IsDone, LineDone, PrintLogs, logged}
 use Rattle.orc_runs.specs.Scripts.{Goes, Part, Part as part, Prints, line_parts, set_by}
 use Rattle.orc_script.specs.declared.step.ScriptStep.{ScriptStep}
 use Rattle.orc_script.specs.declared.step.ScriptStep.TheVariants as step
-use Rattle.orc_schema.specs.Schemas.{SchemaTable}
+use Rattle.orc_schema_nodes.specs.Schemas.{SchemaTable}
 use Rattle.orc_run_cases.specs.Disks.{SureDisk, sure_disk}
 use Rattle.orc_run_cases.specs.OneDevice.{network_with, r1_kind}
 use Rattle.orc_run_cases.proofs.Journals.{IsTidy, none_appended}

@@ -11,7 +11,7 @@ use Rattle.orc_node.specs.Kinds.{device_kind}
 use Rattle.orc_path.specs.Steps.{PathStep}
 use Rattle.orc_path.specs.declared.item.Item.TheVariants.{Leaf}
 use Rattle.orc_rules.specs.Worlds.{Setting}
-use Rattle.orc_schema.specs.Schemas.{SchemaTable, plain_table}
+use Rattle.orc_schema_nodes.specs.Schemas.{SchemaTable, plain_table}
 use Rattle.orc_run_cases.specs.Disks.{SureDisk, sure_disk}
 
 -- the plain device r1, with no base and no rules

@@ -9,7 +9,7 @@ use Rattle.orc_runs.specs.Runs.{Run, text_in}
 use Rattle.orc_runs.specs.Starts.{StartsRun}
 use Rattle.orc_script.specs.declared.step.ScriptStep.{ScriptStep}
 use Rattle.orc_script.specs.declared.step.ScriptStep.TheVariants as step
-use Rattle.orc_schema.specs.Schemas.{SchemaTable}
+use Rattle.orc_schema_nodes.specs.Schemas.{SchemaTable}
 use Rattle.orc_run_cases.specs.Disks.{SureDisk}
 use Rattle.orc_run_cases.specs.OneDevice.{al_1, bo_1, bo_2, network_with, one_device}
 

@@ -3,7 +3,7 @@ ghost use Rattle.std.specs.Prelude.{ℕ};
 ghost use Rattle.orc_decls.specs.Declarations.{AreDecls};
 ghost use Rattle.orc_rules.specs.Acceptance.{IsOfSchema};
 ghost use Rattle.orc_rules.specs.UnderHub.{IsOfHub};
-ghost use Rattle.orc_schema.specs.Schemas.{SchemaTable, plain_table};
+ghost use Rattle.orc_schema_nodes.specs.Schemas.{SchemaTable, plain_table};
 ghost use Rattle.orc_run_cases.specs.OneDevice.{network_with, one_device, r1_kind};
 ghost use Rattle.orc_run_cases.specs.Worked.{HasHeadlineOnOne, IsWorked, again_script, again_text, committed_script, committed_text, conflict_script, conflict_text, fault_script, link_fault_text, given_up_script, given_up_text, settled_script, settled_text};
 

@@ -21,7 +21,7 @@ use Rattle.orc_datastore.specs.Metas.{IsMeta}
 use Rattle.orc_decls.specs.Calls.{schema_named}
 use Rattle.orc_decls.specs.Devices.{name_of}
 use Rattle.orc_decls.specs.declared.declarations.Decls.{Decls}
-use Rattle.orc_schema.specs.Schemas.{SchemaTable}
+use Rattle.orc_schema_nodes.specs.Schemas.{SchemaTable}
 use Rattle.orc_script.specs.declared.step.ScriptStep.{ScriptStep}
 use Rattle.orc_script.specs.declared.step.ScriptStep.TheVariants as step
 

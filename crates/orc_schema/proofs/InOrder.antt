@@ -13,13 +13,14 @@ use Rattle.std.proofs.lemmas.Bool.{false≢true}
 use Rattle.std.proofs.lemmas.List.Sums.{sum_by-cons}
 use Rattle.std.proofs.lemmas.List.Sorted.{sum_by-IsPermutation}
 use Rattle.orc_schema.specs.declared.draft.Draft.{Draft}
-use Rattle.orc_schema.specs.declared.line.SchemaLine.{SchemaLine}
+use Rattle.orc_schema_nodes.specs.declared.line.SchemaLine.{SchemaLine}
 use Rattle.orc_statements.specs.declared.fault.SchemaFault.{SchemaFault}
 use Rattle.orc_yang.specs.declared.statement.Stmt.{Stmt}
 use Rattle.orc_statements.specs.declared.fault.SchemaFault.TheVariants.{Unsupported, Unknown, Duplicate, BadArgument, NoKey, Loop, Memory}
-use Rattle.orc_schema.specs.Links.{names_cmp}
-use Rattle.orc_schema.specs.Schemas.{SchemaTable, put_in, in_order, table_of, schema_lines, drafts, IsTableOf, Builds, GivesSchema, schema_of}
-use Rattle.orc_schema.proofs.Ordered.{Names, Sorted, is_at, pick, names_total, same_is, less_before, some_is, is_none, others_fail, equal_is, later_less, find_sorted}
+use Rattle.orc_schema_nodes.specs.Names.{names_cmp}
+use Rattle.orc_schema_nodes.specs.Schemas.{SchemaTable}
+use Rattle.orc_schema.specs.Schemas.{put_in, in_order, table_of, schema_lines, drafts, IsTableOf, Builds, GivesSchema, schema_of}
+use Rattle.orc_schema_nodes.proofs.Ordered.{Names, Sorted, is_at, pick, names_total, same_is, less_before, some_is, is_none, others_fail, equal_is, later_less, find_sorted}
 
 abbrev pub names_at : SchemaLine → Names
 names_at l = l.names

@@ -17,9 +17,10 @@ use Rattle.orc_statements.specs.declared.fault.SchemaFault.{SchemaFault}
 use Rattle.orc_schema.specs.declared.draft.Draft.{Draft}
 use Rattle.orc_statements.specs.Faults.{fault_here, first_some}
 use Rattle.orc_schema.specs.Drafts.{Where, drafts_below, drafts_in, drafts_at, drafts_of, draft, inside_node, in_grouping, inside_module}
-use Rattle.orc_schema.specs.Links.{names_cmp, chain, node_in, link_fault}
+use Rattle.orc_schema_nodes.specs.Names.{names_cmp}
+use Rattle.orc_schema.specs.Links.{chain, node_in, link_fault}
 use Rattle.orc_schema.specs.Laws.{AreFaultless, FirstFaultIsLeast, FirstLinkFaultIsLeast, StandsIn, StandsFor, NodesStandForStatements, DepthIsNoLimit, NamesDiffer}
-use Rattle.orc_schema.proofs.Ordered.{same_is}
+use Rattle.orc_schema_nodes.proofs.Ordered.{same_is}
 use Rattle.orc_schema.proofs.Standing.{contains_here, contains_there, Holds, FoundIn, StandAround, grouping_stands}
 
 is_none_type : {X : Type 0} → Option X → Type 0

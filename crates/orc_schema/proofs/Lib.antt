@@ -2,9 +2,7 @@ mod Barren
 mod Standing
 mod Lawful
 mod Chains
-pub mod Ordered
-mod Alike
-mod Halving
+mod Indexed
 mod InOrder
 mod Orders
 mod Tables

@@ -13,9 +13,10 @@ use Rattle.orc_modules.specs.Children.{block_part}
 use Rattle.orc_schema.specs.declared.draft.Draft.{Draft}
 use Rattle.orc_schema.specs.Drafts.{Where, drafts_at, drafts_in, drafts_below}
 use Rattle.orc_schema.specs.Links.{Lookup, chain, node_in, has_names}
-use Rattle.orc_schema.specs.Schemas.{SchemaTable, schema_line, schema_lines, IsTableOf}
+use Rattle.orc_schema_nodes.specs.Schemas.{SchemaTable}
+use Rattle.orc_schema.specs.Schemas.{schema_line, schema_lines, IsTableOf}
 use Rattle.orc_schema.specs.Laws.{OrderIsFree, NodesMakeOneTable}
-use Rattle.orc_schema.proofs.Ordered.{Names, find_shuffled, fail_alone, some_is}
+use Rattle.orc_schema_nodes.proofs.Ordered.{Names, find_shuffled, fail_alone, some_is}
 use Rattle.orc_schema.proofs.InOrder.{one_at, count, one_most}
 
 -- statements that change places

@@ -8,7 +8,7 @@ use Rattle.std.proofs.lemmas.Slice.Eq.{bytes_eq-Decides, slice_eq-Decides}
 use Rattle.std.proofs.lemmas.List.Elements.{Contains-append_right}
 use Rattle.std.proofs.lemmas.List.Quantifiers.{position-Some}
 use Rattle.orc_value.specs.Canon.{same_text}
-use Rattle.orc_schema.specs.Links.{same_names}
+use Rattle.orc_schema_nodes.specs.Names.{same_names}
 use Rattle.orc_statements.specs.Faults.{first_some}
 use Rattle.orc_statements.specs.Names.{contains_text, repeated_among}
 

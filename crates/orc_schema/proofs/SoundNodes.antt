@@ -22,7 +22,7 @@ use Rattle.orc_statements.specs.Cuts.{words}
 use Rattle.orc_statements.specs.Arguments.{is_well, is_typed_well, keys_of, inherits_well}
 use Rattle.orc_schema.specs.Drafts.{Where, name_behind, names_at, draft as draft_at, draft_node, inside_node, in_grouping, drafts_at, drafts_in, drafts_below, drafts_of, inside_module}
 use Rattle.orc_schema.specs.Schemas.{is_deep_module}
-use Rattle.orc_schema.specs.Sound.{are_node_names}
+use Rattle.orc_schema_nodes.specs.Sound.{are_node_names}
 use Rattle.orc_schema.proofs.SoundLists.{In, and_left, and_right, and_both, not_false, in_left, in_right, in_either, all_pass-push, found_in, any_fails}
 use Rattle.orc_schema.proofs.SoundWords.{is_scope, nodes, used, word_is, node_read, uses_read, fault_none, Free, Well, Good, at, placed, formed, well_below, module_well, module_good, grouping_good}
 

@@ -16,17 +16,19 @@ use Rattle.orc_modules.specs.Scopes.{Modules, the_modules}
 use Rattle.orc_schema.specs.declared.draft.Draft.{Draft}
 use Rattle.orc_schema.specs.declared.draft.DraftNode.{DraftNode}
 use Rattle.orc_schema.specs.declared.draft.DraftNode.TheVariants as draft
-use Rattle.orc_schema.specs.declared.line.SchemaLine.{SchemaLine}
-use Rattle.orc_schema.specs.declared.line.ListNode.{ListNode}
-use Rattle.orc_schema.specs.declared.line.Node as line
-use Rattle.orc_schema.specs.declared.line.Node.TheVariants as node
+use Rattle.orc_schema_nodes.specs.declared.line.SchemaLine.{SchemaLine}
+use Rattle.orc_schema_nodes.specs.declared.line.ListNode.{ListNode}
+use Rattle.orc_schema_nodes.specs.declared.line.Node as line
+use Rattle.orc_schema_nodes.specs.declared.line.Node.TheVariants as node
 use Rattle.orc_statements.specs.Arguments.{keys_of}
 use Rattle.orc_statements.specs.Faults.{fault_here, module_fault}
 use Rattle.orc_schema.specs.Drafts.{Where, name_behind, draft as draft_at, draft_node, inside_node}
 use Rattle.orc_schema.specs.Links.{chain, node_in, first_link_fault}
-use Rattle.orc_schema.specs.Schemas.{SchemaTable, schema_line, schema_lines, drafts, node_of, node_at, is_line_at, IsTableOf, IsWhole}
-use Rattle.orc_schema.specs.Sound.{are_node_names, holds_nodes, is_list_key, HasItsKeys, IsKeyedBy, IsSound, SchemasAreSound}
-use Rattle.orc_schema.proofs.Ordered.{find_sorted, sorted_alone}
+use Rattle.orc_schema_nodes.specs.Schemas.{SchemaTable, node_at, is_line_at}
+use Rattle.orc_schema.specs.Schemas.{schema_line, schema_lines, drafts, node_of, IsTableOf, IsWhole}
+use Rattle.orc_schema_nodes.specs.Sound.{are_node_names, holds_nodes, is_list_key, HasItsKeys, IsKeyedBy, IsSound}
+use Rattle.orc_schema.specs.Laws.{SchemasAreSound}
+use Rattle.orc_schema_nodes.proofs.Ordered.{find_sorted, sorted_alone}
 use Rattle.orc_schema.proofs.SoundLists.{In, and_left, and_right, some_same, none_some, none_first, all_in, in_all, in_map, from_map, found_in, none_found, first_none, contains_in, position_in, in_position, same_text-is, same_names-is, same_names-itself}
 use Rattle.orc_schema.proofs.SoundWords.{nodes, word_is, Free}
 use Rattle.orc_schema.proofs.SoundNodes.{Opens, Within, Inside, Placed, named_at, node_name, all_placed}

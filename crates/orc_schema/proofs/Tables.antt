@@ -12,13 +12,15 @@ use Rattle.orc_statements.specs.declared.fault.SchemaFault.{SchemaFault}
 use Rattle.orc_statements.specs.declared.fault.SchemaFault.TheVariants.{Unsupported, Unknown, Duplicate, BadArgument, NoKey, Loop, Memory}
 use Rattle.orc_modules.specs.declared.place.TheConstants.{MAX_CHAIN}
 use Rattle.orc_schema.specs.declared.draft.Draft.{Draft}
-use Rattle.orc_schema.specs.declared.line.SchemaLine.{SchemaLine}
+use Rattle.orc_schema_nodes.specs.declared.line.SchemaLine.{SchemaLine}
 use Rattle.orc_statements.specs.Faults.{first_some}
-use Rattle.orc_schema.specs.Links.{Lookup, chain, node_in, link_fault, first_link_fault, names_cmp}
-use Rattle.orc_schema.specs.Schemas.{SchemaTable, schema_line, schema_lines, Ascends, IsTableOf, GivesTable, drafts, is_deep_module, is_cut, IsWhole}
+use Rattle.orc_schema_nodes.specs.Names.{names_cmp}
+use Rattle.orc_schema.specs.Links.{Lookup, chain, node_in, link_fault, first_link_fault}
+use Rattle.orc_schema_nodes.specs.Schemas.{SchemaTable, Ascends}
+use Rattle.orc_schema.specs.Schemas.{schema_line, schema_lines, IsTableOf, GivesTable, drafts, is_deep_module, is_cut, IsWhole}
 use Rattle.orc_schema.specs.inside.Indexes.{lent, names_of, IsIndex}
 use Rattle.orc_statements.specs.Meeting.{Meets}
-use Rattle.orc_schema.proofs.Ordered.{find_sorted}
+use Rattle.orc_schema_nodes.proofs.Ordered.{find_sorted}
 
 module _ (ds : List Draft) (index : List (Bor Draft)) (shuffled : IsPermutation ds (lent index)) (sorted : IsIndex index) where
   -- a look-up in the index finds what one in the order of the text finds

@@ -1,5 +1,5 @@
 -- What the definitions make sure of.
-use Rattle.std.specs.Prelude.{ℕ, suc, ◌≡◌, false, List, [], ◌∷◌, ◌++◌, map, Contains, Some, None}
+use Rattle.std.specs.Prelude.{ℕ, suc, ◌≡◌, false, List, [], ◌∷◌, ◌++◌, map, Contains, Some, None, Ok}
 use Rattle.std.specs.List.{All, IsDistinct}
 use Rattle.std.specs.List.Sorted.{IsPermutation}
 use Rattle.orc_yang.specs.declared.statement.Stmt.{Stmt}
@@ -12,8 +12,11 @@ use Rattle.orc_statements.specs.declared.fault.SchemaFault.{SchemaFault}
 use Rattle.orc_schema.specs.declared.draft.Draft.{Draft}
 use Rattle.orc_statements.specs.Faults.{fault_here, module_fault}
 use Rattle.orc_schema.specs.Drafts.{Where, draft, drafts_in, drafts_below, drafts_of}
-use Rattle.orc_schema.specs.Links.{same_names, chain, node_in, link_fault, first_link_fault}
-use Rattle.orc_schema.specs.Schemas.{SchemaTable, Ascends, IsTableOf}
+use Rattle.orc_schema_nodes.specs.Names.{same_names}
+use Rattle.orc_schema.specs.Links.{chain, node_in, link_fault, first_link_fault}
+use Rattle.orc_schema_nodes.specs.Schemas.{SchemaTable, Ascends, plain_table}
+use Rattle.orc_schema_nodes.specs.Sound.{IsSound}
+use Rattle.orc_schema.specs.Schemas.{IsTableOf, Builds, IsWhole}
 
 -- no statement of the list is at fault
 abbrev pub AreFaultless : List Stmt → List Place → Type 0
@@ -90,3 +93,12 @@ OrderIsFree = (depth : ℕ) (modules : Modules) (at : Where) (front : List Stmt)
 abbrev pub NodesMakeOneTable : Type 0
 NodesMakeOneTable = (nodes others : List Draft) (schema : SchemaTable) → IsPermutation nodes others
     → IsTableOf nodes schema → IsTableOf others schema
+
+-- Modules of which nothing was cut off make a sound schema.
+abbrev pub SchemasAreSound : Type 0
+SchemasAreSound = (modules : List Stmt) (schema : SchemaTable) → Builds modules (Ok schema) → IsWhole modules
+    → IsSound schema
+
+-- A plain schema is sound, since it has no node.
+abbrev pub PlainIsSound : Type 0
+PlainIsSound = IsSound plain_table

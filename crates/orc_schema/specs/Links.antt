@@ -2,10 +2,8 @@
 use Rattle.std.specs.Prelude.{ℕ, zero, suc, ◌-◌, Bool, true, false, ◌&&◌, ◌||◌, not, List, [], ◌∷◌, ◌++◌, length, take, nat_lt, Option, Some, None, codes, is_some, unwrap_or, slice_get, option_map, option_and_then, if◌then◌else◌}
 use Rattle.std.specs.List.{find, before_first}
 use Rattle.std.specs.Option.{option_map_or, option_or}
-use Rattle.std.specs.Cmp.Lexicographic.{pointwise, slice_cmp}
-use Rattle.std.specs.Ordering.{nat_cmp}
-use Rattle.std.specs.declared.cmp.Ordering.{Ordering}
 use Rattle.orc_value.specs.Canon.{same_text}
+use Rattle.orc_schema_nodes.specs.Names.{same_names}
 use Rattle.orc_value.specs.declared.kind.Kind.{Kind}
 use Rattle.orc_value.specs.declared.kind.Kind.TheVariants as kind
 use Rattle.orc_modules.specs.Scopes.{plain_name}
@@ -19,18 +17,11 @@ use Rattle.orc_schema.specs.declared.draft.DraftType.{DraftType}
 use Rattle.orc_schema.specs.declared.draft.DraftType.TheVariants.{Own, To}
 use Rattle.orc_schema.specs.declared.draft.DraftNode.{DraftNode}
 use Rattle.orc_schema.specs.declared.draft.DraftNode.TheVariants.{Container, List as ListOf, Leaf, LeafList}
-use Rattle.orc_schema.specs.declared.line.Target.{Target}
+use Rattle.orc_schema_nodes.specs.declared.line.Target.{Target}
 use Rattle.orc_statements.specs.declared.cuts.Mark.TheVariants.{Colon}
 use Rattle.orc_statements.specs.Cuts.{is_mark}
 use Rattle.orc_statements.specs.Names.{fault_if}
 use Rattle.orc_statements.specs.Faults.{first_some}
-
--- The order of names: one by one, by their bytes.
-abbrev pub names_cmp : List (List ℕ) → List (List ℕ) → Ordering
-names_cmp = slice_cmp (slice_cmp nat_cmp)
-
-abbrev pub same_names : List (List ℕ) → List (List ℕ) → Bool
-same_names = pointwise same_text
 
 -- the module of a node: its first name has it, and all below are of that module
 abbrev pub module_in : List (List ℕ) → List ℕ

@@ -1,13 +1,9 @@
--- The schema of modules, or their first fault; and what a schema has at a path.
-use Rattle.std.specs.Prelude.{ℕ, Bool, true, false, ◌&&◌, not, List, [], ◌∷◌, ◌++◌, ◌≡◌, map, Option, Some, None, Result, Ok, Err, is_some, option_map, option_and_then, if◌then◌else◌}
+-- The schema of modules, or their first fault.
+use Rattle.std.specs.Prelude.{ℕ, Bool, false, ◌&&◌, not, List, [], ◌∷◌, ◌≡◌, map, Option, Some, None, Result, Ok, Err, is_some, if◌then◌else◌}
 use Rattle.std.specs.Ordering.{is_lt}
-use Rattle.std.specs.List.{find, list_any}
-use Rattle.std.specs.List.Sorted.{IsPermutation, IsStrictlySortedBy}
+use Rattle.std.specs.List.{list_any}
+use Rattle.std.specs.List.Sorted.{IsPermutation}
 use Rattle.std.specs.Option.{option_map_or, option_or}
-use Rattle.orc_path.specs.Steps.{PathStep}
-use Rattle.orc_path.specs.declared.shape.Shape.{Shape}
-use Rattle.orc_path.specs.declared.shape.Shape.TheVariants as shape
-use Rattle.orc_value.specs.declared.kind.Kind.{Kind}
 use Rattle.orc_yang.specs.declared.statement.Stmt.{Stmt}
 use Rattle.orc_modules.specs.Scopes.{Modules, the_modules}
 use Rattle.orc_modules.specs.Children.{is_deeper}
@@ -16,18 +12,14 @@ use Rattle.orc_statements.specs.declared.fault.SchemaFault.TheVariants.{Memory}
 use Rattle.orc_schema.specs.declared.draft.Draft.{Draft}
 use Rattle.orc_schema.specs.declared.draft.DraftNode.{DraftNode}
 use Rattle.orc_schema.specs.declared.draft.DraftNode.TheVariants as draft
-use Rattle.orc_schema.specs.declared.line.SchemaLine.{SchemaLine}
-use Rattle.orc_schema.specs.declared.line.Node.{Node}
-use Rattle.orc_schema.specs.declared.line.Node.TheVariants.{Container, List as ListOf, Leaf, LeafList}
+use Rattle.orc_schema_nodes.specs.declared.line.SchemaLine.{SchemaLine}
+use Rattle.orc_schema_nodes.specs.declared.line.Node.{Node}
+use Rattle.orc_schema_nodes.specs.declared.line.Node.TheVariants.{Container, List as ListOf, Leaf, LeafList}
 use Rattle.orc_statements.specs.Faults.{module_fault}
 use Rattle.orc_schema.specs.Drafts.{drafts_of}
-use Rattle.orc_schema.specs.Links.{Lookup, chain, node_in, value_type, end_kind, names_cmp, first_link_fault, kind_at, target_at, same_names}
-
--- What may stand in a configuration: one line for each node. A plain schema has no line, and each configuration is
--- valid for it.
-pub record SchemaTable : Type 0 where
-  pub plain : Bool
-  pub lines : List SchemaLine
+use Rattle.orc_schema_nodes.specs.Names.{names_cmp}
+use Rattle.orc_schema_nodes.specs.Schemas.{SchemaTable, Ascends}
+use Rattle.orc_schema.specs.Links.{Lookup, chain, node_in, value_type, end_kind, first_link_fault, kind_at, target_at}
 
 abbrev pub drafts : List Stmt → List Draft
 drafts modules = drafts_of (the_modules modules) modules
@@ -66,16 +58,9 @@ abbrev pub in_order : List SchemaLine → List SchemaLine
 in_order [] = []
 in_order (line ∷ lines) = put_in line (in_order lines)
 
-abbrev pub plain_table : SchemaTable
-plain_table = record { plain = true; lines = [] }
-
 -- The first fault of modules: of the statements, and then of the leafrefs.
 abbrev pub fault_of : List Stmt → Option SchemaFault
 fault_of modules = option_or (module_fault modules) (first_link_fault (drafts modules))
-
--- each line's names are less than those of the lines after it
-abbrev pub Ascends : List SchemaLine → Type 0
-Ascends lines = IsStrictlySortedBy names_cmp (map (λ line. line.names) lines)
 
 -- the lines of these nodes, each once, in the order of their names
 pub record IsTableOf (nodes : List Draft) (schema : SchemaTable) : Type 0 where
@@ -121,38 +106,3 @@ is_cut most look drafted = is_some (value_type drafted.node) && not (is_some (en
 pub record IsWhole (modules : List Stmt) : Type 0 where
   pub nodes : list_any (is_deep_module (the_modules modules)) modules ≡ false
   pub kinds : list_any (is_cut chain (node_in (drafts modules))) (drafts modules) ≡ false
-
--- What a schema has at a path ----------------------------------------------------------------------------------------
-
--- the names of a path, whatever its keys
-abbrev pub path_names : List PathStep → List (List ℕ)
-path_names steps = map (λ step. step.node) steps
-
-abbrev pub is_line_at : List (List ℕ) → SchemaLine → Bool
-is_line_at names line = same_names line.names names
-
--- the node of these names
-abbrev pub node_in_lines : List SchemaLine → List (List ℕ) → Option Node
-node_in_lines lines names = option_map (λ line. line.node) (find (is_line_at names) lines)
-
-abbrev pub node_at : SchemaTable → List (List ℕ) → Option Node
-node_at schema names = node_in_lines schema.lines names
-
-abbrev pub shape_of : Node → Shape
-shape_of Container = shape.Container
-shape_of (ListOf list) = shape.List list.keys
-shape_of (LeafList leaf_list) = shape.LeafList
-shape_of (Leaf leaf) = option_map_or shape.Key leaf.key (shape.Leaf leaf.default)
-
--- the shape at a name below a path
-abbrev pub shape_at : SchemaTable → List PathStep → List ℕ → Shape
-shape_at schema parent name = option_map_or shape_of (node_at schema (path_names parent ++ name ∷ [])) shape.Absent
-
-abbrev pub kind_in : Node → Option Kind
-kind_in (Leaf leaf) = Some leaf.kind
-kind_in (LeafList leaf_list) = Some leaf_list.kind
-kind_in _ = None
-
--- the kind of the values at a path, where a leafref has its target's
-abbrev pub kind_at_path : SchemaTable → List PathStep → Option Kind
-kind_at_path schema path = option_and_then kind_in (node_at schema (path_names path))

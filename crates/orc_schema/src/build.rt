@@ -1,5 +1,5 @@
 //! The schema of modules.
-ghost use Rattle.std.specs.Prelude.{◌≡◌, List, [], ◌++◌, IfOk, OnOk, map, false, slice_get, option_copied, option_map};
+ghost use Rattle.std.specs.Prelude.{◌≡◌, ◌++◌, IfOk, OnOk, map, false, slice_get, option_copied, option_map};
 ghost use Rattle.std.specs.List.{list_any};
 ghost use Rattle.std.specs.List.Sorted.{IsPermutation};
 ghost use Rattle.orc_modules.specs.Stack.{modules_of};
@@ -13,11 +13,11 @@ ghost use Rattle.orc_statements.specs.Meeting.{Meets};
 use crate::draft::{Draft, DraftNode};
 use crate::drafting::{Where, push_drafts};
 use crate::index::index_of;
-use crate::line::{LeafNode, Node, SchemaLine, ValueListNode};
 use crate::links::{Nodes, is_cut, kind_at, link_fault, target_at};
 use crate::weights::line_weight;
 use crate::{Schema, SchemaFault};
 use orc_modules::{Above, Block, Looks, MAX_CHAIN, Modules, is_too_deep};
+use orc_schema_nodes::{LeafNode, Node, SchemaLine, ValueListNode};
 use orc_statements::first_fault;
 use orc_text::{Copied, Memory, Row, Text};
 use orc_types::argument;
@@ -283,13 +283,23 @@ pub fn node_names(
     names_of(alloc, drafts.as_slice(), number)
 }
 
-impl Schema {
+/// How a schema is made of modules: `Schema` alone implements it, and what its calls ensure stands at
+/// that `impl`. A bound `T: Build` promises nothing.
+pub trait Build {
+    /// The schema of these modules, or their first fault.
+    fn build(alloc: Global, modules: &[Stmt]) -> Result<Self, SchemaFault>;
+
+    /// The schema of these modules, or their first fault, where this is what may still be looked at and kept.
+    fn build_within(alloc: Global, modules: &[Stmt], looks: &Looks) -> Result<Self, SchemaFault>;
+}
+
+impl Build for Schema {
     /// The schema of these modules, or their first fault: that of the first faulty statement in the
     /// order of the text, modules in the order given and groupings where they are defined, at one
     /// statement the variant listed first; and then that of the first leafref at fault. A schema of
     /// more than 1,000,000 nodes runs out of memory, and so does a leaf whose kind is reached
     /// through 1,000 leafrefs or more.
-    pub fn build(alloc: Global, modules: &[Stmt]) -> Result<Schema, SchemaFault>
+    fn build(alloc: Global, modules: &[Stmt]) -> Result<Schema, SchemaFault>
         ensures builds { Builds modules.now result }
         ensures value { GivesSchema (schema_of modules.now) result }
         ensures whole { IfOk result (λ schema. IsWhole modules.now) }
@@ -301,11 +311,7 @@ impl Schema {
     /// and kept; it has less of both afterwards. Where several schemas are built with one `Looks`, what they cost
     /// together is bounded. After a fault it stands where that is: where it has a `node`, at the leafref that is this
     /// one of the nodes (`node_names`), else at the statement of its `module` and `at`.
-    pub fn build_within(
-        alloc: Global,
-        modules: &[Stmt],
-        looks: &Looks,
-    ) -> Result<Schema, SchemaFault>
+    fn build_within(alloc: Global, modules: &[Stmt], looks: &Looks) -> Result<Schema, SchemaFault>
         ensures builds { Builds modules.now result }
         ensures value { GivesSchema (schema_of modules.now) result }
         ensures whole { IfOk result (λ schema. IsWhole modules.now) }

@@ -1,6 +1,6 @@
 //! The nodes of a schema before leafrefs are followed.
 
-use crate::line::ListNode;
+use orc_schema_nodes::ListNode;
 use orc_statements::Reference;
 use orc_text::{Row, Text};
 use orc_value::Kind;

@@ -4,8 +4,6 @@ ghost use Rattle.std.specs.List.{position};
 ghost use Rattle.std.specs.Option.{option_map_or};
 ghost use Rattle.orc_modules.specs.Children.{grouping};
 ghost use Rattle.orc_value.specs.Canon.{same_text};
-ghost use Rattle.orc_types.specs.Types.{kind_of};
-ghost use Rattle.orc_types.specs.Defaults as types;
 ghost use Rattle.orc_modules.specs.Stack.{stack, found, modules_of};
 ghost use Rattle.orc_types.specs.Statements.{argument};
 ghost use Rattle.orc_modules.specs.Statements.{word};
@@ -15,12 +13,12 @@ ghost use Rattle.orc_schema.specs.Drafts.{name_behind, names_at, least_count, mo
 ghost use Rattle.orc_schema.specs.inside.Carried.{where_of};
 
 use crate::draft::{Draft, DraftLeaf, DraftNode, DraftType, DraftValues};
-use crate::line::ListNode;
 use crate::weights::draft_weight;
 use orc_modules::{
     Above, Found, Modules, Part, Typed, Word, argument_below, block_part, bringer, looks_below,
     module_called, sub_text, text_looks, word_of,
 };
+use orc_schema_nodes::ListNode;
 use orc_statements::{count_of, is_mandatory, keys_of, reference_of, typed};
 use orc_text::{Memory, Row, Text};
 use orc_types::{LeafType, argument, default_of};

@@ -1,7 +1,8 @@
 //! Nodes in the order of their names, to be found by names.
-ghost use Rattle.std.specs.Prelude.{◌≡◌, List, IfOk, option_map};
+ghost use Rattle.std.specs.Prelude.{◌≡◌, IfOk, option_map};
 ghost use Rattle.std.specs.List.Sorted.{IsPermutation};
-ghost use Rattle.orc_schema.specs.Links.{names_cmp, node_in};
+ghost use Rattle.orc_schema_nodes.specs.Names.{names_cmp};
+ghost use Rattle.orc_schema.specs.Links.{node_in};
 ghost use Rattle.orc_schema.specs.inside.Indexes.{lent, names_of, IsIndex, climbs_behind, climbs};
 
 use crate::draft::Draft;

@@ -1,6 +1,5 @@
 //! What the definitions make sure of: each law is the contract of a function that does nothing.
-ghost use Rattle.orc_schema.specs.Laws.{FirstFaultIsLeast, FirstLinkFaultIsLeast, NodesStandForStatements, DepthIsNoLimit, NamesDiffer, OrderIsFree, NodesMakeOneTable};
-ghost use Rattle.orc_schema.specs.Sound.{SchemasAreSound, PlainIsSound};
+ghost use Rattle.orc_schema.specs.Laws.{FirstFaultIsLeast, FirstLinkFaultIsLeast, NodesStandForStatements, DepthIsNoLimit, NamesDiffer, OrderIsFree, NodesMakeOneTable, SchemasAreSound, PlainIsSound};
 
 /// The fault of modules is that of their first faulty statement in the order of the text.
 pub fn first_fault_is_least()

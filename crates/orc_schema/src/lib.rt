@@ -7,19 +7,14 @@ mod draft;
 mod drafting;
 mod index;
 mod laws;
-mod line;
 mod links;
-mod lookup;
-mod schema;
-mod sought;
 mod weights;
 
-pub use build::node_names;
+pub use build::{Build, node_names};
 pub use laws::{
     depth_is_no_limit, first_fault_is_least, first_link_fault_is_least, names_differ,
     nodes_make_one_table, nodes_stand_for_statements, order_is_free, schemas_are_sound,
 };
-pub use line::{LeafNode, ListNode, Node, SchemaLine, Target, ValueListNode};
 pub use orc_modules::Looks;
+pub use orc_schema_nodes::{LeafNode, ListNode, Node, Schema, SchemaLine, Target, ValueListNode};
 pub use orc_statements::SchemaFault;
-pub use schema::Schema;

@@ -1,8 +1,8 @@
 //! How many texts and ranges nodes keep. They bound memory alone: no clause speaks of them.
 
 use crate::draft::{Draft, DraftNode, DraftType};
-use crate::line::{Node, SchemaLine, Target};
 use orc_modules::text_weight;
+use orc_schema_nodes::{Node, SchemaLine, Target};
 use orc_statements::{Reference, StepName};
 use orc_text::Text;
 use orc_value::Kind;

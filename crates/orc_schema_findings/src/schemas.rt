@@ -6,7 +6,7 @@ use crate::imports::missing_module;
 use crate::profile::left_out_in;
 use crate::quoted::push_quoted;
 use crate::statements::{StatementPlace, place_in, statement_at};
-use orc_schema::{Looks, Schema, SchemaFault, node_names};
+use orc_schema::{Build, Looks, Schema, SchemaFault, node_names};
 use orc_text::{Memory, Text};
 use orc_yang::Stmt;
 use std::alloc::Global;

@@ -1,7 +1,7 @@
 //! A case: modules, and what must come of the schema that they make.
 use crate::checks::push_answers;
 use crate::listing::{push_fault, push_schema};
-use orc_schema::Schema;
+use orc_schema::{Build, Schema};
 use orc_text::Memory;
 use orc_yang::parse;
 use std::alloc::Global;

@@ -10,7 +10,7 @@
 //! name, or `syntax`.
 use orc_json::{DUPLICATE, JsonFault, KEY, KIND, MEMBER, VALUE, read, read_entry, write};
 use orc_path::{Item, Path, push_item};
-use orc_schema::Schema;
+use orc_schema::{Build, Schema};
 use orc_table_programs::Score;
 use orc_text::Memory;
 use orc_tree::Tree;

@@ -4,7 +4,7 @@ use Rattle.std.proofs.lemmas.Bool.{false≢true}
 use Rattle.orc_path.specs.Items.{fits}
 use Rattle.orc_path.specs.Limits.{is_long_path}
 use Rattle.orc_path.specs.Steps.{PathStep, ends_in_keys, is_path}
-use Rattle.orc_schema.specs.Schemas.{SchemaTable}
+use Rattle.orc_schema_nodes.specs.Schemas.{SchemaTable}
 use Rattle.orc_decls.specs.Calls.{blank_item, is_lawful_item, is_path_under}
 use Rattle.orc_typed.specs.Typed.{are_canonical_steps, is_in_schema}
 use Rattle.orc_script.specs.inside.Places.{carries_own}

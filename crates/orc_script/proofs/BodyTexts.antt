@@ -6,7 +6,7 @@ use Rattle.serde_json.specs.Data.{Data}
 use Rattle.orc_path.specs.Configurations.{Config}
 use Rattle.orc_path.specs.Steps.{PathStep}
 use Rattle.orc_path.specs.declared.item.Item.{Item}
-use Rattle.orc_schema.specs.Schemas.{SchemaTable}
+use Rattle.orc_schema_nodes.specs.Schemas.{SchemaTable}
 use Rattle.orc_json.specs.Readings.{IsJson, IsNoJson, JsonGives, outcome, reading, rows_below}
 use Rattle.orc_json.specs.declared.fault.JsonFault.{JsonFault}
 use Rattle.orc_json.specs.declared.fault.JsonFault.TheVariants.{Bad, Syntax}

@@ -5,7 +5,7 @@ use Rattle.orc_path.specs.Reading.{path_of}
 use Rattle.orc_path.specs.Steps.{PathStep, is_path}
 use Rattle.orc_path.specs.Texts.{path_text}
 use Rattle.orc_path.proofs.PathOf.{path_of_text}
-use Rattle.orc_schema.specs.Schemas.{SchemaTable}
+use Rattle.orc_schema_nodes.specs.Schemas.{SchemaTable}
 use Rattle.orc_services.specs.declared.list.ServiceList.{ServiceList}
 use Rattle.orc_call.specs.declared.call.Put.{Put}
 use Rattle.orc_decls.specs.Calls.{has_body, is_body, is_service, is_service_path}

@@ -8,7 +8,7 @@ use Rattle.serde_json.specs.Data.{Data}
 use Rattle.orc_path.specs.Limits.{is_long_path}
 use Rattle.orc_path.specs.Steps.{PathStep}
 use Rattle.orc_path.specs.declared.item.Item.{Item}
-use Rattle.orc_schema.specs.Schemas.{SchemaTable}
+use Rattle.orc_schema_nodes.specs.Schemas.{SchemaTable}
 use Rattle.orc_json.specs.Readings.{outcome, reading, rows_below}
 use Rattle.orc_template.specs.Said.{json_value}
 use Rattle.orc_call.specs.declared.call.Put.{Put}

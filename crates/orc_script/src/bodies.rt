@@ -12,7 +12,7 @@ use orc_decls::{MOST_WRITES, Rule, is_body};
 use orc_json::{JsonFault, read_entry};
 use orc_lines::{LineFault, breaks, is_long_item};
 use orc_path::{Item, Path};
-use orc_schema::Schema;
+use orc_schema_nodes::Schema;
 use orc_text::{Memory, Row};
 use std::alloc::Global;
 

@@ -14,7 +14,7 @@ use orc_call::DevicePut;
 use orc_decls::{Decls, Rule, blank_item};
 use orc_lines::{LineFault, breaks, can_carry, cut, names_list, read_kept_path, read_put};
 use orc_path::{Path, is_identifier, is_long_name};
-use orc_schema::Schema;
+use orc_schema_nodes::Schema;
 use orc_text::Text;
 use orc_typed::{are_canonical_steps, canonical_path, stand};
 use std::alloc::Global;

@@ -22,7 +22,7 @@ use orc_lines::{
     keyword_of, line_text, number_of, read_text,
 };
 use orc_path::{is_identifier, is_long_name};
-use orc_schema::Schema;
+use orc_schema_nodes::Schema;
 use orc_text::{Row, Text};
 use std::alloc::Global;
 

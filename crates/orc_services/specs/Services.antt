@@ -7,7 +7,7 @@ use Rattle.orc_path.specs.Steps.{PathStep}
 use Rattle.orc_path.specs.Configurations.{is_entry_of}
 use Rattle.orc_path.specs.Reading.{path_of}
 use Rattle.orc_path.specs.Views.{Viewed}
-use Rattle.orc_schema.specs.Schemas.{shape_at}
+use Rattle.orc_schema_nodes.specs.Schemas.{shape_at}
 use Rattle.orc_template.specs.declared.view.View.{View}
 use Rattle.orc_template.specs.Devices.{DeviceTable}
 use Rattle.orc_template.specs.Expansions.{Expanding, Failed, expanded}

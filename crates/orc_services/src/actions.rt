@@ -10,7 +10,7 @@ ghost use Rattle.orc_services.specs.Fitting.{fits_action, FitActions};
 ghost use Rattle.orc_services.specs.Services.{expansion_at, expansion_of, instance_at, serving};
 ghost use Rattle.orc_services.specs.Expanded.{as_literal, expanded_actions, expanded_action, ExpandsTo, is_templated};
 ghost use Rattle.orc_services.specs.inside.Answering.{Expands};
-ghost use Rattle.orc_schema.specs.Schemas.{shape_at};
+ghost use Rattle.orc_schema_nodes.specs.Schemas.{shape_at};
 
 use crate::list::{ServiceList, list_with, path_of_id};
 use crate::writes::writes_of;

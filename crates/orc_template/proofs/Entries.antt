@@ -7,7 +7,7 @@ use Rattle.orc_path.specs.Items.{fits}
 use Rattle.orc_path.specs.Steps.{PathStep}
 use Rattle.orc_path.specs.declared.item.Item.TheVariants.{Entry}
 use Rattle.orc_expr.specs.declared.read.Read.{Read}
-use Rattle.orc_schema.specs.Schemas.{SchemaTable, path_names}
+use Rattle.orc_schema_nodes.specs.Schemas.{SchemaTable, path_names}
 use Rattle.orc_json.specs.Findings.{below}
 use Rattle.orc_template.specs.Values.{Scene, Done, Does, keys_done}
 use Rattle.orc_template.specs.Writing.{Ended, go_on, with_done, write_at, members_done, entry_done, Writes}

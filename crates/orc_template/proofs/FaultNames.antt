@@ -16,10 +16,10 @@ use Rattle.orc_value.specs.declared.kind.Kind.{Kind}
 use Rattle.orc_expr.specs.Expressions.{Expression, Condition}
 use Rattle.orc_expr.specs.Looks.{nodes_of, texts_of, judged}
 use Rattle.orc_expr.specs.declared.read.Read.{Read}
-use Rattle.orc_schema.specs.Schemas.{SchemaTable, path_names}
-use Rattle.orc_schema.specs.declared.line.Node.{Node}
-use Rattle.orc_schema.specs.declared.line.Node.TheVariants as node
-use Rattle.orc_schema.specs.declared.line.LeafNode.{LeafNode}
+use Rattle.orc_schema_nodes.specs.Schemas.{SchemaTable, path_names}
+use Rattle.orc_schema_nodes.specs.declared.line.Node.{Node}
+use Rattle.orc_schema_nodes.specs.declared.line.Node.TheVariants as node
+use Rattle.orc_schema_nodes.specs.declared.line.LeafNode.{LeafNode}
 use Rattle.orc_json.specs.Findings.{below, node_below, is_key_name, key_kind}
 use Rattle.orc_template.specs.Strings.{cut_parts}
 use Rattle.orc_template.specs.Values.{Scene, Done, done, then_by, one_found, expression_done, part_done, parts_done, string_by, string_done, fitted, lexical, value_done, key_value, key_done, more_keys, keys_done}

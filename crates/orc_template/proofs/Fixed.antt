@@ -17,10 +17,10 @@ use Rattle.orc_expr.specs.Looks.{texts_of, nodes_of, judged, Judged}
 use Rattle.orc_expr.specs.Reads.{SharesRead, Shares, IsFixedByReads}
 use Rattle.orc_expr.specs.declared.read.Read.{Read}
 use Rattle.orc_expr.proofs.Sound.{All-front, All-back, texts_sound, nodes_sound, judged_sound}
-use Rattle.orc_schema.specs.Schemas.{SchemaTable, path_names}
-use Rattle.orc_schema.specs.declared.line.Node.{Node}
-use Rattle.orc_schema.specs.declared.line.Node.TheVariants as node
-use Rattle.orc_schema.specs.declared.line.LeafNode.{LeafNode}
+use Rattle.orc_schema_nodes.specs.Schemas.{SchemaTable, path_names}
+use Rattle.orc_schema_nodes.specs.declared.line.Node.{Node}
+use Rattle.orc_schema_nodes.specs.declared.line.Node.TheVariants as node
+use Rattle.orc_schema_nodes.specs.declared.line.LeafNode.{LeafNode}
 use Rattle.orc_json.specs.Findings.{below, node_below, is_key_name, key_kind}
 use Rattle.orc_template.specs.Readers.{Readers}
 use Rattle.orc_template.specs.Strings.{cut_parts}

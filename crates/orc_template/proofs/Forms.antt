@@ -11,7 +11,7 @@ use Rattle.orc_value.specs.declared.fault.ValueFault.TheVariants as value
 use Rattle.orc_value.specs.declared.kind.Kind.{Kind}
 use Rattle.orc_expr.specs.declared.read.Read.{Read}
 use Rattle.orc_template.specs.Values.{Scene, done, then_done, string_done, fitted, lexical, value_done, more_keys, keys_done, GivesValue}
-use Rattle.orc_schema.specs.Schemas.{SchemaTable}
+use Rattle.orc_schema_nodes.specs.Schemas.{SchemaTable}
 use Rattle.std.proofs.lemmas.Bool.{false≢true}
 use Rattle.orc_template.specs.inside.Fitted.{FitsAnswer}
 use Rattle.orc_template.specs.declared.fault.TheConstants.{BAD_LEAF}

@@ -2,7 +2,7 @@
 use Rattle.std.proofs.Common.{◌≡◌, ℕ, List, [], Option, Some, Result, slice_get, slice_set, sym, ap, subst, ◌∙◌, set-set}
 use Rattle.serde_json.specs.Data.{Data}
 use Rattle.orc_path.specs.Configurations.{Config}
-use Rattle.orc_schema.specs.Schemas.{SchemaTable}
+use Rattle.orc_schema_nodes.specs.Schemas.{SchemaTable}
 use Rattle.orc_template.specs.Values.{Scene}
 use Rattle.orc_template.specs.Writing.{object_done, Writes}
 use Rattle.orc_template.specs.Expansions.{Expanding, put_written, on_tree}

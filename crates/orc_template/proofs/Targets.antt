@@ -7,7 +7,7 @@ use Rattle.serde_json.specs.Data.{Data, null}
 use Rattle.serde_json.specs.Find.{get}
 use Rattle.orc_path.specs.Steps.{PathStep}
 use Rattle.orc_expr.specs.declared.read.Read.{Read}
-use Rattle.orc_schema.specs.Schemas.{SchemaTable}
+use Rattle.orc_schema_nodes.specs.Schemas.{SchemaTable}
 use Rattle.orc_template.specs.Values.{Done, Does, string_done}
 use Rattle.orc_template.specs.Writing.{Ended}
 use Rattle.orc_template.specs.Devices.{device_of, schema_of_device}

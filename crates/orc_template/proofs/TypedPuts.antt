@@ -16,7 +16,7 @@ use Rattle.orc_path.specs.declared.item.Item.{Item}
 use Rattle.orc_path.specs.declared.limits.TheConstants.{PATH_STEPS, PATH_LEN}
 use Rattle.orc_path.specs.declared.item.Item.TheVariants.{Entry}
 use Rattle.orc_path.proofs.ConfigurationLaws.{IsConfig-empty, IsConfig-put_item, put_item_cases}
-use Rattle.orc_schema.specs.Schemas.{SchemaTable}
+use Rattle.orc_schema_nodes.specs.Schemas.{SchemaTable}
 use Rattle.orc_template.specs.Laws.{MayStand, IsConfigUnder}
 use Rattle.orc_template.proofs.TypedWays.{way_typed}
 

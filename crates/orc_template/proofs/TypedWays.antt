@@ -8,9 +8,9 @@ use Rattle.orc_path.specs.Steps.{PathStep, ends_in_keys, has_keys}
 use Rattle.orc_path.specs.Configurations.{IsWay}
 use Rattle.orc_path.specs.declared.item.Item.{Item}
 use Rattle.orc_path.specs.declared.item.Item.TheVariants.{Entry}
-use Rattle.orc_schema.specs.Schemas.{SchemaTable, kind_at_path, node_at, path_names}
-use Rattle.orc_schema.specs.declared.line.Node.{Node}
-use Rattle.orc_schema.specs.declared.line.Node.TheVariants.{Container, List as ListOf, Leaf, LeafList}
+use Rattle.orc_schema_nodes.specs.Schemas.{SchemaTable, kind_at_path, node_at, path_names}
+use Rattle.orc_schema_nodes.specs.declared.line.Node.{Node}
+use Rattle.orc_schema_nodes.specs.declared.line.Node.TheVariants.{Container, List as ListOf, Leaf, LeafList}
 use Rattle.orc_typed.specs.Typed.{are_canonical_steps, carries, each_step, has_canonical_keys, is_canonical_value, is_carried, is_typed, stand, stands_at, step_kinds}
 
 -- what is so of each step of a path is so of each step of a prefix

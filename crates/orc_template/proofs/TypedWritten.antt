@@ -29,12 +29,12 @@ use Rattle.orc_value.proofs.CanonLaws.{number_of, int_text_canonical, canon_of-a
 use Rattle.orc_expr.specs.Expressions.{Expression}
 use Rattle.orc_expr.specs.Looks.{nodes_of}
 use Rattle.orc_expr.specs.declared.read.Read.{Read}
-use Rattle.orc_schema.specs.Schemas.{SchemaTable, kind_in, kind_at_path, node_at, path_names}
-use Rattle.orc_schema.specs.declared.line.Node.{Node}
-use Rattle.orc_schema.specs.declared.line.Node.TheVariants as node
-use Rattle.orc_schema.specs.declared.line.ListNode.{ListNode}
-use Rattle.orc_schema.specs.declared.line.LeafNode.{LeafNode}
-use Rattle.orc_schema.specs.declared.line.ValueListNode.{ValueListNode}
+use Rattle.orc_schema_nodes.specs.Schemas.{SchemaTable, kind_in, kind_at_path, node_at, path_names}
+use Rattle.orc_schema_nodes.specs.declared.line.Node.{Node}
+use Rattle.orc_schema_nodes.specs.declared.line.Node.TheVariants as node
+use Rattle.orc_schema_nodes.specs.declared.line.ListNode.{ListNode}
+use Rattle.orc_schema_nodes.specs.declared.line.LeafNode.{LeafNode}
+use Rattle.orc_schema_nodes.specs.declared.line.ValueListNode.{ValueListNode}
 use Rattle.orc_typed.specs.Typed.{are_canonical_keys, are_canonical_steps, carries, has_canonical_keys, is_canonical_text, is_canonical_value, is_carried, is_typed, kind_of_names, stand, stands_at, step_kinds}
 use Rattle.orc_typed.proofs.Steps.{each_step-push}
 use Rattle.orc_json.specs.Findings.{below, node_below, is_key_name, key_kind}

@@ -14,7 +14,7 @@ use Rattle.orc_call.specs.declared.call.Put.{Put}
 use Rattle.orc_expr.specs.Expressions.{Expression, Condition}
 use Rattle.orc_expr.specs.Looks.{nodes_of, judged}
 use Rattle.orc_expr.specs.declared.read.Read.{Read}
-use Rattle.orc_schema.specs.Schemas.{SchemaTable}
+use Rattle.orc_schema_nodes.specs.Schemas.{SchemaTable}
 use Rattle.orc_template.specs.Readers.{Readers}
 use Rattle.orc_template.specs.Values.{Scene, Done, done, string_done}
 use Rattle.orc_template.specs.Writing.{Ended, ends, object_done}

@@ -10,7 +10,7 @@ use Rattle.orc_path.specs.Views.{Viewed}
 use Rattle.orc_path.specs.declared.item.Item.{Item}
 use Rattle.orc_path.specs.declared.item.Item.TheVariants.{Entry, Leaf}
 use Rattle.orc_expr.specs.Reads.{IsFixedByReads}
-use Rattle.orc_schema.specs.Schemas.{SchemaTable}
+use Rattle.orc_schema_nodes.specs.Schemas.{SchemaTable}
 use Rattle.orc_typed.specs.Typed.{is_typed}
 use Rattle.orc_template.specs.Readers.{Readers, AreReaders}
 use Rattle.orc_template.specs.Devices.{DeviceTable, schema_of_device}

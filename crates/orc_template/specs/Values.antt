@@ -14,7 +14,7 @@ use Rattle.orc_value.specs.declared.kind.Kind.{Kind}
 use Rattle.orc_expr.specs.Expressions.{Expression}
 use Rattle.orc_expr.specs.Looks.{texts_of}
 use Rattle.orc_expr.specs.declared.read.Read.{Read}
-use Rattle.orc_schema.specs.Schemas.{SchemaTable}
+use Rattle.orc_schema_nodes.specs.Schemas.{SchemaTable}
 use Rattle.orc_json.specs.Findings.{key_kind}
 use Rattle.orc_template.specs.Readers.{Readers}
 use Rattle.orc_template.specs.Strings.{cut_parts}

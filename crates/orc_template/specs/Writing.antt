@@ -13,10 +13,10 @@ use Rattle.orc_path.specs.declared.item.Item.TheVariants.{Entry, Leaf}
 use Rattle.orc_value.specs.Canon.{same_text}
 use Rattle.orc_value.specs.declared.kind.Kind.{Kind}
 use Rattle.orc_expr.specs.declared.read.Read.{Read}
-use Rattle.orc_schema.specs.Schemas.{SchemaTable, path_names}
-use Rattle.orc_schema.specs.declared.line.Node.{Node}
-use Rattle.orc_schema.specs.declared.line.Node.TheVariants as node
-use Rattle.orc_schema.specs.declared.line.LeafNode.{LeafNode}
+use Rattle.orc_schema_nodes.specs.Schemas.{SchemaTable, path_names}
+use Rattle.orc_schema_nodes.specs.declared.line.Node.{Node}
+use Rattle.orc_schema_nodes.specs.declared.line.Node.TheVariants as node
+use Rattle.orc_schema_nodes.specs.declared.line.LeafNode.{LeafNode}
 use Rattle.orc_json.specs.Findings.{below, node_below, is_key_name}
 use Rattle.orc_template.specs.Values.{Scene, Done, value_done, keys_done}
 use Rattle.orc_template.specs.declared.fault.TheConstants.{BAD_LEAF, SELF_CLASH}

@@ -15,7 +15,7 @@ use crate::values::{key_texts, value_text};
 use crate::writing::Writing;
 use orc_json::{name_behind, one_key, path_below};
 use orc_path::{DataView, Item, Name, Path};
-use orc_schema::{LeafNode, Node, Schema};
+use orc_schema_nodes::{LeafNode, Node, Schema};
 use orc_text::{Row, Text};
 use orc_value::Kind;
 use serde_json::{Map, Value};

@@ -6,7 +6,7 @@ ghost use Rattle.std.specs.Option.{option_copied};
 ghost use Rattle.orc_value.specs.Canon.{same_text};
 ghost use Rattle.orc_template.specs.Devices.{all_differ, is_device_table, device_of, schema_of_device};
 
-use orc_schema::Schema;
+use orc_schema_nodes::Schema;
 use orc_text::{Copied, Memory, Row, Text};
 use std::alloc::Global;
 use std::marker::Model;

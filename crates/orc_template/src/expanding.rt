@@ -18,7 +18,7 @@ use crate::readers::{condition, expression};
 use crate::writing::Writing;
 use orc_expr::{EvalFault, Expr, ReadSet};
 use orc_path::{DataView, Path};
-use orc_schema::Schema;
+use orc_schema_nodes::Schema;
 use orc_text::{Memory, Row};
 use orc_tree::Tree;
 use serde_json::Value;

@@ -2,7 +2,7 @@
 ghost use Rattle.std.specs.Prelude.{◌≡◌, IfOk};
 
 use orc_path::{DataView, Item, Name, Path, Shape};
-use orc_schema::Schema;
+use orc_schema_nodes::Schema;
 use orc_text::Memory;
 use orc_tree::Tree;
 use std::alloc::Global;
@@ -15,7 +15,7 @@ pub struct View<'a> {
 }
 
 impl<'a> DataView for View<'a> {
-    ghost use Rattle.orc_schema.specs.Schemas.{shape_at};
+    ghost use Rattle.orc_schema_nodes.specs.Schemas.{shape_at};
 
     ghost viewed = { λ view. record { items = view.tree.now; shapes = shape_at view.schema.now } };
 

@@ -7,7 +7,7 @@ use orc_expr::ReadSet;
 use orc_json::read;
 use orc_path::Path;
 use orc_queue::Held;
-use orc_schema::Schema;
+use orc_schema::{Build, Schema};
 use orc_services::{ServiceList, expand_actions, path_of_id};
 use orc_template::{Devices, Template, View};
 use orc_text::{Memory, Row, Text};

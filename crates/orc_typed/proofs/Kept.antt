@@ -14,9 +14,9 @@ use Rattle.orc_path.specs.declared.item.Item.TheVariants as item
 use Rattle.orc_value.specs.Canon.{canon_of}
 use Rattle.orc_value.specs.declared.kind.Kind.{Kind}
 use Rattle.orc_value.proofs.CanonLaws.{canon_of-again, is_canonical-Decides}
-use Rattle.orc_schema.specs.Schemas.{SchemaTable, path_names, node_at, kind_in, kind_at_path}
-use Rattle.orc_schema.specs.declared.line.Node.{Node}
-use Rattle.orc_schema.specs.declared.line.Node.TheVariants.{Container, List as ListOf, Leaf, LeafList}
+use Rattle.orc_schema_nodes.specs.Schemas.{SchemaTable, path_names, node_at, kind_in, kind_at_path}
+use Rattle.orc_schema_nodes.specs.declared.line.Node.{Node}
+use Rattle.orc_schema_nodes.specs.declared.line.Node.TheVariants.{Container, List as ListOf, Leaf, LeafList}
 use Rattle.orc_typed.specs.Typed.{kinds_at, stands_at, stand, carries, is_carried, is_in_schema, canonical_text, canonical_keys, canonical_steps, canonical_value, is_canonical_text, are_canonical_keys, has_canonical_keys, are_canonical_steps, is_canonical_value, is_typed}
 use Rattle.orc_typed.specs.Laws.{AreCanonicalOf, KeepsPlace, has_plain_text}
 use Rattle.orc_typed.proofs.PlainTexts.{canon_of-plain}

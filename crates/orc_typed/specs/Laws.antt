@@ -6,7 +6,7 @@ use Rattle.orc_path.specs.Codes.{leaf_text}
 use Rattle.orc_path.specs.Items.{fits}
 use Rattle.orc_path.specs.Steps.{PathStep, is_path}
 use Rattle.orc_path.specs.declared.item.Item.{Item}
-use Rattle.orc_schema.specs.Schemas.{SchemaTable, path_names}
+use Rattle.orc_schema_nodes.specs.Schemas.{SchemaTable, path_names}
 use Rattle.orc_typed.specs.Typed.{is_in_schema, canonical_path, canonical_item, is_typed}
 
 -- a path and an item are the canonical forms of a path and an item

@@ -7,9 +7,9 @@ use Rattle.orc_path.specs.declared.item.Item.{Item}
 use Rattle.orc_path.specs.declared.item.Item.TheVariants as item
 use Rattle.orc_value.specs.Canon.{canon_of, is_canonical}
 use Rattle.orc_value.specs.declared.kind.Kind.{Kind}
-use Rattle.orc_schema.specs.Schemas.{SchemaTable, path_names, node_at, kind_in, kind_at_path}
-use Rattle.orc_schema.specs.declared.line.Node.{Node}
-use Rattle.orc_schema.specs.declared.line.Node.TheVariants.{Container, List as ListOf, Leaf, LeafList}
+use Rattle.orc_schema_nodes.specs.Schemas.{SchemaTable, path_names, node_at, kind_in, kind_at_path}
+use Rattle.orc_schema_nodes.specs.declared.line.Node.{Node}
+use Rattle.orc_schema_nodes.specs.declared.line.Node.TheVariants.{Container, List as ListOf, Leaf, LeafList}
 
 -- What stands in a schema ---------------------------------------------------------------------------------------------
 

@@ -1,11 +1,11 @@
 //! The canonical form of a path's keys and of an item's text.
 ghost use Rattle.std.specs.Prelude.{◌≡◌, ◌++◌, ◌∷◌, [], Some, IfOk, map, option_map};
-ghost use Rattle.orc_schema.specs.Schemas.{path_names};
+ghost use Rattle.orc_schema_nodes.specs.Schemas.{path_names};
 ghost use Rattle.orc_typed.specs.Typed.{kind_of_names, kinds_at, canonical_text, canonical_keys, canonical_step, canonical_steps, canonical_path, canonical_value, canonical_item};
 
 use crate::kinds::kind_below;
 use orc_path::{Item, Path, Step};
-use orc_schema::{Node, Schema};
+use orc_schema_nodes::{Node, Schema};
 use orc_text::{Memory, Row, Text};
 use orc_value::{Kind, ValueFault, canon};
 use std::alloc::Global;

@@ -1,10 +1,10 @@
 //! The kinds of keys.
 ghost use Rattle.std.specs.Prelude.{◌≡◌, ◌++◌, ◌∷◌, [], option_map};
-ghost use Rattle.orc_schema.specs.Schemas.{path_names};
+ghost use Rattle.orc_schema_nodes.specs.Schemas.{path_names};
 ghost use Rattle.orc_typed.specs.Typed.{kind_of_names};
 
 use orc_path::Step;
-use orc_schema::Schema;
+use orc_schema_nodes::Schema;
 use orc_text::Text;
 use orc_value::Kind;
 

@@ -1,10 +1,10 @@
 //! What stands in a schema.
 ghost use Rattle.std.specs.Prelude.{◌≡◌, ◌||◌, ℕ, List, [], length, nat_eq};
-ghost use Rattle.orc_schema.specs.Schemas.{SchemaTable, path_names};
+ghost use Rattle.orc_schema_nodes.specs.Schemas.{SchemaTable, path_names};
 ghost use Rattle.orc_typed.specs.Typed.{step_kinds, stands_at, stand, carries, is_carried, is_in_schema, has_place_in_schema};
 
 use orc_path::{Item, Path, Step};
-use orc_schema::{Node, Schema};
+use orc_schema_nodes::{Node, Schema};
 use orc_text::Text;
 
 // Whether a step at this node has as many keys as the node's steps have.

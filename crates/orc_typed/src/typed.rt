@@ -1,12 +1,12 @@
 //! What may stand in a configuration under a schema.
 ghost use Rattle.std.specs.Prelude.{◌≡◌, ◌++◌, ◌∷◌, [], Some, map, option_map};
-ghost use Rattle.orc_schema.specs.Schemas.{path_names, kind_at_path};
+ghost use Rattle.orc_schema_nodes.specs.Schemas.{path_names, kind_at_path};
 ghost use Rattle.orc_typed.specs.Typed.{kind_of_names, kinds_at, is_canonical_text, are_canonical_keys, has_canonical_keys, are_canonical_steps, is_canonical_value, is_typed, has_place};
 
 use crate::kinds::kind_below;
 use crate::placed::{has_place_in_schema, is_in_schema};
 use orc_path::{Item, Path, Step};
-use orc_schema::{Node, Schema};
+use orc_schema_nodes::{Node, Schema};
 use orc_text::Text;
 use orc_value::{Kind, is_canonical};
 

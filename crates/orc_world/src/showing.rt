@@ -13,7 +13,7 @@ use orc_disk::Disk;
 use orc_path::Path;
 use orc_print::{Transcript, down, history, json, log, meta, show, show_data};
 use orc_scene::{Place, WorldStop};
-use orc_schema::Schema;
+use orc_schema_nodes::Schema;
 use orc_text::Memory;
 
 impl<D: Disk> World<D> {

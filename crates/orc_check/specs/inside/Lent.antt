@@ -3,8 +3,8 @@ use Rattle.std.specs.Prelude.{ℕ, Bool, false, not, nat_lt, List, [], ◌∷◌
 use Rattle.std.specs.Option.{option_map_or}
 use Rattle.orc_path.specs.Steps.{PathStep}
 use Rattle.orc_path.specs.Configurations.{Config}
-use Rattle.orc_schema.specs.Schemas.{SchemaTable, path_names}
-use Rattle.orc_schema.specs.declared.line.Node.{Node}
+use Rattle.orc_schema_nodes.specs.Schemas.{SchemaTable, path_names}
+use Rattle.orc_schema_nodes.specs.declared.line.Node.{Node}
 use Rattle.orc_check.specs.declared.spot.Keyed.{Keyed}
 use Rattle.orc_check.specs.declared.spot.Spot.{Spot}
 use Rattle.orc_check.specs.Validity.{Breach, behind, goes_down, plain_steps, target_in, has_instance, entry_count}

@@ -2,9 +2,9 @@
 use Rattle.std.specs.Prelude.{Bool, List, is_some}
 use Rattle.std.specs.Ordering.{is_lt}
 use Rattle.orc_path.specs.Steps.{PathStep}
-use Rattle.orc_schema.specs.Links.{names_cmp}
-use Rattle.orc_schema.specs.Schemas.{path_names}
-use Rattle.orc_schema.specs.declared.line.SchemaLine.{SchemaLine}
+use Rattle.orc_schema_nodes.specs.Names.{names_cmp}
+use Rattle.orc_schema_nodes.specs.Schemas.{path_names}
+use Rattle.orc_schema_nodes.specs.declared.line.SchemaLine.{SchemaLine}
 use Rattle.orc_check.specs.Validity.{behind}
 
 -- the names of a line begin with those of a place

@@ -7,10 +7,10 @@ use Rattle.std.specs.Cmp.Lexicographic.{pointwise}
 use Rattle.orc_path.specs.Steps.{PathStep}
 use Rattle.orc_path.specs.Configurations.{Config}
 use Rattle.orc_value.specs.Canon.{same_text}
-use Rattle.orc_schema.specs.Schemas.{SchemaTable, node_at}
-use Rattle.orc_schema.specs.declared.line.Node.{Node}
-use Rattle.orc_schema.specs.declared.line.Node.TheVariants.{List as ListOf, Leaf, LeafList}
-use Rattle.orc_schema.specs.declared.line.Target.{Target}
+use Rattle.orc_schema_nodes.specs.Schemas.{SchemaTable, node_at}
+use Rattle.orc_schema_nodes.specs.declared.line.Node.{Node}
+use Rattle.orc_schema_nodes.specs.declared.line.Node.TheVariants.{List as ListOf, Leaf, LeafList}
+use Rattle.orc_schema_nodes.specs.declared.line.Target.{Target}
 use Rattle.orc_check.specs.Validity.{goes_down, plain_steps, is_place, row_has, has_default, place_lacks}
 
 abbrev pub is_key_leaf : Option Node → Bool

@@ -3,7 +3,7 @@ use Rattle.std.specs.Prelude.{ℕ, ◌-◌, Bool, not, ◌&&◌, List, [], ◌�
 use Rattle.std.specs.declared.result.Result.TheVariants.{Ok, Err}
 use Rattle.std.specs.List.{list_all}
 use Rattle.orc_path.specs.Steps.{PathStep, has_keys}
-use Rattle.orc_schema.specs.Schemas.{SchemaTable, node_at, path_names}
+use Rattle.orc_schema_nodes.specs.Schemas.{SchemaTable, node_at, path_names}
 use Rattle.orc_decls.specs.Declarations.{is_list_node}
 use Rattle.orc_typed.specs.Typed.{stand}
 use Rattle.orc_decls.specs.declared.rule.Rule.{Rule}

@@ -8,8 +8,8 @@ use Rattle.orc_path.specs.Order.{path_cmp, step_eq}
 use Rattle.orc_path.specs.Steps.{PathStep}
 use Rattle.orc_path.specs.declared.item.Item.{Item}
 use Rattle.orc_path.specs.declared.item.Item.TheVariants.{Entry}
-use Rattle.orc_schema.specs.Schemas.{SchemaTable, path_names}
-use Rattle.orc_schema.specs.declared.line.Node.{Node}
+use Rattle.orc_schema_nodes.specs.Schemas.{SchemaTable, path_names}
+use Rattle.orc_schema_nodes.specs.declared.line.Node.{Node}
 use Rattle.orc_json.specs.Findings.{below, node_below}
 use Rattle.orc_json.specs.Written.{Rows, AreMembers, IsNode, AreEntries, are_keys, with_key_members}
 

@@ -1,7 +1,7 @@
 -- Where a path of the data may stand.
 use Rattle.std.specs.Prelude.{Bool, not, ◌&&◌, ◌||◌, List, []}
 use Rattle.orc_path.specs.Steps.{PathStep}
-use Rattle.orc_schema.specs.Schemas.{SchemaTable}
+use Rattle.orc_schema_nodes.specs.Schemas.{SchemaTable}
 use Rattle.orc_decls.specs.Calls.{blank_item, is_kept}
 use Rattle.orc_typed.specs.Typed.{are_canonical_steps}
 use Rattle.orc_lines.specs.Items.{can_carry}

@@ -6,9 +6,9 @@ use Rattle.std.specs.FinMap.{get}
 use Rattle.orc_path.specs.Steps.{PathStep, ends_in_keys}
 use Rattle.orc_path.specs.Configurations.{Config}
 use Rattle.orc_path.specs.declared.item.Item.{Item}
-use Rattle.orc_schema.specs.Schemas.{SchemaTable, path_names, node_at}
-use Rattle.orc_schema.specs.declared.line.SchemaLine.{SchemaLine}
-use Rattle.orc_schema.specs.declared.line.Target.{Target as LeafrefTarget}
+use Rattle.orc_schema_nodes.specs.Schemas.{SchemaTable, path_names, node_at}
+use Rattle.orc_schema_nodes.specs.declared.line.SchemaLine.{SchemaLine}
+use Rattle.orc_schema_nodes.specs.declared.line.Target.{Target as LeafrefTarget}
 use Rattle.orc_check.specs.Validity.{behind, default_in, target_in}
 use Rattle.orc_expr.specs.declared.read.Target.{Target}
 use Rattle.orc_revalidate.specs.inside.Inside.{rows_inside}

@@ -5,7 +5,8 @@ use Rattle.std.specs.Ordering.{is_lt}
 use denote.Ref.{Bor}
 use Rattle.orc_schema.specs.declared.draft.Draft.{Draft}
 use Rattle.orc_schema.specs.declared.links.Nodes as declared
-use Rattle.orc_schema.specs.Links.{Lookup, node_in, names_cmp}
+use Rattle.orc_schema_nodes.specs.Names.{names_cmp}
+use Rattle.orc_schema.specs.Links.{Lookup, node_in}
 
 abbrev pub lent : List (Bor Draft) → List Draft
 lent ds = map (λ d. d.now) ds

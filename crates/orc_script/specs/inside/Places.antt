@@ -1,7 +1,7 @@
 -- Where a path of a device may stand.
 use Rattle.std.specs.Prelude.{Bool, ◌&&◌, ◌||◌, List, []}
 use Rattle.orc_path.specs.Steps.{PathStep}
-use Rattle.orc_schema.specs.Schemas.{SchemaTable}
+use Rattle.orc_schema_nodes.specs.Schemas.{SchemaTable}
 use Rattle.orc_decls.specs.Calls.{blank_item}
 use Rattle.orc_typed.specs.Typed.{are_canonical_steps}
 use Rattle.orc_lines.specs.Items.{can_carry}

@@ -2,7 +2,7 @@
 use Rattle.std.specs.Prelude.{ℕ, List, [], Result}
 use Rattle.serde_json.specs.Data.{Data}
 use Rattle.orc_path.specs.Steps.{PathStep}
-use Rattle.orc_schema.specs.Schemas.{SchemaTable}
+use Rattle.orc_schema_nodes.specs.Schemas.{SchemaTable}
 use Rattle.orc_json.specs.Findings.{below, node_below}
 use Rattle.orc_template.specs.Values.{Scene}
 use Rattle.orc_template.specs.Writing.{Ended, node_done, member_done, object_done, list_done}

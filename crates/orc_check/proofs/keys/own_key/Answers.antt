@@ -1,5 +1,5 @@
 use Rattle.std.proofs.Common.{◌≡◌, ℕ, List, [], ◌∷◌, ◌++◌, take, drop, sym, ap, ◌∙◌, arith}
-use Rattle.orc_schema.specs.Schemas.{node_at}
+use Rattle.orc_schema_nodes.specs.Schemas.{node_at}
 use Rattle.orc_check.specs.Validity.{goes_down}
 use Rattle.orc_check.specs.inside.Named.{is_key_leaf, is_list_of}
 use Rattle.orc_check.proofs.keys.own_key.Goals as goal

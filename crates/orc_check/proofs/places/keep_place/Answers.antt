@@ -3,8 +3,8 @@ use Rattle.std.specs.List.{fold, flat_map, list_any}
 use Rattle.std.proofs.lemmas.Grind.{flat_map-append}
 use Rattle.std.proofs.lemmas.List.{take_rest, take-append-drop}
 use Rattle.orc_path.specs.Steps.{PathStep}
-use Rattle.orc_schema.specs.Schemas.{Ascends}
-use Rattle.orc_schema.specs.declared.line.SchemaLine.{SchemaLine}
+use Rattle.orc_schema_nodes.specs.Schemas.{Ascends}
+use Rattle.orc_schema_nodes.specs.declared.line.SchemaLine.{SchemaLine}
 use Rattle.orc_check.specs.Validity.{Breach, line_breaches, lesser_breach}
 use Rattle.orc_check.specs.Found.{place_path, found_breach}
 use Rattle.orc_check.specs.inside.Lines.{leads_on}

@@ -1,5 +1,5 @@
 use Rattle.std.proofs.Common.{◌≡◌, ◌+◌, ◌<◌, ◌&&◌, true, false, length, take, drop, sym, ap, ◌∙◌, arith}
-use Rattle.orc_schema.specs.Schemas.{node_at}
+use Rattle.orc_schema_nodes.specs.Schemas.{node_at}
 use Rattle.orc_check.specs.Validity.{is_container, goes_down}
 use Rattle.orc_check.proofs.Reached.{down_last, down_next}
 use Rattle.orc_check.proofs.reach.+goes_down.Goals as goal

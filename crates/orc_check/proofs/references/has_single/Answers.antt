@@ -1,5 +1,5 @@
 use Rattle.std.proofs.Common.{◌≡◌, ℕ, true, false, List, ap, sym, ◌∙◌}
-use Rattle.orc_schema.specs.Schemas.{node_at}
+use Rattle.orc_schema_nodes.specs.Schemas.{node_at}
 use Rattle.orc_check.specs.inside.Named.{is_leaf_list}
 use Rattle.orc_check.proofs.Single.{at_leaf_is, at_value_is}
 use Rattle.orc_check.proofs.references.has_single.Goals as goal

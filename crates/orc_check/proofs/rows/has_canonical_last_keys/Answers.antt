@@ -1,5 +1,5 @@
 use Rattle.std.proofs.Common.{List, ℕ, sym, ap, ◌∙◌}
-use Rattle.orc_schema.specs.Schemas.{path_names}
+use Rattle.orc_schema_nodes.specs.Schemas.{path_names}
 use Rattle.orc_typed.specs.Typed.{kinds_at, are_canonical_keys}
 use Rattle.orc_check.specs.Validity.{last_keys}
 use Rattle.orc_check.proofs.Folds.{last_keys-last}

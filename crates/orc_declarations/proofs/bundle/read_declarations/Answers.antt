@@ -1,6 +1,6 @@
 use Rattle.std.proofs.Common.{sym, subst}
 use Rattle.std.specs.List.{All}
-use Rattle.orc_schema.specs.Sound.{IsSound}
+use Rattle.orc_schema_nodes.specs.Sound.{IsSound}
 use Rattle.orc_declarations.specs.declared.bundle.Bundle.{Bundle}
 use Rattle.orc_declarations.proofs.Bundles.{bundle_given, refused, script_begins}
 use Rattle.orc_declarations.proofs.bundle.read_declarations.Goals as goal

@@ -1,6 +1,6 @@
 use Rattle.std.proofs.Common.{◌≡◌, ℕ, true, List, ◌∙◌, ◌^◌, nat_lt, rules, ap, sym, subst, Some}
 use Rattle.orc_path.specs.Steps.{PathStep}
-use Rattle.orc_schema.specs.Schemas.{SchemaTable}
+use Rattle.orc_schema_nodes.specs.Schemas.{SchemaTable}
 use Rattle.orc_decls.specs.Calls.{is_list_path, is_max_rule, schema_named}
 use Rattle.orc_lines.specs.Names.{place_of}
 use Rattle.orc_lines.proofs.Lawful.{both, schema_at}

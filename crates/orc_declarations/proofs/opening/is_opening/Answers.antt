@@ -1,6 +1,6 @@
 use Rattle.std.proofs.Common.{ℕ, List, All, IsTrue, sym, subst}
 use Rattle.std.proofs.lemmas.List.Sums.{AllPass-from_list_all}
-use Rattle.orc_schema.specs.Schemas.{SchemaTable}
+use Rattle.orc_schema_nodes.specs.Schemas.{SchemaTable}
 use Rattle.orc_call.specs.declared.call.Put.{Put}
 use Rattle.orc_decls.specs.Calls.{is_device, is_lawful_name}
 use Rattle.orc_decls.specs.Openings.{fits_puts}

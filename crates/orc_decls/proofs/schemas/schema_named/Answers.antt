@@ -1,6 +1,6 @@
 use Rattle.std.proofs.Common.{Option, Some, None, List, ℕ, sym, ap, ◌∙◌}
 use Rattle.std.specs.Option.{option_map_or}
-use Rattle.orc_schema.specs.Schemas.{plain_table}
+use Rattle.orc_schema_nodes.specs.Schemas.{plain_table}
 use Rattle.orc_decls.specs.Calls.{schema_in}
 use Rattle.orc_decls.specs.Names.{place_of}
 use Rattle.orc_decls.specs.declared.declarations.Device.{Device}

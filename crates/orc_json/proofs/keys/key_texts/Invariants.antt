@@ -3,7 +3,7 @@ use Rattle.std.specs.Prelude.{option_map, IsTrue}
 use Rattle.std.specs.List.{list_all}
 use Rattle.serde_json.specs.View.{view}
 use Rattle.orc_path.specs.Alphabet.{is_key}
-use Rattle.orc_schema.specs.Schemas.{path_names}
+use Rattle.orc_schema_nodes.specs.Schemas.{path_names}
 use Rattle.orc_json.specs.Findings.{key_texts}
 use Rattle.orc_json.proofs.keys.key_texts.Given as goal
 

@@ -5,8 +5,8 @@ use Rattle.serde_json.specs.View.{view, items_view, members_view}
 use Rattle.serde_json.specs.declared.value.Value.{Value, Object, Array}
 use Rattle.serde_json.proofs.Views.{view-Object, view-Array}
 use Rattle.orc_path.specs.Steps.{PathStep}
-use Rattle.orc_schema.specs.Schemas.{path_names, node_at}
-use Rattle.orc_schema.specs.declared.line.Node.{Node}
+use Rattle.orc_schema_nodes.specs.Schemas.{path_names, node_at}
+use Rattle.orc_schema_nodes.specs.declared.line.Node.{Node}
 use Rattle.orc_json.specs.inside.Fronts.{MakesNode, MakesEntries}
 use Rattle.orc_json.specs.Written.{are_keys, with_key_members}
 use Rattle.orc_json.proofs.Made.{EntriesGoOn, none_made, nothing_made, all_made, all_entries_made, next_members, next_entries, some_rows, no_rows}

@@ -1,5 +1,5 @@
 use Rattle.serde_json.specs.View.{members_view}
-use Rattle.orc_schema.specs.Schemas.{path_names}
+use Rattle.orc_schema_nodes.specs.Schemas.{path_names}
 use Rattle.orc_json.proofs.Keyed.{KeysGoOn}
 use Rattle.orc_json.proofs.texts.put_keys.Given as goal
 

@@ -1,7 +1,7 @@
 use Rattle.std.proofs.Common.{rules}
 use Rattle.std.proofs.lemmas.Fn.{always_returns_same}
-use Rattle.orc_schema.specs.Links.{names_cmp}
-use Rattle.orc_schema.proofs.Ordered.{found_lent, not_lent}
+use Rattle.orc_schema_nodes.specs.Names.{names_cmp}
+use Rattle.orc_schema.proofs.Indexed.{found_lent, not_lent}
 use Rattle.orc_schema.proofs.index.find_in.Goals as goal
 
 pub returns-in-Ok : goal.returns-in-Ok

@@ -1,7 +1,7 @@
 use Rattle.std.proofs.Common.{sym, ◌∙◌, ap, subst}
 use Rattle.std.specs.List.Sorted.{IsPermutation}
 use Rattle.orc_schema.specs.inside.Indexes.{lent, names_of, climbs}
-use Rattle.orc_schema.proofs.Ordered.{climbs_sorted}
+use Rattle.orc_schema.proofs.Indexed.{climbs_sorted}
 use Rattle.orc_schema.proofs.index.index_of.Goals as goal
 
 pub returns-in-true : goal.returns-in-true

@@ -1,5 +1,5 @@
 use Rattle.std.proofs.Common.{◌≡◌, true, sym, subst}
-use Rattle.orc_schema.specs.Schemas.{SchemaTable}
+use Rattle.orc_schema_nodes.specs.Schemas.{SchemaTable}
 use Rattle.orc_script.specs.Places.{is_node_path}
 use Rattle.orc_script.proofs.Placed.{node_step}
 use Rattle.orc_script.proofs.places.read_device_node.Goals as goal

@@ -1,5 +1,5 @@
 use Rattle.std.proofs.Common.{◌≡◌, true, sym, subst}
-use Rattle.orc_schema.specs.Schemas.{SchemaTable}
+use Rattle.orc_schema_nodes.specs.Schemas.{SchemaTable}
 use Rattle.orc_decls.specs.Calls.{is_path_under}
 use Rattle.orc_script.proofs.Lawful.{path_there}
 use Rattle.orc_script.proofs.places.read_device_path.Goals as goal

@@ -1,7 +1,7 @@
 use Rattle.std.proofs.Common.{subst}
 use Rattle.std.specs.declared.result.Result.TheVariants.{Err}
 use Rattle.orc_path.specs.Views.{Viewed}
-use Rattle.orc_schema.specs.Schemas.{shape_at}
+use Rattle.orc_schema_nodes.specs.Schemas.{shape_at}
 use Rattle.orc_template.specs.Expansions.{AnswersWriting, expanded}
 use Rattle.orc_template.specs.Said.{template_json}
 use Rattle.orc_template.specs.TheReaders.{the_readers}

@@ -1,6 +1,6 @@
 use Rattle.std.proofs.Common.{Bor}
 use Rattle.serde_json.specs.View.{view}
-use Rattle.orc_schema.specs.Schemas.{SchemaTable}
+use Rattle.orc_schema_nodes.specs.Schemas.{SchemaTable}
 use Rattle.orc_template.specs.Devices.{device_of, schema_of_device}
 use Rattle.orc_template.specs.inside.Machine.{ground}
 use Rattle.orc_template.specs.inside.Expanding.{expanding_of}

@@ -4,7 +4,7 @@ use Rattle.serde_json.specs.View.{view}
 use Rattle.serde_json.specs.Find.{get}
 use Rattle.serde_json.specs.declared.value.Value.{Value}
 use Rattle.orc_value.specs.declared.kind.Kind.{Kind}
-use Rattle.orc_schema.specs.Schemas.{path_names, kind_in, node_at}
+use Rattle.orc_schema_nodes.specs.Schemas.{path_names, kind_in, node_at}
 use Rattle.orc_json.specs.Findings.{key_kind}
 use Rattle.orc_template.specs.Values.{value_done, key_value, key_done}
 use Rattle.orc_template.specs.inside.Machine.{scene}

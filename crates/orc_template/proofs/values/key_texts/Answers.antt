@@ -5,7 +5,7 @@ use Rattle.std.proofs.lemmas.List.Folds.{list_all-append}
 use Rattle.std.proofs.lemmas.Bool.{and_from}
 use Rattle.serde_json.specs.View.{view}
 use Rattle.orc_path.specs.Alphabet.{is_key}
-use Rattle.orc_schema.specs.Schemas.{path_names}
+use Rattle.orc_schema_nodes.specs.Schemas.{path_names}
 use Rattle.orc_template.specs.Values.{key_done, more_keys, keys_done}
 use Rattle.orc_template.specs.inside.Machine.{scene}
 use Rattle.orc_template.proofs.Handed.{does_ok, does_on, does_so}

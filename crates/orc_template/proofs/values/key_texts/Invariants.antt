@@ -3,7 +3,7 @@ use Rattle.std.specs.Prelude.{IsTrue}
 use Rattle.std.specs.List.{list_all}
 use Rattle.serde_json.specs.View.{view}
 use Rattle.orc_path.specs.Alphabet.{is_key}
-use Rattle.orc_schema.specs.Schemas.{path_names}
+use Rattle.orc_schema_nodes.specs.Schemas.{path_names}
 use Rattle.orc_template.specs.Values.{more_keys}
 use Rattle.orc_template.specs.inside.Machine.{scene}
 use Rattle.orc_template.proofs.values.key_texts.Given as goal

@@ -1,5 +1,5 @@
 use Rattle.std.proofs.Common.{◌≡◌, ℕ, List, ◌++◌, ◌∷◌, [], IfOk, Option, sym, ap, subst, ◌∙◌}
-use Rattle.orc_schema.specs.Schemas.{path_names}
+use Rattle.orc_schema_nodes.specs.Schemas.{path_names}
 use Rattle.orc_value.specs.declared.kind.Kind.{Kind}
 use Rattle.orc_typed.specs.Typed.{kind_of_names, canonical_text}
 use Rattle.orc_typed.proofs.Keys.{key_read}

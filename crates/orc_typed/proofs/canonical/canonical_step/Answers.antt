@@ -1,5 +1,5 @@
 use Rattle.std.proofs.Common.{sym, ◌∙◌}
-use Rattle.orc_schema.specs.Schemas.{path_names}
+use Rattle.orc_schema_nodes.specs.Schemas.{path_names}
 use Rattle.orc_typed.specs.Typed.{kinds_at}
 use Rattle.orc_typed.proofs.Kept.{keys_plain}
 use Rattle.orc_typed.proofs.canonical.canonical_step.Goals as goal

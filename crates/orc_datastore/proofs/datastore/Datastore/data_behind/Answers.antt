@@ -1,7 +1,7 @@
 use Rattle.std.proofs.Common.{List, IfOk, ap, subst, ◌∙◌}
 use Rattle.std.specs.Prelude.{Option}
 use Rattle.orc_path.specs.Configurations.{Config}
-use Rattle.orc_schema.specs.Schemas.{SchemaTable}
+use Rattle.orc_schema_nodes.specs.Schemas.{SchemaTable}
 use Rattle.orc_call.specs.declared.answer.Answer.{Answer}
 use Rattle.orc_call.specs.declared.call.Action.{Action}
 use Rattle.orc_datastore.specs.Actions.{data_after}

@@ -1,5 +1,5 @@
 use Rattle.std.proofs.Common.{◌≡◌, false, ap, sym, ◌∙◌}
-use Rattle.orc_schema.specs.Schemas.{SchemaTable}
+use Rattle.orc_schema_nodes.specs.Schemas.{SchemaTable}
 use Rattle.orc_decls.specs.Calls.{schema_named}
 use Rattle.orc_script.specs.declared.step.ScriptStep.TheVariants.{Json}
 use Rattle.orc_script.proofs.Placed.{step_more, typed_step}

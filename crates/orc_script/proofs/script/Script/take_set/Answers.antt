@@ -1,7 +1,7 @@
 use Rattle.std.proofs.Common.{◌≡◌, ◌&&◌, true, false, not, List, ap, sym, refl, subst}
 use Rattle.std.proofs.lemmas.Bool.{or_parts}
 use Rattle.orc_call.specs.declared.call.Action.TheVariants.{Set}
-use Rattle.orc_schema.specs.Schemas.{SchemaTable}
+use Rattle.orc_schema_nodes.specs.Schemas.{SchemaTable}
 use Rattle.orc_services.specs.declared.list.ServiceList.{ServiceList}
 use Rattle.orc_decls.specs.Calls.{is_kept, is_put, is_served}
 use Rattle.orc_script.proofs.CallLines.{acted}

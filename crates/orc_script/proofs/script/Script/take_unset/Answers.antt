@@ -1,6 +1,6 @@
 use Rattle.std.proofs.Common.{◌≡◌, true, false, not, List, ap, sym, refl, subst}
 use Rattle.orc_call.specs.declared.call.Action.TheVariants.{Unset}
-use Rattle.orc_schema.specs.Schemas.{SchemaTable}
+use Rattle.orc_schema_nodes.specs.Schemas.{SchemaTable}
 use Rattle.orc_services.specs.declared.list.ServiceList.{ServiceList}
 use Rattle.orc_decls.specs.Calls.{is_data_path, is_served}
 use Rattle.orc_script.proofs.CallLines.{acted}

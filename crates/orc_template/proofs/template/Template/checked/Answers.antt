@@ -1,7 +1,7 @@
 use Rattle.std.proofs.Common.{◌≡◌, sym, ap, subst, ◌∙◌}
 use Rattle.std.proofs.lemmas.Result.{err_from_is_err_and}
 use Rattle.serde_json.specs.View.{view}
-use Rattle.orc_schema.specs.Schemas.{shape_at}
+use Rattle.orc_schema_nodes.specs.Schemas.{shape_at}
 use Rattle.orc_json.specs.Readings.{IsJson}
 use Rattle.orc_template.specs.Said.{json_value, template_json}
 use Rattle.orc_template.specs.Templates.{template_fault}

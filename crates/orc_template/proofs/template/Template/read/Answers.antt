@@ -1,5 +1,5 @@
 use Rattle.std.proofs.Common.{subst}
-use Rattle.orc_schema.specs.Schemas.{shape_at}
+use Rattle.orc_schema_nodes.specs.Schemas.{shape_at}
 use Rattle.orc_template.specs.Readers.{Readers}
 use Rattle.orc_template.specs.Templates.{ReadsTemplate}
 use Rattle.orc_template.specs.Said.{read_result}

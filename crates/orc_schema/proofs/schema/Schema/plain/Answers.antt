@@ -1,5 +1,0 @@
-use Rattle.orc_schema.proofs.Ordered.{none_ascends}
-use Rattle.orc_schema.proofs.schema.Schema.plain.Goals as goal
-
-pub invariant_of-result : goal.invariant_of-result
-invariant_of-result c = none_ascends

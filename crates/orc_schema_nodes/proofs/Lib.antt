@@ -1,0 +1,3 @@
+pub mod Ordered
+mod Alike
+mod Halving

@@ -1,0 +1,4 @@
+pub mod Names
+pub mod Schemas
+pub mod Sound
+pub mod inside
