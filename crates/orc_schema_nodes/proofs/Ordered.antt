@@ -170,7 +170,7 @@ module _ {X : Type 0} (key : X → Names) (k : Names) where
   pub find_sorted : (xs ys : List X) → IsPermutation xs ys → Sorted key ys → find (is_at key k) xs ≡ find (is_at key k) ys
   find_sorted xs ys shuffled s = find_shuffled (is_at key k) xs ys shuffled (sorted_alone ys s)
 
--- what is less than a first one is less than all behind it
+-- what is less than a first one is less than all after it
 pub later_less : (x y : Names) (more : List Names) → names_cmp x y ≡ Less → AllByRecursion (λ z. names_cmp y z ≡ Less) more → AllByRecursion (λ z. names_cmp x z ≡ Less) more
 later_less x y [] less all = tt
 later_less x y (z ∷ zs) less all = (names_total.trans x y z less all.0, later_less x y zs less all.1)

@@ -42,7 +42,8 @@ impl Schema {
         Schema { lines: None }
     }
 
-    /// The schema of these lines, which are in the order of their names.
+    /// The schema of these lines, which stand in the order of their names, each of which stands once. It isn't
+    /// plain, also without a line; whether it is sound (`IsSound`) nobody looks at.
     pub fn of_lines(alloc: Global, lines: Row<SchemaLine>) -> Result<Schema, Memory>
         requires { Ascends lines }
         ensures { IfOk result (λ schema. schema ≡ record { plain = false; lines = lines }) }
