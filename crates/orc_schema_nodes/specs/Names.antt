@@ -9,5 +9,6 @@ use Rattle.orc_value.specs.Canon.{same_text}
 abbrev pub names_cmp : List (List ℕ) → List (List ℕ) → Ordering
 names_cmp = slice_cmp (slice_cmp nat_cmp)
 
+-- The same names: as many, and each the same text as the one beside it.
 abbrev pub same_names : List (List ℕ) → List (List ℕ) → Bool
 same_names = pointwise same_text
