@@ -1,4 +1,4 @@
-# What a typed device should have, as JSON (RFC 7951): members in the order of their bytes, entries in path order, numbers
+# What a typed device runs, as JSON (RFC 7951): members in the order of their bytes, entries in path order, numbers
 # up to 32 bits as numbers, longer ones and decimals as strings, an empty leaf as `[null]`. What has no item isn't there.
 orc 1
 yang 10

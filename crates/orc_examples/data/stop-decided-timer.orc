@@ -1,4 +1,4 @@
-# The same, and the timer runs out before the reconciliation, which writes what is due anew.
+# As stop-decided, and the timer runs out before the reconciliation, which writes what is due anew.
 orc 1
 device r1 plain
 script
