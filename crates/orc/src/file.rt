@@ -29,6 +29,7 @@ pub(crate) fn journal_file<R: Files<File = File> + AllocGlobal>(
     makes: bool,
 ) -> io::Result<JournalFile> {
     let (file, is_made) = open(rt, name, makes)?;
+    let file = apart_from_streams(file)?;
     lock(&file)?;
     has_its_name(rt, name, &file)?;
     let is_empty = look(&file)?;
@@ -89,6 +90,12 @@ fn open<R: Files<File = File>>(rt: &R, name: &str, makes: bool) -> io::Result<(F
         }
         Err(error) => Err(error),
     }
+}
+
+// The file under a number that is no standard stream's: a copy never gets one of the first three. Where a stream is closed
+// a file that is opened gets its number, and what is printed would be written over the journal.
+fn apart_from_streams(file: File) -> io::Result<File> {
+    file.try_clone()
 }
 
 // Locks a file for this program alone, without waiting for another one.

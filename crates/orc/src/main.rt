@@ -88,7 +88,7 @@ fn run_over_file(rt: &HostRuntime, words: &[String], command: &Command, name: &s
 
 // Does what the words ask for over a journal in memory.
 fn run_in_memory(rt: &HostRuntime, words: &[String], command: &Command) -> ExitCode {
-    match journal_disk(rt.alloc()) {
+    match journal_disk(rt.alloc(), room_for(command)) {
         Ok(disk) => run(rt, words, command, &Notes::none(), disk).0,
         Err(stop) => ends(rt, words, &stop),
     }
@@ -217,8 +217,8 @@ fn report_repeated<R: Eprint + AllocGlobal>(rt: &R, ended: &Result<Done, Stop>, 
 fn report_open<R: Eprint>(rt: &R, bundle: &[u8]) {
     if let Some(line) = open_call(bundle) {
         let _ = eprintln!(rt;
-            "No line `settle` or `decide` follows the call of line {line}: unless it was refused at once, it has no \
-             answer, and isn't done."
+            "No line `settle`, `decide` or `reconcile` follows the call of line {line}: unless it was answered at \
+             once, it has no answer, and isn't done."
         );
     }
 }
@@ -314,9 +314,17 @@ fn refuses<R: Eprint>(rt: &R, name: &str, error: &io::Error) -> ExitCode {
     ExitCode::from(FILE_STATUS)
 }
 
-// An empty disk in memory.
-fn journal_disk(alloc: Global) -> Result<MemDisk, Stop> {
-    match MemDisk::new(alloc, Vec::new(alloc), JOURNAL_ROOM, Vec::new(alloc)) {
+// The room that a command wants for a journal in memory: `check` touches none.
+fn room_for(command: &Command) -> u64 {
+    match command {
+        Command::Check => 0,
+        _ => JOURNAL_ROOM,
+    }
+}
+
+// An empty disk in memory with this room.
+fn journal_disk(alloc: Global, room: u64) -> Result<MemDisk, Stop> {
+    match MemDisk::new(alloc, Vec::new(alloc), room, Vec::new(alloc)) {
         Ok(disk) => Ok(disk),
         Err(Memory) => Err(Stop::Memory),
     }

@@ -2,7 +2,7 @@
 use std::str::from_utf8;
 
 /// The line, counted from 1, of the last call of a script, where none that may bring it to its answer follows: neither
-/// `settle` nor `decide`.
+/// `settle` nor `decide` nor `reconcile`.
 pub(crate) fn open_call(bundle: &[u8]) -> Option<u64> {
     match from_utf8(bundle) {
         Ok(text) => last_open(text),
@@ -19,11 +19,16 @@ fn last_open(bundle: &str) -> Option<u64> {
         number = number.saturating_add(1);
         if line == "script" {
             in_script = true;
-        } else if line == "settle" || line == "decide" {
+        } else if is_answering(line) {
             open = None;
         } else if in_script && line.starts_with("call ") {
             open = Some(number);
         }
     }
     open
+}
+
+// Whether a line of a script may bring a call to its answer.
+fn is_answering(line: &str) -> bool {
+    line == "settle" || line == "decide" || line == "reconcile"
 }
