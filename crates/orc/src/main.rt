@@ -9,7 +9,7 @@ mod sentences;
 
 use crate::file::{is_on_disk, journal_file, probe, remove};
 use crate::gates::{Before, bytes_after_end, entries_before};
-use crate::script::open_call;
+use crate::script::{has_reconcile, open_call};
 use crate::sentences::sentence;
 use orc_disk::{Disk, FileDisk, MemDisk};
 use orc_explain::explanation;
@@ -132,7 +132,10 @@ fn run<D: Disk>(
         status: ended,
     } = orchestrate(rt.alloc(), words, &mut source, &mut sink, disk);
     if is_opened(&ended) {
-        report_notes(rt, notes);
+        let reconciles = does_script(command, &ended)
+            && source.is_all()
+            && has_reconcile(source.kept());
+        report_notes(rt, notes, reconciles);
     }
     if reads_bundle(command) && source.is_all() {
         report_repeated(rt, &ended, source.kept());
@@ -187,10 +190,10 @@ fn is_opened(ended: &Result<Done, Stop>) -> bool {
     }
 }
 
-// Writes what is to be known of a journal that was opened: that devices begin at their bases where it wasn't empty, and
-// how many bytes of its file don't count.
-fn report_notes<R: Eprint>(rt: &R, notes: &Notes<'_>) {
-    if notes.recovers {
+// Writes what is to be known of a journal that was opened: that devices begin at their bases where it wasn't empty, unless
+// a line of the script reconciled them, and how many bytes of its file don't count.
+fn report_notes<R: Eprint>(rt: &R, notes: &Notes<'_>, reconciles: bool) {
+    if notes.recovers && !reconciles {
         let _ = eprintln!(rt; "{OUT_OF_STEP}");
     }
     let count = notes.after_end;

@@ -28,6 +28,27 @@ fn last_open(bundle: &str) -> Option<u64> {
     open
 }
 
+/// Whether a script has a line `reconcile`.
+pub(crate) fn has_reconcile(bundle: &[u8]) -> bool {
+    match from_utf8(bundle) {
+        Ok(text) => reconciles(text),
+        Err(_) => false,
+    }
+}
+
+// The same of a text.
+fn reconciles(bundle: &str) -> bool {
+    let mut in_script = false;
+    for line in bundle.lines() {
+        if line == "script" {
+            in_script = true;
+        } else if in_script && line == "reconcile" {
+            return true;
+        }
+    }
+    false
+}
+
 // Whether a line of a script may bring a call to its answer.
 fn is_answering(line: &str) -> bool {
     line == "settle" || line == "decide" || line == "reconcile"
