@@ -191,7 +191,7 @@ fn is_opened(ended: &Result<Done, Stop>) -> bool {
 }
 
 // Writes what is to be known of a journal that was opened: that devices begin at their bases where it wasn't empty, unless
-// a line of the script reconciled them, and how many bytes of its file don't count.
+// the script has a line `reconcile`, which prints how that ended, and how many bytes of its file don't count.
 fn report_notes<R: Eprint>(rt: &R, notes: &Notes<'_>, reconciles: bool) {
     if notes.recovers && !reconciles {
         let _ = eprintln!(rt; "{OUT_OF_STEP}");
