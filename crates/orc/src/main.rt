@@ -3,20 +3,22 @@
 #![tactic(auto)]
 
 mod file;
-mod gates;
-mod script;
+mod line_ends;
+mod notes;
 mod sentences;
 
 use crate::file::{is_on_disk, journal_file, probe, remove};
-use crate::gates::{Before, bytes_after_end, entries_before};
-use crate::script::{has_reconcile, open_call};
+use crate::line_ends::differ_by_line_ends;
+use crate::notes::{report_after_end, report_calls, report_devices};
 use crate::sentences::sentence;
+use orc_decls::Rule;
+use orc_diagnose::{diagnosis, repeated_findings};
 use orc_disk::{Disk, FileDisk, MemDisk};
-use orc_explain::explanation;
-use orc_findings::{finding, repeated_findings};
 use orc_io::{KeptSource, Source, StdSink, StdSource};
-use orc_run::{Done, Ended, Stop, orchestrate, status};
-use orc_text::{Memory, Text};
+use orc_journal::{EntriesBefore, entries_before};
+use orc_lines::Detail;
+use orc_run::{Done, Ended, Notes, Stop, orchestrate, status};
+use orc_text::Memory;
 use orc_words::{Command, WordsFault, command_of, journal_word, usage_text};
 use std::alloc::Global;
 use std::fs::File;
@@ -30,16 +32,12 @@ const JOURNAL_ROOM: u64 = 67_108_864;
 // The status where the journal's file can't be used.
 const FILE_STATUS: u8 = 14;
 
-// What is said of devices where a run goes on from a journal.
-const OUT_OF_STEP: &str =
-    "The journal wasn't empty, and devices began at their declared bases: each is \
-                           out of step with its history until a line `reconcile`.";
+// What is said of declarations that are a journal's but for carriage returns.
+const LINE_ENDS: &str =
+    " The two differ in line ends alone: of one, lines end with a carriage return and a line feed.";
 
 // What `history` does over the part of a damaged journal before the damage, whose calls may not make a history.
 const OF_A_COPY: &str = "prints these calls, or names an earlier byte.";
-
-// What is said of bytes after a journal.
-const NOT_COUNTED: &str = "They don't count, and the next entry is written over them.";
 
 // The words are looked at before the file that they name is opened.
 fn main(rt: HostRuntime) -> ExitCode {
@@ -73,13 +71,7 @@ fn run_over_file(rt: &HostRuntime, words: &[String], command: &Command, name: &s
     if makes && journal.is_empty {
         let _ = eprintln!(rt; "The journal in \"{name}\" is new: its history is empty.");
     }
-    let mut disk = FileDisk::over(journal.file);
-    let notes = Notes {
-        recovers: makes && !journal.is_empty,
-        after_end: bytes_after_end(&mut disk).unwrap_or(0),
-        name: Some(name),
-    };
-    let (status, mut disk) = run(rt, words, command, &notes, disk);
+    let (status, mut disk) = run(rt, words, command, Some(name), FileDisk::over(journal.file));
     if journal.is_made && matches!(disk.len(), Ok(0)) {
         remove(rt, name);
     }
@@ -89,40 +81,19 @@ fn run_over_file(rt: &HostRuntime, words: &[String], command: &Command, name: &s
 // Does what the words ask for over a journal in memory.
 fn run_in_memory(rt: &HostRuntime, words: &[String], command: &Command) -> ExitCode {
     match journal_disk(rt.alloc(), room_for(command)) {
-        Ok(disk) => run(rt, words, command, &Notes::none(), disk).0,
+        Ok(disk) => run(rt, words, command, None, disk).0,
         Err(stop) => ends(rt, words, &stop),
     }
 }
 
-// What is known of a journal before a run.
-#[derive(Drop)]
-struct Notes<'a> {
-    // whether a script, read or made, is to be run over one that isn't empty
-    recovers: bool,
-    // how many bytes stand after its ending gate
-    after_end: u64,
-    // the name of its file
-    name: Option<&'a str>,
-}
-
-impl<'a> Notes<'a> {
-    // Of a new one in memory.
-    fn none() -> Notes<'a> {
-        Notes {
-            recovers: false,
-            after_end: 0,
-            name: None,
-        }
-    }
-}
-
-// Does what the words ask for over the journal of a disk, which is handed back, and says on standard error what is to
-// be known of the run. A fault of the bundle is explained, unless memory ran out for keeping the bundle's bytes.
+// Does what the words ask for over the journal of a disk, which is handed back, the one in the file of a name or one in
+// memory, and says on standard error what is to be known of the run. A fault of the bundle is explained, unless memory ran
+// out for keeping the bundle's bytes.
 fn run<D: Disk>(
     rt: &HostRuntime,
     words: &[String],
     command: &Command,
-    notes: &Notes<'_>,
+    name: Option<&str>,
     disk: D,
 ) -> (ExitCode, D) {
     let mut source = KeptSource::new(rt.alloc(), StdSource::new(rt.reader()));
@@ -130,35 +101,37 @@ fn run<D: Disk>(
     let Ended {
         mut disk,
         status: ended,
+        notes,
     } = orchestrate(rt.alloc(), words, &mut source, &mut sink, disk);
     if is_opened(&ended) {
-        let reconciles = does_script(command, &ended)
-            && source.is_all()
-            && has_reconcile(source.kept());
-        report_notes(rt, notes, reconciles);
+        report_opened(rt, command, &notes);
     }
     if reads_bundle(command) && source.is_all() {
         report_repeated(rt, &ended, source.kept());
     }
-    if does_script(command, &ended) && source.is_all() {
-        report_open(rt, source.kept());
+    if does_script(command, &ended) {
+        report_calls(rt, &notes);
     }
     let status = match &ended {
         Ok(_) => ExitCode::from(status(&ended)),
         Err(Stop::Bundle { line, rule }) => {
             let _ = eprintln!(rt; "orc: Bundle {line} {rule}");
             if source.is_all() {
-                explain(rt, explanation(rt.alloc(), source.kept(), *line, *rule));
-                name(rt, finding(rt.alloc(), source.kept(), *line, *rule));
+                match &notes.detail {
+                    Some(detail) => explain(rt, source.kept(), *line, *rule, detail),
+                    None => explain(rt, source.kept(), *line, *rule, &Detail::Plain),
+                }
             }
             ExitCode::from(status(&ended))
         }
         Err(stop) => {
             let status = ends(rt, words, stop);
             match stop {
-                Stop::Foreign { at } if reads_bundle(command) => report_line(rt, &source, *at),
-                Stop::JournalFault => report_cause(rt, notes.name),
-                Stop::Damaged { at } => report_damage(rt, notes.name, &mut disk, *at),
+                Stop::Foreign { at } if reads_bundle(command) => {
+                    report_line(rt, &source, &mut disk, *at)
+                }
+                Stop::JournalFault => report_cause(rt, name),
+                Stop::Damaged { at } => report_damage(rt, name, &mut disk, *at),
                 _ => {}
             }
             status
@@ -190,18 +163,13 @@ fn is_opened(ended: &Result<Done, Stop>) -> bool {
     }
 }
 
-// Writes what is to be known of a journal that was opened: that devices begin at their bases where it wasn't empty, unless
-// the script has a line `reconcile`, which prints how that ended, and how many bytes of its file don't count.
-fn report_notes<R: Eprint>(rt: &R, notes: &Notes<'_>, reconciles: bool) {
-    if notes.recovers && !reconciles {
-        let _ = eprintln!(rt; "{OUT_OF_STEP}");
+// Writes what is to be known of a journal that was opened, and of the devices of a script that was done over it.
+fn report_opened<R: Eprint + AllocGlobal>(rt: &R, command: &Command, notes: &Notes) {
+    match command {
+        Command::Run | Command::Gen { .. } => report_devices(rt, notes),
+        Command::Check | Command::History => {}
     }
-    let count = notes.after_end;
-    if count > 0 {
-        let _ = eprintln!(rt;
-            "Bytes after the gate that ended the journal: {count}. {NOT_COUNTED}"
-        );
-    }
+    report_after_end(rt, notes);
 }
 
 // Writes which members stand twice in the JSON texts of a bundle, where it is one.
@@ -213,16 +181,6 @@ fn report_repeated<R: Eprint + AllocGlobal>(rt: &R, ended: &Result<Done, Stop>, 
         for words in found.as_slice() {
             let _ = eprintln!(rt; "{}", words.as_str());
         }
-    }
-}
-
-// Writes which call of a bundle nothing brings to its answer.
-fn report_open<R: Eprint>(rt: &R, bundle: &[u8]) {
-    if let Some(line) = open_call(bundle) {
-        let _ = eprintln!(rt;
-            "No line `settle`, `decide` or `reconcile` follows the call of line {line}: unless it was answered at \
-             once, it has no answer, and isn't done."
-        );
     }
 }
 
@@ -250,7 +208,7 @@ fn report_damage<R: Eprint, D: Disk>(rt: &R, name: Option<&str>, disk: &mut D, a
         return;
     }
     if let Ok(Some(before)) = entries_before(disk, at) {
-        let Before { entries, calls } = before;
+        let EntriesBefore { entries, calls } = before;
         let cut = at.saturating_sub(1);
         let _ = eprint!(rt;
             "Entries before that byte: {entries}; calls that they commit: {calls}. "
@@ -261,12 +219,23 @@ fn report_damage<R: Eprint, D: Disk>(rt: &R, name: Option<&str>, disk: &mut D, a
     }
 }
 
-// Writes in which line of the bundle the declarations differ from a journal's, unless memory ran out for its bytes.
-fn report_line<R: Eprint, S: Source>(rt: &R, source: &KeptSource<S>, at: u64) {
-    if source.is_all() {
-        let line = line_at(source.kept(), at);
-        let _ = eprintln!(rt; "Line {line} of the bundle is the first that differs.");
+// Writes in which line of the bundle the declarations differ from a journal's, and whether they do in their line ends
+// alone, unless memory ran out for its bytes.
+fn report_line<R: Eprint, S: Source, D: Disk>(
+    rt: &R,
+    source: &KeptSource<S>,
+    disk: &mut D,
+    at: u64,
+) {
+    if !source.is_all() {
+        return;
     }
+    let line = line_at(source.kept(), at);
+    let _ = eprint!(rt; "Line {line} of the bundle is the first that differs.");
+    if matches!(differ_by_line_ends(disk, source.kept()), Ok(true)) {
+        let _ = eprint!(rt; "{LINE_ENDS}");
+    }
+    let _ = eprintln!(rt; "");
 }
 
 // The number of the line in which a byte of a bundle stands, counted from 1.
@@ -283,17 +252,10 @@ fn line_at(bundle: &[u8], at: u64) -> u64 {
     line
 }
 
-// Writes the sentence that explains a fault of the bundle.
-fn explain<R: Eprint>(rt: &R, words: Result<Text, Memory>) {
-    if let Ok(words) = words {
-        let _ = eprintln!(rt; "{}", words.as_str());
-    }
-}
-
-// Writes what in particular is at fault, where something is found.
-fn name<R: Eprint>(rt: &R, found: Result<Option<Text>, Memory>) {
-    if let Ok(Some(words)) = found {
-        let _ = eprintln!(rt; "{}", words.as_str());
+// Writes what is said of the line of a bundle that breaks a rule, and was refused with this detail.
+fn explain<R: Eprint + AllocGlobal>(rt: &R, bundle: &[u8], line: u64, rule: Rule, detail: &Detail) {
+    if let Ok(said) = diagnosis(rt.alloc(), bundle, line, rule, detail) {
+        let _ = eprintln!(rt; "{}", said.as_str());
     }
 }
 

@@ -21,8 +21,9 @@ pub(crate) fn sentence(stop: &Stop) -> &'static str {
         }
         Stop::Foreign { .. } => {
             "The journal was begun with other declarations than the lines before the bundle's `script`. The number is \
-             the first byte, counted from 0, in which the two differ. The journal is left as it was: bring these lines \
-             back, or name another file."
+             the first byte, counted from 0, in which the two differ. Under a journal nothing is added to the \
+             declarations or changed in them: bring these lines back, or begin another journal in a file that isn't \
+             there yet, and send the calls that are to live there again. This one is left as it was."
         }
         Stop::Full { .. } => {
             "The journal has so many bytes, and with the next entry it would have more than 268435456, the limit. What \

@@ -9,5 +9,5 @@ mod scripted;
 pub use orc_declarations::Bundle;
 pub use orc_lines::{LARGEST_BUNDLE, LONGEST_LINE};
 pub use orc_script::{MOST_CALLERS, MOST_STEPS, ScriptStep};
-pub use read::read_bundle;
+pub use read::{read_bundle, read_bundle_explained};
 pub use scripted::{ScriptedBundle, read_scripted};

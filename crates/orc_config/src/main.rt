@@ -8,14 +8,13 @@ use orc_check::{CheckFault, valid};
 use orc_json::{JsonFault, read, write};
 use orc_path::Path;
 use orc_schema::{Build, Schema};
-use orc_table_programs::{ended_apart, given_words};
 use orc_text::Memory;
 use orc_tree::Tree;
 use orc_yang::parse;
 use std::alloc::Global;
 use std::process::ExitCode;
 use std::rt::{Env, Files};
-use std::{fs, io};
+use std::{env, fs, io};
 
 // What is found in a text.
 enum Outcome {
@@ -25,12 +24,20 @@ enum Outcome {
 
 // Ends with 0 where the configuration was printed.
 fn main(rt: HostRuntime) -> ExitCode {
-    ended_apart(&rt, run(&rt))
+    match run(&rt) {
+        Ok(true) => ExitCode::SUCCESS,
+        Ok(false) => ExitCode::FAILURE,
+        Err(error) => {
+            let _ = eprintln!(rt; "{error}");
+            ExitCode::FAILURE
+        }
+    }
 }
 
 // Reads the two files, and prints what is found.
 fn run<R: Files<File = fs::File> + Env + Print + AllocGlobal>(rt: &R) -> io::Result<bool> {
-    let mut words = given_words(rt)?;
+    let mut words = env::args(rt)?;
+    let _program = words.next();
     let (Some(modules), Some(json)) = (words.next(), words.next()) else {
         println!(rt; "orc_config MODULES JSON")?;
         return Ok(false);

@@ -2,10 +2,10 @@
 use Rattle.std.proofs.Common.{◌≡◌, ◌≤◌, ◌+◌, ℕ, List, [], drop, length, Result, Ok, Err, refl, ap, ap₂, sym, subst, ◌∙◌, arith}
 use Rattle.orc_template.specs.Devices.{DeviceTable}
 use Rattle.orc_decls.specs.declared.declarations.Decls.{Decls}
-use Rattle.orc_decls.specs.declared.fault.BundleFault.{BundleFault}
-use Rattle.orc_decls.specs.declared.fault.BundleFault.TheVariants.{At, Memory}
+use Rattle.orc_lines.specs.declared.fault.ExplainedFault.{ExplainedFault}
+use Rattle.orc_lines.specs.declared.fault.ExplainedFault.TheVariants.{At, Memory}
 use Rattle.orc_decls.specs.declared.rule.Rule.{Rule}
-use Rattle.orc_lines.specs.Answers.{Gives}
+use Rattle.orc_lines.specs.Answers.{Explains}
 use Rattle.orc_lines.specs.Lawful.{decls_with}
 use Rattle.orc_lines.specs.Lines.{lines_of}
 use Rattle.orc_lines.specs.Rules.{on_ok}
@@ -24,14 +24,14 @@ with_parts d text copy table same is =
 
 -- what is answered for a fault, and for what was declared
 
-pub fault_given : (answer : Result Front (ℕ × Rule)) (new : Declared) (f : Front → Result Bundle (ℕ × Rule)) (fault : BundleFault)
-    → Declares answer new (Err fault) → Gives (on_ok answer f) (Err fault)
-fault_given answer new f (At line rule) h = ap (λ (a : Result Front (ℕ × Rule)). on_ok a f) h
+pub fault_given : (answer : Result Front (ℕ × Rule)) (new : Declared) (f : Front → Result Bundle (ℕ × Rule)) (fault : ExplainedFault)
+    → Declares answer new (Err fault) → Explains (on_ok answer f) (Err fault)
+fault_given answer new f (At line rule detail) h = ap (λ (a : Result Front (ℕ × Rule)). on_ok a f) h
 fault_given answer new f Memory h = tt
 
-pub refused : (bytes : List ℕ) (none new : Declared) (fault : BundleFault) → none ≡ nothing_declared
+pub refused : (bytes : List ℕ) (none new : Declared) (fault : ExplainedFault) → none ≡ nothing_declared
     → Declares (declarations_of none 0 0 (lines_of bytes)) new (Err fault)
-    → Gives (on_ok (declarations_in bytes) (λ front. Ok (bundle_at bytes front))) (Err fault)
+    → Explains (on_ok (declarations_in bytes) (λ front. Ok (bundle_at bytes front))) (Err fault)
 refused bytes none new fault nothing h =
     fault_given (declarations_in bytes) new (λ front. Ok (bundle_at bytes front)) fault
     (subst (λ (d : Declared). Declares (declarations_of d 0 0 (lines_of bytes)) new (Err fault)) nothing h)

@@ -7,5 +7,6 @@ mod Lawful
 mod LongNames
 pub mod Opened
 mod TemplateTexts
+mod SchemaFaults
 mod ServiceLists
 mod Tables

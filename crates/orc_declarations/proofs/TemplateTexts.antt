@@ -19,6 +19,7 @@ use Rattle.std.proofs.lemmas.Result.{err_from_is_err_and}
 use Rattle.orc_lines.specs.Answers.{ReadsLine, Takes}
 use Rattle.orc_lines.specs.Names.{is_among}
 use Rattle.orc_lines.specs.declared.declared.Declared.{Declared}
+use Rattle.orc_lines.specs.declared.detail.Detail.{Detail}
 use Rattle.orc_lines.specs.declared.fault.LineFault.{LineFault}
 use Rattle.orc_lines.specs.declared.fault.LineFault.TheVariants.{Breaks, Memory}
 use Rattle.orc_lines.proofs.Rules.{err, no_ok, passed, same_ok, so}
@@ -51,12 +52,13 @@ module _ (s : SchemaTable) (list : List PathStep) (text : List ℕ) where
   template_read read same good = ap judged (is_of (template_json read) None good.0 good.1) ∙ ap (λ (t : List ℕ). Ok t) (sym same)
 
   -- a text that is refused as a template
-  pub template_refused : (fault : TemplateFault) → ReadsTemplate place text (Err fault) → ReadsLine (template_of s list text) (Err (of_template fault))
+  pub template_refused : (fault : TemplateFault) (said : Detail) → ReadsTemplate place text (Err fault)
+      → ReadsLine (template_of s list text) (Err (of_template fault said))
   unfolding is_utf8 judged holds
-  template_refused template.Memory h = tt
-  template_refused template.NotJson h = ap (λ (o : Option Data). judged (holds o)) (value_is_none text h)
-  template_refused (template.BadMember block) h = refused h.0 (template.BadMember block) h.1 h.2
-  template_refused (template.BadExpr block) h = refused h.0 (template.BadExpr block) h.1 h.2
+  template_refused template.Memory said h = tt
+  template_refused template.NotJson said h = ap (λ (o : Option Data). judged (holds o)) (value_is_none text h)
+  template_refused (template.BadMember block) said h = refused h.0 (template.BadMember block) h.1 h.2
+  template_refused (template.BadExpr block) said h = refused h.0 (template.BadExpr block) h.1 h.2
 
 -- what is known of one that was read
 pub template_holds : (s : SchemaTable) (list : List PathStep) (text read : List ℕ) → template_of s list text ≡ Ok read → is_template_of s list read ≡ true
@@ -88,7 +90,7 @@ module _ (d : Declared) (name : List ℕ) (n : ℕ) (list : List PathStep) (text
   fault_of : (fault : LineFault) (e : Declared) → may_be_served d list ≡ true → is_among d.templates name ≡ false → is_listed_already d list ≡ false
       → ReadsLine (template_of d.data_schema list text) (Err fault) → Takes (list_template d name n list text) e (err (Unit {0}) LineFault fault)
   fault_of Memory e may new other h = tt
-  fault_of (Breaks broken) e may new other h = broken_by broken may new other h
+  fault_of (Breaks broken said) e may new other h = broken_by broken may new other h
 
   pub template_missed : (r : Result (Unit {0}) LineFault) (fault : LineFault) (e : Declared) → IsErrAnd r (λ y. y ≡ fault) → may_be_served d list ≡ true
       → is_among d.templates name ≡ false → is_listed_already d list ≡ false → ReadsLine (template_of d.data_schema list text) (Err fault)

@@ -3,9 +3,8 @@ use Rattle.std.specs.Prelude.{◌≡◌, ℕ, true, false, Result, ◌≤◌, �
 use Rattle.std.specs.declared.result.Result.TheVariants.{Ok, Err}
 use Rattle.orc_decls.specs.declared.rule.Rule.{Rule}
 use Rattle.orc_decls.specs.declared.rule.Rule.TheVariants as rule
-use Rattle.orc_decls.specs.declared.fault.BundleFault.{BundleFault}
-use Rattle.orc_decls.specs.declared.fault.BundleFault.TheVariants as bundle
-use Rattle.orc_lines.specs.declared.fault.LineFault.TheVariants.{Memory}
+use Rattle.orc_lines.specs.declared.fault.ExplainedFault.{ExplainedFault}
+use Rattle.orc_lines.specs.declared.fault.ExplainedFault.TheVariants as explained
 use Rattle.orc_declarations.specs.Declarations.{Front, is_opening}
 use Rattle.orc_lines.specs.Lines.{lines_of}
 use Rattle.orc_lines.specs.declared.declared.Declared.{Declared}
@@ -23,17 +22,17 @@ front_left declared behind = record {
 }
 
 -- what is answered where the declarations end in the line of this number
-abbrev pub IsOpened : {T : Type 0} → Declared → ℕ → Result T BundleFault → Type 0
+abbrev pub IsOpened : {T : Type 0} → Declared → ℕ → Result T ExplainedFault → Type 0
 IsOpened declared number (Ok _) = is_opening declared ≡ true
-IsOpened declared number (Err (bundle.At line broken)) =
+IsOpened declared number (Err (explained.At line broken detail)) =
     (is_opening declared ≡ false) × (line ≡ number) × (broken ≡ rule.Opening)
-IsOpened declared number (Err bundle.Memory) = Unit {0}
+IsOpened declared number (Err explained.Memory) = Unit {0}
 
 -- what the reader of all declarations answers
-abbrev pub Declares : Result Front (ℕ × Rule) → Declared → Result Behind BundleFault → Type 0
+abbrev pub Declares : Result Front (ℕ × Rule) → Declared → Result Behind ExplainedFault → Type 0
 Declares answer new (Ok behind) = answer ≡ Ok (front_left new behind)
-Declares answer new (Err (bundle.At line rule)) = answer ≡ Err (line, rule)
-Declares answer new (Err bundle.Memory) = Unit {0}
+Declares answer new (Err (explained.At line rule detail)) = answer ≡ Err (line, rule)
+Declares answer new (Err explained.Memory) = Unit {0}
 
 -- the parts of the bytes where the declarations end
 pub record EndsWithin (bytes : List ℕ) (behind : Behind) : Type 0 where

@@ -4,7 +4,7 @@ ghost use Rattle.std.specs.List.{All, IsDistinct};
 ghost use Rattle.orc_schema_nodes.specs.Sound.{IsSound};
 ghost use Rattle.orc_decls.specs.Declarations.{AreDecls, accept_of};
 ghost use Rattle.orc_decls.specs.Devices.{is_same_text};
-ghost use Rattle.orc_lines.specs.Answers.{Gives};
+ghost use Rattle.orc_lines.specs.Answers.{Explains, Gives};
 ghost use Rattle.orc_lines.specs.Lawful.{AreDeclared, decls_with};
 ghost use Rattle.orc_lines.specs.Rules.{on_ok};
 ghost use Rattle.orc_declarations.specs.Answers.{front_left};
@@ -15,7 +15,7 @@ use crate::declarations::nothing_declared;
 use crate::read::{Behind, read_declared};
 use orc_check::Accept;
 use orc_decls::{BundleFault, Decls, Device, Names, schema_in};
-use orc_lines::Declared;
+use orc_lines::{Declared, ExplainedFault, plain_fault};
 use orc_schema::Schema;
 use orc_template::Devices;
 use orc_text::{Memory, Row, Text};
@@ -129,10 +129,11 @@ fn bundle_at(
     })
 }
 
-/// Reads what a bundle declares: its lines up to the line `script`, or all where there is none.
-pub fn read_declarations(alloc: Global, bytes: &[u8]) -> Result<Bundle, BundleFault>
+/// Reads what a bundle declares: its lines up to the line `script`, or all where there is none. Of a fault
+/// it says what in particular it is.
+pub fn read_declarations_explained(alloc: Global, bytes: &[u8]) -> Result<Bundle, ExplainedFault>
     // The one answer, unless memory runs out.
-    ensures gives { Gives (on_ok (declarations_in bytes.now) (λ front. Ok (bundle_at bytes.now front))) result }
+    ensures gives { Explains (on_ok (declarations_in bytes.now) (λ front. Ok (bundle_at bytes.now front))) result }
     // What is read is lawful.
     ensures lawful { IfOk result (λ bundle. AreDecls bundle.decls) }
     ensures sound { IfOk result (λ bundle. All IsSound bundle.decls.schemas) }
@@ -145,6 +146,21 @@ pub fn read_declarations(alloc: Global, bytes: &[u8]) -> Result<Bundle, BundleFa
     };
     match bundle_at(alloc, bytes, &front, declared) {
         Ok(bundle) => Ok(bundle),
-        Err(Memory) => Err(BundleFault::Memory),
+        Err(Memory) => Err(ExplainedFault::Memory),
+    }
+}
+
+/// Reads what a bundle declares: its lines up to the line `script`, or all where there is none.
+pub fn read_declarations(alloc: Global, bytes: &[u8]) -> Result<Bundle, BundleFault>
+    // The one answer, unless memory runs out.
+    ensures gives { Gives (on_ok (declarations_in bytes.now) (λ front. Ok (bundle_at bytes.now front))) result }
+    // What is read is lawful.
+    ensures lawful { IfOk result (λ bundle. AreDecls bundle.decls) }
+    ensures sound { IfOk result (λ bundle. All IsSound bundle.decls.schemas) }
+    ensures script { IfOk result (BeginsScript bytes.now) }
+{
+    match read_declarations_explained(alloc, bytes) {
+        Ok(bundle) => Ok(bundle),
+        Err(fault) => Err(plain_fault(fault)),
     }
 }

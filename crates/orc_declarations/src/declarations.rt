@@ -15,9 +15,9 @@ use crate::types::{schema_place, take_datamodel, take_devicetype};
 use orc_call::Put;
 use orc_decls::{Device, MOST_DEVICES, Names, Rule};
 use orc_lines::{
-    Declared, Keyword, LineFault, Section, SortedNames, block_of, breaks, cut, is_large,
-    is_skipped, keyword_of, line_text, number_of, read_forbidden, read_list_path, read_put,
-    read_text,
+    Declared, Detail, Excess, Keyword, LineFault, Section, SortedNames, block_of, breaks,
+    breaks_by, cut, is_large, is_skipped, keyword_of, large_excess, line_text, long_name,
+    name_excess, number_of, read_forbidden, read_list_path, read_put, read_text,
 };
 use orc_path::{Path, is_identifier, is_long_name};
 use orc_schema::{Looks, Schema};
@@ -100,7 +100,7 @@ fn add_forbid(
 }
 
 /// Nothing is declared, and the header is due.
-pub fn nothing_declared(alloc: Global) -> Result<Declared, Memory>
+pub(crate) fn nothing_declared(alloc: Global) -> Result<Declared, Memory>
     ensures nothing { IfOk result (λ declared. declared ≡ nothing_declared) }
     ensures lawful { IfOk result AreDeclared }
 {
@@ -138,6 +138,11 @@ fn take_header(declared: &mut Declared, text: &str) -> Result<(), LineFault>
     Ok(())
 }
 
+// Of a device more than there can be.
+fn devices_excess(declared: &Declared) -> Detail {
+    Detail::Size(Excess::Devices(declared.names.len() as u64))
+}
+
 // `device D plain` and `device D T`.
 #[tactic(auto, unfolding(crate::specs::Declarations::after_device))]
 fn take_device(alloc: Global, declared: &mut Declared, rest: &str) -> Result<(), LineFault>
@@ -150,13 +155,16 @@ fn take_device(alloc: Global, declared: &mut Declared, rest: &str) -> Result<(),
     if !is_identifier(name) || !is_identifier(kind) {
         return breaks(Rule::Line);
     }
-    if is_long_name(name) || is_long_name(kind) {
-        return breaks(Rule::Size);
+    if is_long_name(name) {
+        return breaks_by(Rule::Size, name_excess(alloc, name)?);
+    }
+    if is_long_name(kind) {
+        return breaks_by(Rule::Size, name_excess(alloc, kind)?);
     }
     let name = Text::from_str(alloc, name)?;
     let is_old = declared.names.has(&name);
     if !is_old && declared.names.len() >= MOST_DEVICES {
-        return breaks(Rule::Size);
+        return breaks_by(Rule::Size, devices_excess(declared));
     }
     let Some(schema) = schema_place(alloc, declared, kind)? else {
         return breaks(Rule::Unknown);
@@ -188,14 +196,14 @@ fn take_base(alloc: Global, declared: &mut Declared, rest: &str) -> Result<(), L
     if !is_identifier(name) {
         return breaks(Rule::Line);
     }
-    let is_long = is_long_name(name);
+    let long = long_name(name);
     let name = Text::from_str(alloc, name)?;
     let plain = Schema::plain(alloc);
     let put = read_put(
         alloc,
         None,
         declared.schema_named(&name, &plain),
-        is_long,
+        long,
         item,
     )?;
     let Some(n) = declared.names.place(&name) else {
@@ -218,10 +226,10 @@ fn take_max(alloc: Global, declared: &mut Declared, name: &str, rest: &str) -> R
     let Some(count) = number_of(count) else {
         return breaks(Rule::Line);
     };
-    let is_long = is_long_name(name);
+    let long = long_name(name);
     let name = Text::from_str(alloc, name)?;
     let plain = Schema::plain(alloc);
-    let path = read_list_path(alloc, declared.schema_named(&name, &plain), is_long, word)?;
+    let path = read_list_path(alloc, declared.schema_named(&name, &plain), long, word)?;
     let Some(n) = declared.names.place(&name) else {
         return breaks(Rule::Unknown);
     };
@@ -241,10 +249,10 @@ fn take_forbid(
     ensures takes { Takes (after_forbid declared.old name.now rest.now) declared.new result }
     ensures lawful { AreDeclared declared.old → OnOk result (AreDeclared declared.new) }
 {
-    let is_long = is_long_name(name);
+    let long = long_name(name);
     let name = Text::from_str(alloc, name)?;
     let plain = Schema::plain(alloc);
-    let leaf = read_forbidden(alloc, declared.schema_named(&name, &plain), is_long, rest)?;
+    let leaf = read_forbidden(alloc, declared.schema_named(&name, &plain), long, rest)?;
     let Some(n) = declared.names.place(&name) else {
         return breaks(Rule::Unknown);
     };
@@ -296,7 +304,7 @@ fn take_data(alloc: Global, declared: &mut Declared, rest: &str) -> Result<(), L
         alloc,
         Some(declared.services.as_slice()),
         &declared.data_schema,
-        false,
+        None,
         rest,
     )?;
     declared.data.push(put)?;
@@ -418,7 +426,7 @@ pub(crate) fn take_line(
     ensures small { OnOk result (at + length line.now ≤ LARGEST_BUNDLE) }
 {
     if is_large(at, line) {
-        return breaks(Rule::Size);
+        return breaks_by(Rule::Size, large_excess(line));
     }
     if declared.skip > 0 {
         declared.skip -= 1;

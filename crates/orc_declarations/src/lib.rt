@@ -14,7 +14,4 @@ mod statements;
 mod templates;
 mod types;
 
-pub use bundle::{Bundle, read_declarations};
-pub use declarations::nothing_declared;
-pub use read::{Behind, read_declared};
-pub use types::{modules_named, with_name};
+pub use bundle::{Bundle, read_declarations, read_declarations_explained};

@@ -10,9 +10,9 @@ ghost use Rattle.orc_lines.specs.Answers.{ReadsLine};
 ghost use Rattle.orc_declarations.specs.inside.Faults.{of_yang};
 
 use orc_decls::Rule;
-use orc_lines::{LineFault, breaks, cut_prefix};
+use orc_lines::{Detail, Excess, LineFault, ModuleFault, WrongModule, breaks_by, cut_prefix};
 use orc_path::{is_identifier, is_long_name};
-use orc_text::Text;
+use orc_text::{Memory, Row, Text};
 use orc_yang::{Stmt, YangFault, parse};
 use std::alloc::Global;
 
@@ -37,6 +37,17 @@ fn is_long_word(word: &str) -> bool
     match cut_prefix(word) {
         Some((prefix, name)) => is_long_identifier(prefix) || is_long_identifier(name),
         None => is_long_identifier(word),
+    }
+}
+
+// The part of a word that is past the limit; the word where it has no prefix.
+fn long_part(word: &str) -> &str {
+    match cut_prefix(word) {
+        Some((prefix, name)) => match is_long_identifier(prefix) {
+            true => prefix,
+            false => name,
+        },
+        None => word,
     }
 }
 
@@ -126,6 +137,79 @@ fn has_long_name(stmt: &Stmt) -> bool
     false
 }
 
+// The name in this statement itself that is too long, where it has one.
+fn long_head<'a>(stmt: &'a Stmt) -> Option<&'a str> {
+    let keyword = stmt.keyword.as_str();
+    if is_long_word(keyword) {
+        return Some(long_part(keyword));
+    }
+    match &stmt.argument {
+        Some(name) => match takes_name(keyword) && is_long_word(name.as_str()) {
+            true => Some(long_part(name.as_str())),
+            false => None,
+        },
+        None => None,
+    }
+}
+
+// The first name that is too long in the statement or in one below it, and where the statement stands that has it.
+fn long_name_in<'a>(stmt: &'a Stmt) -> Option<(&'a str, u64)> {
+    if let Some(name) = long_head(stmt) {
+        return Some((name, stmt.at));
+    }
+    for sub in stmt.subs.as_slice() {
+        if let Some(found) = long_name_in(sub) {
+            return Some(found);
+        }
+    }
+    None
+}
+
+// The same of statements.
+fn first_long<'a>(statements: &'a [Stmt]) -> Option<(&'a str, u64)> {
+    for stmt in statements {
+        if let Some(found) = long_name_in(stmt) {
+            return Some(found);
+        }
+    }
+    None
+}
+
+// How many line feeds stand among the first bytes of a text, so many.
+fn lines_above(text: &[u8], at: u64) -> u64 {
+    let mut lines: u64 = 0;
+    let mut left = at;
+    for byte in text {
+        if left == 0 {
+            return lines;
+        }
+        left -= 1;
+        if *byte == b'\n' {
+            lines = lines.saturating_add(1);
+        }
+    }
+    lines
+}
+
+// Of a name that is too long in one of the statements of a text.
+fn identifier_excess(alloc: Global, text: &[u8], statements: &[Stmt]) -> Result<Detail, Memory> {
+    match first_long(statements) {
+        Some((name, at)) => Ok(Detail::Size(Excess::Identifier {
+            name: Text::from_str(alloc, name)?,
+            below: lines_above(text, at),
+        })),
+        None => Ok(Detail::Plain),
+    }
+}
+
+// Of a text that is no module.
+fn wrong_module(alloc: Global, text: &[u8], fault: ModuleFault) -> Result<Detail, Memory> {
+    Ok(Detail::Yang(WrongModule {
+        text: Row::of_copies(alloc, text)?,
+        fault,
+    }))
+}
+
 // Whether a name in one of the statements is too long.
 fn have_long_name(statements: &[Stmt]) -> bool
     ensures { result ≡ list_any has_long_name statements.now }
@@ -146,13 +230,18 @@ fn module_name(stmt: &Stmt) -> Option<&Text>
     }
 }
 
-// The module that a statement is.
-fn module_of_statement(alloc: Global, statement: Stmt) -> Result<Module, LineFault>
+// The module that the only statement of a text is.
+fn module_of_statement(alloc: Global, text: &[u8], statement: Stmt) -> Result<Module, LineFault>
     ensures { ReadsLine (of_option (module_of_statement statement) Rule.Yang) result }
 {
     let name = match module_name(&statement) {
         Some(name) => name.copy(alloc)?,
-        None => return breaks(Rule::Yang),
+        None => {
+            return breaks_by(
+                Rule::Yang,
+                wrong_module(alloc, text, ModuleFault::Count(1))?,
+            );
+        }
     };
     Ok(Module { name, statement })
 }
@@ -169,12 +258,12 @@ fn single(statements: Vec<Stmt>) -> Option<Stmt>
 }
 
 // What a fault in the statements of a block is.
-fn of_yang(fault: YangFault) -> LineFault
-    ensures { result ≡ of_yang fault }
+fn of_yang(fault: YangFault, detail: Detail) -> LineFault
+    ensures { result ≡ of_yang fault detail }
 {
     match fault {
         YangFault::Memory => LineFault::Memory,
-        _ => LineFault::Breaks(Rule::Yang),
+        _ => LineFault::Breaks(Rule::Yang, detail),
     }
 }
 
@@ -185,13 +274,20 @@ pub(crate) fn module_of(alloc: Global, text: &[u8]) -> Result<Module, LineFault>
 {
     let statements = match parse(alloc, text) {
         Ok(statements) => statements,
-        Err(fault) => return Err(of_yang(fault)),
+        Err(fault) => {
+            let detail = wrong_module(alloc, text, ModuleFault::Statements(fault))?;
+            return Err(of_yang(fault, detail));
+        }
     };
     if have_long_name(statements.as_slice()) {
-        return breaks(Rule::Size);
+        return breaks_by(
+            Rule::Size,
+            identifier_excess(alloc, text, statements.as_slice())?,
+        );
     }
+    let count = ModuleFault::Count(statements.len() as u64);
     match single(statements) {
-        Some(statement) => module_of_statement(alloc, statement),
-        None => breaks(Rule::Yang),
+        Some(statement) => module_of_statement(alloc, text, statement),
+        None => breaks_by(Rule::Yang, wrong_module(alloc, text, count)?),
     }
 }

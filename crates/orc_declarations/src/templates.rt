@@ -14,12 +14,15 @@ ghost use Rattle.orc_declarations.specs.inside.Templates.{is_reached, template_o
 
 use orc_call::Put;
 use orc_decls::{Rule, is_kept, meets};
-use orc_lines::{Declared, LineFault, block_of, breaks, cut, is_past_path, number_of, read_path};
+use orc_lines::{
+    Bar, Declared, Detail, LineFault, PathForm, WrongPath, WrongTemplate, block_of, breaks,
+    breaks_by, cut, is_past_path, long_name, no_path, number_of, path_excess, read_path,
+};
 use orc_path::{Path, Step, is_identifier, is_long_name};
 use orc_schema::{Node, Schema};
 use orc_services::ServiceList;
 use orc_template::{Template, TemplateFault, the_readers_read_back};
-use orc_text::Text;
+use orc_text::{Memory, Row, Text};
 use orc_typed::stand;
 use std::alloc::Global;
 
@@ -83,13 +86,52 @@ fn is_listed_already(declared: &Declared, list: &Path) -> bool
 }
 
 // What a fault of a template is.
-fn of_template(fault: TemplateFault) -> LineFault
-    ensures { result ≡ of_template fault }
+fn of_template(fault: TemplateFault, detail: Detail) -> LineFault
+    ensures { result ≡ of_template fault detail }
 {
     match fault {
         TemplateFault::Memory => LineFault::Memory,
-        _ => LineFault::Breaks(Rule::Template),
+        _ => LineFault::Breaks(Rule::Template, detail),
     }
+}
+
+// Of a text that is no template of the list.
+fn wrong_template(
+    alloc: Global,
+    schema: &Schema,
+    list: &Path,
+    text: &[u8],
+    fault: TemplateFault,
+) -> Result<Detail, Memory> {
+    Ok(Detail::Template(WrongTemplate {
+        text: Row::of_copies(alloc, text)?,
+        list: list.copy(alloc)?,
+        schema: schema.copy(alloc)?,
+        fault,
+    }))
+}
+
+// Why no template may be one of the list, whatever the schema has.
+fn list_bar(alloc: Global, declared: &Declared, list: &Path) -> Result<Bar, Memory> {
+    if is_kept(list) {
+        return Ok(Bar::Kept);
+    }
+    for put in declared.data.as_slice() {
+        if meets(list.steps.as_slice(), put.path.steps.as_slice()) {
+            return Ok(Bar::Used(put.path.copy(alloc)?));
+        }
+    }
+    Ok(Bar::Free)
+}
+
+// Of a path that is none of a list which may have a template.
+fn wrong_list(alloc: Global, declared: &Declared, list: &Path) -> Result<Detail, Memory> {
+    Ok(Detail::Path(WrongPath {
+        path: list.copy(alloc)?,
+        form: PathForm::Template,
+        schema: declared.data_schema.copy(alloc)?,
+        bar: list_bar(alloc, declared, list)?,
+    }))
 }
 
 // The template of the list that the text of a block is.
@@ -104,7 +146,10 @@ fn read_template(
     the_readers_read_back();
     match Template::read(alloc, text, schema, list) {
         Ok(template) => Ok(template),
-        Err(fault) => Err(of_template(fault)),
+        Err(fault) => {
+            let detail = wrong_template(alloc, schema, list, text, fault)?;
+            Err(of_template(fault, detail))
+        }
     }
 }
 
@@ -121,7 +166,7 @@ fn add_template(
     ensures lawful { AreDeclared declared.old → OnOk result (AreDeclared declared.new) }
 {
     if !may_be_served(declared, &list) {
-        return breaks(Rule::Path);
+        return breaks_by(Rule::Path, wrong_list(alloc, declared, &list)?);
     }
     let name = Text::from_str(alloc, name)?;
     if declared.templates.has(&name) || is_listed_already(declared, &list) {
@@ -152,13 +197,13 @@ fn take_block(
     }
     let list = read_path(alloc, word)?;
     if is_long_name(name) || is_past_path(&list) {
-        return breaks(Rule::Size);
+        return breaks_by(Rule::Size, path_excess(alloc, long_name(name), &list)?);
     }
     let Some(text) = block_of(alloc, later, count)? else {
         return breaks(Rule::Line);
     };
     let Some(list) = list else {
-        return breaks(Rule::Path);
+        return breaks_by(Rule::Path, no_path(alloc, word)?);
     };
     add_template(alloc, declared, name, count, list, text.as_slice())
 }

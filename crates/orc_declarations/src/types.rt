@@ -9,14 +9,18 @@ ghost use Rattle.orc_path.specs.Limits.{is_long_name};
 ghost use Rattle.orc_decls.specs.Calls.{schema_in, schema_named};
 ghost use Rattle.orc_decls.specs.Devices.{names_of};
 ghost use Rattle.orc_lines.specs.Names.{is_among, place_of, with_name};
-ghost use Rattle.orc_declarations.specs.Declarations.{after_datamodel, after_devicetype, is_declared, module_named, modules_named, schema_place, schema_words};
+ghost use Rattle.orc_declarations.specs.Declarations.{after_datamodel, after_devicetype, is_declared, module_named, modules_named, schema_place, schema_words, type_words};
+ghost use Rattle.orc_declarations.specs.Schemas.{schema_or_rule};
 ghost use Rattle.orc_lines.specs.Answers.{ReadsLine, Takes};
 ghost use Rattle.orc_lines.specs.Lawful.{AreDeclared};
 
 use crate::schemas::schema_of;
 use crate::statements::{copy, orc_module};
 use orc_decls::{Device, Rule};
-use orc_lines::{Declared, LineFault, SortedNames, breaks, repeats, words_of};
+use orc_lines::{
+    Declared, Detail, LineFault, SortedNames, breaks, breaks_by, name_excess, repeated_name,
+    words_of,
+};
 use orc_path::{is_identifier, is_long_name};
 use orc_schema::{Looks, Schema};
 use orc_text::{Memory, Row, Text};
@@ -44,9 +48,9 @@ fn has_long_name(words: &[Text]) -> bool
     words.iter().any(|word| is_long_name(word.as_str()))
 }
 
-/// The names, and this one after them where it is new: the modules of the schema of the data are those
-/// that the line `datamodel` names and `orc`.
-pub fn with_name(alloc: Global, names: &Row<Text>, name: &str) -> Result<Row<Text>, Memory>
+// The names, and this one after them where it is new: the modules of the schema of the data are those
+// that the line `datamodel` names and `orc`.
+fn with_name(alloc: Global, names: &Row<Text>, name: &str) -> Result<Row<Text>, Memory>
     ensures { IfOk result (λ more. more ≡ with_name names.now name.now) }
 {
     let name = Text::from_str(alloc, name)?;
@@ -62,6 +66,16 @@ fn is_among(names: &[Text], name: &Text) -> bool
     ensures { result ≡ is_among names.now name.now }
 {
     names.iter().any(|other| *name == *other)
+}
+
+// Of the names, the first that is longer than it may be.
+fn names_excess(alloc: Global, words: &[Text]) -> Result<Detail, Memory> {
+    for word in words {
+        if is_long_name(word.as_str()) {
+            return name_excess(alloc, word.as_str());
+        }
+    }
+    Ok(Detail::Plain)
 }
 
 // The statement of a module that is declared.
@@ -110,9 +124,9 @@ fn push_module(
     Ok(())
 }
 
-/// The statements of the modules of these names that are declared or built in, within what may still be
-/// looked at.
-pub fn modules_named(
+// The statements of the modules of these names that are declared or built in, within what may still be
+// looked at.
+fn modules_named(
     alloc: Global,
     declared: &Declared,
     names: &[Text],
@@ -125,6 +139,37 @@ pub fn modules_named(
         push_module(alloc, declared, name, looks, &mut modules)?;
     }
     Ok(Row::from_vec(modules))
+}
+
+// Of each of these names that is of a module which is declared or built in its place among those that are declared.
+fn places_of(
+    alloc: Global,
+    declared: &Declared,
+    names: &[Text],
+) -> Result<Row<Option<u64>>, Memory> {
+    let mut places = Row::new(alloc);
+    for name in names {
+        match declared.modules.place(name) {
+            Some(place) => places.push(Some(place as u64))?,
+            None => places.push(None)?,
+        }
+    }
+    Ok(places)
+}
+
+// The schema of the modules of these names, each of which is declared or built in.
+fn named_schema(
+    alloc: Global,
+    declared: &Declared,
+    names: &[Text],
+    looks: &Looks,
+) -> Result<Schema, LineFault>
+    ensures reads { ReadsLine (schema_or_rule (modules_named declared.now names.now)) result }
+    ensures sound { IfOk result IsSound }
+{
+    let modules = modules_named(alloc, declared, names, looks)?;
+    let places = places_of(alloc, declared, names)?;
+    schema_of(alloc, modules, places, looks)
 }
 
 // The schema of the modules of these names. All the words are names, and one of them may be taken.
@@ -144,7 +189,7 @@ fn schema_words(
         return breaks(Rule::Line);
     }
     if has_long_name(words) {
-        return breaks(Rule::Size);
+        return breaks_by(Rule::Size, names_excess(alloc, words)?);
     }
     if !are_declared(declared, names) {
         return breaks(Rule::Unknown);
@@ -152,11 +197,10 @@ fn schema_words(
     if is_double {
         return breaks(Rule::Duplicate);
     }
-    if repeats(alloc, names)? {
-        return breaks(Rule::Schema);
+    match repeated_name(alloc, names)? {
+        Some(name) => breaks_by(Rule::Schema, Detail::Repeated(name)),
+        None => named_schema(alloc, declared, names, looks),
     }
-    let modules = modules_named(alloc, declared, names, looks)?;
-    schema_of(alloc, modules.as_slice(), looks)
 }
 
 /// `datamodel M M ..`.
@@ -188,6 +232,29 @@ pub(crate) fn take_datamodel(
     Ok(())
 }
 
+// `T M M ..`, cut into these words.
+fn take_type(
+    alloc: Global,
+    declared: &mut Declared,
+    words: &[Text],
+    looks: &Looks,
+) -> Result<(), LineFault>
+    ensures takes { Takes (type_words declared.old words.now) declared.new result }
+    ensures lawful { AreDeclared declared.old → OnOk result (AreDeclared declared.new) }
+{
+    let [name, names @ ..] = words else {
+        return breaks(Rule::Line);
+    };
+    if names.is_empty() {
+        return breaks(Rule::Line);
+    }
+    let is_double = declared.types.has(name);
+    let schema = schema_words(alloc, declared, words, names, is_double, looks)?;
+    declared.types.add(name.copy(alloc)?)?;
+    declared.schemas.push(schema)?;
+    Ok(())
+}
+
 /// `devicetype T M M ..`.
 #[tactic(auto, unfolding(crate::specs::Declarations::after_devicetype))]
 pub(crate) fn take_devicetype(
@@ -200,17 +267,7 @@ pub(crate) fn take_devicetype(
     ensures lawful { AreDeclared declared.old → OnOk result (AreDeclared declared.new) }
 {
     let words = words_of(alloc, rest)?;
-    let [name, names @ ..] = words.as_slice() else {
-        return breaks(Rule::Line);
-    };
-    if names.is_empty() {
-        return breaks(Rule::Line);
-    }
-    let is_double = declared.types.has(name);
-    let schema = schema_words(alloc, declared, words.as_slice(), names, is_double, looks)?;
-    declared.types.add(name.copy(alloc)?)?;
-    declared.schemas.push(schema)?;
-    Ok(())
+    take_type(alloc, declared, words.as_slice(), looks)
 }
 
 /// The place of the schema of devices of a kind.

@@ -13,8 +13,12 @@
 //! - `run BUNDLE WORD .. -> PRINTED STATUS FAULT`: runs the bundle over a disk of its own; it must
 //!   print this text, or `nothing`, and end with this status and, where that isn't 0, this fault
 //! - `again BUNDLE ..`: runs it so over the disk that the run before left, where a file is opened anew
-//! - `says WORDS`: so the fault of the run before, which is one of its bundle, is explained
-//! - `finds WORDS`: so it is said what in particular is at fault there
+//! - `says WORDS`: so what is said of the fault of the run before, which is one of its bundle, ends: with the line at
+//!   fault and what may stand there
+//! - `finds WORDS`: so it begins, in a line of text above that one: with what in particular is at fault
+//! - `stale NAMES`: so the devices are named, with their causes, that are out of step at the end of the run before;
+//!   without names where none is
+//! - `open NAMES`: so the calls are named that have no answer then
 //! - `refused TEXT`: each line of the text is a row `LINE RULE BUNDLE`, as `row` says
 //! - `taken TEXT`: each is a row `DEVICES STEPS BUNDLE`
 //! - either of them with `behind NAME` at its end: each bundle stands after this text
@@ -24,12 +28,10 @@ use crate::block::{bytes_of, filled, spelled, text_of};
 use crate::file::{journal_bytes, journal_made, journal_opened, remove_journal};
 use crate::row::{Rows, ending};
 use crate::run::{Ran, Streams, run};
+use crate::said::{first_line, last_line, named, said_of, words_of};
 use crate::settings::Settings;
 use orc_disk::{Disk, FileDisk, MemDisk};
-use orc_explain::explanation;
-use orc_findings::finding;
-use orc_run::Stop;
-use orc_text::{Memory, Text};
+use orc_text::Text;
 use std::alloc::{AllocError, Global};
 use std::fs::File;
 use std::io;
@@ -47,7 +49,8 @@ pub(crate) struct Case<'a> {
     left: Left,
     has_file: bool,
     said: Option<Text>,
-    found: Option<Text>,
+    stale: Option<Text>,
+    open: Option<Text>,
     runs: u64,
 }
 
@@ -79,7 +82,8 @@ impl<'a> Case<'a> {
             left: Left::Nothing,
             has_file: false,
             said: None,
-            found: None,
+            stale: None,
+            open: None,
             runs: 0,
         }
     }
@@ -128,8 +132,10 @@ impl<'a> Case<'a> {
                 let set = replace(settings, Settings::new(self.alloc)?);
                 self.run_again(rt, set, rest)
             }
-            "says" => is_said(self.alloc, &self.said, rest),
-            "finds" => is_said(self.alloc, &self.found, rest),
+            "says" => is_said(self.alloc, last_line(&self.said), rest),
+            "finds" => is_said(self.alloc, first_line(&self.said), rest),
+            "stale" => is_said(self.alloc, words_of(&self.stale), rest),
+            "open" => is_said(self.alloc, words_of(&self.open), rest),
             "refused" => self.run_rows(rest, Rows::Refused),
             "taken" => self.run_rows(rest, Rows::Taken),
             "left" => self.left(rt, rest),
@@ -211,12 +217,13 @@ impl<'a> Case<'a> {
         Ok((verdict, Some(ran.disk)))
     }
 
-    // Runs a bundle, and keeps what is said of its fault.
+    // Runs a bundle, and keeps what is said of its fault, and of devices and calls at its end.
     fn done<D: Disk>(&mut self, bundle: Vec<u8>, streams: Streams, disk: D) -> io::Result<Ran<D>> {
         let read = Vec::from_slice(self.alloc, bundle.as_slice())?;
         let ran = run(self.alloc, streams, read, disk)?;
         self.said = said_of(self.alloc, bundle.as_slice(), &ran)?;
-        self.found = found_of(self.alloc, bundle.as_slice(), &ran)?;
+        self.stale = Some(named(ran.notes.devices_named(self.alloc))?);
+        self.open = Some(named(ran.notes.calls_named(self.alloc))?);
         Ok(ran)
     }
 
@@ -354,41 +361,11 @@ fn first_word(line: &str) -> &str {
     }
 }
 
-// How the fault of a run's bundle is explained, where it has one.
-fn said_of<D: Disk>(
-    alloc: Global,
-    bundle: &[u8],
-    ran: &Ran<D>,
-) -> Result<Option<Text>, AllocError> {
-    let Err(Stop::Bundle { line, rule }) = &ran.status else {
-        return Ok(None);
-    };
-    match explanation(alloc, bundle, *line, *rule) {
-        Ok(said) => Ok(Some(said)),
-        Err(Memory) => Err(AllocError),
-    }
-}
-
-// What in particular is at fault in a run's bundle, where that is said.
-fn found_of<D: Disk>(
-    alloc: Global,
-    bundle: &[u8],
-    ran: &Ran<D>,
-) -> Result<Option<Text>, AllocError> {
-    let Err(Stop::Bundle { line, rule }) = &ran.status else {
-        return Ok(None);
-    };
-    match finding(alloc, bundle, *line, *rule) {
-        Ok(found) => Ok(found),
-        Err(Memory) => Err(AllocError),
-    }
-}
-
 // Compares what was said with what is to be said.
-fn is_said(alloc: Global, said: &Option<Text>, words: &str) -> io::Result<Verdict> {
+fn is_said(alloc: Global, said: Option<&str>, words: &str) -> io::Result<Verdict> {
     match said {
-        Some(said) if said.as_str() == words => Ok(Verdict::Good),
-        Some(said) => Ok(Verdict::Differs(String::from_str(alloc, said.as_str())?)),
+        Some(said) if said == words => Ok(Verdict::Good),
+        Some(said) => Ok(Verdict::Differs(String::from_str(alloc, said)?)),
         None => Ok(Verdict::Unread),
     }
 }

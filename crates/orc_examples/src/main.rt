@@ -12,41 +12,67 @@ mod faults;
 mod file;
 mod row;
 mod run;
+mod said;
 mod settings;
 
 use crate::case::Case;
 use crate::faults::faults;
 use crate::run::run_to_end;
-use orc_table_programs::{ended, given_words};
 use std::fs::File;
 use std::process::ExitCode;
 use std::rt::{Env, Files};
-use std::{fs, io};
+use std::{env, fs, io};
 
 // Ends with 0 where each example does what it must.
 fn main(rt: HostRuntime) -> ExitCode {
-    ended(&rt, run_all(&rt))
+    match run_all(&rt) {
+        Ok(true) => ExitCode::SUCCESS,
+        Ok(false) => ExitCode::FAILURE,
+        Err(error) => {
+            let _ = println!(rt; "{error}");
+            ExitCode::FAILURE
+        }
+    }
 }
 
-// Prints a line for each example that differs, in the order of their names, and one line where none does.
+// Runs the folder that the first word names, or else the one that the program is started in.
 fn run_all<R: Files<File = File> + Env + Print + AllocGlobal + Clone + Drop>(
     rt: &R,
 ) -> io::Result<bool> {
-    let mut words = given_words(rt)?;
-    let folder = match words.next() {
-        Some(folder) => folder,
-        None => String::from_str(rt.alloc(), ".")?,
-    };
-    let files = files(rt, folder.as_str())?;
-    let mut good = faults(rt)? && !files.is_empty();
-    for file in files.iter() {
-        if !is_as_it_must_be(rt, folder.as_str(), &files, file.as_str())? {
+    let mut words = env::args(rt)?;
+    let _program = words.next();
+    match words.next() {
+        Some(folder) => run_folder(rt, folder.as_str()),
+        None => run_folder(rt, "."),
+    }
+}
+
+// Prints a line for each example that differs, in the order of their names, and one line where none does.
+fn run_folder<R: Files<File = File> + Print + AllocGlobal + Clone + Drop>(
+    rt: &R,
+    folder: &str,
+) -> io::Result<bool> {
+    let files = files(rt, folder)?;
+    let good = faults(rt)? && !files.is_empty();
+    let good = run_each(rt, folder, files.as_slice())? && good;
+    if good {
+        println!(rt; "each example: as it must be")?;
+    }
+    Ok(good)
+}
+
+// Prints a line for each example that differs, and says whether none does.
+fn run_each<R: Files<File = File> + Print + AllocGlobal>(
+    rt: &R,
+    folder: &str,
+    files: &[String],
+) -> io::Result<bool> {
+    let mut good = true;
+    for file in files {
+        if !is_as_it_must_be(rt, folder, files, file.as_str())? {
             println!(rt; "{file}: DIFFERS")?;
             good = false;
         }
-    }
-    if good {
-        println!(rt; "each example: as it must be")?;
     }
     Ok(good)
 }

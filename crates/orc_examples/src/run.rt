@@ -2,7 +2,7 @@
 
 use orc_disk::{Disk, MemDisk};
 use orc_io::{MemSink, MemSource};
-use orc_run::{Done, Stop, orchestrate};
+use orc_run::{Done, Ended, Notes, Stop, orchestrate};
 use orc_text::Memory;
 use std::alloc::{AllocError, Global};
 
@@ -39,6 +39,7 @@ pub(crate) struct Ran<D> {
     pub disk: D,
     pub printed: Vec<u8>,
     pub status: Result<Done, Stop>,
+    pub notes: Notes,
 }
 
 /// Runs a bundle over a source and a sink that fail at these calls, and over a disk.
@@ -79,12 +80,17 @@ fn run_over<D: Disk>(
     mut sink: MemSink,
     disk: D,
 ) -> Result<Ran<D>, AllocError> {
-    let ended = orchestrate(alloc, words, &mut source, &mut sink, disk);
+    let Ended {
+        disk,
+        status,
+        notes,
+    } = orchestrate(alloc, words, &mut source, &mut sink, disk);
     let printed = Vec::from_slice(alloc, sink.bytes())?;
     Ok(Ran {
-        disk: ended.disk,
+        disk,
         printed,
-        status: ended.status,
+        status,
+        notes,
     })
 }
 

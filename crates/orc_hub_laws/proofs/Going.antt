@@ -1,11 +1,11 @@
 -- Events of a hub: without an entry, and with one that is appended, fails or has no room.
 use Rattle.std.specs.Prelude.{◌≡◌, ◌⊎◌, ℕ, ◌+◌, ◌≤◌, Bool, true, false, Option, None, Some, is_some, List, [], ◌∷◌, ◌++◌}
 use Rattle.std.proofs.Common.{inl, inr, refl, sym, ap, subst, ◌∙◌}
-use Rattle.orc_append.specs.Appends.{FailsAppend, FindsNoRoom, IsAppendedTo, StopsAppend}
-use Rattle.orc_append.specs.Views.{IsOpen, JournalView, journal_view}
-use Rattle.orc_append.specs.declared.outcome.Appended.{Appended}
-use Rattle.orc_append.specs.declared.outcome.Appended.TheVariants as appended
-use Rattle.orc_append.proofs.Outcomes.{failed, no_room, stopped as stopped_append, whole}
+use Rattle.orc_journal.specs.Outcomes.{FailsAppend, FindsNoRoom, IsAppendedTo, StopsAppend}
+use Rattle.orc_journal.specs.Views.{IsOpen, JournalView, journal_view}
+use Rattle.orc_journal.specs.declared.outcome.Appended.{Appended}
+use Rattle.orc_journal.specs.declared.outcome.Appended.TheVariants as appended
+use Rattle.orc_journal.proofs.AppendOutcomes.{failed, no_room, stopped as stopped_append, whole}
 use Rattle.orc_call.specs.declared.call.Call.{Call}
 use Rattle.orc_decls.specs.declared.declarations.Decls.{Decls}
 use Rattle.orc_disk.specs.Course.{Counted}

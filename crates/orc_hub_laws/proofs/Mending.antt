@@ -7,10 +7,10 @@ use Rattle.std.proofs.lemmas.Bool.{false≢true}
 use Rattle.std.proofs.lemmas.Option.{none-some}
 use Rattle.std.proofs.lemmas.List.{append_assoc, append-nil}
 use Rattle.std.proofs.lemmas.List.Elements.{All-cons, All-nil}
-use Rattle.orc_append.specs.Views.{IsOpen, JournalView, journal_view}
-use Rattle.orc_append.specs.declared.outcome.Appended.{Appended}
-use Rattle.orc_append.specs.declared.outcome.Appended.TheVariants as appended
-use Rattle.orc_append.proofs.Outcomes.{no_room}
+use Rattle.orc_journal.specs.Views.{IsOpen, JournalView, journal_view}
+use Rattle.orc_journal.specs.declared.outcome.Appended.{Appended}
+use Rattle.orc_journal.specs.declared.outcome.Appended.TheVariants as appended
+use Rattle.orc_journal.proofs.AppendOutcomes.{no_room}
 use Rattle.orc_call.specs.declared.answer.RecFault.{RecFault}
 use Rattle.orc_call.specs.declared.answer.RecFault.TheVariants as fault
 use Rattle.orc_call.specs.declared.call.Call.{Call}

@@ -4,7 +4,7 @@ use Rattle.std.proofs.Common.{arith, inl, inr, refl, sym, ap, subst, ◌∙◌, 
 use Rattle.std.proofs.lemmas.Bool.{false≢true}
 use Rattle.std.proofs.lemmas.Option.{none-some}
 use Rattle.std.proofs.lemmas.List.{append_assoc, append-nil}
-use Rattle.orc_append.specs.Rows.{HasSomeOf}
+use Rattle.orc_journal.specs.Rows.{HasSomeOf}
 use Rattle.orc_call.specs.declared.answer.Why.TheVariants as why
 use Rattle.orc_call.specs.declared.call.Call.{Call}
 use Rattle.orc_datastore.specs.Legal.{IsLegal}

@@ -4,12 +4,12 @@ use Rattle.std.proofs.Common.{arith, inl, inr, refl, sym, ap, subst, ◌∙◌, 
 use Rattle.std.proofs.lemmas.Bool.{cases_eq, cases_lt, false≢true}
 use Rattle.std.proofs.lemmas.List.{append_assoc, append-nil}
 use Rattle.std.specs.Option.{option_map}
-use Rattle.orc_append.specs.Appends.{ComesNearer, Did, FailsAppend, FindsNoRoom, IsAppendedTo, IsStoppedAt, LeavesOldOrNew, StopsAppend, ops_to_append}
-use Rattle.orc_append.specs.Rows.{HasSomeOf}
-use Rattle.orc_append.specs.Views.{JournalView}
-use Rattle.orc_append.specs.declared.outcome.Appended.TheVariants as appended
-use Rattle.orc_append.proofs.Outcomes.{did}
-use Rattle.orc_append.proofs.Rows.{ComesNearer-trans, Did-trans}
+use Rattle.orc_journal.specs.Outcomes.{ComesNearer, Did, FailsAppend, FindsNoRoom, IsAppendedTo, IsStoppedAt, LeavesOldOrNew, StopsAppend, ops_to_append}
+use Rattle.orc_journal.specs.Rows.{HasSomeOf}
+use Rattle.orc_journal.specs.Views.{JournalView}
+use Rattle.orc_journal.specs.declared.outcome.Appended.TheVariants as appended
+use Rattle.orc_journal.proofs.AppendOutcomes.{did}
+use Rattle.orc_journal.proofs.AppendRows.{ComesNearer-trans, Did-trans}
 use Rattle.orc_disk.specs.Course.{Counted}
 use Rattle.orc_disk.specs.Crashes.{LeavesAsRead}
 use Rattle.orc_disk.specs.Meanings.{DiskMeaning}

@@ -18,10 +18,14 @@ pub mod Accepted
 mod Verdicts
 mod Rules
 mod Pushed
-mod Appended
+mod Appending
 mod LeftBehind
 pub mod Puts
 mod TornFiles
 pub mod Newest
 mod Leaving
 mod Outcomes
+pub mod Armed
+pub mod AppendOutcomes
+pub mod AppendRows
+pub mod Until

@@ -8,5 +8,9 @@ pub mod Faults
 pub mod Opened
 pub mod Opening
 pub mod Appends
+pub mod Views
+pub mod Outcomes
+pub mod Rows
 pub mod Laws
+pub mod AppendLaws
 pub mod inside

@@ -29,6 +29,7 @@ pub struct Journal<D: Disk> {
     limit: u64,
     fresh: bool,
     spent: bool,
+    after_end: u64,
 }
 
 impl<D: Disk> Model for Journal<D> {
@@ -66,7 +67,11 @@ impl<D: Disk> Journal<D> {
     {
         match open(alloc, &mut disk, decls, limit) {
             Ok((contents, fresh)) => {
-                let Contents { entries, len } = contents;
+                let Contents {
+                    entries,
+                    len,
+                    after_end,
+                } = contents;
                 let start = HEADER_LEN + decls.len() as u64;
                 let journal = Journal {
                     disk,
@@ -75,6 +80,7 @@ impl<D: Disk> Journal<D> {
                     limit,
                     fresh,
                     spent: false,
+                    after_end,
                 };
                 Ok((journal, entries))
             }
@@ -88,6 +94,12 @@ impl<D: Disk> Journal<D> {
         ensures { result ≡ self.now.fresh }
     {
         self.fresh
+    }
+
+    /// How many bytes stood after the ending gate as the journal was opened. They don't count, and the
+    /// next entries are written over them. It is for people, and no clause speaks of it.
+    pub fn after_end(&self) -> u64 {
+        self.after_end
     }
 
     /// The offset in the file of the first byte of the entry at this index, that of its kind,

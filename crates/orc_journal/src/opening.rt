@@ -105,6 +105,7 @@ fn begin<D: Disk>(
     Ok(Contents {
         entries: Vec::new(alloc),
         len,
+        after_end: 0,
     })
 }
 

@@ -14,12 +14,13 @@ use crate::order::Stages;
 use orc_text::Memory;
 use std::alloc::Global;
 
-/// The entries of a journal, and its length up to and with its ending gate, which may lack where
-/// the file ends in its place.
+/// The entries of a journal, its length up to and with its ending gate, which may lack where the file
+/// ends in its place, and how many bytes stand after that gate.
 #[derive(Drop)]
 pub(crate) struct Contents {
     pub entries: Vec<Entry>,
     pub len: u64,
+    pub after_end: u64,
 }
 
 /// Why bytes are no journal of the declarations.
@@ -101,5 +102,6 @@ pub(crate) fn read_journal(alloc: Global, bytes: &[u8], decls: &[u8]) -> Result<
     Ok(Contents {
         entries,
         len: (bytes.len() - rest.len()) as u64 + 1,
+        after_end: (rest.len() as u64).saturating_sub(1),
     })
 }

@@ -2,6 +2,7 @@ mod BlockLines
 pub mod CanonicalItems
 pub mod Cuts
 pub mod DataPaths
+pub mod Explained
 mod KeptPaths
 pub mod Keywords
 pub mod Lawful

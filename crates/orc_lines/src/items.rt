@@ -1,5 +1,5 @@
 //! Items and where they stand.
-ghost use Rattle.std.specs.Prelude.{IsTrue, ◌≡◌, [], IfOk, IfSome, MatchOption, None, Some, false, option_map};
+ghost use Rattle.std.specs.Prelude.{IsTrue, ◌≡◌, [], IfOk, IfSome, MatchOption, None, Some, false, is_some, option_map};
 ghost use Rattle.orc_path.specs.Alphabet.{is_value};
 ghost use Rattle.orc_path.specs.Reading.{path_of};
 ghost use Rattle.orc_path.specs.Values.{value_of};
@@ -10,8 +10,13 @@ ghost use Rattle.orc_schema_nodes.specs.Schemas.{SchemaTable, path_names};
 ghost use Rattle.orc_typed.specs.Typed.{canonical_path};
 ghost use Rattle.orc_typed.specs.Laws.{has_plain_text};
 
-use crate::fault::{LineFault, breaks};
+use crate::detail::{Passed, PathForm};
+use crate::fault::{LineFault, breaks, breaks_by};
 use crate::lists::{is_data_path, is_list_path, names_list};
+use crate::refusals::{
+    leaf_excess, no_path, no_value, path_excess, stored_excess, stored_path_excess, wrong_item,
+    wrong_path,
+};
 use crate::words::cut;
 use orc_call::Put;
 use orc_decls::{Rule, blank_item, is_kept, is_served};
@@ -56,21 +61,25 @@ pub fn is_past_path(path: &Option<Path>) -> bool
 
 /// The path that a word is, which keeps the limits. What stands before it may pass one. A limit
 /// that is passed is rule `size`, and a word that is no path rule `path`.
-pub fn read_kept_path(alloc: Global, is_long: bool, word: &str) -> Result<Path, LineFault>
-    ensures { ReadsLine (kept_path_of is_long word.now) result }
+pub fn read_kept_path(
+    alloc: Global,
+    passed: Option<Passed<'_>>,
+    word: &str,
+) -> Result<Path, LineFault>
+    ensures { ReadsLine (kept_path_of (is_some passed.entry) word.now) result }
 {
     let path = read_path(alloc, word)?;
-    if is_long || is_past_path(&path) {
-        return breaks(Rule::Size);
+    if passed.is_some() || is_past_path(&path) {
+        return breaks_by(Rule::Size, path_excess(alloc, passed, &path)?);
     }
     match path {
         Some(path) => Ok(path),
-        None => breaks(Rule::Path),
+        None => breaks_by(Rule::Path, no_path(alloc, word)?),
     }
 }
 
-// Whether a value does.
-fn is_past_value(value: &Option<Text>) -> bool
+/// Whether a value does.
+pub(crate) fn is_past_value(value: &Option<Text>) -> bool
     ensures { result ≡ is_past_value value.now }
 {
     match value {
@@ -116,13 +125,13 @@ fn canonical_put(alloc: Global, schema: &Schema, path: &Path, item: &Item) -> Re
     canonical_is_typed();
     canonical_keeps();
     let Some(own) = canonical_path(alloc, schema, path)? else {
-        return breaks(Rule::Value);
+        return breaks_by(Rule::Value, wrong_item(alloc, schema, path, Some(item))?);
     };
     let Some(own_item) = canonical_item(alloc, schema, path, item)? else {
-        return breaks(Rule::Value);
+        return breaks_by(Rule::Value, wrong_item(alloc, schema, path, Some(item))?);
     };
     if own.is_long() || is_long_item(&own_item) {
-        return breaks(Rule::Size);
+        return breaks_by(Rule::Size, stored_excess(own, own_item));
     }
     Ok(Put {
         path: own,
@@ -145,20 +154,23 @@ fn read_entry(
     alloc: Global,
     lists: Option<&[ServiceList]>,
     schema: &Schema,
-    is_long: bool,
+    passed: Option<Passed<'_>>,
     word: &str,
 ) -> Result<Put, LineFault>
     ensures reads { ReadsLine
-        (entry_of (option_map (λ lists. lists.now) lists.entry) schema.now is_long word.now) result }
+        (entry_of (option_map (λ lists. lists.now) lists.entry) schema.now (is_some passed.entry) word.now) result }
     ensures lawful { IfOk result (λ put. IsTrue (is_put schema.now put)) }
     ensures free { IfOk result (λ put. is_barred (option_map (λ lists. lists.now) lists.entry) put.path ≡ false) }
 {
     if word.is_empty() {
         return breaks(Rule::Line);
     }
-    let path = read_kept_path(alloc, is_long, word)?;
+    let path = read_kept_path(alloc, passed, word)?;
     if is_barred(lists, &path) || !can_carry(schema, &path, &Item::Entry) {
-        return breaks(Rule::Path);
+        return breaks_by(
+            Rule::Path,
+            wrong_path(alloc, lists, schema, PathForm::Entry, &path)?,
+        );
     }
     canonical_put(alloc, schema, &path, &Item::Entry)
 }
@@ -168,12 +180,13 @@ fn read_leaf(
     alloc: Global,
     lists: Option<&[ServiceList]>,
     schema: &Schema,
-    is_long: bool,
+    passed: Option<Passed<'_>>,
     word: &str,
     text: &str,
 ) -> Result<Put, LineFault>
     ensures reads { ReadsLine
-        (leaf_of (option_map (λ lists. lists.now) lists.entry) schema.now is_long word.now text.now) result }
+        (leaf_of (option_map (λ lists. lists.now) lists.entry) schema.now (is_some passed.entry) word.now text.now)
+        result }
     ensures lawful { IfOk result (λ put. IsTrue (is_put schema.now put)) }
     ensures free { IfOk result (λ put. is_barred (option_map (λ lists. lists.now) lists.entry) put.path ≡ false) }
 {
@@ -182,17 +195,20 @@ fn read_leaf(
     }
     let path = read_path(alloc, word)?;
     let value = value_in(alloc, text)?;
-    if is_long || is_past_path(&path) || is_past_value(&value) {
-        return breaks(Rule::Size);
+    if passed.is_some() || is_past_path(&path) || is_past_value(&value) {
+        return breaks_by(Rule::Size, leaf_excess(alloc, passed, &path, &value)?);
     }
     let Some(path) = path else {
-        return breaks(Rule::Path);
+        return breaks_by(Rule::Path, no_path(alloc, word)?);
     };
     if is_barred(lists, &path) || !can_carry(schema, &path, &Item::Leaf(Text::new(alloc))) {
-        return breaks(Rule::Path);
+        return breaks_by(
+            Rule::Path,
+            wrong_path(alloc, lists, schema, PathForm::Leaf, &path)?,
+        );
     }
     let Some(value) = value else {
-        return breaks(Rule::Value);
+        return breaks_by(Rule::Value, no_value(alloc, text)?);
     };
     canonical_put(alloc, schema, &path, &Item::Leaf(value))
 }
@@ -204,19 +220,19 @@ pub fn read_put(
     alloc: Global,
     lists: Option<&[ServiceList]>,
     schema: &Schema,
-    is_long: bool,
+    passed: Option<Passed<'_>>,
     text: &str,
 ) -> Result<Put, LineFault>
     ensures reads { ReadsLine
-        (put_of (option_map (λ lists. lists.now) lists.entry) schema.now is_long text.now) result }
+        (put_of (option_map (λ lists. lists.now) lists.entry) schema.now (is_some passed.entry) text.now) result }
     ensures lawful { IfOk result (λ put. IsTrue (is_put schema.now put)) }
     ensures free { IfOk result (λ put. is_barred (option_map (λ lists. lists.now) lists.entry) put.path ≡ false) }
 {
     let Some((word, rest)) = cut(text) else {
-        return read_entry(alloc, lists, schema, is_long, text);
+        return read_entry(alloc, lists, schema, passed, text);
     };
     match after_mark(rest) {
-        Some(value) => read_leaf(alloc, lists, schema, is_long, word, value),
+        Some(value) => read_leaf(alloc, lists, schema, passed, word, value),
         None => breaks(Rule::Line),
     }
 }
@@ -228,10 +244,10 @@ fn stored_data_path(alloc: Global, schema: &Schema, path: &Path) -> Result<Path,
     ensures names { IfOk result (λ own. path_names own ≡ path_names path.now) }
 {
     let Some(own) = canonical_path(alloc, schema, path)? else {
-        return breaks(Rule::Value);
+        return breaks_by(Rule::Value, wrong_item(alloc, schema, path, None)?);
     };
     if !is_data_path(alloc, schema, &own) {
-        return breaks(Rule::Size);
+        return breaks_by(Rule::Size, stored_path_excess(own));
     }
     Ok(own)
 }
@@ -250,9 +266,12 @@ pub fn read_data_path(
     if word.is_empty() {
         return breaks(Rule::Line);
     }
-    let path = read_kept_path(alloc, false, word)?;
+    let path = read_kept_path(alloc, None, word)?;
     if is_barred(Some(lists), &path) || !can_carry(schema, &path, &blank_item(alloc, &path)) {
-        return breaks(Rule::Path);
+        return breaks_by(
+            Rule::Path,
+            wrong_path(alloc, Some(lists), schema, PathForm::Item, &path)?,
+        );
     }
     stored_data_path(alloc, schema, &path)
 }
@@ -283,10 +302,10 @@ fn stored_service_path(
     ensures lawful { IfOk result (λ own. IsTrue (is_service_at lists.now schema.now own)) }
 {
     let Some(own) = canonical_path(alloc, schema, path)? else {
-        return breaks(Rule::Value);
+        return breaks_by(Rule::Value, wrong_item(alloc, schema, path, None)?);
     };
     if !is_service_at(alloc, lists, schema, &own) {
-        return breaks(Rule::Size);
+        return breaks_by(Rule::Size, stored_path_excess(own));
     }
     Ok(own)
 }
@@ -305,9 +324,12 @@ pub fn read_service_path(
     if word.is_empty() {
         return breaks(Rule::Line);
     }
-    let path = read_kept_path(alloc, false, word)?;
+    let path = read_kept_path(alloc, None, word)?;
     if !names_service(alloc, lists, schema, &path) {
-        return breaks(Rule::Path);
+        return breaks_by(
+            Rule::Path,
+            wrong_path(alloc, Some(lists), schema, PathForm::Service, &path)?,
+        );
     }
     stored_service_path(alloc, lists, schema, &path)
 }
@@ -318,10 +340,10 @@ fn stored_list_path(alloc: Global, schema: &Schema, path: &Path) -> Result<Path,
     ensures lawful { IfOk result (λ own. IsTrue (is_list_path schema.now own)) }
 {
     let Some(own) = canonical_path(alloc, schema, path)? else {
-        return breaks(Rule::Value);
+        return breaks_by(Rule::Value, wrong_item(alloc, schema, path, None)?);
     };
     if !is_list_path(schema, &own) {
-        return breaks(Rule::Size);
+        return breaks_by(Rule::Size, stored_path_excess(own));
     }
     Ok(own)
 }
@@ -331,18 +353,21 @@ fn stored_list_path(alloc: Global, schema: &Schema, path: &Path) -> Result<Path,
 pub fn read_list_path(
     alloc: Global,
     schema: &Schema,
-    is_long: bool,
+    passed: Option<Passed<'_>>,
     word: &str,
 ) -> Result<Path, LineFault>
-    ensures reads { ReadsLine (list_path_of schema.now is_long word.now) result }
+    ensures reads { ReadsLine (list_path_of schema.now (is_some passed.entry) word.now) result }
     ensures lawful { IfOk result (λ path. IsTrue (is_list_path schema.now path)) }
 {
     if word.is_empty() {
         return breaks(Rule::Line);
     }
-    let path = read_kept_path(alloc, is_long, word)?;
+    let path = read_kept_path(alloc, passed, word)?;
     if !names_list(schema, &path) {
-        return breaks(Rule::Path);
+        return breaks_by(
+            Rule::Path,
+            wrong_path(alloc, None, schema, PathForm::List, &path)?,
+        );
     }
     stored_list_path(alloc, schema, &path)
 }
@@ -365,10 +390,10 @@ fn leaf_in(path: Path, item: Item) -> Result<(Path, Text), LineFault>
 pub fn read_forbidden(
     alloc: Global,
     schema: &Schema,
-    is_long: bool,
+    passed: Option<Passed<'_>>,
     text: &str,
 ) -> Result<(Path, Text), LineFault>
-    ensures reads { ReadsLine (forbidden_of schema.now is_long text.now) result }
+    ensures reads { ReadsLine (forbidden_of schema.now (is_some passed.entry) text.now) result }
     ensures lawful { IfOk result (λ leaf. IsTrue (is_forbid_rule schema.now leaf)) }
 {
     let Some((word, rest)) = cut(text) else {
@@ -377,6 +402,6 @@ pub fn read_forbidden(
     let Some(value) = after_mark(rest) else {
         return breaks(Rule::Line);
     };
-    let put = read_leaf(alloc, None, schema, is_long, word, value)?;
+    let put = read_leaf(alloc, None, schema, passed, word, value)?;
     leaf_in(put.path, put.item)
 }

@@ -4,16 +4,22 @@
 #![tactic(auto)]
 
 mod declared;
+mod detail;
 mod fault;
 mod items;
 mod keyword;
 mod lines;
 mod lists;
 mod names;
+mod refusals;
 mod words;
 
 pub use declared::{Declared, Section};
-pub use fault::{LineFault, at_line, breaks};
+pub use detail::{
+    Bar, Breach, BuildPlace, Detail, Excess, ModuleFault, Passed, PathForm, WrongBody, WrongItem,
+    WrongModule, WrongOpening, WrongPath, WrongSchema, WrongTemplate,
+};
+pub use fault::{ExplainedFault, LineFault, at_line, breaks, breaks_by, plain_fault, with_lines};
 pub use items::{
     can_carry, is_long_item, is_past_path, read_data_path, read_forbidden, read_kept_path,
     read_list_path, read_path, read_put, read_service_path,
@@ -24,6 +30,10 @@ pub use lines::{
     is_skipped, lacks_header, line_text, seen,
 };
 pub use lists::names_list;
-pub use names::{SortedNames, repeats};
+pub use names::{SortedNames, repeated_name};
 pub use orc_decls::Names;
+pub use refusals::{
+    large_excess, long_name, name_excess, no_path, path_excess, stored_path_excess, wrong_item,
+    wrong_path,
+};
 pub use words::{cut, cut_prefix, first_word, number_of, read_text, words_of};

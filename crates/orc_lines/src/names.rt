@@ -1,6 +1,6 @@
 //! Names of modules, of types of devices and of templates, of which a bundle may have any number. However
 //! they are chosen, one is found in time that grows with the logarithm of how many there are.
-ghost use Rattle.std.specs.Prelude.{◌≡◌, ◌++◌, ◌∷◌, [], false, length, IfOk, IfSome, OnOk, ◌<◌};
+ghost use Rattle.std.specs.Prelude.{◌≡◌, ◌++◌, ◌∷◌, [], false, is_some, length, IfOk, IfSome, OnOk, ◌<◌};
 ghost use Rattle.orc_decls.specs.Names.{is_among, place_of, with_name};
 ghost use Rattle.orc_lines.specs.Names.{repeats};
 ghost use Rattle.orc_lines.specs.inside.Numbered.{HasPlaces};
@@ -100,16 +100,16 @@ impl SortedNames {
     }
 }
 
-/// Whether one of the names stands twice.
-pub fn repeats(alloc: Global, names: &[Text]) -> Result<bool, Memory>
-    ensures { IfOk result (λ twice. twice ≡ repeats names.now) }
+/// The first name that stands before already, where one stands twice.
+pub fn repeated_name(alloc: Global, names: &[Text]) -> Result<Option<Text>, Memory>
+    ensures { IfOk result (λ found. is_some found ≡ repeats names.now) }
 {
     let mut before = SortedNames::new(alloc);
     for name in names {
         if before.has(name) {
-            return Ok(true);
+            return Ok(Some(name.copy(alloc)?));
         }
         before.add(name.copy(alloc)?)?;
     }
-    Ok(false)
+    Ok(None)
 }

@@ -5,7 +5,7 @@ use Rattle.orc_disk.specs.Meanings.{DiskMeaning}
 use Rattle.orc_disk.specs.Moments.{LeavesOnly}
 use Rattle.orc_journal.specs.declared.entry.Entry.{Entry}
 use Rattle.orc_journal.specs.Journals.{IsGated}
-use Rattle.orc_append.specs.Rows.{HasSomeOf}
+use Rattle.orc_journal.specs.Rows.{HasSomeOf}
 use Rattle.orc_rules.specs.Journals.{Journal, entries_read}
 
 -- one journal's entries are a prefix of the other's

@@ -1,9 +1,9 @@
 -- Over each event a crash at any moment leaves a journal of a legal history that begins with what was synced before.
 use Rattle.std.proofs.Common.{ℕ, Option, List, [], ◌++◌, IsTrue, inl, refl, sym, subst, ◌∙◌, arith, append-nil}
 use Rattle.orc_disk.specs.Moments.{LeavesOnly}
-use Rattle.orc_append.specs.Rows.{HasSomeOf}
-use Rattle.orc_append.specs.declared.outcome.Appended.{Appended}
-use Rattle.orc_append.specs.declared.outcome.Appended.TheVariants as appended
+use Rattle.orc_journal.specs.Rows.{HasSomeOf}
+use Rattle.orc_journal.specs.declared.outcome.Appended.{Appended}
+use Rattle.orc_journal.specs.declared.outcome.Appended.TheVariants as appended
 use Rattle.orc_journal.specs.Committed.{history_of}
 use Rattle.orc_journal.specs.Journals.{IsGated}
 use Rattle.orc_journal.specs.Laws.{KeepsOrder}

@@ -4,8 +4,8 @@ use Rattle.std.proofs.lemmas.Option.{same_Some}
 use Rattle.orc_decls.specs.declared.declarations.Decls.{Decls}
 use Rattle.orc_rules.specs.Coming.{came_by}
 use Rattle.orc_rules.specs.declared.event.Event.TheVariants as event
-use Rattle.orc_append.specs.declared.outcome.Appended.{Appended}
-use Rattle.orc_append.specs.declared.outcome.Appended.TheVariants as appended
+use Rattle.orc_journal.specs.declared.outcome.Appended.{Appended}
+use Rattle.orc_journal.specs.declared.outcome.Appended.TheVariants as appended
 use Rattle.orc_call.specs.declared.answer.Why.TheVariants as why
 use Rattle.orc_datastore.specs.Legal.{IsLegal}
 use Rattle.orc_decls.specs.Declarations.{AreDecls}

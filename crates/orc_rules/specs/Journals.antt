@@ -11,17 +11,17 @@ use Rattle.orc_call.specs.declared.call.Call.{Call}
 use Rattle.orc_datastore.specs.Legal.{IsLegal}
 use Rattle.orc_decls.specs.declared.declarations.Decls.{Decls}
 use Rattle.orc_journal.specs.declared.entry.Entry.{Entry}
-use Rattle.orc_append.specs.declared.outcome.Appended.{Appended}
+use Rattle.orc_journal.specs.declared.outcome.Appended.{Appended}
 use Rattle.orc_journal.specs.Appends.{PutsShort, with_entry}
 use Rattle.orc_journal.specs.Journals.{IsGated}
-use Rattle.orc_append.specs.Appends.{BecomesUntil, Did}
-use Rattle.orc_append.specs.Rows.{HasSomeOf}
+use Rattle.orc_journal.specs.Outcomes.{BecomesUntil, Did}
+use Rattle.orc_journal.specs.Rows.{HasSomeOf}
 use Rattle.orc_journal.specs.Entries.{entry_bytes}
 use Rattle.orc_journal.specs.Journals.{journal_length}
 use Rattle.orc_journal.specs.Committed.{history_of}
 use Rattle.orc_journal.specs.Opened.{OpenJournal}
 use Rattle.orc_journal.specs.Opening.{HasOpened}
-use Rattle.orc_append.specs.declared.outcome.Appended.TheVariants.{Done, Stopped, Failed, Full, Memory}
+use Rattle.orc_journal.specs.declared.outcome.Appended.TheVariants.{Done, Stopped, Failed, Full, Memory}
 
 -- The journal of a world: its disk; the entries that outlive a crash; the entry whose append was cut, if one was, which
 -- a crash may leave or not; whether a read gives that one; which write or sync from now on stops the controller, 0 where

@@ -3,7 +3,7 @@ use Rattle.std.proofs.Common.{◌≡◌, ◌⊎◌, inl, inr, ℕ, ◌≤◌, Bo
 use Rattle.std.specs.List.{list_all}
 use Rattle.std.specs.Prelude.{MatchOption, ◌↔◌, is_some, if◌then◌else◌}
 use Rattle.std.proofs.lemmas.Option.{IfSome_then}
-use Rattle.orc_append.specs.Views.{unstopped}
+use Rattle.orc_journal.specs.Views.{unstopped}
 use Rattle.orc_decls.specs.declared.declarations.Decls.{Decls}
 use Rattle.orc_disk.specs.Course.{Counted}
 use Rattle.orc_disk.specs.Meanings.{DiskMeaning}

@@ -23,7 +23,7 @@ use Rattle.orc_rules.specs.Events.{DoesAnyway, Steps, Turn}
 use Rattle.orc_rules.specs.Worlds.{Setting, World}
 use Rattle.orc_rules.specs.declared.event.Event.{Event}
 use Rattle.orc_runs.specs.Ends.{EndOfRun, EndOfRun as ended, EndedBecause, IsEndedBy, IsIllegal, is_refused_journal}
-use Rattle.orc_run_laws.specs.Reads.{ReadsGiveWhatWasWritten}
+use Rattle.orc_run.specs.Reads.{ReadsGiveWhatWasWritten}
 use Rattle.orc_runs.specs.Headline.{Headline}
 use Rattle.orc_runs.specs.Runs.{AreDone, EndsFor, EndsIn, LineDone, Run, line_list, turns_of}
 use Rattle.orc_runs.specs.Scripts.{Goes, Part, set_by}

@@ -10,7 +10,7 @@ use Rattle.orc_io.specs.Pieces.{TakesFront}
 use Rattle.orc_io.proofs.Fronts.{Appends-trans}
 use Rattle.orc_rules.specs.Journals.{Journal}
 use Rattle.orc_rules.specs.Worlds.{Setting, World as Seen}
-use Rattle.orc_run_laws.specs.Laws.{ReadBackRunsHaveTheHeadline}
+use Rattle.orc_run.specs.ReadBack.{ReadBackRunsHaveTheHeadline}
 use Rattle.orc_script.specs.declared.step.ScriptStep.{ScriptStep}
 use Rattle.orc_script.specs.declared.step.ScriptStep.TheVariants as step
 use Rattle.orc_world.specs.Lines.{DoesLine, EndsInLine, IsLineCall, MayRecover}

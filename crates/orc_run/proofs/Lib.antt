@@ -1,3 +1,8 @@
+mod Among
+mod Granting
+mod Claims
+mod Explained
+mod Recovering
 mod Writing
 mod Lined
 mod Reasons

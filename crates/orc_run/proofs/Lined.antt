@@ -6,7 +6,7 @@ use Rattle.orc_decls.specs.Devices.{name_of}
 use Rattle.orc_device.specs.declared.reply.Logged.{Logged}
 use Rattle.orc_print.specs.Logs.{log_text}
 use Rattle.orc_rules.specs.Worlds.{Setting, World as Seen}
-use Rattle.orc_run_laws.specs.Reads.{ReadsGiveWhatWasWritten}
+use Rattle.orc_run.specs.Reads.{ReadsGiveWhatWasWritten}
 use Rattle.orc_runs.specs.Headline.{Headline}
 use Rattle.orc_runs.specs.Runs.{AreDone, IsDone, LineDone, PrintLogs, Run, logged, logged_with, turns_of}
 use Rattle.orc_script.specs.declared.step.ScriptStep.{ScriptStep}

@@ -2,7 +2,7 @@
 use Rattle.std.proofs.Common.{◌≡◌, ◌⊎◌, ℕ, List, [], Some, Option, Err, inl, inr, ⊎_elim, refl, sym, ap, subst}
 use Rattle.std.specs.Prelude.{IfSome, slice_get}
 use Rattle.std.proofs.lemmas.Option.{IfSome_then}
-use Rattle.orc_append.specs.Views.{unstopped}
+use Rattle.orc_journal.specs.Views.{unstopped}
 use Rattle.orc_decls.specs.declared.declarations.Decls.{Decls}
 use Rattle.orc_disk.specs.Course.{Counted}
 use Rattle.orc_disk.specs.Meanings.{DiskMeaning}

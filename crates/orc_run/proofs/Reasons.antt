@@ -12,7 +12,7 @@ use Rattle.orc_journal.specs.Operations.{LedBy, FailsBefore}
 use Rattle.orc_journal.specs.Opening.{HasRefused}
 use Rattle.orc_journal.specs.declared.fault.OpenFault.{OpenFault}
 use Rattle.orc_journal.specs.declared.fault.OpenFault.TheVariants.{Foreign, NotJournal, DiskFault, Memory, Full, Damaged}
-use Rattle.orc_append.specs.Views.{unstopped}
+use Rattle.orc_journal.specs.Views.{unstopped}
 use Rattle.orc_decls.specs.declared.declarations.Decls.{Decls}
 use Rattle.orc_run.specs.Opening.{IsRefusedBecause, stop_of}
 use Rattle.orc_run.specs.declared.opening.TheConstants.{LARGEST_JOURNAL}

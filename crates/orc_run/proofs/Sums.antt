@@ -23,7 +23,7 @@ use Rattle.orc_rules.specs.Journals.{Journal, history_read}
 use Rattle.orc_rules.specs.Worlds.{Setting, World as Seen}
 use Rattle.orc_rules.specs.declared.event.Event.{Event}
 use Rattle.orc_runs.specs.Ends.{EndOfRun}
-use Rattle.orc_run_laws.specs.Laws.{ReadBackRunsHaveTheHeadline}
+use Rattle.orc_run.specs.ReadBack.{ReadBackRunsHaveTheHeadline}
 use Rattle.orc_runs.specs.Runs.{EndsFor, LineDone, Run, turns_of}
 use Rattle.orc_script.specs.declared.step.ScriptStep.{ScriptStep}
 use Rattle.orc_text.specs.Counts.{capped}

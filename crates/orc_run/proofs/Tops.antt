@@ -12,7 +12,7 @@ use Rattle.orc_disk.specs.Rows.{Course, joined}
 use Rattle.orc_bundle.specs.declared.scripted.ScriptedBundle.{ScriptedBundle}
 use Rattle.orc_decls.specs.declared.declarations.Decls.{Decls}
 use Rattle.orc_decls.specs.declared.rule.Rule.{Rule}
-use Rattle.orc_run_laws.specs.Laws.{ReadBackRunsHaveTheHeadline}
+use Rattle.orc_run.specs.ReadBack.{ReadBackRunsHaveTheHeadline}
 use Rattle.orc_script.specs.declared.step.ScriptStep.{ScriptStep}
 use Rattle.orc_words.specs.declared.words.Command.{Command}
 use Rattle.orc_words.specs.declared.words.Command.TheVariants.{Check, Run, History, Gen}

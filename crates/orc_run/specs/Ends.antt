@@ -17,7 +17,7 @@ use Rattle.orc_lines.specs.declared.lines.TheConstants.{LARGEST_BUNDLE}
 use Rattle.orc_print.specs.Printed.{recovered_line}
 use Rattle.orc_rules.specs.Journals.{history_read}
 use Rattle.orc_rules.specs.Worlds.{Setting, World}
-use Rattle.orc_run_laws.specs.Reads.{ReadsGiveWhatWasWritten}
+use Rattle.orc_run.specs.Reads.{ReadsGiveWhatWasWritten}
 use Rattle.orc_runs.specs.Ends.{EndOfRun, EndOfRun as ended}
 use Rattle.orc_runs.specs.Headline.{Headline}
 use Rattle.orc_runs.specs.Runs.{Run, lines_in, turns_of}

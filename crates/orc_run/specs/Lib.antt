@@ -1,3 +1,5 @@
+pub mod Reads
+pub mod ReadBack
 pub mod Opening
 pub mod Checks
 pub mod Ends

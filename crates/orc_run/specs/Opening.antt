@@ -5,7 +5,7 @@ use Rattle.orc_journal.specs.Orders.{is_ordered}
 use Rattle.orc_journal.specs.Journals.{header, journal_bytes, IsNotJournal, IsForeign, IsDamaged}
 use Rattle.orc_journal.specs.Committed.{history_of}
 use Rattle.orc_journal.specs.Opened.{OpenJournal}
-use Rattle.orc_append.specs.Views.{unstopped}
+use Rattle.orc_journal.specs.Views.{unstopped}
 use Rattle.orc_journal.specs.Opening.{AreEntriesOf, IsOpening, HasOpened, HasRefused}
 use Rattle.orc_journal.specs.declared.entry.Entry.{Entry}
 use Rattle.orc_journal.specs.declared.fault.OpenFault.{OpenFault}

@@ -4,6 +4,8 @@
 
 mod checking;
 mod laws;
+mod naming;
+mod notes;
 mod opening;
 mod reading;
 mod running;
@@ -13,8 +15,9 @@ mod top;
 
 pub use laws::{
     bytes_decide, file_tells_one_history, gated_files_stay, has_these_numbers,
-    is_done_where_nothing_fails,
+    is_done_where_nothing_fails, read_back_runs_have_the_headline, recoveries_need_their_line,
 };
+pub use notes::{Notes, OpenCall, OutOfStep};
 pub use orc_decls::Rule;
 pub use stop::{Done, Ended, Stop, status};
 pub use top::orchestrate;

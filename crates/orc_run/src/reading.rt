@@ -13,13 +13,13 @@ ghost use Rattle.orc_run.specs.inside.Inputs.{IsInput, IsInputStop, IsMadeStop, 
 ghost use Rattle.orc_words.specs.Words.{IsInRanges};
 ghost use Rattle.orc_words.specs.declared.words.Command.{Command};
 
-use crate::Stop;
-use orc_bundle::{LARGEST_BUNDLE, read_bundle};
+use crate::{Notes, Stop};
+use orc_bundle::{LARGEST_BUNDLE, read_bundle_explained};
 use orc_declarations::Bundle;
 use orc_decls::BundleFault;
 use orc_generator::generate;
 use orc_io::{Source, WholeFault, read_whole};
-use orc_script::{ScriptStep, read_script};
+use orc_script::{ScriptStep, read_script_explained};
 use orc_text::{Memory, Row};
 use orc_words::Command;
 use std::alloc::Global;
@@ -31,11 +31,13 @@ pub(crate) struct Input {
     pub(crate) steps: Row<ScriptStep>,
 }
 
-/// The bundle that a command is done with: what the source gives, or what the command's numbers make.
+/// The bundle that a command is done with: what the source gives, or what the command's numbers make. What in
+/// particular is at fault in a bundle goes into the notes.
 pub(crate) fn input_for<S: Source>(
     alloc: Global,
     command: &Command,
     source: &mut S,
+    notes: &mut Notes,
 ) -> Result<Input, Stop>
     requires ranges { IsInRanges command.now }
     ensures gives { IfOk result (λ input.
@@ -48,8 +50,8 @@ pub(crate) fn input_for<S: Source>(
     ensures causes { IfErr result IsInputStop }
 {
     match numbers_of(command) {
-        Some((number, devices, calls)) => made_input(alloc, number, devices, calls),
-        None => read_input(alloc, source),
+        Some((number, devices, calls)) => made_input(alloc, number, devices, calls, notes),
+        None => read_input(alloc, source, notes),
     }
 }
 
@@ -70,7 +72,13 @@ fn numbers_of(command: &Command) -> Option<(u64, u32, u32)>
 }
 
 // The bundle that three numbers make.
-fn made_input(alloc: Global, number: u64, devices: u32, calls: u32) -> Result<Input, Stop>
+fn made_input(
+    alloc: Global,
+    number: u64,
+    devices: u32,
+    calls: u32,
+    notes: &mut Notes,
+) -> Result<Input, Stop>
     requires ranges { IsInRanges (Command.Gen number devices calls) }
     ensures gives { IfOk result (λ input. scripted_of (generated number devices calls) ≡ Ok (scripted input)) }
     ensures lawful { IfOk result IsInput }
@@ -79,20 +87,20 @@ fn made_input(alloc: Global, number: u64, devices: u32, calls: u32) -> Result<In
     ensures causes { IfErr result IsMadeStop }
 {
     match generate(alloc, number, devices, calls) {
-        Ok(bytes) => input_or_stop(alloc, bytes.as_slice()),
+        Ok(bytes) => input_or_stop(alloc, bytes.as_slice(), notes),
         Err(Memory) => Err(Stop::Memory),
     }
 }
 
 // The bundle of these bytes with its script, or how the program ends where they have none.
-fn input_or_stop(alloc: Global, bytes: &[u8]) -> Result<Input, Stop>
+fn input_or_stop(alloc: Global, bytes: &[u8], notes: &mut Notes) -> Result<Input, Stop>
     ensures gives { IfOk result (λ input. scripted_of bytes.now ≡ Ok (scripted input)) }
     ensures lawful { IfOk result IsInput }
     ensures fault { (line : ℕ) (rule : Rule) → IsErrOf result (Stop.Bundle line rule)
         → scripted_of bytes.now ≡ Err (line, rule) }
     ensures causes { IfErr result IsMadeStop }
 {
-    match input_of(alloc, bytes) {
+    match input_of(alloc, bytes, notes) {
         Ok(read) => Ok(read),
         Err(BundleFault::At { line, rule }) => Err(Stop::Bundle { line, rule }),
         Err(BundleFault::Memory) => Err(Stop::Memory),
@@ -100,7 +108,7 @@ fn input_or_stop(alloc: Global, bytes: &[u8]) -> Result<Input, Stop>
 }
 
 // The bundle that the source gives.
-fn read_input<S: Source>(alloc: Global, source: &mut S) -> Result<Input, Stop>
+fn read_input<S: Source>(alloc: Global, source: &mut S, notes: &mut Notes) -> Result<Input, Stop>
     ensures gives { IfOk result (λ input.
         GivesBundle (S.source.left source.old) (S.source.left source.new) (scripted input)) }
     ensures lawful { IfOk result IsInput }
@@ -115,7 +123,7 @@ fn read_input<S: Source>(alloc: Global, source: &mut S) -> Result<Input, Stop>
         Err(WholeFault::Failed) => return Err(Stop::ReadFault),
         Err(WholeFault::Memory) => return Err(Stop::Memory),
     };
-    match input_of(alloc, bytes.as_slice()) {
+    match input_of(alloc, bytes.as_slice(), notes) {
         Ok(input) => Ok(input),
         Err(BundleFault::At { line, rule }) => Err(Stop::Bundle { line, rule }),
         Err(BundleFault::Memory) => Err(Stop::Memory),
@@ -124,13 +132,18 @@ fn read_input<S: Source>(alloc: Global, source: &mut S) -> Result<Input, Stop>
 
 // The bundle of these bytes with its script, or the first line at fault in all of them, counted from 1,
 // and the first rule that it breaks.
-fn input_of(alloc: Global, bytes: &[u8]) -> Result<Input, BundleFault>
+fn input_of(alloc: Global, bytes: &[u8], notes: &mut Notes) -> Result<Input, BundleFault>
     ensures gives { MatchResult result (λ input. scripted_of bytes.now ≡ Ok (scripted input))
         (λ fault. Gives (scripted_of bytes.now) (Err fault)) }
     ensures lawful { IfOk result IsInput }
     ensures small { IfOk result (λ _. length bytes.now ≤ LARGEST_BUNDLE) }
 {
-    let bundle = read_bundle(alloc, bytes)?;
-    let steps = read_script(alloc, bytes, bundle.rest, bundle.line, &bundle.decls)?;
-    Ok(Input { bundle, steps })
+    let bundle = match read_bundle_explained(alloc, bytes) {
+        Ok(bundle) => bundle,
+        Err(fault) => return Err(notes.take_fault(alloc, fault)),
+    };
+    match read_script_explained(alloc, bytes, bundle.rest, bundle.line, &bundle.decls) {
+        Ok(steps) => Ok(Input { bundle, steps }),
+        Err(fault) => Err(notes.take_fault(alloc, fault)),
+    }
 }

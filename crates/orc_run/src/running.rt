@@ -13,13 +13,14 @@ ghost use Rattle.orc_scene.specs.Begins.{HasBegun};
 ghost use Rattle.orc_world.specs.Scripts.{TakesAnyLine};
 ghost use Rattle.orc_scene.specs.Stands.{Allows, decls_in, is_somewhere};
 
+use crate::laws::read_back_runs_have_the_headline;
+use crate::notes::bytes_after_end;
 use crate::opening::greeting;
 use crate::stop::stop_of_world;
-use crate::{Done, Ended, Stop};
+use crate::{Done, Ended, Notes, Stop};
 use orc_disk::Disk;
 use orc_io::{Sink, write_whole};
 use orc_print::Transcript;
-use orc_run_laws::read_back_runs_have_the_headline;
 use orc_script::ScriptStep;
 use orc_text::Memory;
 use orc_world::World;
@@ -42,20 +43,23 @@ pub(crate) fn run_script<K: Sink, D: Disk>(
     ensures causes { IfErr result.status IsRunStop }
 {
     read_back_runs_have_the_headline::<D>();
+    let after_end = bytes_after_end(&world);
     let text = match greeting(alloc, &world) {
         Ok(text) => text,
-        Err(Memory) => return Ended::at(world.into_disk(), Stop::Memory),
+        Err(Memory) => return Ended::at(world.into_disk(), Stop::Memory, Notes::none(alloc)),
     };
     if write_whole(sink, text.as_slice()).is_err() {
-        return Ended::at(world.into_disk(), Stop::WriteFault);
+        let notes = Notes::of_world(alloc, &world, after_end);
+        return Ended::at(world.into_disk(), Stop::WriteFault, notes);
     }
-    run_lines(alloc, world, steps, sink)
+    run_lines(alloc, world, after_end, steps, sink)
 }
 
-// Does the lines in order, and writes what each prints as it is done.
+// Does the lines in order, and writes what each prints as it is done. So many bytes stood after the journal's ending gate.
 fn run_lines<K: Sink, D: Disk>(
     alloc: Global,
     world: World<D>,
+    after_end: u64,
     steps: &[ScriptStep],
     sink: &mut K,
 ) -> Ended<D>
@@ -74,12 +78,17 @@ fn run_lines<K: Sink, D: Disk>(
     for step in steps {
         match run_line(alloc, &mut world, step, sink) {
             Ok(()) => {}
-            Err(stop) => return Ended::at(world.into_disk(), stop),
+            Err(stop) => {
+                let notes = Notes::of_world(alloc, &world, after_end);
+                return Ended::at(world.into_disk(), stop, notes);
+            }
         }
     }
+    let notes = Notes::of_world(alloc, &world, after_end);
     Ended {
         disk: world.into_disk(),
         status: Ok(Done),
+        notes,
     }
 }
 

@@ -3,6 +3,7 @@ ghost use Rattle.std.specs.Prelude.{◌≡◌, Err};
 ghost use Rattle.orc_run.specs.Statuses.{status_of, stop_status};
 ghost use Rattle.orc_run.specs.inside.Scripts.{stop_of_world};
 
+use crate::Notes;
 use orc_decls::Rule;
 use orc_disk::Disk;
 use orc_world::WorldStop;
@@ -12,21 +13,23 @@ use thiserror::Error;
 #[derive(Clone, Copy)]
 pub struct Done;
 
-/// The end of a run: the disk that was handed in, and the status.
+/// The end of a run: the disk that was handed in, the status, and what else is known of it, for people.
 #[derive(Drop)]
 pub struct Ended<D: Disk> {
     pub disk: D,
     pub status: Result<Done, Stop>,
+    pub notes: Notes,
 }
 
 impl<D: Disk> Ended<D> {
     // The end of a run that ended before it was done.
-    pub(crate) fn at(disk: D, stop: Stop) -> Ended<D>
-        ensures { result ≡ record { disk = disk; status = Err stop } }
+    pub(crate) fn at(disk: D, stop: Stop, notes: Notes) -> Ended<D>
+        ensures { result ≡ record { disk = disk; status = Err stop; notes = notes } }
     {
         Ended {
             disk,
             status: Err(stop),
+            notes,
         }
     }
 }

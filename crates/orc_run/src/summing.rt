@@ -20,9 +20,11 @@ ghost use Rattle.orc_scene.specs.Effects.{hub_in};
 ghost use Rattle.orc_world.specs.Scripts.{TakesAnyLine};
 ghost use Rattle.orc_scene.specs.Stands.{HasDisk, decls_in, is_somewhere};
 
+use crate::laws::read_back_runs_have_the_headline;
+use crate::notes::bytes_after_end;
 use crate::opening::LARGEST_JOURNAL;
 use crate::stop::stop_of_world;
-use crate::{Done, Ended, Stop};
+use crate::{Done, Ended, Notes, Stop};
 use orc_call::Answer;
 use orc_declarations::Bundle;
 use orc_disk::Disk;
@@ -30,7 +32,6 @@ use orc_io::{Sink, write_whole};
 use orc_node::Link;
 use orc_print::Transcript;
 use orc_rules::Event;
-use orc_run_laws::read_back_runs_have_the_headline;
 use orc_script::ScriptStep;
 use orc_text::Memory;
 use orc_world::World;
@@ -58,7 +59,7 @@ pub(crate) fn sum_over<K: Sink, D: Disk>(
 {
     match World::open(alloc, bundle, disk, LARGEST_JOURNAL) {
         Ok(world) => sum_run(alloc, world, steps, sink),
-        Err((why, disk)) => Ended::at(disk, stop_of_world(why)),
+        Err((why, disk)) => Ended::at(disk, stop_of_world(why), Notes::none(alloc)),
     }
 }
 
@@ -81,10 +82,14 @@ fn sum_run<K: Sink, D: Disk>(
 {
     read_back_runs_have_the_headline::<D>();
     let mut world = world;
+    let after_end = bytes_after_end(&world);
     let mut out = Transcript::new(alloc);
     match world.run_steps(steps, &mut out) {
-        Ok(()) => sum_up(alloc, world, steps, sink),
-        Err(why) => Ended::at(world.into_disk(), stop_of_world(why)),
+        Ok(()) => sum_up(alloc, world, after_end, steps, sink),
+        Err(why) => {
+            let notes = Notes::of_world(alloc, &world, after_end);
+            Ended::at(world.into_disk(), stop_of_world(why), notes)
+        }
     }
 }
 
@@ -92,6 +97,7 @@ fn sum_run<K: Sink, D: Disk>(
 fn sum_up<K: Sink, D: Disk>(
     alloc: Global,
     world: World<D>,
+    after_end: u64,
     steps: &[ScriptStep],
     sink: &mut K,
 ) -> Ended<D>
@@ -103,9 +109,11 @@ fn sum_up<K: Sink, D: Disk>(
     ensures causes { IfErr result.status IsRunStop }
 {
     let status = write_summary(alloc, steps, &world, sink);
+    let notes = Notes::of_world(alloc, &world, after_end);
     Ended {
         disk: world.into_disk(),
         status,
+        notes,
     }
 }
 

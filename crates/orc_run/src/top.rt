@@ -17,7 +17,7 @@ use crate::reading::{Input, input_for};
 use crate::running::run_script;
 use crate::stop::stop_of_world;
 use crate::summing::sum_over;
-use crate::{Ended, Stop};
+use crate::{Ended, Notes, Stop};
 use orc_declarations::Bundle;
 use orc_disk::Disk;
 use orc_io::{Sink, Source};
@@ -58,18 +58,20 @@ pub fn orchestrate<S: Source, K: Sink, D: Disk>(
 {
     let command = match command_of(alloc, words) {
         Ok(command) => command,
-        Err(WordsFault::Usage) => return Ended::at(disk, Stop::Usage),
-        Err(WordsFault::Memory) => return Ended::at(disk, Stop::Memory),
+        Err(WordsFault::Usage) => return Ended::at(disk, Stop::Usage, Notes::none(alloc)),
+        Err(WordsFault::Memory) => return Ended::at(disk, Stop::Memory, Notes::none(alloc)),
     };
-    let input = match input_for(alloc, &command, source) {
+    let mut notes = Notes::none(alloc);
+    let input = match input_for(alloc, &command, source, &mut notes) {
         Ok(input) => input,
-        Err(stop) => return Ended::at(disk, stop),
+        Err(stop) => return Ended::at(disk, stop, notes),
     };
     let Input { bundle, steps } = input;
     match command {
         Command::Check => Ended {
             disk,
             status: check_bundle(alloc, &bundle.decls, steps.as_slice(), sink),
+            notes,
         },
         Command::Run => run_over(alloc, bundle, steps.as_slice(), sink, disk),
         Command::History => run_over(alloc, bundle, &[ScriptStep::History], sink, disk),
@@ -99,6 +101,6 @@ fn run_over<K: Sink, D: Disk>(
 {
     match World::open(alloc, bundle, disk, LARGEST_JOURNAL) {
         Ok(world) => run_script(alloc, world, steps, sink),
-        Err((why, disk)) => Ended::at(disk, stop_of_world(why)),
+        Err((why, disk)) => Ended::at(disk, stop_of_world(why), Notes::none(alloc)),
     }
 }

@@ -4,8 +4,8 @@ use Rattle.std.specs.Prelude.{length, slice_get, is_some, ◌&&◌, ◌||◌, �
 use Rattle.std.specs.List.{list_any}
 use Rattle.std.specs.Option.{option_map, option_map_or, option_or}
 use Rattle.std.proofs.lemmas.Option.{same_Some}
-use Rattle.orc_append.specs.Rows.{HasSomeOf}
-use Rattle.orc_append.specs.declared.outcome.Appended.TheVariants as appended
+use Rattle.orc_journal.specs.Rows.{HasSomeOf}
+use Rattle.orc_journal.specs.declared.outcome.Appended.TheVariants as appended
 use Rattle.orc_call.specs.declared.answer.Answer.{Answer}
 use Rattle.orc_call.specs.declared.answer.Answer.TheVariants as answer
 use Rattle.orc_call.specs.declared.answer.Why.{Why}

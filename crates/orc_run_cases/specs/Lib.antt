@@ -1,4 +1,1 @@
-pub mod Disks
-pub mod OneDevice
-pub mod Worked
 pub mod Refused

@@ -3,7 +3,7 @@ use Rattle.std.proofs.Common.{[], ◌≡◌, ◌⊎◌, inl, inr, ⊎_elim, ℕ,
 use Rattle.std.proofs.Math.Path.{fun_ext}
 use Rattle.std.specs.Prelude.{nat_lt, take}
 use Rattle.std.specs.Option.{option_map_or}
-use Rattle.orc_append.specs.declared.outcome.Appended.TheVariants as appended
+use Rattle.orc_journal.specs.declared.outcome.Appended.TheVariants as appended
 use Rattle.orc_call.specs.declared.call.Call.{Call}
 use Rattle.orc_decls.specs.Declarations.{AreDecls}
 use Rattle.orc_device.specs.Links.{Possible, Way, Way as way, took_effect, way_node}

@@ -1,6 +1,6 @@
 -- What each turn makes of the history: nothing, or one call more.
 use Rattle.std.proofs.Common.{[], ◌≡◌, ◌⊎◌, inl, inr, ⊎_elim, ℕ, Option, Some, List, ◌∷◌, ◌++◌, refl, sym, ap, ◌∙◌, append-nil}
-use Rattle.orc_append.specs.declared.outcome.Appended.{Appended}
+use Rattle.orc_journal.specs.declared.outcome.Appended.{Appended}
 use Rattle.orc_call.specs.declared.call.Call.{Call}
 use Rattle.orc_decls.specs.Declarations.{AreDecls}
 use Rattle.orc_journal.specs.Committed.{as_calls, commits, history_of}

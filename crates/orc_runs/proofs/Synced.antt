@@ -1,7 +1,7 @@
 -- What is pending on a device is of a call whose Intent is synced, and has no Settled among what is.
 use Rattle.std.proofs.Common.{[], ◌≡◌, ◌≢◌, Contains, inl, inr, ℕ, Bool, true, false, cond, Option, Some, None, List, ◌∷◌, ◌++◌, map, nat_eq, refl, sym, ap, subst, ◌∙◌, append-nil}
-use Rattle.orc_append.specs.declared.outcome.Appended.{Appended}
-use Rattle.orc_append.specs.declared.outcome.Appended.TheVariants as appended
+use Rattle.orc_journal.specs.declared.outcome.Appended.{Appended}
+use Rattle.orc_journal.specs.declared.outcome.Appended.TheVariants as appended
 use Rattle.orc_call.specs.declared.call.Call.{Call}
 use Rattle.orc_decls.specs.Declarations.{AreDecls}
 use Rattle.orc_device.specs.Nodes.{NodeState, restarted}

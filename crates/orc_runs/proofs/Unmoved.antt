@@ -2,7 +2,7 @@
 use Rattle.std.proofs.Common.{◌≡◌, ◌≢◌, ℕ, ◌+◌, Option, Some, None, List, ◌++◌, refl, sym, ap, subst, ◌∙◌, append-nil}
 use Rattle.std.specs.Prelude.{length}
 use Rattle.std.proofs.lemmas.Option.{same_Some}
-use Rattle.orc_append.specs.declared.outcome.Appended.TheVariants as appended
+use Rattle.orc_journal.specs.declared.outcome.Appended.TheVariants as appended
 use Rattle.orc_call.specs.declared.answer.Answer.{Answer}
 use Rattle.orc_call.specs.declared.answer.Answer.TheVariants as answer
 use Rattle.orc_call.specs.declared.call.Call.{Call}

@@ -7,7 +7,7 @@ use Rattle.std.specs.Cmp.Lexicographic.{bytes_decides}
 use Rattle.std.proofs.lemmas.Bool.{false≢true}
 use Rattle.std.proofs.lemmas.List.Elements.{All-nil}
 use Rattle.std.proofs.lemmas.Option.{none-some}
-use Rattle.orc_append.specs.Views.{unstopped}
+use Rattle.orc_journal.specs.Views.{unstopped}
 use Rattle.orc_decls.specs.Declarations.{AreDecls}
 use Rattle.orc_decls.specs.Devices.{is_same_text}
 use Rattle.orc_decls.specs.declared.declarations.Decls.{Decls}

@@ -10,10 +10,10 @@ ghost use Rattle.orc_script.specs.Scripts.{begins_as_path};
 use orc_call::Put;
 use orc_decls::{MOST_WRITES, Rule, is_body};
 use orc_json::{JsonFault, read_entry};
-use orc_lines::{LineFault, breaks, is_long_item};
+use orc_lines::{Detail, Excess, LineFault, WrongBody, breaks_by, is_long_item};
 use orc_path::{Item, Path};
 use orc_schema_nodes::Schema;
-use orc_text::{Memory, Row};
+use orc_text::{Memory, Row, Text};
 use std::alloc::Global;
 
 /// Whether a text begins as that of a path does.
@@ -57,6 +57,30 @@ pub(crate) fn is_long_body(body: &Option<Row<Put>>) -> bool
     }
 }
 
+// Of a body that is too long: too many items, or else the first one that passes a limit.
+fn items_excess(alloc: Global, body: &[Put]) -> Result<Detail, Memory> {
+    if body.len() > MOST_WRITES {
+        return Ok(Detail::Size(Excess::BodyItems(body.len() as u64)));
+    }
+    for put in body {
+        if is_long_put(put) {
+            return Ok(Detail::Size(Excess::BodyItem(Put {
+                path: put.path.copy(alloc)?,
+                item: put.item.copy(alloc)?,
+            })));
+        }
+    }
+    Ok(Detail::Plain)
+}
+
+/// Of a body that is too long.
+pub(crate) fn body_excess(alloc: Global, body: &Option<Row<Put>>) -> Result<Detail, Memory> {
+    match body {
+        Some(body) => items_excess(alloc, body.as_slice()),
+        None => Ok(Detail::Plain),
+    }
+}
+
 // The items of rows.
 fn puts_of(alloc: Global, rows: Vec<(Path, Item)>) -> Result<Row<Put>, Memory>
     ensures { IfOk result (λ puts. puts ≡ puts_of rows.items) }
@@ -68,38 +92,72 @@ fn puts_of(alloc: Global, rows: Vec<(Path, Item)>) -> Result<Row<Put>, Memory>
     Ok(puts)
 }
 
+/// What was found in a JSON text: the body, where it is one, and else what is at fault.
+#[derive(Drop)]
+pub(crate) struct FoundBody {
+    pub(crate) body: Option<Row<Put>>,
+    pub(crate) fault: Option<JsonFault>,
+}
+
 /// The body that a JSON text says below the entry of a service, where it is one.
 pub(crate) fn read_body(
     alloc: Global,
     schema: &Schema,
     entry: &Path,
     text: &[u8],
-) -> Result<Option<Row<Put>>, Memory>
-    ensures { IfOk result (λ found. found ≡ body_of schema.now entry.now text.now) }
+) -> Result<FoundBody, Memory>
+    ensures { IfOk result (λ found. found.body ≡ body_of schema.now entry.now text.now) }
 {
     match read_entry(alloc, schema, entry, text) {
-        Ok(rows) => Ok(Some(puts_of(alloc, rows)?)),
-        Err(JsonFault::Syntax) => Ok(None),
-        Err(JsonFault::Bad { .. }) => Ok(None),
+        Ok(rows) => Ok(FoundBody {
+            body: Some(puts_of(alloc, rows)?),
+            fault: None,
+        }),
+        Err(JsonFault::Syntax) => Ok(FoundBody {
+            body: None,
+            fault: Some(JsonFault::Syntax),
+        }),
+        Err(JsonFault::Bad { path, rule }) => Ok(FoundBody {
+            body: None,
+            fault: Some(JsonFault::Bad { path, rule }),
+        }),
         Err(JsonFault::Memory) => Err(Memory),
     }
 }
 
-/// What is kept of a body that was read: it is looked at once more.
+// Of a JSON text that is no body of the service at this entry.
+fn wrong_body(
+    alloc: Global,
+    schema: &Schema,
+    entry: &Path,
+    text: &str,
+    fault: Option<JsonFault>,
+) -> Result<Detail, Memory> {
+    Ok(Detail::Json(WrongBody {
+        entry: entry.copy(alloc)?,
+        text: Text::from_str(alloc, text)?,
+        schema: schema.copy(alloc)?,
+        fault,
+    }))
+}
+
+/// What is kept of a body that was read in this JSON text: it is looked at once more.
 pub(crate) fn keep_body(
     alloc: Global,
     schema: &Schema,
     entry: &Path,
-    found: Option<Row<Put>>,
+    text: &str,
+    found: FoundBody,
 ) -> Result<Row<Put>, LineFault>
-    ensures reads { ReadsLine (kept_body schema.now entry.now found) result }
+    ensures reads { ReadsLine (kept_body schema.now entry.now found.body) result }
     ensures lawful { IfOk result (λ body. IsTrue (is_body schema.now entry.now body)) }
 {
-    let Some(body) = found else {
-        return breaks(Rule::Json);
+    let FoundBody { body, fault } = found;
+    let Some(body) = body else {
+        return breaks_by(Rule::Json, wrong_body(alloc, schema, entry, text, fault)?);
     };
     if !is_body(alloc, schema, entry, body.as_slice())? {
-        return breaks(Rule::Json);
+        return breaks_by(Rule::Json, wrong_body(alloc, schema, entry, text, None)?);
     }
     Ok(body)
 }

@@ -9,13 +9,16 @@ ghost use Rattle.orc_lines.specs.Answers.{ReadsLine, Takes};
 ghost use Rattle.orc_decls.specs.Calls.{is_service_among};
 ghost use Rattle.orc_decls.specs.Calls.{has_body, is_lawful_name, is_service};
 
-use crate::bodies::{begins_as_path, is_long_body, keep_body, read_body};
+use crate::bodies::{begins_as_path, body_excess, is_long_body, keep_body, read_body};
 use crate::places::{read_device_item, read_device_path};
 use crate::script::{Part, Script};
 use crate::step::ScriptStep;
 use orc_call::{Action, Call, MOST_ACTIONS, Put};
 use orc_decls::{Decls, Rule, is_service_among};
-use orc_lines::{Keyword, LineFault, breaks, cut, read_data_path, read_put, read_service_path};
+use orc_lines::{
+    Keyword, LineFault, breaks, breaks_by, cut, name_excess, read_data_path, read_put,
+    read_service_path,
+};
 use orc_path::{is_identifier, is_long_name};
 use orc_text::{Memory, Row, Text};
 use std::alloc::Global;
@@ -50,7 +53,7 @@ impl Script {
             return breaks(Rule::Line);
         }
         if is_long_name(name) {
-            return breaks(Rule::Size);
+            return breaks_by(Rule::Size, name_excess(alloc, name)?);
         }
         let name = Text::from_str(alloc, name)?;
         if is_service_among(self.actions.as_slice(), &name) {
@@ -153,14 +156,14 @@ impl Script {
         let schema = decls.data_schema();
         let path = read_service_path(alloc, lists, schema, word)?;
         let found = read_body(alloc, schema, &path, text.as_bytes())?;
-        if is_long_body(&found) {
-            return breaks(Rule::Size);
+        if is_long_body(&found.body) {
+            return breaks_by(Rule::Size, body_excess(alloc, &found.body)?);
         }
         let id = path.text(alloc)?;
         if is_service_among(self.actions.as_slice(), &id) {
             return breaks(Rule::Duplicate);
         }
-        let body = keep_body(alloc, schema, &path, found)?;
+        let body = keep_body(alloc, schema, &path, text, found)?;
         Ok((id, body))
     }
 
@@ -192,7 +195,7 @@ impl Script {
         }
         let lists = decls.services();
         let schema = decls.data_schema();
-        let put = read_put(alloc, Some(lists), schema, false, rest)?;
+        let put = read_put(alloc, Some(lists), schema, None, rest)?;
         self.actions.push(Action::Set(put))?;
         Ok(())
     }

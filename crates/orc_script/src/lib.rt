@@ -10,6 +10,6 @@ mod read;
 mod script;
 mod step;
 
-pub use read::read_script;
+pub use read::{read_script, read_script_explained};
 pub use script::{LONGEST_TICK, MOST_CALLERS, MOST_STEPS};
 pub use step::ScriptStep;

@@ -1,5 +1,6 @@
 //! What a line says of a device: its name, and after it an item or a path.
-ghost use Rattle.std.specs.Prelude.{◌≡◌, IsTrue, IfOk};
+ghost use Rattle.std.specs.Prelude.{◌≡◌, ◌||◌, IsTrue, IfOk, is_some};
+ghost use Rattle.orc_path.specs.Limits.{is_long_name};
 ghost use Rattle.orc_lines.specs.Names.{is_among, place_of};
 ghost use Rattle.orc_decls.specs.Calls.{is_base_path, is_path_under, is_write, schema_named};
 ghost use Rattle.orc_typed.specs.Typed.{canonical_path};
@@ -12,7 +13,10 @@ ghost use Rattle.orc_lines.specs.Answers.{ReadsLine};
 use crate::step::ScriptStep;
 use orc_call::DevicePut;
 use orc_decls::{Decls, Rule, blank_item};
-use orc_lines::{LineFault, breaks, can_carry, cut, names_list, read_kept_path, read_put};
+use orc_lines::{
+    LineFault, Passed, PathForm, breaks, breaks_by, can_carry, cut, long_name, names_list,
+    read_kept_path, read_put, stored_path_excess, wrong_item, wrong_path,
+};
 use orc_path::{Path, is_identifier, is_long_name};
 use orc_schema_nodes::Schema;
 use orc_text::Text;
@@ -58,7 +62,7 @@ pub(crate) fn read_device_item(
     let device = Text::from_str(alloc, name)?;
     let plain = Schema::plain(alloc);
     let schema = decls.schema_named(&device, &plain);
-    let put = read_put(alloc, None, schema, is_long_name(name), item)?;
+    let put = read_put(alloc, None, schema, long_name(name), item)?;
     if !is_declared(decls, &device) {
         return breaks(Rule::Unknown);
     }
@@ -100,10 +104,10 @@ fn stored_base_path(alloc: Global, schema: &Schema, path: &Path) -> Result<Path,
     ensures lawful { IfOk result (λ own. IsTrue (is_path_under schema.now own)) }
 {
     let Some(own) = canonical_path(alloc, schema, path)? else {
-        return breaks(Rule::Value);
+        return breaks_by(Rule::Value, wrong_item(alloc, schema, path, None)?);
     };
     if !is_path_under(alloc, schema, &own) {
-        return breaks(Rule::Size);
+        return breaks_by(Rule::Size, stored_path_excess(own));
     }
     Ok(own)
 }
@@ -112,18 +116,21 @@ fn stored_base_path(alloc: Global, schema: &Schema, path: &Path) -> Result<Path,
 fn read_base_path(
     alloc: Global,
     schema: &Schema,
-    is_long: bool,
+    passed: Option<Passed<'_>>,
     word: &str,
 ) -> Result<Path, LineFault>
-    ensures reads { ReadsLine (base_path_of schema.now is_long word.now) result }
+    ensures reads { ReadsLine (base_path_of schema.now (is_some passed.entry) word.now) result }
     ensures lawful { IfOk result (λ path. IsTrue (is_path_under schema.now path)) }
 {
     if is_no_word(word) {
         return breaks(Rule::Line);
     }
-    let path = read_kept_path(alloc, is_long, word)?;
+    let path = read_kept_path(alloc, passed, word)?;
     if !can_carry(schema, &path, &blank_item(alloc, &path)) {
-        return breaks(Rule::Path);
+        return breaks_by(
+            Rule::Path,
+            wrong_path(alloc, None, schema, PathForm::Item, &path)?,
+        );
     }
     stored_base_path(alloc, schema, &path)
 }
@@ -148,7 +155,7 @@ pub(crate) fn read_device_path(
     let device = Text::from_str(alloc, name)?;
     let plain = Schema::plain(alloc);
     let schema = decls.schema_named(&device, &plain);
-    let path = read_base_path(alloc, schema, is_long_name(name), word)?;
+    let path = read_base_path(alloc, schema, long_name(name), word)?;
     if !is_declared(decls, &device) {
         return breaks(Rule::Unknown);
     }
@@ -179,45 +186,61 @@ fn stored_node_path(alloc: Global, schema: &Schema, path: &Path) -> Result<Path,
     ensures lawful { IfOk result (λ own. IsTrue (is_node_path schema.now own)) }
 {
     let Some(own) = canonical_path(alloc, schema, path)? else {
-        return breaks(Rule::Value);
+        return breaks_by(Rule::Value, wrong_item(alloc, schema, path, None)?);
     };
     if !is_node_path(schema, &own) {
-        return breaks(Rule::Size);
+        return breaks_by(Rule::Size, stored_path_excess(own));
     }
     Ok(own)
+}
+
+// What passes a limit before a path: the name, or the steps, of which there are so many where no more can be.
+fn passed_before(name: &str, full: Option<u64>) -> Option<Passed<'_>>
+    ensures { is_some result ≡ (is_long_name name.now || is_some full) }
+{
+    if is_long_name(name) {
+        return Some(Passed::Name(name));
+    }
+    match full {
+        Some(count) => Some(Passed::Steps(count)),
+        None => None,
+    }
 }
 
 // Any path of a schema. What stands before it may pass a limit.
 fn read_node_path(
     alloc: Global,
     schema: &Schema,
-    is_long: bool,
+    passed: Option<Passed<'_>>,
     word: &str,
 ) -> Result<Path, LineFault>
-    ensures reads { ReadsLine (node_path_of schema.now is_long word.now) result }
+    ensures reads { ReadsLine (node_path_of schema.now (is_some passed.entry) word.now) result }
     ensures lawful { IfOk result (λ path. IsTrue (is_node_path schema.now path)) }
 {
     if is_no_word(word) {
         return breaks(Rule::Line);
     }
-    let path = read_kept_path(alloc, is_long, word)?;
+    let path = read_kept_path(alloc, passed, word)?;
     if !names_node(schema, &path) {
-        return breaks(Rule::Path);
+        return breaks_by(
+            Rule::Path,
+            wrong_path(alloc, None, schema, PathForm::Node, &path)?,
+        );
     }
     stored_node_path(alloc, schema, &path)
 }
 
 /// `D PATH`: the number of a declared device and any path that its schema has, in canonical form.
-/// There may be no room for a step more.
+/// There may be no room for a step more than so many.
 #[tactic(auto, unfolding(crate::specs::Places::device_node_of))]
 pub(crate) fn read_device_node(
     alloc: Global,
     decls: &Decls,
-    is_full: bool,
+    full: Option<u64>,
     text: &str,
 ) -> Result<(u32, Path), LineFault>
     requires { AreDecls decls.now }
-    ensures reads { ReadsLine (device_node_of decls.now is_full text.now) result }
+    ensures reads { ReadsLine (device_node_of decls.now (is_some full) text.now) result }
     ensures lawful { IfOk result (λ node. IsTrue (is_step decls.now (ScriptStep.Meta node.0 node.1))) }
 {
     let Some((name, word)) = cut(text) else {
@@ -229,7 +252,7 @@ pub(crate) fn read_device_node(
     let device = Text::from_str(alloc, name)?;
     let plain = Schema::plain(alloc);
     let schema = decls.schema_named(&device, &plain);
-    let path = read_node_path(alloc, schema, is_long_name(name) || is_full, word)?;
+    let path = read_node_path(alloc, schema, passed_before(name, full), word)?;
     let Some(n) = device_number(decls, &device) else {
         return breaks(Rule::Unknown);
     };

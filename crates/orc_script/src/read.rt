@@ -2,7 +2,7 @@
 ghost use Rattle.std.specs.Prelude.{◌<◌, ◌≤◌, ◌+◌, ◌^◌, IfOk, OnOk, IsTrue, length};
 ghost use Rattle.std.specs.List.{list_all};
 ghost use Rattle.orc_decls.specs.Declarations.{AreDecls};
-ghost use Rattle.orc_lines.specs.Answers.{Gives};
+ghost use Rattle.orc_lines.specs.Answers.{Explains, Gives};
 ghost use Rattle.orc_lines.specs.Lines.{lines_of};
 ghost use Rattle.orc_lines.specs.declared.lines.TheConstants.{LARGEST_BUNDLE};
 ghost use Rattle.orc_script.specs.Scripts.{no_steps, script_of, script_steps};
@@ -11,7 +11,7 @@ ghost use Rattle.orc_script.specs.Steps.{IsScript, is_step};
 use crate::script::Script;
 use crate::step::ScriptStep;
 use orc_decls::{BundleFault, Decls};
-use orc_lines::{at_line, first_line, seen};
+use orc_lines::{ExplainedFault, at_line, first_line, plain_fault, seen};
 use orc_text::Row;
 use std::alloc::Global;
 
@@ -22,12 +22,12 @@ fn read_lines(
     at: u64,
     number: u64,
     bytes: &[u8],
-) -> Result<Row<ScriptStep>, BundleFault>
+) -> Result<Row<ScriptStep>, ExplainedFault>
     requires decls { AreDecls decls.now }
     requires small { at ≤ LARGEST_BUNDLE }
     requires lines { number ≤ at }
     requires room { at + length bytes.now < 2 ^ 63 }
-    ensures gives { Gives (script_steps decls.now no_steps at number (lines_of bytes.now)) result }
+    ensures gives { Explains (script_steps decls.now no_steps at number (lines_of bytes.now)) result }
     ensures lawful { IfOk result (λ steps. IsTrue (list_all (is_step decls.now) steps)) }
     ensures small { OnOk result (at + length bytes.now ≤ LARGEST_BUNDLE) }
 {
@@ -45,6 +45,29 @@ fn read_lines(
         rest = later;
     }
     Ok(script.steps)
+}
+
+/// The same as `read_script` answers, and of a fault what in particular it is.
+pub fn read_script_explained(
+    alloc: Global,
+    bytes: &[u8],
+    rest: usize,
+    line: u64,
+    decls: &Decls,
+) -> Result<Row<ScriptStep>, ExplainedFault>
+    requires decls { AreDecls decls.now }
+    requires within { rest ≤ length bytes.now }
+    requires small { rest ≤ LARGEST_BUNDLE }
+    requires lines { line ≤ rest }
+    // The one answer, unless memory runs out.
+    ensures gives { Explains (script_of decls.now bytes.now rest line) result }
+    // What is read is lawful.
+    ensures lawful { IfOk result (IsScript decls.now) }
+    ensures small { OnOk result (length bytes.now ≤ LARGEST_BUNDLE) }
+{
+    let text = seen(bytes);
+    let (_, script) = text.split_at(rest);
+    read_lines(alloc, decls, rest as u64, line, script)
 }
 
 /// The script of a bundle: the steps in the lines that stand after so many bytes and so many lines of
@@ -70,7 +93,8 @@ pub fn read_script(
     ensures lawful { IfOk result (IsScript decls.now) }
     ensures small { OnOk result (length bytes.now ≤ LARGEST_BUNDLE) }
 {
-    let text = seen(bytes);
-    let (_, script) = text.split_at(rest);
-    read_lines(alloc, decls, rest as u64, line, script)
+    match read_script_explained(alloc, bytes, rest, line, decls) {
+        Ok(steps) => Ok(steps),
+        Err(fault) => Err(plain_fault(fault)),
+    }
 }

@@ -1,5 +1,5 @@
 //! The steps so far, and what each form of a script's line makes of them.
-ghost use Rattle.std.specs.Prelude.{◌≡◌, ◌<◌, ◌≤◌, ◌+◌, ◌^◌, ℕ, List, IsTrue, OnOk, length};
+ghost use Rattle.std.specs.Prelude.{◌≡◌, ◌<◌, ◌≤◌, ◌+◌, ◌^◌, ℕ, List, IsTrue, OnOk, is_some, length};
 ghost use Rattle.orc_lines.specs.Keywords.{keyword_of};
 ghost use Rattle.orc_lines.specs.Lines.{lines_of};
 ghost use Rattle.orc_lines.specs.Words.{first_word};
@@ -18,12 +18,12 @@ use crate::step::ScriptStep;
 use orc_call::{Action, DevicePut};
 use orc_decls::{Decls, Rule};
 use orc_lines::{
-    Keyword, LineFault, Names, breaks, cut, ends_later, first_word, is_large, is_skipped,
-    keyword_of, line_text, number_of, read_text,
+    Detail, Excess, Keyword, LineFault, Names, breaks, breaks_by, cut, ends_later, first_word,
+    is_large, is_skipped, keyword_of, large_excess, line_text, name_excess, number_of, read_text,
 };
 use orc_path::{is_identifier, is_long_name};
 use orc_schema_nodes::Schema;
-use orc_text::{Row, Text};
+use orc_text::{Memory, Row, Text};
 use std::alloc::Global;
 
 /// The most callers of a script.
@@ -115,6 +115,21 @@ impl Script {
         self.steps.len() >= MOST_STEPS
     }
 
+    // How many steps there are, where no more can stand.
+    fn full(&self) -> Option<u64>
+        ensures { is_some result ≡ is_full self.now }
+    {
+        match self.is_full() {
+            true => Some(self.steps.len() as u64),
+            false => None,
+        }
+    }
+
+    // Of a step more than there can be.
+    fn steps_excess(&self) -> Detail {
+        Detail::Size(Excess::Steps(self.steps.len() as u64))
+    }
+
     // A step of one word.
     fn take_bare(&mut self, step: ScriptStep) -> Result<(), LineFault>
         ensures takes { Takes (after_bare self.old step) self.new result }
@@ -122,10 +137,18 @@ impl Script {
             → IsTrue (is_step decls step) → OnOk result (AreSteps decls most self.new) }
     {
         if self.is_full() {
-            return breaks(Rule::Size);
+            return breaks_by(Rule::Size, self.steps_excess());
         }
         self.steps.push(step)?;
         Ok(())
+    }
+
+    // Of a step that names this, where the name is too long, or else of one more than there can be.
+    fn step_excess(&self, alloc: Global, name: &str) -> Result<Detail, Memory> {
+        match is_long_name(name) {
+            true => name_excess(alloc, name),
+            false => Ok(self.steps_excess()),
+        }
     }
 
     // `D`, the name of a device, in a step more.
@@ -136,7 +159,7 @@ impl Script {
             return breaks(Rule::Line);
         }
         if is_long_name(rest) || self.is_full() {
-            return breaks(Rule::Size);
+            return breaks_by(Rule::Size, self.step_excess(alloc, rest)?);
         }
         Ok(Text::from_str(alloc, rest)?)
     }
@@ -188,7 +211,7 @@ impl Script {
         ensures takes { Takes (after_meta decls.now self.old rest.now) self.new result }
         ensures lawful { StaysLawful decls.now self.old self.new result }
     {
-        let node = read_device_node(alloc, decls, self.is_full(), rest)?;
+        let node = read_device_node(alloc, decls, self.full(), rest)?;
         self.steps.push(ScriptStep::Meta(node.0, node.1))?;
         Ok(())
     }
@@ -221,7 +244,7 @@ impl Script {
             return breaks(Rule::Line);
         };
         if !is_tick(seconds) {
-            return breaks(Rule::Size);
+            return breaks_by(Rule::Size, Detail::Size(Excess::Seconds(seconds)));
         }
         self.take_bare(ScriptStep::Tick(seconds as u32))
     }
@@ -252,6 +275,15 @@ impl Script {
         !self.callers.has(name) && self.callers.len() >= MOST_CALLERS
     }
 
+    // Of a step that names this caller, where that or the step passes a limit, or else of a caller more than there
+    // can be.
+    fn caller_excess(&self, alloc: Global, name: &str) -> Result<Detail, Memory> {
+        match is_long_name(name) || self.is_full() {
+            true => self.step_excess(alloc, name),
+            false => Ok(Detail::Size(Excess::Callers(self.callers.len() as u64))),
+        }
+    }
+
     // `begin C`.
     #[tactic(auto, unfolding(crate::specs::Scripts::after_begin))]
     fn take_begin(&mut self, alloc: Global, rest: &str) -> Result<(), LineFault>
@@ -263,7 +295,7 @@ impl Script {
         }
         let name = Text::from_str(alloc, rest)?;
         if is_long_name(rest) || self.is_full() || self.is_caller_more(&name) {
-            return breaks(Rule::Size);
+            return breaks_by(Rule::Size, self.caller_excess(alloc, rest)?);
         }
         self.callers.add(name.copy(alloc)?)?;
         self.steps.push(ScriptStep::Begin(name))?;
@@ -287,7 +319,7 @@ impl Script {
         }
         let name = Text::from_str(alloc, caller)?;
         if is_long_name(caller) || self.is_full() || self.is_caller_more(&name) {
-            return breaks(Rule::Size);
+            return breaks_by(Rule::Size, self.caller_excess(alloc, caller)?);
         }
         if !followed {
             return breaks(Rule::Line);
@@ -427,7 +459,7 @@ impl Script {
         ensures small { OnOk result (at + length line.now ≤ LARGEST_BUNDLE) }
     {
         if is_large(at, line) {
-            return breaks(Rule::Size);
+            return breaks_by(Rule::Size, large_excess(line));
         }
         let Some(text) = read_text(line_text(line)) else {
             return breaks(Rule::Utf8);

@@ -1,50 +1,47 @@
-//! A line of a table: a call, what it is given, and what must come, with `|` between them.
-use crate::restrictions::{is_default, is_typed};
-use crate::statements::is_parsed;
-use crate::values::{is_canon, is_read, is_written};
-use orc_table_programs::{Table, Undone, bytes_of};
+//! The parts of a line.
+ghost use Rattle.std.specs.Prelude.{◌≡◌, ◌==◌, IfOk};
+ghost use Rattle.std.specs.List.{before_first, after_first};
+ghost use Rattle.percent_encoding.specs.Percent.{percent_decode};
+
+use crate::undone::Undone;
 use orc_text::{Memory, Text};
 use std::alloc::Global;
 
-/// Lines that stand alone.
-#[derive(Drop)]
-pub(crate) struct Answers {
-    alloc: Global,
+/// The first word, and what stands after the space, which is the empty text where there is none.
+pub(crate) fn first_word(line: &str) -> (&str, &str)
+    ensures first { result.0.now ≡ before_first (λ byte. byte == 32) line.now }
+    ensures rest { result.1.now ≡ after_first (λ byte. byte == 32) line.now }
+{
+    line.split_once(' ').unwrap_or((line, ""))
 }
 
-impl Answers {
-    /// No line was taken.
-    pub(crate) fn new(alloc: Global) -> Answers {
-        Answers { alloc }
+/// The parts before ` > ` and after it.
+pub(crate) fn parted(line: &str) -> Result<(&str, &str), Undone> {
+    line.split_once(" > ").ok_or(Undone)
+}
+
+/// The bytes of a text in which `%` and two hexadecimal digits stand for a byte (RFC 3986, 2.1).
+pub(crate) fn bytes_of(alloc: Global, text: &str) -> Result<Vec<u8>, Memory>
+    ensures { IfOk result (λ bytes. bytes.items ≡ percent_decode text.now) }
+{
+    let mut bytes = Vec::new(alloc);
+    percent_encoding::percent_decode(text.as_bytes()).append_to(&mut bytes)?;
+    Ok(bytes)
+}
+
+/// The text of such bytes.
+pub(crate) fn text_of(alloc: Global, text: &str) -> Result<Text, Undone> {
+    match String::from_utf8(bytes_of(alloc, text)?) {
+        Ok(string) => Ok(Text::from_string(string)),
+        Err(_) => Err(Undone),
     }
 }
 
-impl Table for Answers {
-    fn take(&mut self, line: &str) -> Result<bool, Undone> {
-        let (call, rest) = line.split_once('|').ok_or(Undone)?;
-        let (given, expected) = rest.rsplit_once('|').ok_or(Undone)?;
-        Ok(does_answer(self.alloc, call, given, expected)?)
+/// The bytes that are spelled in hexadecimal, two digits each, with spaces between.
+pub(crate) fn hex_of(alloc: Global, text: &str) -> Result<Vec<u8>, Undone> {
+    let mut bytes = Vec::new(alloc);
+    for digits in text.split_whitespace() {
+        bytes.push(u8::from_str_radix(digits, 16)?)?;
     }
-}
-
-// Whether a call answers so.
-fn does_answer(alloc: Global, call: &str, given: &str, expected: &str) -> Result<bool, Memory> {
-    match call {
-        "parse" => is_parsed(alloc, given, expected),
-        "type" => is_typed(alloc, given, expected),
-        "default" => is_default(alloc, given, expected),
-        "canon" => is_canon(alloc, given, expected),
-        "from_json" => is_read(alloc, given, expected),
-        "to_json" => is_written(alloc, given, expected),
-        _ => Ok(false),
-    }
-}
-
-// The text in which `%` and two digits stand for a byte, where the bytes are one.
-pub(crate) fn text_of(alloc: Global, text: &str) -> Result<Option<Text>, Memory> {
-    let bytes = bytes_of(alloc, text)?;
-    match String::from_utf8(bytes) {
-        Ok(string) => Ok(Some(Text::from_string(string))),
-        Err(_) => Ok(None),
-    }
+    Ok(bytes)
 }

@@ -9,9 +9,10 @@
 //! - `value TEXT -> VALUE`: it is read as this value, which is written so again
 //! - `novalue TEXT`: it is no text of a value
 //! - `writes PATH NAME`: a write at the path comes before one of the service
-use crate::line::text_of;
+use crate::line::{first_word, text_of};
+use crate::table::Table;
+use crate::undone::Undone;
 use orc_path::{Name, Path, PathFault, Write, push_value, read_value};
-use orc_table_programs::{Table, Undone, first_word};
 use orc_text::{Row, Text};
 use std::alloc::Global;
 use std::cmp::Ordering;
@@ -48,7 +49,7 @@ impl Paths {
 
     // Whether the path is one, and stands after the last one.
     fn is_next(&mut self, text: &str) -> Result<bool, Undone> {
-        let text = text_in(self.alloc, text)?;
+        let text = text_of(self.alloc, text)?;
         let path = Path::parse(self.alloc, text.as_str())?;
         let holds = is_written(self.alloc, &path, &text)?;
         let follows = self.last.cmp(&path) == Ordering::Less || text.as_str() == "/";
@@ -77,14 +78,6 @@ fn is_read(alloc: Global, word: &str, rest: &str) -> Result<bool, Undone> {
     }
 }
 
-// The text that is spelled so.
-fn text_in(alloc: Global, spelling: &str) -> Result<Text, Undone> {
-    match text_of(alloc, spelling)? {
-        Some(text) => Ok(text),
-        None => Err(Undone),
-    }
-}
-
 // Whether a text is refused there.
 fn is_refused_at<T: Drop>(read: Result<T, PathFault>, place: &str) -> Result<bool, Undone> {
     match read {
@@ -96,14 +89,14 @@ fn is_refused_at<T: Drop>(read: Result<T, PathFault>, place: &str) -> Result<boo
 // Whether a text is refused as a path where the line says.
 fn is_no_path(alloc: Global, rest: &str) -> Result<bool, Undone> {
     let (at, text) = first_word(rest);
-    let text = text_in(alloc, text)?;
+    let text = text_of(alloc, text)?;
     is_refused_at(Path::parse(alloc, text.as_str()), at)
 }
 
 // Whether a text is refused as a name where the line says.
 fn is_no_name(alloc: Global, rest: &str) -> Result<bool, Undone> {
     let (at, text) = first_word(rest);
-    let text = text_in(alloc, text)?;
+    let text = text_of(alloc, text)?;
     is_refused_at(Name::new(alloc, text.as_str()), at)
 }
 
@@ -127,8 +120,8 @@ fn is_entry(alloc: Global, rest: &str) -> Result<bool, Undone> {
 // Whether a text is read as this value, and this value is written so.
 fn is_value(alloc: Global, rest: &str) -> Result<bool, Undone> {
     let (text, value) = rest.split_once(" -> ").unwrap_or((rest, ""));
-    let text = text_in(alloc, text)?;
-    let value = text_in(alloc, value)?;
+    let text = text_of(alloc, text)?;
+    let value = text_of(alloc, value)?;
     Ok(is_value_text(alloc, &value, text.as_str())? && means(alloc, text.as_str(), value)?)
 }
 
@@ -146,7 +139,7 @@ fn means(alloc: Global, text: &str, value: Text) -> Result<bool, Undone> {
 
 // Whether a text is that of no value.
 fn is_no_value(alloc: Global, rest: &str) -> Result<bool, Undone> {
-    let text = text_in(alloc, rest)?;
+    let text = text_of(alloc, rest)?;
     Ok(read_value(alloc, text.as_str())?.is_none())
 }
 

@@ -12,10 +12,17 @@
 //! - `len N`, `pages N`, `chapters N`: it has so many items, pages or chapters
 //! - `copies N`: so many copies of its items are made, each anew
 //! - `equal`, `unequal`: it has the items of the other, or not
-use crate::fills::{Order, leaf_path};
-use crate::words::{Placed, placed_of};
-use orc_path::{Item, Path, push_item};
-use orc_table_programs::{Table, Undone, first_word};
+
+mod fills;
+
+use crate::items::{put_of, set};
+use crate::line::first_word;
+use crate::shown::Shown;
+use crate::table::Table;
+use crate::trees::fills::{Order, leaf_path};
+use crate::undone::Undone;
+use orc_call::Put;
+use orc_path::{Item, Path};
 use orc_text::Text;
 use orc_tree::Tree;
 use std::alloc::Global;
@@ -33,7 +40,7 @@ impl Table for Trees {
     fn take(&mut self, line: &str) -> Result<bool, Undone> {
         let (word, rest) = first_word(line);
         match word {
-            "set" => self.set_line(rest),
+            "set" => set(&mut self.tree, put_of(self.alloc, rest)?),
             "remove" => self.remove(rest),
             "fill" => self.fill(rest),
             "drain" => self.drain(rest),
@@ -64,22 +71,6 @@ impl Trees {
         Ok(true)
     }
 
-    // Sets the item of a line, and says whether it fits its path.
-    fn set_line(&mut self, rest: &str) -> Result<bool, Undone> {
-        let placed = placed_of(self.alloc, rest)?;
-        self.set(placed)
-    }
-
-    // Sets an item, and says whether it fits its path.
-    fn set(&mut self, placed: Placed) -> Result<bool, Undone> {
-        let Placed { path, item } = placed;
-        if !item.fits(&path) {
-            return Ok(false);
-        }
-        self.tree.set(path, item)?;
-        Ok(true)
-    }
-
     // Removes a path.
     fn remove(&mut self, rest: &str) -> Result<bool, Undone> {
         let path = Path::parse(self.alloc, rest)?;
@@ -102,7 +93,7 @@ impl Trees {
     fn fill_one(&mut self, number: usize) -> Result<bool, Undone> {
         let path = leaf_path(self.alloc, number)?;
         let item = Item::Leaf(Text::from_str(self.alloc, "x")?);
-        self.set(Placed { path, item })
+        set(&mut self.tree, Put { path, item })
     }
 
     // Removes so many leaves.
@@ -148,9 +139,9 @@ impl Trees {
 
     // Whether this item stands at its path.
     fn has(&self, rest: &str) -> Result<bool, Undone> {
-        let placed = placed_of(self.alloc, rest)?;
-        match self.tree.get(&placed.path) {
-            Some(item) => Ok(*item == placed.item),
+        let put = put_of(self.alloc, rest)?;
+        match self.tree.get(&put.path) {
+            Some(item) => Ok(*item == put.item),
             None => Ok(false),
         }
     }
@@ -169,40 +160,39 @@ impl Trees {
     }
 
     // The entries of a list.
-    fn keys(&self, list: &Path) -> Result<String, Undone> {
-        let mut shown = String::new(self.alloc);
+    fn keys(&self, list: &Path) -> Result<Shown, Undone> {
+        let mut shown = Shown::new(self.alloc);
         for path in &self.tree.keys_under(self.alloc, list)? {
-            add(&mut shown, self.alloc, path, &Item::Entry)?;
+            push_row(&mut shown, path, &Item::Entry)?;
         }
         Ok(shown)
     }
 
     // Whether these are all items, lent in path order.
     fn has_rows(&self, rest: &str) -> Result<bool, Undone> {
-        let mut shown = String::new(self.alloc);
+        let mut shown = Shown::new(self.alloc);
         for row in self.tree.rows() {
-            add(&mut shown, self.alloc, &row.0, &row.1)?;
+            push_row(&mut shown, &row.0, &row.1)?;
         }
         Ok(shown.as_str() == rest && self.tree.is_empty() == rest.is_empty())
     }
 
     // Whether these are all items, copied in path order.
     fn is_walked(&self, rest: &str) -> Result<bool, Undone> {
-        let mut shown = String::new(self.alloc);
+        let mut shown = Shown::new(self.alloc);
         for row in &self.tree.walk(self.alloc)? {
-            add(&mut shown, self.alloc, &row.0, &row.1)?;
+            push_row(&mut shown, &row.0, &row.1)?;
         }
         Ok(shown.as_str() == rest)
     }
 }
 
 // Adds an item after the others.
-fn add(shown: &mut String, alloc: Global, path: &Path, item: &Item) -> Result<(), Undone> {
-    if !shown.is_empty() {
-        shown.push_str(", ")?;
+fn push_row(shown: &mut Shown, path: &Path, item: &Item) -> Result<(), Undone> {
+    if !shown.as_str().is_empty() {
+        shown.add(&[", "])?;
     }
-    push_item(shown, alloc, path, item)?;
-    Ok(())
+    shown.item(path, item)
 }
 
 // How many pages a tree has.

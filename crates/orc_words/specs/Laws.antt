@@ -1,4 +1,4 @@
--- The forms in which the words are written, and what other words come to.
+-- The forms in which the words are written, and which words have no command.
 use Rattle.std.specs.Prelude.{◌≡◌, ◌⊎◌, ◌^◌, ◌-◌, ℕ, List, [], ◌∷◌, ◌++◌, true, codes, is_some, Option}
 use Rattle.std.specs.declared.option.Option.TheVariants.{None, Some}
 use Rattle.std.specs.Str.{bytes_eq}
@@ -34,12 +34,6 @@ pub record AreGenNumbers (number devices calls : List ℕ) (n d c : ℕ) : Type 
   pub devices_is : number_within 1 MOST_DEVICES_MADE (Some devices) ≡ Some d
   pub calls_is : number_within 0 MOST_CALLS_MADE (Some calls) ≡ Some c
 
--- one of three words isn't a number of its range
-abbrev pub IsOutOfRange : List ℕ → List ℕ → List ℕ → Type 0
-IsOutOfRange number devices calls = (number_within 0 (2 ^ 64 - 1) (Some number) ≡ None)
-    ⊎ (number_within 1 MOST_DEVICES_MADE (Some devices) ≡ None)
-    ⊎ (number_within 0 MOST_CALLS_MADE (Some calls) ≡ None)
-
 -- Words as they are written: `check`; `run` or `history`, alone or with a file, which is the journal's; `gen` with its
 -- three numbers, alone or with a file.
 pub data IsWritten : List (List ℕ) → Command → Option (List ℕ) → Type 0 where
@@ -57,35 +51,6 @@ pub data IsWritten : List (List ℕ) → Command → Option (List ℕ) → Type 
 abbrev pub WrittenWordsAreTaken : Type 0
 WrittenWordsAreTaken = (words : List (List ℕ)) (command : Command) (file : Option (List ℕ))
     → IsWritten words command file → (command_of words ≡ Some command) × (journal_word words ≡ file)
-
--- words that have no command: none, a request for help or the version, a file for `check`, a word more, no file after
--- `--journal`, a number of `gen` too few or out of its range, or a file twice
-pub data IsFaulty : List (List ℕ) → Type 0 where
-  none : IsFaulty []
-  help : IsFaulty (codes "--help" ∷ [])
-  short_help : IsFaulty (codes "-h" ∷ [])
-  version : IsFaulty (codes "--version" ∷ [])
-  short_version : IsFaulty (codes "-V" ∷ [])
-  help_word : IsFaulty (codes "help" ∷ [])
-  help_of_check : IsFaulty (codes "check" ∷ codes "--help" ∷ [])
-  help_of : (word : List ℕ) (command : Command) → HasJournal word command
-      → IsFaulty (word ∷ codes "--help" ∷ [])
-  check_over : (words : List (List ℕ)) (file : List ℕ) → NamesJournal words file → IsFaulty (codes "check" ∷ words)
-  more_to_check : (more : List ℕ) → IsPlainWord more → IsFaulty (codes "check" ∷ more ∷ [])
-  more : (word : List ℕ) (command : Command) (more : List ℕ) → HasJournal word command → IsPlainWord more
-      → IsFaulty (word ∷ more ∷ [])
-  no_file : (word : List ℕ) (command : Command) → HasJournal word command → IsFaulty (word ∷ codes "--journal" ∷ [])
-  gen_alone : IsFaulty (codes "gen" ∷ [])
-  no_calls : (number devices : List ℕ) → IsPlainWord number → IsPlainWord devices
-      → IsFaulty (codes "gen" ∷ number ∷ devices ∷ [])
-  out_of_range : (number devices calls : List ℕ) → IsPlainWord number → IsPlainWord devices → IsPlainWord calls
-      → IsOutOfRange number devices calls → IsFaulty (codes "gen" ∷ number ∷ devices ∷ calls ∷ [])
-  twice : (word : List ℕ) (command : Command) (first second : List (List ℕ)) (file other : List ℕ)
-      → HasJournal word command → NamesJournal first file → NamesJournal second other
-      → IsFaulty (word ∷ first ++ second)
-
-abbrev pub FaultyWordsAreRefused : Type 0
-FaultyWordsAreRefused = (words : List (List ℕ)) → IsFaulty words → command_of words ≡ None
 
 -- the words are those of `gen`, and its numbers are not all of their ranges
 pub record HasBadNumbers (words : List (List ℕ)) : Type 0 where

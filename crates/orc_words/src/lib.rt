@@ -12,6 +12,6 @@ mod reading;
 mod words;
 
 pub use journal::journal_word;
-pub use laws::{faulty_words_are_refused, taken_words_have_command, written_words_are_taken};
+pub use laws::{taken_words_have_command, written_words_are_taken};
 pub use reading::{command_of, usage_text};
 pub use words::{Command, MOST_CALLS_MADE, MOST_DEVICES_MADE, WordsFault};

@@ -3,7 +3,7 @@ use Rattle.std.specs.Prelude.{◌≡◌, ◌⊎◌, ℕ, true, false, List, [], 
 use Rattle.orc_decls.specs.declared.declarations.Decls.{Decls}
 use Rattle.orc_disk.specs.Meanings.{DiskMeaning}
 use Rattle.orc_disk.specs.Stops.{Stopping, inside}
-use Rattle.orc_append.specs.Views.{unstopped}
+use Rattle.orc_journal.specs.Views.{unstopped}
 use Rattle.orc_hub.specs.declared.hub.Hub.{Hub}
 use Rattle.orc_journal.specs.Opened.{OpenJournal}
 use Rattle.orc_journal.specs.Opening.{HasOpened}

@@ -5,13 +5,13 @@ use Rattle.orc_bundle.proofs.read.read_seen.Goals as goal
 
 pub returns-clause-lawful : goal.returns-clause-lawful
 returns-clause-lawful c =
-    let called = c.read_declarations.ensures in
-    lawful c.args.bytes.now (declarations_of nothing_declared 0 0 (lines_of c.args.bytes.now)) c.read_declarations.result called.gives called.lawful called.sound called.script
+    let called = c.read_declarations_explained.ensures in
+    lawful c.args.bytes.now (declarations_of nothing_declared 0 0 (lines_of c.args.bytes.now)) c.read_declarations_explained.result called.gives called.lawful called.sound called.script
 
 pub returns-clause-within : goal.returns-clause-within
 returns-clause-within c =
-    within c.args.bytes.now (declarations_of nothing_declared 0 0 (lines_of c.args.bytes.now)) c.read_declarations.result c.read_declarations.ensures.script
+    within c.args.bytes.now (declarations_of nothing_declared 0 0 (lines_of c.args.bytes.now)) c.read_declarations_explained.result c.read_declarations_explained.ensures.script
 
 pub returns-clause-text : goal.returns-clause-text
 returns-clause-text c =
-    text_within c.args.bytes.now (declarations_of nothing_declared 0 0 (lines_of c.args.bytes.now)) c.read_declarations.result c.read_declarations.ensures.gives
+    text_within c.args.bytes.now (declarations_of nothing_declared 0 0 (lines_of c.args.bytes.now)) c.read_declarations_explained.result c.read_declarations_explained.ensures.gives

@@ -6,7 +6,9 @@ use Rattle.orc_lines.specs.contracts.declared.Section.{the_type}
 use Rattle.orc_lines.specs.declared.declared.Section.{Section}
 use Rattle.orc_lines.specs.declared.declared.Section.TheVariants as section
 use Rattle.orc_lines.proofs.LinesOf.{parted}
-use Rattle.orc_declarations.proofs.Opened.{goes_on, later_bytes, script_faults, script_opens, text_faults, text_opens}
+use Rattle.orc_lines.specs.Answers.{plain_fault}
+use Rattle.orc_lines.specs.declared.fault.ExplainedFault.{ExplainedFault}
+use Rattle.orc_declarations.proofs.Opened.{goes_on, later_bytes, line_fault, script_faults, script_opens, text_faults, text_opens}
 use Rattle.orc_declarations.proofs.read.read_declared.Goals as goal
 
 -- what the code asks of the section
@@ -37,6 +39,12 @@ lines-preserved c =
 
 -- what is answered
 
+pub returns-in-Err-clause-answer : goal.returns-in-Err-clause-answer
+returns-in-Err-clause-answer c =
+    line_fault _ c.lines.declared c.take_line.new.declared c.lines.at c.lines.number c.first_line.result.0.now (lines_of c.first_line.result.1.now)
+    (lines_of c.lines.rest.now) c.in-Err.fault c.lines.invariant.0 c.first_line.ensures.lines c.in-Err.ensures.takes
+    c.with_lines.result (c.with_lines.ensures ∙ ap (λ (f : ExplainedFault). plain_fault f) c.at_line.ensures)
+
 pub returns-then-eq-clause-answer : goal.returns-then-eq-clause-answer
 returns-then-eq-clause-answer c =
     script_opens _ c.lines.declared c.take_line.new.declared c.lines.at c.lines.number c.first_line.result.0.now (lines_of c.first_line.result.1.now)
@@ -49,7 +57,7 @@ returns-in_err-check_opening-clause-answer c =
     script_faults _ c.lines.declared c.take_line.new.declared c.lines.at c.lines.number c.first_line.result.0.now (lines_of c.first_line.result.1.now)
     (lines_of c.lines.rest.now) c.lines.invariant.0
     c.first_line.ensures.lines c.in_default.ensures.takes (asked c.take_line.new.declared.section ∙ sym c.eq.ensures ∙ c.if-eq.true)
-    c.from_residual.result c.in_err-check_opening.field-0.0 c.from_residual.ensures.1 c.in_err-check_opening.ensures
+    c.from_residual-in_err-check_opening.result c.in_err-check_opening.field-0.0 c.from_residual-in_err-check_opening.ensures.1 c.in_err-check_opening.ensures
 
 pub returns-clause-answer : goal.returns-clause-answer
 returns-clause-answer c =

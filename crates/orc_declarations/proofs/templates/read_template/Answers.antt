@@ -11,8 +11,8 @@ returns-in-Ok c =
     template_read c.args.schema.now c.args.list.now c.args.text.now c.in-Ok.template c.in-Ok.ensures.text
     (c.in-Ok.ensures.reads the_readers c.the_readers_read_back.ensures)
 
-pub returns-in-Err : goal.returns-in-Err
-returns-in-Err c =
+pub returns-in_ok-detail-in-Err : goal.returns-in_ok-detail-in-Err
+returns-in_ok-detail-in-Err c =
     subst (λ (fault : LineFault). ReadsLine (template_of c.args.schema.now c.args.list.now c.args.text.now) (Err fault)) (sym c.of_template.ensures)
-    (template_refused c.args.schema.now c.args.list.now c.args.text.now c.in-Err.fault
+    (template_refused c.args.schema.now c.args.list.now c.args.text.now c.in-Err.fault c.in_ok-detail-in-Err.detail
     (c.in-Err.ensures.reads the_readers c.the_readers_read_back.ensures))

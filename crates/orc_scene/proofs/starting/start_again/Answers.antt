@@ -1,5 +1,5 @@
 use Rattle.std.proofs.Common.{inl, inr, refl, ap, sym, ◌∙◌}
-use Rattle.orc_append.specs.Views.{unstopped}
+use Rattle.orc_journal.specs.Views.{unstopped}
 use Rattle.orc_scene.proofs.Reopened.{opened_at, refused_at}
 use Rattle.orc_scene.proofs.starting.start_again.Goals as goal
 

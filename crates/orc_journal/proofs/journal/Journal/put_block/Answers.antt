@@ -3,7 +3,7 @@ use Rattle.std.specs.Prelude.{◌+◌, true, false, length}
 use Rattle.std.proofs.Common.{refl, sym, subst, arith}
 use Rattle.orc_journal.specs.Opened.{OpenJournal, IsReady}
 use Rattle.orc_journal.specs.Appends.{HasAppended, LeavesBeforeOrAfter, HasFailed}
-use Rattle.orc_journal.proofs.Appended.{has_appended, leaves_either, has_failed}
+use Rattle.orc_journal.proofs.Appending.{has_appended, leaves_either, has_failed}
 use Rattle.orc_journal.proofs.journal.Journal.put_block.Goals as goal
 
 pub returns-in-Ok-clause-appended : goal.returns-in-Ok-clause-appended

@@ -1,4 +1,0 @@
-pub mod Until
-pub mod Outcomes
-pub mod Rows
-pub mod Armed

@@ -1,4 +1,0 @@
-pub mod Views
-pub mod Appends
-pub mod Rows
-pub mod Laws

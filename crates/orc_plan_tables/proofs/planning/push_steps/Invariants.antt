@@ -1,5 +1,0 @@
-use Rattle.orc_plan_tables.specs.Benches.{IsBench}
-use Rattle.orc_plan_tables.proofs.planning.push_steps.Given as goal
-
-abbrev pub invariant-loop-step : goal.invariant-loop-step
-invariant-loop-step l = IsBench l.decls l.bench

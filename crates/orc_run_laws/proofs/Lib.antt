@@ -1,4 +1,0 @@
-mod Among
-mod Granting
-mod Claims
-mod Recovering

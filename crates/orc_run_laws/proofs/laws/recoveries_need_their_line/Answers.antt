@@ -1,5 +1,0 @@
-use Rattle.orc_run_laws.proofs.Recovering.{none_recovers}
-use Rattle.orc_run_laws.proofs.laws.recoveries_need_their_line.Goals as goal
-
-pub returns : goal.returns
-returns g c = none_recovers g.D.Disk.disk

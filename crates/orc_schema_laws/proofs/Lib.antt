@@ -1,3 +1,0 @@
-mod Near
-mod Alike
-mod Turned

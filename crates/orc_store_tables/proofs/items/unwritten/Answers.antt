@@ -1,5 +1,0 @@
-use Rattle.orc_store_tables.proofs.HoldingLaws.{nothing_held}
-use Rattle.orc_store_tables.proofs.items.unwritten.Goals as goal
-
-pub returns : goal.returns
-returns c = nothing_held c.in_ok-refs.refs c.args.base c.args.service.now c.in_ok-refs.ensures

@@ -1,4 +1,0 @@
-use Rattle.orc_store_tables.proofs.rounds.push_rounds.Given as goal
-
-abbrev pub ghosts-go_counted : goal.ghosts-go_counted
-ghosts-go_counted a = record { name = a.blank.name; parts = a.blank.parts }

@@ -1,0 +1,2 @@
+mod Benching
+mod HoldingLaws

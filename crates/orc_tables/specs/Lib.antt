@@ -1,0 +1,3 @@
+pub mod Benches
+pub mod Holdings
+pub mod Kept
